@@ -1,0 +1,10 @@
+pub mod Bounds
+pub mod ByteLaws
+pub mod ShortestEncodings
+pub mod Reading
+pub mod EncodingLaws
+pub mod Encodings
+pub mod Writing
+pub mod WritingLaws
+pub mod Varint
+pub mod VarintLaws

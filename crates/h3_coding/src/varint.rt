@@ -1,0 +1,279 @@
+//! An integer below 2^62, in one to eight bytes.
+ghost use Rattle.std.specs.Prelude.{◌≡◌, ℕ, ◌+◌, ◌-◌, ◌*◌, ◌/◌, ◌^◌, ◌<◌, ◌≤◌, List, ◌∷◌, ◌++◌, length, take, drop, IfOk, IfErr, OnOk, OnErr, Some};
+ghost use Rattle.std.specs.Result.{OkIff};
+ghost use Rattle.std.specs.Fmt.{decimal};
+ghost use Rattle.std.specs.List.{AllByRecursion};
+ghost use Rattle.h3_coding.specs.Bounds.{ConvertsBelowLimit};
+ghost use Rattle.h3_coding.specs.Encodings.{big_endian, IsByte, IsEncoding, encoding, IsUnfinished};
+ghost use Rattle.h3_coding.specs.Reading.{Takes};
+ghost use Rattle.h3_coding.specs.Writing.{AppendsFront, UsesRoom};
+ghost use Rattle.h3_coding.specs.EncodingLaws.{one_encoding, finished, encoding_is_valid};
+
+use crate::coding::{Codec, Decode, Encode, UnexpectedEnd, WriteRefused};
+use bytes::{Buf, BufMut};
+use std::alloc::AllocError;
+use std::fmt;
+use std::marker::Model;
+use std::ops::Div;
+
+/// An integer below 2^62. A contract sees it as the number.
+#[derive(Clone, Copy, PartialEq, Eq, PartialOrd, Ord, Hash)]
+pub struct VarInt(u64);
+
+impl Model for VarInt {
+    ghost Value = { ℕ };
+
+    ghost view = { λ v. v.0 };
+
+    ghost invariant = { λ v. v.0 < 2 ^ 62 };
+
+    ghost inverse = { λ n. record { 0 = n } };
+}
+
+/// The number is 2^62 or more.
+#[derive(Clone, Copy, Debug, PartialEq, Eq)]
+pub struct VarIntBoundsExceeded(pub u64);
+
+impl VarInt {
+    /// The greatest value.
+    pub const MAX: VarInt = VarInt((1 << 62) - 1);
+
+    /// The most bytes that a encoding has.
+    pub const MAX_SIZE: usize = 8;
+
+    pub fn from_u32(x: u32) -> Self
+        ensures { result ≡ x }
+    {
+        VarInt(u64::from(x))
+    }
+
+    /// Succeeds where `x` is below 2^62.
+    pub fn from_u64(x: u64) -> Result<Self, VarIntBoundsExceeded>
+        ensures ok { OkIff result (x < 2 ^ 62) x }
+        ensures err { IfErr result (λ e. e.0 ≡ x) }
+    {
+        if x < 1 << 62 {
+            Ok(VarInt(x))
+        } else {
+            Err(VarIntBoundsExceeded(x))
+        }
+    }
+
+    pub fn from_u64_unchecked(x: u64) -> Self
+        requires { x < 2 ^ 62 }
+        ensures { result ≡ x }
+    {
+        VarInt(x)
+    }
+
+    pub fn into_inner(self) -> u64
+        ensures value { result ≡ self }
+        ensures bound { result < 2 ^ 62 }
+    {
+        self.0
+    }
+
+    /// How many bytes the shortest encoding has.
+    #[tactic(auto, unfolding(crate::specs::Encodings::encoding))]
+    pub fn size(self) -> usize
+        ensures { result ≡ length (encoding self) }
+    {
+        let x = self.0;
+        if x < 1 << 6 {
+            1
+        } else if x < 1 << 14 {
+            2
+        } else if x < 1 << 30 {
+            4
+        } else {
+            8
+        }
+    }
+
+    /// How many bytes a encoding has that begins with this one.
+    pub fn encoded_size(first: u8) -> usize
+        ensures { result ≡ 2 ^ (first / 64) }
+    {
+        1 << (first >> 6)
+    }
+
+    /// Reads a encoding.
+    pub fn decode<B: Buf>(buf: &mut B) -> Result<Self, UnexpectedEnd>
+        ensures ok { IfOk result (λ v. Takes (IsEncoding v) (B.unread buf.old) (B.unread buf.new)) }
+        ensures err { IfErr result (λ e. IsUnfinished (B.unread buf.old) e.0 (B.unread buf.new)) }
+        ensures kept { B.kept buf.new ≡ B.kept buf.old }
+    {
+        if !buf.has_remaining() {
+            return Err(UnexpectedEnd(0));
+        }
+        let first = buf.get_u8();
+        let more = VarInt::encoded_size(first) - 1;
+        if buf.remaining() < more {
+            return Err(UnexpectedEnd(usize::from(first >> 6)));
+        }
+        Ok(VarInt(get_number(buf, first & 0x3f, more)))
+    }
+
+    /// Appends the shortest encoding, whole or not at all.
+    pub fn encode<B: BufMut>(&self, buf: &mut B) -> Result<(), WriteRefused>
+        ensures ok { OnOk result (B.written buf.new ≡ B.written buf.old ++ encoding self.now) }
+        ensures err { OnErr result (B.written buf.new ≡ B.written buf.old) }
+        ensures room { UsesRoom result (B.spare buf.old) (B.spare buf.new) (length (encoding self.now)) }
+    {
+        put_encoding(buf, self.0).map_err(|_| WriteRefused)
+    }
+}
+
+impl Encode for VarInt {
+    ghost encoding = { encoding };
+
+    fn encode<B: BufMut>(&self, buf: &mut B) -> Result<(), WriteRefused> {
+        VarInt::encode(self, buf)
+    }
+}
+
+impl Decode for VarInt {
+    ghost is_encoding = { IsEncoding };
+
+    ghost is_unfinished = { IsUnfinished };
+
+    ghost one_encoding = { one_encoding };
+
+    ghost finished = { finished };
+
+    fn decode<B: Buf>(buf: &mut B) -> Result<Self, UnexpectedEnd> {
+        VarInt::decode(buf)
+    }
+}
+
+impl Codec for VarInt {
+    ghost is_value = { λ v. v < 2 ^ 62 };
+
+    ghost encoding_is_valid = { encoding_is_valid };
+
+    fn known(&self) {
+        let _number = &self.0;
+    }
+}
+
+impl From<u8> for VarInt {
+    ghost from_gives = { λ x v. v ≡ x };
+
+    fn from(x: u8) -> Self {
+        VarInt(u64::from(x))
+    }
+}
+
+impl From<u16> for VarInt {
+    ghost from_gives = { λ x v. v ≡ x };
+
+    fn from(x: u16) -> Self {
+        VarInt(u64::from(x))
+    }
+}
+
+impl From<u32> for VarInt {
+    ghost from_gives = { λ x v. v ≡ x };
+
+    fn from(x: u32) -> Self {
+        VarInt(u64::from(x))
+    }
+}
+
+impl TryFrom<u64> for VarInt {
+    type Error = VarIntBoundsExceeded;
+
+    ghost try_from_gives = { ConvertsBelowLimit };
+
+    fn try_from(x: u64) -> Result<Self, VarIntBoundsExceeded> {
+        VarInt::from_u64(x)
+    }
+}
+
+impl TryFrom<usize> for VarInt {
+    type Error = VarIntBoundsExceeded;
+
+    ghost try_from_gives = { ConvertsBelowLimit };
+
+    fn try_from(x: usize) -> Result<Self, VarIntBoundsExceeded> {
+        VarInt::from_u64(x as u64)
+    }
+}
+
+impl From<VarInt> for u64 {
+    ghost from_gives = { λ v x. (x ≡ v) × (x < 2 ^ 62) };
+
+    fn from(v: VarInt) -> u64 {
+        v.0
+    }
+}
+
+impl Div<u64> for VarInt {
+    type Output = VarInt;
+
+    ghost can_div = { λ _ n. 0 < n };
+
+    ghost div_gives = { λ v n q. q ≡ v / n };
+
+    fn div(self, rhs: u64) -> VarInt {
+        VarInt(self.0 / rhs)
+    }
+}
+
+impl Default for VarInt {
+    ghost is_default = { λ v. v ≡ 0 };
+
+    fn default() -> Self {
+        VarInt(0)
+    }
+}
+
+impl fmt::Debug for VarInt {
+    fn fmt<W: fmt::Write>(&self, f: &mut fmt::Formatter<W>) -> fmt::Result {
+        fmt::Debug::fmt(&self.0, f)
+    }
+}
+
+impl fmt::Display for VarInt {
+    ghost output = { λ v. Some (decimal v) };
+
+    fn fmt<W: fmt::Write>(&self, f: &mut fmt::Formatter<W>) -> fmt::Result {
+        fmt::Display::fmt(&self.0, f)
+    }
+}
+
+// Appends the shortest encoding of a number, whole or not at all.
+fn put_encoding<B: BufMut>(buf: &mut B, x: u64) -> Result<(), AllocError>
+    requires { x < 2 ^ 62 }
+    ensures ok { OnOk result (B.written buf.new ≡ B.written buf.old ++ encoding x) }
+    ensures err { OnErr result (B.written buf.new ≡ B.written buf.old) }
+    ensures room { UsesRoom result (B.spare buf.old) (B.spare buf.new) (length (encoding x)) }
+{
+    if x < 1 << 6 {
+        buf.put_u8(x as u8)
+    } else if x < 1 << 14 {
+        buf.put_u16(1 << 14 | x as u16)
+    } else if x < 1 << 30 {
+        buf.put_u32(2 << 30 | x as u32)
+    } else {
+        buf.put_u64(3 << 62 | x)
+    }
+}
+
+// What a first byte and the next ones are worth.
+fn get_number<B: Buf>(buf: &mut B, first: u8, more: usize) -> u64
+    requires low { first < 64 }
+    requires few { more < 8 }
+    requires there { more ≤ length (B.unread buf.old) }
+    ensures value { result ≡ big_endian (first ∷ take more (B.unread buf.old)) }
+    ensures below { result < 64 * 256 ^ more }
+    ensures bytes { AllByRecursion IsByte (take more (B.unread buf.old)) }
+    ensures rest { B.unread buf.new ≡ drop more (B.unread buf.old) }
+    ensures kept { B.kept buf.new ≡ B.kept buf.old }
+{
+    let mut number = u64::from(first);
+    for _ in 0..more {
+        number = number * 256 + u64::from(buf.get_u8());
+    }
+    number
+}
