@@ -1,0 +1,108 @@
+//! A field of two byte strings, static or owned.
+ghost use Rattle.std.specs.Prelude.{◌≡◌, ◌++◌, ◌∷◌, [], codes, string_bytes, IfOk, Some, encode_utf8_all, nat_eq};
+ghost use Rattle.std.specs.Cow.{cow_slice_items};
+ghost use Rattle.std.specs.Hash as fed;
+ghost use Rattle.std.specs.Cmp.Lexicographic.{pointwise};
+ghost use Rattle.std.specs.Ordering.{on, eq_of_both};
+ghost use Rattle.std.specs.Cmp.Rules.{comparing, hashing};
+ghost use Rattle.std.proofs.Common.{rules};
+ghost use Rattle.bstr.specs.Utf8.{lossy_chars};
+
+use bstr::{BStr, ByteVec};
+use std::alloc::{AllocError, Global};
+use std::borrow::CowSlice;
+use std::fmt;
+use std::hash::{Hash, Hasher};
+use std::marker::Model;
+
+/// A name and a value. A contract sees the two byte lists.
+#[derive(Drop)]
+pub struct HeaderField {
+    name: CowSlice<'static, u8>,
+    value: CowSlice<'static, u8>,
+}
+
+impl Model for HeaderField {
+    ghost use Rattle.h3_field.specs.Field.{Field};
+    ghost use Rattle.std.specs.Cow.{cow_slice_items};
+
+    ghost Value = { Field };
+
+    ghost view = { λ f. record { name = cow_slice_items f.name; value = cow_slice_items f.value } };
+}
+
+impl HeaderField {
+    pub fn new(name: CowSlice<'static, u8>, value: CowSlice<'static, u8>) -> HeaderField
+        ensures { result ≡ record { name = cow_slice_items name.entry; value = cow_slice_items value.entry } }
+    {
+        HeaderField { name, value }
+    }
+
+    /// A static name and an owned value.
+    pub fn with_static_name(name: &'static [u8], value: Vec<u8>) -> HeaderField
+        ensures { result ≡ record { name = name.now; value = value.items } }
+    {
+        HeaderField {
+            name: CowSlice::Borrowed(name),
+            value: CowSlice::Owned(value),
+        }
+    }
+
+    pub fn name(&self) -> &[u8]
+        ensures { result.now ≡ self.now.name }
+    {
+        self.name.as_slice()
+    }
+
+    pub fn value(&self) -> &[u8]
+        ensures { result.now ≡ self.now.value }
+    {
+        self.value.as_slice()
+    }
+
+    /// Name, tab, value, with U+FFFD for what is no character.
+    pub fn into_string(self, alloc: Global) -> Result<String, AllocError>
+        ensures { IfOk result (λ s. string_bytes s
+            ≡ encode_utf8_all (lossy_chars (self.name ++ 9 ∷ self.value))) }
+    {
+        let mut text = Vec::from_slice(alloc, self.name())?;
+        text.push(b'\t')?;
+        text.extend_from_slice(self.value())?;
+        text.into_string_lossy()
+    }
+}
+
+impl PartialEq for HeaderField {
+    ghost eq = { eq_of_both (on (λ f. f.name) (pointwise nat_eq)) (on (λ f. f.value) (pointwise nat_eq)) };
+
+    ghost laws = { Prim.search (comparing, rules) };
+
+    fn eq(&self, other: &HeaderField) -> bool {
+        self.name() == other.name() && self.value() == other.value()
+    }
+}
+
+impl Eq for HeaderField {
+    ghost laws = { Prim.search (comparing, rules) };
+}
+
+impl Hash for HeaderField {
+    ghost hash_input = { λ f. fed.slice fed.u8 f.name ++ fed.slice fed.u8 f.value };
+
+    ghost respects_eq = { Prim.search (hashing, rules) };
+
+    fn hash<H: Hasher>(&self, state: &mut H) {
+        self.name().hash(state);
+        self.value().hash(state);
+    }
+}
+
+impl fmt::Display for HeaderField {
+    ghost output = { λ f. Some (encode_utf8_all (lossy_chars f.name) ++ codes ": " ++ encode_utf8_all (lossy_chars f.value)) };
+
+    fn fmt<W: fmt::Write>(&self, f: &mut fmt::Formatter<W>) -> fmt::Result {
+        let name = BStr::new(self.name());
+        let value = BStr::new(self.value());
+        write!(f, "{name}: {value}")
+    }
+}
