@@ -2,6 +2,7 @@
 //! lines and instructions.
 #![tactic(auto)]
 
+pub mod examples;
 pub mod field;
 
 pub use field::HeaderField;

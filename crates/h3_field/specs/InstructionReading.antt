@@ -1,0 +1,72 @@
+-- How an instruction is read (RFC 9204, sections 4.3 and 4.4). Payloads are judged only once it is whole.
+use Rattle.std.specs.Prelude.{◌≡◌, ◌==◌, ℕ, ◌%◌, Bool, true, false, List, [], ◌∷◌, if◌then◌else◌, nat_le}
+use Rattle.h3_field.specs.Reading.{Reading, Whole, Unfinished, then_read}
+use Rattle.h3_field.specs.IntegerReading.{integer}
+use Rattle.h3_field.specs.StringReading.{Payload, StandsFor, string}
+use Rattle.h3_field.specs.Instruction.{EncoderInstruction, DecoderInstruction}
+use Rattle.h3_field.specs.Instruction.EncoderInstruction.{SetCapacity, InsertWithStaticName, InsertWithEntryName, InsertLiteral, Duplicate}
+use Rattle.h3_field.specs.Instruction.DecoderInstruction.{Acknowledge, CancelStream, Increment}
+
+-- an encoder instruction, its payloads not yet read
+pub data InstructionForm : Type 0 where
+  Capacity : (capacity : ℕ) → InstructionForm
+  NameReference : (is_static : Bool) (index : ℕ) (value : Payload) → InstructionForm
+  LiteralName : (name value : Payload) → InstructionForm
+  Repeat : (index : ℕ) → InstructionForm
+
+-- Insert With Name Reference
+abbrev pub name_reference : List ℕ → Reading InstructionForm
+name_reference bytes =
+    then_read (integer 6 bytes) (λ head rest.
+    then_read (string 8 rest) (λ value after.
+    Whole (NameReference (head.0 % 2 == 1) head.1 value.1) after))
+
+-- Insert With Literal Name
+abbrev pub literal_name : List ℕ → Reading InstructionForm
+literal_name bytes =
+    then_read (string 6 bytes) (λ name rest.
+    then_read (string 8 rest) (λ value after.
+    Whole (LiteralName name.1 value.1) after))
+
+-- Set Dynamic Table Capacity
+abbrev pub capacity : List ℕ → Reading InstructionForm
+capacity bytes = then_read (integer 5 bytes) (λ head rest. Whole (Capacity head.1) rest)
+
+-- Duplicate
+abbrev pub repeat : List ℕ → Reading InstructionForm
+repeat bytes = then_read (integer 5 bytes) (λ head rest. Whole (Repeat head.1) rest)
+
+-- by the top bits of the first byte
+abbrev pub instruction : List ℕ → Reading InstructionForm
+instruction [] = Unfinished
+instruction (first ∷ rest) =
+    if nat_le 128 first then name_reference (first ∷ rest) else (
+    if nat_le 64 first then literal_name (first ∷ rest) else (
+    if nat_le 32 first then capacity (first ∷ rest) else repeat (first ∷ rest)))
+
+-- The form says this instruction. One with a payload that is no string says none.
+abbrev pub Says : InstructionForm → EncoderInstruction → Type 0
+Says (Capacity n) i = i ≡ SetCapacity n
+Says (NameReference true index payload) i = (value : List ℕ) × StandsFor payload value × (i ≡ InsertWithStaticName index value)
+Says (NameReference false index payload) i = (value : List ℕ) × StandsFor payload value × (i ≡ InsertWithEntryName index value)
+Says (LiteralName first second) i = (name value : List ℕ) × StandsFor first name × StandsFor second value × (i ≡ InsertLiteral name value)
+Says (Repeat index) i = i ≡ Duplicate index
+
+-- Section Acknowledgment
+abbrev pub acknowledgment : List ℕ → Reading DecoderInstruction
+acknowledgment bytes = then_read (integer 7 bytes) (λ head rest. Whole (Acknowledge head.1) rest)
+
+-- Stream Cancellation
+abbrev pub cancellation : List ℕ → Reading DecoderInstruction
+cancellation bytes = then_read (integer 6 bytes) (λ head rest. Whole (CancelStream head.1) rest)
+
+-- Insert Count Increment
+abbrev pub increment : List ℕ → Reading DecoderInstruction
+increment bytes = then_read (integer 6 bytes) (λ head rest. Whole (Increment head.1) rest)
+
+-- a decoder instruction, by the top bits of the first byte
+abbrev pub decoder_instruction : List ℕ → Reading DecoderInstruction
+decoder_instruction [] = Unfinished
+decoder_instruction (first ∷ rest) =
+    if nat_le 128 first then acknowledgment (first ∷ rest) else (
+    if nat_le 64 first then cancellation (first ∷ rest) else increment (first ∷ rest))

@@ -1,0 +1,49 @@
+-- How a field line is read (RFC 9204, sections 4.5.2 to 4.5.6). Its payloads are judged only once it is whole.
+use Rattle.std.specs.Prelude.{◌≡◌, ◌==◌, ℕ, ◌%◌, Bool, true, false, List, [], ◌∷◌, if◌then◌else◌, nat_le}
+use Rattle.h3_field.specs.Reading.{Reading, Whole, Unfinished, then_read}
+use Rattle.h3_field.specs.IntegerReading.{integer}
+use Rattle.h3_field.specs.StringReading.{Payload, StandsFor, string}
+use Rattle.h3_field.specs.Line.{FieldLine}
+use Rattle.h3_field.specs.Line.FieldLine.{StaticField, RelativeField, PostBaseField, StaticName, RelativeName, PostBaseName, Literal}
+
+-- a line, its payloads not yet read
+pub data LineForm : Type 0 where
+  Indexed : (is_static : Bool) (index : ℕ) → LineForm
+  PostBase : (index : ℕ) → LineForm
+  Named : (is_static : Bool) (index : ℕ) (value : Payload) → LineForm
+  PostBaseNamed : (index : ℕ) (value : Payload) → LineForm
+  LiteralField : (name value : Payload) → LineForm
+
+abbrev pub indexed : List ℕ → Reading LineForm
+indexed bytes = then_read (integer 6 bytes) (λ head rest. Whole (Indexed (head.0 % 2 == 1) head.1) rest)
+
+abbrev pub post_base : List ℕ → Reading LineForm
+post_base bytes = then_read (integer 4 bytes) (λ head rest. Whole (PostBase head.1) rest)
+
+abbrev pub named : List ℕ → Reading LineForm
+named bytes = then_read (integer 4 bytes) (λ head rest. then_read (string 8 rest) (λ value after. Whole (Named (head.0 % 2 == 1) head.1 value.1) after))
+
+abbrev pub post_base_named : List ℕ → Reading LineForm
+post_base_named bytes = then_read (integer 3 bytes) (λ head rest. then_read (string 8 rest) (λ value after. Whole (PostBaseNamed head.1 value.1) after))
+
+abbrev pub literal : List ℕ → Reading LineForm
+literal bytes = then_read (string 4 bytes) (λ name rest. then_read (string 8 rest) (λ value after. Whole (LiteralField name.1 value.1) after))
+
+-- by the top bits of the first byte
+abbrev pub line : List ℕ → Reading LineForm
+line [] = Unfinished
+line (first ∷ rest) =
+    if nat_le 128 first then indexed (first ∷ rest) else (
+    if nat_le 64 first then named (first ∷ rest) else (
+    if nat_le 32 first then literal (first ∷ rest) else (
+    if nat_le 16 first then post_base (first ∷ rest) else post_base_named (first ∷ rest))))
+
+-- The form says this line. One with a payload that is no string says none.
+abbrev pub SaysLine : LineForm → FieldLine → Type 0
+SaysLine (Indexed true index) l = l ≡ StaticField index
+SaysLine (Indexed false index) l = l ≡ RelativeField index
+SaysLine (PostBase index) l = l ≡ PostBaseField index
+SaysLine (Named true index payload) l = (value : List ℕ) × StandsFor payload value × (l ≡ StaticName index value)
+SaysLine (Named false index payload) l = (value : List ℕ) × StandsFor payload value × (l ≡ RelativeName index value)
+SaysLine (PostBaseNamed index payload) l = (value : List ℕ) × StandsFor payload value × (l ≡ PostBaseName index value)
+SaysLine (LiteralField first second) l = (name value : List ℕ) × StandsFor first name × StandsFor second value × (l ≡ Literal name value)

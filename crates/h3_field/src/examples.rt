@@ -1,0 +1,59 @@
+//! What the definitions give at values of the standards. These functions do nothing: the check computes their contracts.
+ghost use Rattle.std.specs.Prelude.{◌≡◌, ◌∷◌, [], length, codes, Some, None, true};
+ghost use Rattle.h3_huffman.specs.Huffman.{huffman};
+ghost use Rattle.h3_field.specs.Field.{Field};
+ghost use Rattle.h3_field.specs.Integer.{prefixed};
+ghost use Rattle.h3_field.specs.IntegerReading.{integer};
+ghost use Rattle.h3_field.specs.Reading.{Whole, Unfinished, Bad};
+ghost use Rattle.h3_field.specs.Prefix.{prefix_bytes};
+ghost use Rattle.h3_field.specs.PrefixReading.{prefix};
+ghost use Rattle.h3_field.specs.StaticTable.{static_table, static_field, static_name};
+ghost use Rattle.h3_field.specs.Instruction.{encoder_bytes, decoder_bytes};
+ghost use Rattle.h3_field.specs.Instruction.EncoderInstruction.{SetCapacity};
+ghost use Rattle.h3_field.specs.Instruction.DecoderInstruction.{Increment};
+ghost use Rattle.h3_field.specs.InstructionReading.{instruction, Repeat};
+ghost use Rattle.h3_field.specs.LineReading.{line, Indexed};
+
+/// Prefixed integers, the second one from RFC 7541, appendix C.1.2.
+pub fn integers()
+    ensures in_prefix { prefixed 5 2 10 ≡ 74 ∷ [] }
+    ensures behind { prefixed 5 2 1337 ≡ 95 ∷ 154 ∷ 10 ∷ [] }
+    ensures longer { integer 5 (95 ∷ 154 ∷ 138 ∷ 0 ∷ 7 ∷ []) ≡ Whole (2, 1337) (7 ∷ []) }
+    ensures short { integer 5 (95 ∷ 154 ∷ []) ≡ Unfinished }
+    ensures greatest { integer 5 (31 ∷ 255 ∷ 255 ∷ 255 ∷ 255 ∷ 255 ∷ 255 ∷ 255 ∷ 255 ∷ 127 ∷ []) ≡ Whole (0, 9223372036854775838) [] }
+    ensures too_great { integer 5 (31 ∷ 128 ∷ 128 ∷ 128 ∷ 128 ∷ 128 ∷ 128 ∷ 128 ∷ 128 ∷ 128 ∷ 1 ∷ []) ≡ Bad }
+    ensures not_whole { integer 5 (31 ∷ 128 ∷ 128 ∷ 128 ∷ 128 ∷ 128 ∷ 128 ∷ 128 ∷ 128 ∷ 128 ∷ 129 ∷ []) ≡ Bad }
+{}
+
+/// Huffman codes, the second one from RFC 7541, appendix C.4.1.
+pub fn strings()
+    ensures letter { huffman (codes "a") ≡ 31 ∷ [] }
+    ensures host { huffman (codes "www.example.com") ≡ 241 ∷ 227 ∷ 194 ∷ 229 ∷ 242 ∷ 58 ∷ 107 ∷ 160 ∷ 171 ∷ 144 ∷ 244 ∷ 255 ∷ [] }
+{}
+
+/// Prefixes of field sections.
+pub fn prefixes()
+    ensures written { prefix_bytes 4096 10 5 ≡ 11 ∷ 132 ∷ [] }
+    ensures read { prefix (11 ∷ 132 ∷ []) ≡ Whole (record { encoded = 11; is_negative = true; delta = 4 }) [] }
+    ensures empty { prefix_bytes 4096 0 0 ≡ 0 ∷ 0 ∷ [] }
+{}
+
+/// The static table.
+#[tactic(auto, unfolding(crate::specs::StaticTable::static_table, crate::specs::StaticTable::static_field, crate::specs::StaticTable::static_name))]
+pub fn static_entries()
+    ensures count { length static_table ≡ 99 }
+    ensures equal { static_field (record { name = codes ":status"; value = codes "200" }) ≡ Some 25 }
+    ensures last { static_field (record { name = codes "x-frame-options"; value = codes "sameorigin" }) ≡ Some 98 }
+    ensures other_value { static_field (record { name = codes ":status"; value = codes "201" }) ≡ None }
+    ensures least { static_name (codes ":status") ≡ Some 24 }
+    ensures unknown { static_name (codes "x-a") ≡ None }
+{}
+
+/// Instructions and field lines.
+pub fn instructions()
+    ensures increment { decoder_bytes (Increment 300) ≡ 63 ∷ 237 ∷ 1 ∷ [] }
+    ensures capacity { encoder_bytes (SetCapacity 220) ≡ 63 ∷ 189 ∷ 1 ∷ [] }
+    ensures short { instruction (31 ∷ []) ≡ Unfinished }
+    ensures duplicate { instruction (2 ∷ 9 ∷ []) ≡ Whole (Repeat 2) (9 ∷ []) }
+    ensures indexed { line (217 ∷ []) ≡ Whole (Indexed true 25) [] }
+{}

@@ -1,0 +1,73 @@
+//! Writes Huffman payloads.
+ghost use Rattle.std.specs.Prelude.{◌≡◌, ℕ, ◌+◌, ◌*◌, ◌^◌, ◌<◌, ◌≤◌, List, ◌++◌, take, length};
+ghost use Rattle.std.specs.Int.{w32, to_be_bytes};
+ghost use Rattle.h3_huffman.specs.Huffman.{huffman, bits, code_word};
+
+use crate::tables::{WORD_LENGTHS, WORDS};
+
+/// How many bits the word of a byte has.
+fn word_len(byte: u8) -> u64
+    ensures value { result ≡ length (code_word byte) }
+    ensures most { result ≤ 30 }
+{
+    let length = WORD_LENGTHS[byte as usize];
+    u64::from(length)
+}
+
+/// The word of a byte, as a number.
+fn word_of(byte: u8) -> u64
+    ensures value { bits (length (code_word byte)) result ≡ code_word byte }
+    ensures below { result < 2 ^ length (code_word byte) }
+{
+    let word = WORDS[byte as usize];
+    u64::from(word)
+}
+
+/// Writes the four bytes of a number, the high one first.
+fn put_word(out: &mut [u8], place: usize, word: u32)
+    requires { place + 4 ≤ length out.old }
+    ensures { take (place + 4) out.new ≡ take place out.old ++ to_be_bytes w32 word }
+{
+    out[place..place + 4].copy_from_slice(&word.to_be_bytes());
+}
+
+/// How many bytes the Huffman encoding of a string has.
+pub fn payload_len(plain: &[u8]) -> usize
+    requires { length plain.now < 2 ^ 58 }
+    ensures value { result ≡ length (huffman plain.now) }
+    ensures most { result ≤ 4 * length plain.now }
+{
+    let mut total: usize = 0;
+    for byte in plain {
+        total += word_len(*byte) as usize;
+    }
+    (total + 7) / 8
+}
+
+/// Writes the Huffman encoding of a string.
+pub fn encode_into(plain: &[u8], out: &mut [u8])
+    requires { length out.old ≡ length (huffman plain.now) }
+    ensures { out.new ≡ huffman plain.now }
+{
+    let mut acc: u64 = 0;
+    let mut count: u64 = 0;
+    let mut written: usize = 0;
+    for byte in plain {
+        let length = word_len(*byte);
+        acc = acc << length | word_of(*byte);
+        count += length;
+        if count >= 32 {
+            count -= 32;
+            put_word(out, written, ((acc >> count) % (1 << 32)) as u32);
+            written += 4;
+        }
+    }
+    'last: while count >= 8 {
+        count -= 8;
+        out[written] = ((acc >> count) % 256) as u8;
+        written += 1;
+    }
+    if count > 0 {
+        out[written] = ((acc << (8 - count) | 255 >> count) % 256) as u8;
+    }
+}
