@@ -1,0 +1,92 @@
+-- The field list of a valid head is read as a head with that list.
+use Rattle.std.proofs.Common.{◌≡◌, ℕ, List, [], ◌++◌, codes, Option, Some, None, IfSome, option_map, refl, sym, ap, ap₂, ◌∙◌, subst, rules}
+use Rattle.http_header.specs.Token.{IsToken}
+use Rattle.http.specs.StatusCode.{IsStatusCode, code_digits}
+use Rattle.http_uri.specs.Grammar.{IsScheme, IsAuthority, IsPathAndQuery, or_slash}
+use Rattle.h3_header.specs.ProtocolText.{IsProtocolText}
+use Rattle.h3_header.specs.Head.{Head, trailer_head, optional_field, head_fields}
+use Rattle.h3_header.specs.Reads.{kind_of, status_number}
+use Rattle.h3_header.specs.ReadsBack.{IsValidHead, ReadsBack}
+use Rattle.h3_header.proofs.PathLemmas.{IsPathAndQuery-or_slash, IsPathInput-or_slash, without_fragment_of, or_slash-or_slash}
+use Rattle.h3_header.proofs.MapLemmas.{Reading, Reading-none, Reading-one, Reading-append, unmarked, regular_fields-unmarked, Reading-map}
+
+-- a head by its parts, with no regular field yet
+abbrev parts : Option (List ℕ) → Option (List ℕ) → Option (List ℕ) → Option (List ℕ) → Option ℕ → Option (List ℕ) → Head
+parts m s a p n t = record { method = m; scheme = s; authority = a; path = p; status = n; protocol = t; regular = [] }
+
+read_method : (m : Option (List ℕ)) → IfSome m IsToken
+    → Reading (parts None None None None None None) (optional_field (codes ":method") m) (parts m None None None None None)
+unfolding kind_of
+read_method None valid = Reading-none _
+read_method (Some v) valid = Reading-one _ _ _ [] (record { name = tt; value = valid; room = tt }) (Reading-none _)
+
+read_scheme : (m s : Option (List ℕ)) → IfSome s IsScheme
+    → Reading (parts m None None None None None) (optional_field (codes ":scheme") s) (parts m s None None None None)
+unfolding kind_of
+read_scheme m None valid = Reading-none _
+read_scheme m (Some v) valid = Reading-one _ _ _ [] (record { name = tt; value = valid; room = tt }) (Reading-none _)
+
+read_authority : (m s a : Option (List ℕ)) → IfSome a IsAuthority
+    → Reading (parts m s None None None None) (optional_field (codes ":authority") a) (parts m s a None None None)
+unfolding kind_of
+read_authority m s None valid = Reading-none _
+read_authority m s (Some v) valid = Reading-one _ _ _ [] (record { name = tt; value = valid; room = tt }) (Reading-none _)
+
+read_path : (m s a p : Option (List ℕ)) → IfSome p IsPathAndQuery
+    → Reading (parts m s a None None None) (optional_field (codes ":path") (option_map or_slash p)) (parts m s a (option_map or_slash p) None None)
+unfolding kind_of
+read_path m s a None valid = Reading-none _
+read_path m s a (Some v) valid =
+    Reading-one _ _ _ [] (record { name = tt; value = IsPathInput-or_slash v valid; room = tt })
+    (subst (λ t. Reading (parts m s a (Some t) None None) [] (parts m s a (Some (or_slash v)) None None)) (sym (without_fragment_of (or_slash v) (IsPathAndQuery-or_slash v valid))) (Reading-none _))
+
+status_number-code_digits : (n : ℕ) → IsStatusCode n → status_number (code_digits n) ≡ n
+status_number-code_digits n is = search rules
+
+read_status : (m s a p : Option (List ℕ)) (n : Option ℕ) → IfSome n IsStatusCode
+    → Reading (parts m s a p None None) (optional_field (codes ":status") (option_map code_digits n)) (parts m s a p n None)
+unfolding kind_of
+read_status m s a p None valid = Reading-none _
+read_status m s a p (Some n) valid =
+    Reading-one _ _ _ [] (record { name = tt; value = (n, valid, refl); room = tt })
+    (subst (λ c. Reading (parts m s a p (Some c) None) [] (parts m s a p (Some n) None)) (sym (status_number-code_digits n valid)) (Reading-none _))
+
+read_protocol : (m s a p : Option (List ℕ)) (n : Option ℕ) (t : Option (List ℕ)) → IfSome t IsProtocolText
+    → Reading (parts m s a p n None) (optional_field (codes ":protocol") t) (parts m s a p n t)
+unfolding kind_of
+read_protocol m s a p n None valid = Reading-none _
+read_protocol m s a p n (Some v) valid = Reading-one _ _ _ [] (record { name = tt; value = valid; room = tt }) (Reading-none _)
+
+same_path : (p : Option (List ℕ)) → option_map or_slash (option_map or_slash p) ≡ option_map or_slash p
+same_path None = refl
+same_path (Some t) = ap Some (or_slash-or_slash t)
+
+-- the head as it is read back: an empty path is `/`, and no value is sensitive
+back : Head → Head
+back h = record h { path = option_map or_slash h.path; regular = unmarked h.regular }
+
+Reading-back : (h : Head) → IsValidHead h → Reading (trailer_head []) (head_fields h) (back h)
+unfolding back
+Reading-back h valid =
+    Reading-append _ _ _ _ _
+    (Reading-append _ _ _ _ _
+    (Reading-append _ _ _ _ _
+    (Reading-append _ _ _ _ _
+    (Reading-append _ _ _ _ _
+    (Reading-append _ _ _ _ _ (read_method h.method valid.method) (read_scheme h.method h.scheme valid.scheme))
+    (read_authority h.method h.scheme h.authority valid.authority))
+    (read_path h.method h.scheme h.authority h.path valid.path))
+    (read_status h.method h.scheme h.authority (option_map or_slash h.path) h.status valid.status))
+    (read_protocol h.method h.scheme h.authority (option_map or_slash h.path) h.status h.protocol valid.protocol))
+    (Reading-map (parts h.method h.scheme h.authority (option_map or_slash h.path) h.status h.protocol) h.regular valid.map valid.regular)
+
+same_fields : (h : Head) → head_fields (back h) ≡ head_fields h
+unfolding back
+same_fields h =
+    ap₂ (λ p q. optional_field (codes ":method") h.method ++ optional_field (codes ":scheme") h.scheme
+    ++ optional_field (codes ":authority") h.authority ++ optional_field (codes ":path") p
+    ++ optional_field (codes ":status") (option_map code_digits h.status) ++ optional_field (codes ":protocol") h.protocol ++ q)
+    (same_path h.path) (regular_fields-unmarked h.regular)
+
+pub reads_back : (h : Head) → IsValidHead h → ReadsBack (head_fields h)
+reads_back h valid = let r = Reading-back h valid in (r.accepts, ap head_fields r.makes ∙ same_fields h)

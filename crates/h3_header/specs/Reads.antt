@@ -1,0 +1,125 @@
+-- Which field lists are read as a head, and why the others are refused.
+use Rattle.std.specs.Prelude.{◌≡◌, ℕ, ◌+◌, ◌-◌, ◌*◌, ◌⊎◌, ⊤, List, [], ◌∷◌, codes, fold, bytes_eq, slice_index, Some, if◌then◌else◌}
+use Rattle.http_header.specs.Token.{IsToken}
+use Rattle.http_header.specs.FieldName.{IsHeaderName}
+use Rattle.http_header.specs.FieldValue.{FieldValue, plain_value, IsFieldValue}
+use Rattle.http_header.specs.HeaderMap.{Entries, append, RefusesAppend}
+use Rattle.http.specs.StatusCode.{IsCodeText}
+use Rattle.http_uri.specs.Grammar.{IsScheme, IsAuthority, IsPathInput, without_fragment}
+use Rattle.h3_field.specs.Field.{Field}
+use Rattle.h3_header.specs.ProtocolText.{IsProtocolText}
+use Rattle.h3_header.specs.Head.{Head, trailer_head}
+use Rattle.h3_header.specs.declared.headers.kind.FieldKind.{FieldKind}
+use Rattle.h3_header.specs.declared.headers.kind.FieldKind.TheVariants.{Method, Scheme, Authority, Path, Status, Protocol, Regular}
+use Rattle.h3_header.specs.declared.headers.error.HeaderError.{HeaderError}
+use Rattle.h3_header.specs.declared.headers.error.HeaderError.TheVariants.{InvalidHeaderName, InvalidHeaderValue, InvalidRequest, MissingMethod, MissingStatus, MissingAuthority, ContradictedAuthority, TooManyFields, OutOfMemory}
+
+-- which pseudo-header field a name is, or else a regular one
+unfoldable pub kind_of : List ℕ → FieldKind
+kind_of name =
+    if bytes_eq name (codes ":method") then Method else (
+    if bytes_eq name (codes ":scheme") then Scheme else (
+    if bytes_eq name (codes ":authority") then Authority else (
+    if bytes_eq name (codes ":path") then Path else (
+    if bytes_eq name (codes ":status") then Status else (
+    if bytes_eq name (codes ":protocol") then Protocol else
+    Regular)))))
+
+-- the name may stand there. A name with `:` that is no pseudo-header field's is no header name either
+abbrev pub IsNameAt : FieldKind → List ℕ → Type 0
+IsNameAt Regular name = IsHeaderName name
+IsNameAt _ name = ⊤
+
+-- the value may stand there
+abbrev pub IsValueAt : FieldKind → List ℕ → Type 0
+IsValueAt Method value = IsToken value
+IsValueAt Scheme value = IsScheme value
+IsValueAt Authority value = IsAuthority value
+IsValueAt Path value = IsPathInput value
+IsValueAt Status value = IsCodeText value
+IsValueAt Protocol value = IsProtocolText value
+IsValueAt Regular value = IsFieldValue value
+
+-- the number of three digits
+abbrev pub status_number : List ℕ → ℕ
+status_number text = (slice_index text 0 - 48) * 100 + (slice_index text 1 - 48) * 10 + (slice_index text 2 - 48)
+
+-- the head with one more field. A pseudo-header field takes the place of an earlier one
+abbrev pub with_kind : FieldKind → Head → Field → Head
+with_kind Method h f = record h { method = Some f.value }
+with_kind Scheme h f = record h { scheme = Some f.value }
+with_kind Authority h f = record h { authority = Some f.value }
+with_kind Path h f = record h { path = Some (without_fragment f.value) }
+with_kind Status h f = record h { status = Some (status_number f.value) }
+with_kind Protocol h f = record h { protocol = Some f.value }
+with_kind Regular h f = record h { regular = append h.regular f.name (plain_value f.value) }
+
+-- the map has room for the field
+abbrev pub HasRoomAt : FieldKind → Head → Field → Type 0
+HasRoomAt Regular h f = ¬ (RefusesAppend h.regular f.name)
+HasRoomAt _ h f = ⊤
+
+-- the field may come after those of the head
+pub record AcceptsAt (at : FieldKind) (h : Head) (f : Field) : Type 0 where
+  pub name : IsNameAt at f.name
+  pub value : IsValueAt at f.value
+  pub room : HasRoomAt at h f
+
+-- why it may not. A name is judged before its value, and room comes last
+abbrev pub RefusesAt : FieldKind → Head → Field → HeaderError → Type 0
+RefusesAt at h f (InvalidHeaderName _) = ¬ (IsNameAt at f.name)
+RefusesAt at h f (InvalidHeaderValue _) = IsNameAt at f.name × ¬ (IsValueAt at f.value)
+RefusesAt at h f TooManyFields = (at ≡ Regular) × IsNameAt at f.name × IsValueAt at f.value × RefusesAppend h.regular f.name
+RefusesAt at h f InvalidRequest = ⊥
+RefusesAt at h f MissingMethod = ⊥
+RefusesAt at h f MissingStatus = ⊥
+RefusesAt at h f MissingAuthority = ⊥
+RefusesAt at h f ContradictedAuthority = ⊥
+RefusesAt at h f OutOfMemory = ⊤
+
+-- the refusal of a name that should be valid
+abbrev pub RefusesName : Type 0 → HeaderError → Type 0
+RefusesName Valid (InvalidHeaderName _) = ¬ Valid
+RefusesName Valid OutOfMemory = ⊤
+RefusesName Valid _ = ⊥
+
+-- the refusal of a value that should be valid
+abbrev pub RefusesValue : Type 0 → HeaderError → Type 0
+RefusesValue Valid (InvalidHeaderValue _) = ¬ Valid
+RefusesValue Valid OutOfMemory = ⊤
+RefusesValue Valid _ = ⊥
+
+-- the refusal of a regular field
+abbrev pub RefusesRegular : Entries FieldValue → List ℕ → List ℕ → HeaderError → Type 0
+RefusesRegular m name value (InvalidHeaderName _) = ¬ (IsHeaderName name)
+RefusesRegular m name value (InvalidHeaderValue _) = IsHeaderName name × ¬ (IsFieldValue value)
+RefusesRegular m name value TooManyFields = IsHeaderName name × IsFieldValue value × RefusesAppend m name
+RefusesRegular m name value OutOfMemory = ⊤
+RefusesRegular m name value _ = ⊥
+
+abbrev pub with_field : Head → Field → Head
+with_field h f = with_kind (kind_of f.name) h f
+
+abbrev pub Accepts : Head → Field → Type 0
+Accepts h f = AcceptsAt (kind_of f.name) h f
+
+abbrev pub Refuses : Head → Field → HeaderError → Type 0
+Refuses h f e = RefusesAt (kind_of f.name) h f e
+
+-- the head of a field list, if it has one
+abbrev pub head_of_fields : List Field → Head
+head_of_fields fields = fold with_field (trailer_head []) fields
+
+-- each field may come after those before it
+unfoldable pub AcceptsAll : Head → List Field → Type 0
+AcceptsAll h [] = ⊤
+AcceptsAll h (f ∷ fields) = Accepts h f × AcceptsAll (with_field h f) fields
+
+-- some field is refused, and those before it are not
+unfoldable pub RefusesOne : Head → List Field → HeaderError → Type 0
+RefusesOne h [] e = e ≡ OutOfMemory
+RefusesOne h (f ∷ fields) e = Refuses h f e ⊎ (Accepts h f × RefusesOne (with_field h f) fields e)
+
+-- the list is that of a head, and this is the head
+abbrev pub IsHeadOf : List Field → Head → Type 0
+IsHeadOf fields h = AcceptsAll (trailer_head []) fields × (h ≡ head_of_fields fields)

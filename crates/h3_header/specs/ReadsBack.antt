@@ -1,0 +1,31 @@
+-- The field list of a head is read as a head with that very list.
+use Rattle.std.specs.Prelude.{◌≡◌, ℕ, List, [], IfSome, All}
+use Rattle.http_header.specs.Token.{IsToken}
+use Rattle.http_header.specs.FieldName.{IsHeaderName}
+use Rattle.http_header.specs.FieldValue.{FieldValue, IsFieldValue}
+use Rattle.http_header.specs.HeaderMap.{pairs, IsHeaderMap}
+use Rattle.http.specs.StatusCode.{IsStatusCode}
+use Rattle.http_uri.specs.Grammar.{IsScheme, IsAuthority, IsPathAndQuery}
+use Rattle.h3_header.specs.ProtocolText.{IsProtocolText}
+use Rattle.h3_field.specs.Field.{Field}
+use Rattle.h3_header.specs.Head.{Head, trailer_head, head_fields}
+use Rattle.h3_header.specs.Reads.{AcceptsAll, head_of_fields}
+
+-- a name and a value as a map holds them
+abbrev pub IsPair : List ℕ × FieldValue → Type 0
+IsPair p = IsHeaderName p.0 × IsFieldValue p.1.bytes
+
+-- each part is what its type holds
+pub record IsValidHead (h : Head) : Type 0 where
+  pub method : IfSome h.method IsToken
+  pub scheme : IfSome h.scheme IsScheme
+  pub authority : IfSome h.authority IsAuthority
+  pub path : IfSome h.path IsPathAndQuery
+  pub status : IfSome h.status IsStatusCode
+  pub protocol : IfSome h.protocol IsProtocolText
+  pub regular : All IsPair (pairs h.regular)
+  pub map : IsHeaderMap h.regular
+
+-- the list is that of a head, and this head has this list
+abbrev pub ReadsBack : List Field → Type 0
+ReadsBack fields = AcceptsAll (trailer_head []) fields × (head_fields (head_of_fields fields) ≡ fields)

@@ -1,0 +1,55 @@
+//! Why a field list is no header, or a header gives no request or response.
+ghost use Rattle.h3_header.specs.Reads.{RefusesName, RefusesValue};
+
+use std::alloc::Global;
+
+/// Why a field list is no header, or a header gives no request or response.
+#[derive(Debug, Drop)]
+pub enum HeaderError {
+    /// The name is empty, no lower case header name, or begins with `:` and is unknown.
+    InvalidHeaderName(String),
+    /// The value is none of its field.
+    InvalidHeaderValue(String),
+    /// Path, scheme and authority make no URI.
+    InvalidRequest,
+    /// The header has no `:method`.
+    MissingMethod,
+    /// The header has no `:status`.
+    MissingStatus,
+    /// The request has neither `:authority` nor `host`.
+    MissingAuthority,
+    /// `:authority` and `host` have other bytes.
+    ContradictedAuthority,
+    /// The map of regular fields is full.
+    TooManyFields,
+    /// The allocator had no memory.
+    OutOfMemory,
+}
+
+impl HeaderError {
+    /// The refusal of a name.
+    pub(crate) fn invalid_name(alloc: Global, name: &[u8]) -> HeaderError
+        ensures { RefusesName ⊥ result }
+    {
+        let text = if name.is_empty() {
+            String::from_str(alloc, "name is empty")
+        } else {
+            format!(in alloc; "{name:?}")
+        };
+        match text {
+            Ok(text) => HeaderError::InvalidHeaderName(text),
+            Err(_) => HeaderError::OutOfMemory,
+        }
+    }
+
+    /// The refusal of a value.
+    pub(crate) fn invalid_value(alloc: Global, name: &[u8], value: &[u8]) -> HeaderError
+        ensures { RefusesValue ⊥ result }
+    {
+        let name = str::from_utf8(name).unwrap_or("");
+        match format!(in alloc; "{name:?} {value:?}") {
+            Ok(text) => HeaderError::InvalidHeaderValue(text),
+            Err(_) => HeaderError::OutOfMemory,
+        }
+    }
+}

@@ -1,0 +1,110 @@
+//! The fields of a header, one after the other.
+ghost use Rattle.std.specs.Prelude.{◌≡◌, [], unwrap_or, IfOk};
+ghost use Rattle.std.specs.Iterator.{item_count};
+ghost use Rattle.h3_header.specs.Left.{TakesField};
+
+use super::write::{pseudo_field, regular_field};
+use crate::ext::Protocol;
+use h3_field::HeaderField;
+use http::{Method, StatusCode};
+use http_header::{HeaderName, HeaderValue};
+use http_uri::{Authority, PathAndQuery, Scheme};
+use std::alloc::{AllocError, Global};
+use std::marker::Model;
+
+/// The fields that are left. A field that finds no memory is passed over.
+#[derive(Drop)]
+pub struct HeaderIter {
+    pub(crate) alloc: Global,
+    pub(crate) method: Option<Method>,
+    pub(crate) scheme: Option<Scheme>,
+    pub(crate) authority: Option<Authority>,
+    pub(crate) path: Option<PathAndQuery>,
+    pub(crate) status: Option<StatusCode>,
+    pub(crate) protocol: Option<Protocol>,
+    pub(crate) regular: RegularIter,
+}
+
+/// The fields of a map that are left, and the name of the one before.
+#[derive(Drop)]
+pub(crate) struct RegularIter {
+    pub(crate) last: Option<HeaderName>,
+    pub(crate) rest: http_header::IntoIter<HeaderValue>,
+}
+
+impl Model for RegularIter {
+    ghost use Rattle.std.specs.Prelude.{List};
+    ghost use Rattle.h3_field.specs.Field.{Field};
+    ghost use Rattle.h3_header.specs.Left.{owned_fields};
+
+    ghost Value = { List Field };
+
+    ghost view = { λ i. owned_fields i.last i.rest };
+}
+
+impl RegularIter {
+    fn take_field(&mut self, alloc: Global) -> Option<Result<HeaderField, AllocError>>
+        ensures { TakesField self.old result self.new }
+    {
+        let (name, value) = self.rest.next()?;
+        let name = name.or(self.last.take());
+        let field = make_field(alloc, &name, &value);
+        self.last = name;
+        Some(field)
+    }
+}
+
+fn make_field(
+    alloc: Global,
+    name: &Option<HeaderName>,
+    value: &HeaderValue,
+) -> Result<HeaderField, AllocError>
+    ensures { IfOk result (λ f. f ≡ record { name = unwrap_or name.now []; value = value.now.bytes }) }
+{
+    let name: &[u8] = match name {
+        Some(name) => name.as_bytes(),
+        None => &[],
+    };
+    regular_field(alloc, name, value.as_bytes())
+}
+
+impl Model for HeaderIter {
+    ghost use Rattle.std.specs.Prelude.{List, ◌++◌};
+    ghost use Rattle.h3_field.specs.Field.{Field};
+    ghost use Rattle.h3_header.specs.Head.{pseudo_fields};
+
+    ghost Value = { List Field };
+
+    ghost view = { λ i. pseudo_fields i.method i.scheme i.authority i.path i.status i.protocol ++ i.regular };
+}
+
+impl Iterator for HeaderIter {
+    type Item = Result<HeaderField, AllocError>;
+
+    ghost next_gives = { TakesField };
+
+    ghost remaining = { item_count (λ it. it) };
+
+    fn next(&mut self) -> Option<Result<HeaderField, AllocError>> {
+        let alloc = self.alloc;
+        if let Some(part) = self.method.take() {
+            return Some(pseudo_field(alloc, b":method", part.as_str()));
+        }
+        if let Some(part) = self.scheme.take() {
+            return Some(pseudo_field(alloc, b":scheme", part.as_str()));
+        }
+        if let Some(part) = self.authority.take() {
+            return Some(pseudo_field(alloc, b":authority", part.as_str()));
+        }
+        if let Some(part) = self.path.take() {
+            return Some(pseudo_field(alloc, b":path", part.as_str()));
+        }
+        if let Some(part) = self.status.take() {
+            return Some(pseudo_field(alloc, b":status", part.as_str()));
+        }
+        if let Some(part) = self.protocol.take() {
+            return Some(pseudo_field(alloc, b":protocol", part.as_str()));
+        }
+        self.regular.take_field(alloc)
+    }
+}

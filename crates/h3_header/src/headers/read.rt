@@ -1,0 +1,128 @@
+//! The parts of a header, read from the bytes of a field's name and value.
+ghost use Rattle.std.specs.Prelude.{◌≡◌, IfOk, OnOk, IfErr, OnErr};
+ghost use Rattle.http_header.specs.Token.{IsToken};
+ghost use Rattle.http_header.specs.FieldName.{IsHeaderName};
+ghost use Rattle.http_header.specs.FieldValue.{plain_value, IsFieldValue};
+ghost use Rattle.http_header.specs.HeaderMap.{append, RefusesAppend};
+ghost use Rattle.http.specs.StatusCode.{IsCodeText};
+ghost use Rattle.http_uri.specs.Grammar.{IsScheme, IsAuthority, IsPathInput, without_fragment};
+ghost use Rattle.h3_header.specs.ProtocolText.{IsProtocolText};
+ghost use Rattle.h3_header.specs.Reads.{status_number, RefusesName, RefusesValue, RefusesRegular};
+
+use super::error::HeaderError;
+use crate::ext::Protocol;
+use http::method::MethodError;
+use http::{Method, StatusCode};
+use http_header::{
+    HeaderMap, HeaderMapError, HeaderName, HeaderNameError, HeaderValue, HeaderValueError,
+};
+use http_uri::{Authority, PathAndQuery, Scheme, UriError};
+use std::alloc::Global;
+
+pub(crate) fn read_method(alloc: Global, value: &[u8]) -> Result<Method, HeaderError>
+    ensures ok { IfOk result (λ m. IsToken value.now × (m ≡ value.now)) }
+    ensures err { IfErr result (RefusesValue (IsToken value.now)) }
+{
+    match Method::from_bytes(alloc, value) {
+        Ok(method) => Ok(method),
+        Err(MethodError::Invalid) => Err(HeaderError::invalid_value(alloc, b":method", value)),
+        Err(MethodError::OutOfMemory) => Err(HeaderError::OutOfMemory),
+    }
+}
+
+pub(crate) fn read_scheme(alloc: Global, value: &[u8]) -> Result<Scheme, HeaderError>
+    ensures ok { IfOk result (λ m. IsScheme value.now × (m ≡ value.now)) }
+    ensures err { IfErr result (RefusesValue (IsScheme value.now)) }
+{
+    match Scheme::from_bytes(alloc, value) {
+        Ok(scheme) => Ok(scheme),
+        Err(UriError::Invalid(_)) => Err(HeaderError::invalid_value(alloc, b":scheme", value)),
+        Err(UriError::OutOfMemory) => Err(HeaderError::OutOfMemory),
+    }
+}
+
+pub(crate) fn read_authority(alloc: Global, value: &[u8]) -> Result<Authority, HeaderError>
+    ensures ok { IfOk result (λ m. IsAuthority value.now × (m ≡ value.now)) }
+    ensures err { IfErr result (RefusesValue (IsAuthority value.now)) }
+{
+    match Authority::from_bytes(alloc, value) {
+        Ok(authority) => Ok(authority),
+        Err(UriError::Invalid(_)) => Err(HeaderError::invalid_value(alloc, b":authority", value)),
+        Err(UriError::OutOfMemory) => Err(HeaderError::OutOfMemory),
+    }
+}
+
+pub(crate) fn read_path(alloc: Global, value: &[u8]) -> Result<PathAndQuery, HeaderError>
+    ensures ok { IfOk result (λ m. IsPathInput value.now × (m ≡ without_fragment value.now)) }
+    ensures err { IfErr result (RefusesValue (IsPathInput value.now)) }
+{
+    match PathAndQuery::from_bytes(alloc, value) {
+        Ok(path) => Ok(path),
+        Err(UriError::Invalid(_)) => Err(HeaderError::invalid_value(alloc, b":path", value)),
+        Err(UriError::OutOfMemory) => Err(HeaderError::OutOfMemory),
+    }
+}
+
+pub(crate) fn read_status(alloc: Global, value: &[u8]) -> Result<StatusCode, HeaderError>
+    ensures ok { IfOk result (λ m. IsCodeText value.now × (m ≡ status_number value.now)) }
+    ensures err { IfErr result (RefusesValue (IsCodeText value.now)) }
+{
+    match StatusCode::from_bytes(value) {
+        Ok(status) => Ok(status),
+        Err(_) => Err(HeaderError::invalid_value(alloc, b":status", value)),
+    }
+}
+
+pub(crate) fn read_protocol(alloc: Global, value: &[u8]) -> Result<Protocol, HeaderError>
+    ensures ok { IfOk result (λ m. IsProtocolText value.now × (m ≡ value.now)) }
+    ensures err { IfErr result (RefusesValue (IsProtocolText value.now)) }
+{
+    match Protocol::from_bytes(value) {
+        Ok(protocol) => Ok(protocol),
+        Err(_) => Err(HeaderError::invalid_value(alloc, b":protocol", value)),
+    }
+}
+
+fn read_name(alloc: Global, name: &[u8]) -> Result<HeaderName, HeaderError>
+    ensures ok { IfOk result (λ n. IsHeaderName name.now × (n ≡ name.now)) }
+    ensures err { IfErr result (RefusesName (IsHeaderName name.now)) }
+{
+    match HeaderName::from_lowercase(alloc, name) {
+        Ok(name) => Ok(name),
+        Err(HeaderNameError::Invalid) => Err(HeaderError::invalid_name(alloc, name)),
+        Err(HeaderNameError::OutOfMemory) => Err(HeaderError::OutOfMemory),
+    }
+}
+
+fn read_value(alloc: Global, name: &[u8], value: &[u8]) -> Result<HeaderValue, HeaderError>
+    ensures ok { IfOk result (λ v. IsFieldValue value.now × (v ≡ plain_value value.now)) }
+    ensures err { IfErr result (RefusesValue (IsFieldValue value.now)) }
+{
+    match HeaderValue::from_bytes(alloc, value) {
+        Ok(value) => Ok(value),
+        Err(HeaderValueError::Invalid) => Err(HeaderError::invalid_value(alloc, name, value)),
+        Err(HeaderValueError::OutOfMemory) => Err(HeaderError::OutOfMemory),
+    }
+}
+
+/// Appends a regular field to the map.
+pub(crate) fn append_field(
+    alloc: Global,
+    map: &mut HeaderMap,
+    name: &[u8],
+    value: &[u8],
+) -> Result<(), HeaderError>
+    ensures ok { OnOk result (IsHeaderName name.now × IsFieldValue value.now
+        × ¬ (RefusesAppend map.old name.now)
+        × (map.new ≡ append map.old name.now (plain_value value.now))) }
+    ensures err { IfErr result (RefusesRegular map.old name.now value.now) }
+    ensures kept { OnErr result (map.new ≡ map.old) }
+{
+    let key = read_name(alloc, name)?;
+    let value = read_value(alloc, name, value)?;
+    match map.append(key, value) {
+        Ok(_) => Ok(()),
+        Err(HeaderMapError::MaxSizeReached) => Err(HeaderError::TooManyFields),
+        Err(HeaderMapError::OutOfMemory) => Err(HeaderError::OutOfMemory),
+    }
+}

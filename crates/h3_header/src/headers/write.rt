@@ -1,0 +1,69 @@
+//! The fields of a header, made one by one or appended to a list.
+ghost use Rattle.std.specs.Prelude.{◌≡◌, ◌∷◌, [], ◌++◌, IfOk, OnOk, option_copied, All};
+ghost use Rattle.http_header.specs.HeaderMap.{pairs, IsHeaderMap};
+ghost use Rattle.h3_header.specs.Head.{optional_field, regular_fields};
+ghost use Rattle.h3_header.specs.ReadsBack.{IsPair};
+
+use h3_field::HeaderField;
+use http_header::HeaderMap;
+use std::alloc::{AllocError, Global};
+use std::borrow::CowSlice;
+
+/// A pseudo-header field, whose name is not copied.
+pub(crate) fn pseudo_field(
+    alloc: Global,
+    name: &'static [u8],
+    value: &str,
+) -> Result<HeaderField, AllocError>
+    ensures { IfOk result (λ f. f ≡ record { name = name.now; value = value.now }) }
+{
+    let value = Vec::from_slice(alloc, value.as_bytes())?;
+    Ok(HeaderField::new(CowSlice::Borrowed(name), CowSlice::Owned(value)))
+}
+
+/// A regular field.
+pub(crate) fn regular_field(
+    alloc: Global,
+    name: &[u8],
+    value: &[u8],
+) -> Result<HeaderField, AllocError>
+    ensures { IfOk result (λ f. f ≡ record { name = name.now; value = value.now }) }
+{
+    let name = Vec::from_slice(alloc, name)?;
+    let value = Vec::from_slice(alloc, value)?;
+    Ok(HeaderField::new(CowSlice::Owned(name), CowSlice::Owned(value)))
+}
+
+/// Appends a pseudo-header field that may be missing.
+pub(crate) fn append_pseudo(
+    alloc: Global,
+    list: &mut Vec<HeaderField>,
+    name: &'static [u8],
+    value: Option<&str>,
+) -> Result<(), AllocError>
+    ensures { OnOk result (list.new.items
+        ≡ list.old.items ++ optional_field name.now (option_copied value.entry)) }
+{
+    let Some(value) = value else {
+        return Ok(());
+    };
+    list.push(pseudo_field(alloc, name, value)?)?;
+    Ok(())
+}
+
+/// Appends the fields of a map.
+pub(crate) fn append_regular(
+    alloc: Global,
+    list: &mut Vec<HeaderField>,
+    map: &HeaderMap,
+) -> Result<(), AllocError>
+    ensures value { OnOk result (list.new.items ≡ list.old.items ++ regular_fields map.now) }
+    ensures valid { OnOk result (All IsPair (pairs map.now)) }
+    ensures map { IsHeaderMap map.now }
+{
+    let _count = map.len();
+    for (name, value) in map.iter() {
+        list.push(regular_field(alloc, name.as_bytes(), value.as_bytes())?)?;
+    }
+    Ok(())
+}

@@ -1,0 +1,9 @@
+//! Heads and trailers of HTTP/3 messages (RFC 9114, 4.1 to 4.3): their pseudo-header fields and
+//! regular fields, and the field lists that they are sent as.
+#![tactic(auto)]
+
+pub mod ext;
+pub mod headers;
+
+pub use ext::{InvalidProtocol, Protocol};
+pub use headers::{Header, HeaderError, HeaderIter};
