@@ -1,0 +1,169 @@
+-- The lines of a block stand for its fields.
+use Rattle.std.proofs.Common.{◌≡◌, ℕ, zero, suc, ◌+◌, ◌-◌, ◌<◌, ◌≤◌, Bool, true, false, List, [], ◌∷◌, ◌++◌, length, refl, ◌∙◌, ap, arith, length-append, append_assoc, append-nil, add-one, Option, Some, None, nat_le, bytes_eq, if◌then◌else◌, fold, slice_get}
+use Rattle.std.proofs.lemmas.Grind.{common_steps}
+use Rattle.std.proofs.lemmas.Slice.Eq.{bytes_eq-Decides}
+use Rattle.std.proofs.lemmas.List.Quantifiers.{position-Some}
+use Rattle.std.proofs.lemmas.Option.{slice_get-get_or}
+use Rattle.std.specs.List.{position}
+use Rattle.std.proofs.Common.{get_or}
+use Rattle.h3_field.specs.Field.{Field, field_eq}
+use Rattle.h3_field.specs.Section.{with_value}
+use Rattle.h3_field.specs.Line.{FieldLine}
+use Rattle.h3_field.specs.Line.FieldLine.{StaticField, RelativeField, PostBaseField, StaticName, RelativeName, PostBaseName, Literal}
+use Rattle.h3_field.specs.StaticTable.{static_table, static_field, static_name}
+use Rattle.h3_qpack.specs.Table.{newest}
+use Rattle.h3_qpack.specs.Sender.{Sender}
+use Rattle.h3_qpack.specs.Written.{Draft, is_usable, found, found_name, is_insertable, add_line, add_literal, add_inserted, add_field, draft_of, entry_name_line}
+use Rattle.h3_qpack.specs.Block.{insertion_at, named_field, StandFor}
+use Rattle.h3_qpack.proofs.Newest.{chosen, newest_from-passes}
+use Rattle.h3_qpack.proofs.Drafts.{either_way, both}
+
+slice_get-append : {X : Type 0} (xs ys : List X) (i : ℕ) (x : X) → slice_get xs i ≡ Some x → slice_get (xs ++ ys) i ≡ Some x
+slice_get-append [] ys i x h = cc
+slice_get-append (y ∷ xs) ys zero x h = h
+slice_get-append (y ∷ xs) ys (suc i) x h = slice_get-append xs ys i x h
+
+insertion_at-append : (fs gs : List Field) (number : ℕ) (f : Field) → insertion_at fs number ≡ Some f → insertion_at (fs ++ gs) number ≡ Some f
+insertion_at-append fs gs zero f h = h
+insertion_at-append fs gs (suc n) f h = slice_get-append fs gs n f h
+
+pub with_value-more : (value : List ℕ) (a b : Option Field) (f : Field) → ((g : Field) → a ≡ Some g → b ≡ Some g) → with_value value a ≡ Some f → with_value value b ≡ Some f
+with_value-more value None b f more h = cc
+with_value-more value (Some g) b f more h = ap (with_value value) (more g refl) ∙ h
+
+-- what a line names it names after further insertions
+named_field-append : (fs gs : List Field) (base : ℕ) (line : FieldLine) (f : Field) → named_field fs base line ≡ Some f → named_field (fs ++ gs) base line ≡ Some f
+named_field-append fs gs base (StaticField index) f h = h
+named_field-append fs gs base (RelativeField index) f h = insertion_at-append fs gs (base - index) f h
+named_field-append fs gs base (PostBaseField index) f h = insertion_at-append fs gs (base + index + 1) f h
+named_field-append fs gs base (StaticName index value) f h = h
+named_field-append fs gs base (RelativeName index value) f h =
+    with_value-more value _ _ f (λ g e. insertion_at-append fs gs (base - index) g e) h
+named_field-append fs gs base (PostBaseName index value) f h =
+    with_value-more value _ _ f (λ g e. insertion_at-append fs gs (base + index + 1) g e) h
+named_field-append fs gs base (Literal name value) f h = h
+
+pub StandFor-append : (fs gs : List Field) (base : ℕ) (lines : List FieldLine) (fields : List Field) → StandFor fs base lines fields → StandFor (fs ++ gs) base lines fields
+StandFor-append fs gs base [] [] h = h
+StandFor-append fs gs base (line ∷ lines) (f ∷ fields) h = (named_field-append fs gs base line f h.0, StandFor-append fs gs base lines fields h.1)
+StandFor-append fs gs base [] (f ∷ fields) h = h
+StandFor-append fs gs base (line ∷ lines) [] h = h
+
+one_more : (inserted : List Field) (base : ℕ) (lines : List FieldLine) (fields : List Field) (line : FieldLine) (f : Field)
+    → StandFor inserted base lines fields → named_field inserted base line ≡ Some f → StandFor inserted base (lines ++ line ∷ []) (fields ++ f ∷ [])
+one_more inserted base [] [] line f h e = (e, tt)
+one_more inserted base (l ∷ lines) (g ∷ fields) line f h e = (h.0, one_more inserted base lines fields line f h.1 e)
+one_more inserted base [] (g ∷ fields) line f h e = absurd h
+one_more inserted base (l ∷ lines) [] line f h e = absurd h
+
+same_bytes : (a b : List ℕ) → bytes_eq a b ≡ true → a ≡ b
+same_bytes a b h = (bytes_eq-Decides a b).0 h
+
+same_field : (f g : Field) → field_eq f g ≡ true → f ≡ g
+same_field f g h =
+    let e = both (bytes_eq f.name g.name) (bytes_eq f.value g.value) h in
+    let n = same_bytes f.name g.name e.0 in
+    let v = same_bytes f.value g.value e.1 in
+    λ i. record { name = n i; value = v i }
+
+-- what stands at the place of an equal entry
+equal_at : (entries : List Field) (f : Field) (i : ℕ) → position (λ entry. field_eq entry f) entries ≡ Some i → slice_get entries i ≡ Some f
+equal_at entries f i h =
+    let p = position-Some (λ entry. field_eq entry f) entries i f h in
+    slice_get-get_or entries i f p.0 ∙ ap Some (same_field (get_or entries i f) f p.1)
+
+name_at : (entries : List Field) (f : Field) (i : ℕ) → position (λ entry. bytes_eq entry.name f.name) entries ≡ Some i → with_value f.value (slice_get entries i) ≡ Some f
+name_at entries f i h =
+    let p = position-Some (λ entry. bytes_eq entry.name f.name) entries i f h in
+    let n = same_bytes (get_or entries i f).name f.name p.1 in
+    ap (with_value f.value) (slice_get-get_or entries i f p.0) ∙ ap Some (λ i. record { name = n i; value = f.value })
+
+-- the entry that a search found stands at its number
+insertion_found : (test : ℕ → Field → Bool) (fs : List Field) (number : ℕ) (h : newest test fs ≡ Some number)
+    → insertion_at fs number ≡ Some (newest_from-passes test 1 fs number h).entry
+insertion_found test fs number h = at_number fs number (newest_from-passes test 1 fs number h).entry (newest_from-passes test 1 fs number h).above (newest_from-passes test 1 fs number h).place
+  where
+    at_number : (fs : List Field) (number : ℕ) (e : Field) → 1 ≤ number → slice_get fs (number - 1) ≡ Some e → insertion_at fs number ≡ Some e
+    at_number fs zero e above place = absurd (omega arith)
+    at_number fs (suc n) e above place = let same : suc n - 1 ≡ n = omega arith in rw same at place
+
+-- The lines so far stand for the fields so far.
+pub record IsWritten (s : Sender) (d : Draft) (fields : List Field) : Type 0 where
+  pub longer : length s.inserted ≤ length d.inserted
+  pub lines : StandFor d.inserted (length s.inserted) d.lines fields
+
+line_written : (s : Sender) (d : Draft) (line : FieldLine) (names : List ℕ) (fields : List Field) (f : Field)
+    → IsWritten s d fields → named_field d.inserted (length s.inserted) line ≡ Some f → IsWritten s (add_line d line names) (fields ++ f ∷ [])
+line_written s d line names fields f h e = record { longer = h.longer; lines = one_more d.inserted (length s.inserted) d.lines fields line f h.lines e }
+
+last_insertion : (fs : List Field) (f : Field) → insertion_at (fs ++ f ∷ []) (length fs + 1) ≡ Some f
+last_insertion fs f = rw add-one (here fs f)
+  where
+    here : (fs : List Field) (f : Field) → slice_get (fs ++ f ∷ []) (length fs) ≡ Some f
+    here [] f = refl
+    here (g ∷ fs) f = here fs f
+
+inserted_written : (s : Sender) (d : Draft) (fields : List Field) (f : Field) → IsWritten s d fields → IsWritten s (add_inserted s d f) (fields ++ f ∷ [])
+inserted_written s d fields f h =
+    let at : length s.inserted + (length d.inserted - length s.inserted) + 1 ≡ length d.inserted + 1 = omega (arith, h.longer) in
+    record {
+      longer = omega (arith, h.longer, length-append d.inserted (f ∷ []));
+      lines = one_more (d.inserted ++ f ∷ []) (length s.inserted) d.lines fields _ f
+          (StandFor-append d.inserted (f ∷ []) (length s.inserted) d.lines fields h.lines)
+          (ap (insertion_at (d.inserted ++ f ∷ [])) at ∙ last_insertion d.inserted f);
+    }
+
+found_line : (s : Sender) (d : Draft) (f : Field) (number : ℕ) → found s d f ≡ Some number
+    → named_field d.inserted (length s.inserted) (RelativeField (length s.inserted - number)) ≡ Some f
+found_line s d f number h =
+    let p = newest_from-passes _ 1 d.inserted number h in
+    let a = both _ (is_usable s number) p.test_is in
+    let b = both _ (nat_le number (length s.inserted)) a.0 in
+    let c = both (field_eq p.entry f) _ b.0 in
+    let le = le_is number (length s.inserted) b.1 in
+    let back : length s.inserted - (length s.inserted - number) ≡ number = omega (arith, le) in
+    ap (insertion_at d.inserted) back ∙ insertion_found _ d.inserted number h ∙ ap Some (same_field p.entry f c.0)
+  where
+    le_is : (a b : ℕ) → nat_le a b ≡ true → a ≤ b
+    le_is a b e = grind (arith, common_steps)
+
+named_line : (inserted : List Field) (base number : ℕ) (f : Field) (b : Bool) → nat_le number base ≡ b → 0 < number → with_value f.value (insertion_at inserted number) ≡ Some f
+    → named_field inserted base (if b then RelativeName (base - number) f.value else PostBaseName (number - base - 1) f.value) ≡ Some f
+named_line inserted base number f true e above h =
+    let back : base - (base - number) ≡ number = grind (arith, common_steps) in ap (λ n. with_value f.value (insertion_at inserted n)) back ∙ h
+named_line inserted base number f false e above h =
+    let back : base + (number - base - 1) + 1 ≡ number = grind (arith, common_steps) in ap (λ n. with_value f.value (insertion_at inserted n)) back ∙ h
+
+found_name_line : (s : Sender) (d : Draft) (f : Field) (number : ℕ) → found_name s d f ≡ Some number
+    → named_field d.inserted (length s.inserted) (entry_name_line (length s.inserted) number f.value) ≡ Some f
+found_name_line s d f number h =
+    let p = newest_from-passes _ 1 d.inserted number h in
+    let a = both _ (is_usable s number) p.test_is in
+    let b = both (bytes_eq p.entry.name f.name) _ a.0 in
+    let n = same_bytes p.entry.name f.name b.0 in
+    named_line d.inserted (length s.inserted) number f (nat_le number (length s.inserted)) refl p.above
+    (ap (with_value f.value) (insertion_found _ d.inserted number h) ∙ ap Some (λ i. record { name = n i; value = f.value }))
+
+literal_written : (s : Sender) (d : Draft) (fields : List Field) (f : Field) → IsWritten s d fields → IsWritten s (add_literal s d f) (fields ++ f ∷ [])
+unfolding static_table static_name
+literal_written s d fields f h =
+    let P : Draft → Type 0 = λ e. IsWritten s e (fields ++ f ∷ []) in
+    chosen P (static_name f.name) _ _ (λ index e. line_written s d _ [] fields f h (name_at static_table f index e)) (λ none.
+    chosen P (found_name s d f) _ _ (λ number e. line_written s d _ (number ∷ []) fields f h (found_name_line s d f number e)) (λ none.
+    line_written s d _ [] fields f h refl))
+
+field_written : (s : Sender) (d : Draft) (fields : List Field) (f : Field) → IsWritten s d fields → IsWritten s (add_field s d f) (fields ++ f ∷ [])
+unfolding static_table static_field
+field_written s d fields f h =
+    let P : Draft → Type 0 = λ e. IsWritten s e (fields ++ f ∷ []) in
+    chosen P (static_field f) _ _ (λ index e. line_written s d _ [] fields f h (equal_at static_table f index e)) (λ none.
+    chosen P (found s d f) _ _ (λ number e. line_written s d _ (number ∷ []) fields f h (found_line s d f number e)) (λ none.
+    either_way P (is_insertable s d f) _ _ (λ e. inserted_written s d fields f h) (literal_written s d fields f h)))
+
+all_written : (s : Sender) (d : Draft) (before fields : List Field) → IsWritten s d before → IsWritten s (fold (add_field s) d fields) (before ++ fields)
+all_written s d before [] h = rw append-nil h
+all_written s d before (f ∷ fields) h = rw (← append_assoc before (f ∷ []) fields) (all_written s (add_field s d f) (before ++ f ∷ []) fields (field_written s d before f h))
+
+-- The lines of a block stand for its fields over the insertions that it was written to need.
+pub block_stands : (s : Sender) (fields : List Field) → StandFor (draft_of s fields).inserted (length s.inserted) (draft_of s fields).lines fields
+block_stands s fields = (all_written s (record { inserted = s.inserted; instructions = []; lines = []; references = [] }) [] fields (record { longer = omega arith; lines = tt })).lines

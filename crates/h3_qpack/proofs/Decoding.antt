@@ -1,0 +1,248 @@
+-- Each block that a decoder tries decodes to its fields.
+use Rattle.std.proofs.Common.{◌≡◌, ℕ, zero, suc, ◌+◌, ◌-◌, ◌*◌, ◌%◌, ◌⊎◌, ⊎_elim, inl, inr, ◌<◌, ◌≤◌, Bool, true, false, List, [], ◌∷◌, ◌++◌, length, take, drop, refl, sym, ◌∙◌, ap, subst, arith, length-append, max, Some, nat_le, nat_lt, unwrap_or, if◌then◌else◌, fold, slice_get}
+use Rattle.std.specs.Prelude.{◌==◌}
+use Rattle.std.specs.List.{AllByRecursion, flat_map}
+use Rattle.std.proofs.lemmas.Grind.{common_steps}
+use Rattle.std.proofs.lemmas.List.{take-append-drop}
+use Rattle.h3_field.specs.Field.{Field}
+use Rattle.h3_field.specs.Line.{FieldLine}
+use Rattle.h3_field.specs.Line.FieldLine.{StaticField, RelativeField, PostBaseField, StaticName, RelativeName, PostBaseName, Literal}
+use Rattle.h3_field.specs.StaticTable.{static_field, static_name}
+use Rattle.h3_field.specs.Prefix.{most_entries, IsRequiredCount}
+use Rattle.h3_qpack.proofs.Counts.{few_entries}
+use Rattle.h3_qpack.specs.Table.{table, dropped}
+use Rattle.h3_qpack.specs.Sender.{Sender, Tracked}
+use Rattle.h3_qpack.specs.Block.{insertion_at, named_field, StandFor, entry_number}
+use Rattle.h3_qpack.specs.Written.{Draft, found, found_name, is_insertable, add_line, add_literal, add_inserted, add_field, draft_of, required_insert_count}
+use Rattle.h3_qpack.specs.Session.{Session, UnderWay, oldest, without_oldest, count_of, references_of, references_under_way, tracked_references, acknowledgements, is_canceled, IsWrittenOver, IsSound, DecodesTo}
+use Rattle.h3_qpack.proofs.Tables.{dropped-append}
+use Rattle.h3_qpack.proofs.Newest.{chosen, newest_from-passes}
+use Rattle.h3_qpack.proofs.Drafts.{either_way, both, All-join, All-first}
+use Rattle.h3_qpack.proofs.Blocks.{block_stands, StandFor-append, with_value-more}
+use Rattle.h3_qpack.proofs.Sessions.{taken_names}
+
+-- each line names an entry up to the required count, and each entry has a number above 0
+pub record IsCounted (s : Sender) (d : Draft) : Type 0 where
+  pub lines : AllByRecursion (λ line. entry_number (length s.inserted) line ≤ required_insert_count d) d.lines
+  pub positive : AllByRecursion (λ number. 0 < number) d.references
+  pub made : AllByRecursion (λ number. number ≤ length d.inserted) d.references
+
+more_is_more : (a : ℕ) (xs ys : List ℕ) → fold max a xs ≤ fold max a (xs ++ ys)
+more_is_more a [] ys = least a ys
+  where
+    least : (a : ℕ) (ys : List ℕ) → a ≤ fold max a ys
+    least a [] = omega arith
+    least a (y ∷ ys) = omega (arith, least (max a y) ys)
+more_is_more a (x ∷ xs) ys = more_is_more (max a x) xs ys
+
+last_counts : (a : ℕ) (xs : List ℕ) (y : ℕ) → y ≤ fold max a (xs ++ y ∷ [])
+last_counts a [] y = omega arith
+last_counts a (x ∷ xs) y = last_counts (max a x) xs y
+
+no_less : (base m n : ℕ) (lines : List FieldLine) → m ≤ n → AllByRecursion (λ line. entry_number base line ≤ m) lines → AllByRecursion (λ line. entry_number base line ≤ n) lines
+no_less base m n [] le h = tt
+no_less base m n (l ∷ ls) le h = (omega (arith, le, h.0), no_less base m n ls le h.1)
+
+-- a line that names nothing, or the entry that is added to the names
+plain_counted : (s : Sender) (d : Draft) (line : FieldLine) → entry_number (length s.inserted) line ≡ 0 → IsCounted s d → IsCounted s (add_line d line [])
+plain_counted s d line none h =
+    record {
+      lines = All-join _ d.lines (line ∷ []) (no_less (length s.inserted) (required_insert_count d) _ d.lines (more_is_more 0 d.references []) h.lines) (omega (arith, none), tt);
+      positive = All-join (λ number. 0 < number) d.references [] h.positive tt;
+      made = All-join (λ number. number ≤ length d.inserted) d.references [] h.made tt;
+    }
+
+named_counted : (s : Sender) (d : Draft) (line : FieldLine) (number : ℕ) → entry_number (length s.inserted) line ≡ number → 0 < number → number ≤ length d.inserted → IsCounted s d → IsCounted s (add_line d line (number ∷ []))
+named_counted s d line number is above below h =
+    record {
+      lines = All-join _ d.lines (line ∷ []) (no_less (length s.inserted) (required_insert_count d) _ d.lines (more_is_more 0 d.references (number ∷ [])) h.lines)
+          (omega (arith, is, last_counts 0 d.references number), tt);
+      positive = All-join (λ number. 0 < number) d.references (number ∷ []) h.positive (above, tt);
+      made = All-join (λ number. number ≤ length d.inserted) d.references (number ∷ []) h.made (below, tt);
+    }
+
+All-at-most : (names : List ℕ) (m n : ℕ) → m ≤ n → AllByRecursion (λ number. number ≤ m) names → AllByRecursion (λ number. number ≤ n) names
+All-at-most [] m n le h = tt
+All-at-most (x ∷ xs) m n le h = (omega (arith, le, h.0), All-at-most xs m n le h.1)
+
+inserted_counted : (s : Sender) (d : Draft) (f : Field) → length s.inserted ≤ length d.inserted → IsCounted s d → IsCounted s (add_inserted s d f)
+inserted_counted s d f longer h =
+    let more : length d.inserted ≤ length (d.inserted ++ f ∷ []) = omega (arith, length-append d.inserted (f ∷ [])) in
+    let made_longer : (names : List ℕ) → AllByRecursion (λ number. number ≤ length d.inserted) names → AllByRecursion (λ number. number ≤ length (d.inserted ++ f ∷ [])) names = λ names k. All-at-most names _ _ more k in
+    record {
+      lines = All-join _ d.lines _ (no_less (length s.inserted) (required_insert_count d) _ d.lines (more_is_more 0 d.references ((length d.inserted + 1) ∷ [])) h.lines)
+          (omega (arith, longer, last_counts 0 d.references (length d.inserted + 1)), tt);
+      positive = All-join (λ number. 0 < number) d.references _ h.positive (omega arith, tt);
+      made = All-join (λ number. number ≤ length (d.inserted ++ f ∷ [])) d.references _ (made_longer d.references h.made) (omega (arith, length-append d.inserted (f ∷ [])), tt);
+    }
+
+le_is : (a b : ℕ) → nat_le a b ≡ true → a ≤ b
+le_is a b e = grind (arith, common_steps)
+
+found_back : (s : Sender) (d : Draft) (f : Field) (number : ℕ) → found s d f ≡ Some number → (length s.inserted - (length s.inserted - number) ≡ number) × (0 < number) × (number ≤ length d.inserted)
+found_back s d f number h =
+    let p = newest_from-passes _ 1 d.inserted number h in
+    let a = both _ _ p.test_is in
+    let b = both _ (nat_le number (length s.inserted)) a.0 in
+    let le = le_is number (length s.inserted) b.1 in
+    (omega (arith, le), omega (arith, p.above), omega (arith, p.below))
+
+name_back : (base number : ℕ) (value : List ℕ) (b : Bool) → nat_le number base ≡ b → 0 < number
+    → entry_number base (if b then RelativeName (base - number) value else PostBaseName (number - base - 1) value) ≡ number
+name_back base number value true e above = grind (arith, common_steps)
+name_back base number value false e above = grind (arith, common_steps)
+
+record Both (s : Sender) (d : Draft) : Type 0 where
+  longer : length s.inserted ≤ length d.inserted
+  counted : IsCounted s d
+
+literal_both : (s : Sender) (d : Draft) (f : Field) → Both s d → Both s (add_literal s d f)
+literal_both s d f h =
+    chosen (Both s) (static_name f.name) _ _ (λ index e. record { longer = h.longer; counted = plain_counted s d _ refl h.counted }) (λ none.
+    chosen (Both s) (found_name s d f) _ _ (λ number e.
+    let p = newest_from-passes _ 1 d.inserted number e in
+    let above : 0 < number = omega (arith, p.above) in
+    record { longer = h.longer; counted = named_counted s d _ number (name_back (length s.inserted) number f.value _ refl above) above (omega (arith, p.below)) h.counted }) (λ none.
+    record { longer = h.longer; counted = plain_counted s d _ refl h.counted }))
+
+field_both : (s : Sender) (d : Draft) (f : Field) → Both s d → Both s (add_field s d f)
+field_both s d f h =
+    chosen (Both s) (static_field f) _ _ (λ index e. record { longer = h.longer; counted = plain_counted s d _ refl h.counted }) (λ none.
+    chosen (Both s) (found s d f) _ _ (λ number e. let k = found_back s d f number e in record { longer = h.longer; counted = named_counted s d _ number k.0 k.1 k.2 h.counted }) (λ none.
+    either_way (Both s) (is_insertable s d f) _ _
+    (λ e. record { longer = omega (arith, h.longer, length-append d.inserted (f ∷ [])); counted = inserted_counted s d f h.longer h.counted })
+    (literal_both s d f h)))
+
+fields_both : (s : Sender) (d : Draft) (fields : List Field) → Both s d → Both s (fold (add_field s) d fields)
+fields_both s d [] h = h
+fields_both s d (f ∷ fields) h = fields_both s (add_field s d f) fields (field_both s d f h)
+
+block_counted : (s : Sender) (fields : List Field) → IsCounted s (draft_of s fields)
+block_counted s fields = (fields_both s (record { inserted = s.inserted; instructions = []; lines = []; references = [] }) fields (record { longer = omega arith; counted = record { lines = tt; positive = tt; made = tt } })).counted
+
+slice_get-take : {X : Type 0} (xs : List X) (n i : ℕ) (x : X) → i < n → slice_get xs i ≡ Some x → slice_get (take n xs) i ≡ Some x
+slice_get-take [] n i x lt h = cc
+slice_get-take (y ∷ xs) zero i x lt h = absurd (omega arith)
+slice_get-take (y ∷ xs) (suc n) zero x lt h = h
+slice_get-take (y ∷ xs) (suc n) (suc i) x lt h = slice_get-take xs n i x (omega (arith, lt)) h
+
+insertion_at-take : (fs : List Field) (n number : ℕ) (f : Field) → number ≤ n → insertion_at fs number ≡ Some f → insertion_at (take n fs) number ≡ Some f
+insertion_at-take fs n zero f le h = h
+insertion_at-take fs n (suc number) f le h = slice_get-take fs n number f (omega (arith, le)) h
+
+named_field-take : (fs : List Field) (n base : ℕ) (line : FieldLine) (f : Field) → entry_number base line ≤ n → named_field fs base line ≡ Some f → named_field (take n fs) base line ≡ Some f
+named_field-take fs n base (StaticField index) f le h = h
+named_field-take fs n base (RelativeField index) f le h = insertion_at-take fs n (base - index) f le h
+named_field-take fs n base (PostBaseField index) f le h = insertion_at-take fs n (base + index + 1) f le h
+named_field-take fs n base (StaticName index value) f le h = h
+named_field-take fs n base (RelativeName index value) f le h = with_value-more value _ _ f (λ g e. insertion_at-take fs n (base - index) g le e) h
+named_field-take fs n base (PostBaseName index value) f le h = with_value-more value _ _ f (λ g e. insertion_at-take fs n (base + index + 1) g le e) h
+named_field-take fs n base (Literal name value) f le h = h
+
+StandFor-take : (fs : List Field) (n base : ℕ) (lines : List FieldLine) (fields : List Field) → AllByRecursion (λ line. entry_number base line ≤ n) lines → StandFor fs base lines fields → StandFor (take n fs) base lines fields
+StandFor-take fs n base [] [] le h = h
+StandFor-take fs n base (l ∷ ls) (f ∷ fields) le h = (named_field-take fs n base l f le.0 h.0, StandFor-take fs n base ls fields le.1 h.1)
+StandFor-take fs n base [] (f ∷ fields) le h = h
+StandFor-take fs n base (l ∷ ls) [] le h = h
+
+-- what holds of each block holds of the oldest
+oldest_holds : (P : UnderWay → Type 0) (stream : ℕ) (blocks : List UnderWay) (b : UnderWay) → AllByRecursion P blocks → oldest stream blocks ≡ Some b → P b
+oldest_holds P stream [] b h e = cc
+oldest_holds P stream (x ∷ xs) b h e = by_test (x.stream == stream) h.0 e (λ k. oldest_holds P stream xs b h.1 k)
+  where
+    by_test : (t : Bool) → P x → (if t then Some x else oldest stream xs) ≡ Some b → (oldest stream xs ≡ Some b → P b) → P b
+    by_test true p e later = subst P (ap (λ o. unwrap_or o x) e) p
+    by_test false p e later = later e
+
+named_each : (P : ℕ → Type 0) (stream : ℕ) (bs : List Tracked) → AllByRecursion P (flat_map (λ b. b.references) bs) → AllByRecursion (AllByRecursion P) (tracked_references stream bs)
+named_each P stream [] h = tt
+named_each P stream (b ∷ bs) h = by_test (b.stream == stream) (All-first P b.references (flat_map (λ (b : Tracked). b.references) bs) h) (named_each P stream bs (second P b.references (flat_map (λ (b : Tracked). b.references) bs) h))
+  where
+    by_test : (t : Bool) → AllByRecursion P b.references → AllByRecursion (AllByRecursion P) (tracked_references stream bs) → AllByRecursion (AllByRecursion P) (if t then b.references ∷ tracked_references stream bs else tracked_references stream bs)
+    by_test true h k = (h, k)
+    by_test false h k = k
+
+    second : (P : ℕ → Type 0) (xs ys : List ℕ) → AllByRecursion P (xs ++ ys) → AllByRecursion P ys
+    second P [] ys h = h
+    second P (x ∷ xs) ys h = second P xs ys h.1
+
+All-drop : (P : List ℕ → Type 0) (n : ℕ) (xs : List (List ℕ)) → AllByRecursion P xs → AllByRecursion P (drop n xs)
+All-drop P zero xs h = h
+All-drop P (suc n) [] h = h
+All-drop P (suc n) (x ∷ xs) h = All-drop P n xs h.1
+
+All-weaker : (d e : ℕ) (names : List ℕ) → e ≤ d → AllByRecursion (λ number. d < number) names → AllByRecursion (λ number. e < number) names
+All-weaker d e [] le h = tt
+All-weaker d e (x ∷ xs) le h = (omega (arith, le, h.0), All-weaker d e xs le h.1)
+
+none_named : (d : ℕ) (names : List ℕ) → fold max 0 names ≡ 0 → AllByRecursion (λ number. 0 < number) names → AllByRecursion (λ number. d < number) names
+none_named d [] e h = tt
+none_named d (x ∷ xs) e h = absurd (omega (arith, e, h.0, first_counts x xs))
+  where
+    first_counts : (x : ℕ) (xs : List ℕ) → x ≤ fold max (max 0 x) xs
+    first_counts x xs = omega (arith, more_is_more (max 0 x) [] xs)
+
+-- The names of the oldest block of a stream are there.
+names_held : (s : Session) (b : UnderWay) → IsSound s → oldest b.stream s.blocks ≡ Some b → is_canceled s b.stream ≡ false
+    → AllByRecursion (λ number. dropped s.sender.capacity s.sender.inserted < number) (references_of b)
+names_held s b h is alive = by_count (nat_lt 0 (count_of b)) refl
+  where
+    by_count : (t : Bool) → nat_lt 0 (count_of b) ≡ t → AllByRecursion (λ number. dropped s.sender.capacity s.sender.inserted < number) (references_of b)
+    by_count true e =
+        let gone : references_under_way b.stream s.blocks ≡ references_of b ∷ references_under_way b.stream (without_oldest b.stream s.blocks) = taken_names b.stream s.blocks b is ∙ rw e refl in
+        let all = All-drop (AllByRecursion (λ number. dropped s.sender.capacity s.sender.inserted < number)) (acknowledgements b.stream s.decoder_instructions) (tracked_references b.stream s.sender.tracked)
+        (named_each (λ number. dropped s.sender.capacity s.sender.inserted < number) b.stream s.sender.tracked h.references_held) in
+        (subst (λ ns. AllByRecursion (AllByRecursion (λ number. dropped s.sender.capacity s.sender.inserted < number)) ns) (h.tracked b.stream alive ∙ gone) all).0
+    by_count false e =
+        let none : count_of b ≡ 0 = grind (arith, common_steps) in
+        none_named _ (references_of b) none (block_counted b.sender b.fields).positive
+
+-- A block that is tried once its insertions came decodes to its fields.
+pub block_decodes : (s : Session) (b : UnderWay) → IsSound s → oldest b.stream s.blocks ≡ Some b → is_canceled s b.stream ≡ false → count_of b ≤ s.received → DecodesTo s b
+block_decodes s b h is alive came =
+    let w = oldest_holds (IsWrittenOver s.sender.inserted) b.stream s.blocks b h.written is in
+    let base = length b.sender.inserted in
+    let lines = (draft_of b.sender b.fields).lines in
+    let all : StandFor s.sender.inserted base lines b.fields =
+    subst (λ fs. StandFor fs base lines b.fields) (sym w.begins)
+    (StandFor-append (draft_of b.sender b.fields).inserted w.more base lines b.fields (block_stands b.sender b.fields)) in
+    let counted = block_counted b.sender b.fields in
+    let fewer : dropped s.sender.capacity (take s.received s.sender.inserted) ≤ dropped s.sender.capacity s.sender.inserted =
+    subst (λ fs. dropped s.sender.capacity (take s.received s.sender.inserted) ≤ dropped s.sender.capacity fs) (take-append-drop s.received s.sender.inserted)
+    (dropped-append s.sender.capacity (take s.received s.sender.inserted) (drop s.received s.sender.inserted)) in
+    record {
+      lines = StandFor-take s.sender.inserted s.received base lines b.fields (no_less base (count_of b) s.received lines came counted.lines) all;
+      held = All-weaker _ _ (references_of b) fewer (names_held s b h is alive);
+    }
+
+-- the greatest of the names is one of them
+greatest_holds : (P : ℕ → Type 0) (a : ℕ) (names : List ℕ) → AllByRecursion P names → (fold max a names ≡ a) ⊎ P (fold max a names)
+greatest_holds P a [] h = inl refl
+greatest_holds P a (x ∷ xs) h = ⊎_elim
+    (λ e. ⊎_elim (λ (k : max a x ≡ a). inl (e ∙ k)) (λ (k : max a x ≡ x). inr (subst P (sym (e ∙ k)) h.0)) (which a x))
+    (λ p. inr p)
+    (greatest_holds P (max a x) xs h.1)
+  where
+    which : (a x : ℕ) → (max a x ≡ a) ⊎ (max a x ≡ x)
+    which a x = grind (arith, common_steps)
+
+count_holds : (P : ℕ → Type 0) (names : List ℕ) → 0 < fold max 0 names → AllByRecursion P names → P (fold max 0 names)
+count_holds P names above h = ⊎_elim (λ e. absurd (omega (arith, e, above))) (λ p. p) (greatest_holds P 0 names h)
+
+-- The encoded count of a block that is tried stands for its count, at whatever moment.
+pub count_in_window : (s : Session) (b : UnderWay) → IsSound s → oldest b.stream s.blocks ≡ Some b → is_canceled s b.stream ≡ false → 0 < count_of b
+    → IsRequiredCount s.sender.capacity s.received (count_of b % (2 * most_entries s.sender.capacity) + 1) (count_of b)
+count_in_window s b h is alive above =
+    let w = oldest_holds (IsWrittenOver s.sender.inserted) b.stream s.blocks b h.written is in
+    let d = draft_of b.sender b.fields in
+    let made : count_of b ≤ length d.inserted = count_holds (λ n. n ≤ length d.inserted) d.references above (block_counted b.sender b.fields).made in
+    let longer : length d.inserted ≤ length s.sender.inserted = omega (arith, ap length w.begins, length-append d.inserted w.more) in
+    let held : dropped s.sender.capacity s.sender.inserted < count_of b =
+    count_holds (λ n. dropped s.sender.capacity s.sender.inserted < n) (references_of b) above (names_held s b h is alive) in
+    let few : length (table s.sender.capacity s.sender.inserted) ≤ most_entries s.sender.capacity = omega (arith, few_entries s.sender.capacity s.sender.inserted) in
+    record {
+      positive = above;
+      residue = refl;
+      not_too_old = omega (arith, h.received, held, few);
+      not_too_new = omega (arith, made, longer, few, h.dropped_known, h.accounted);
+    }

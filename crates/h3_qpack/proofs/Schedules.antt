@@ -1,0 +1,64 @@
+-- Every session is sound.
+use Rattle.std.proofs.Common.{ℕ, List, [], ◌∷◌, refl, sym, subst, arith}
+use Rattle.std.proofs.Common.{◌≡◌, ◌+◌, ◌<◌, ◌≤◌, ap, length}
+use Rattle.std.specs.List.{AllByRecursion}
+use Rattle.h3_field.specs.Field.{Field}
+use Rattle.h3_qpack.specs.Table.{dropped}
+use Rattle.h3_qpack.specs.Sender.{referenced_entries}
+use Rattle.h3_qpack.specs.Session.{Session, IsSound}
+use Rattle.h3_qpack.specs.Schedule.{SessionEvent, SessionStep, SessionRun, beginning, with_table}
+use Rattle.h3_qpack.specs.Schedule.SessionEvent.{UseTable, Encode, CutOff, InsertionsRead, Decode, Cancel, DecoderInstructionRead}
+use Rattle.h3_qpack.proofs.Sessions.{block_written, insertions_kept, insertions_read, block_decoded, stream_abandoned, reply_read}
+
+nothing_dropped : (capacity : ℕ) (inserted : List Field) → inserted ≡ [] → dropped capacity inserted ≡ 0
+nothing_dropped capacity inserted e = ap (dropped capacity) e
+
+moved : (a b : ℕ) (names : List ℕ) → b ≤ a → AllByRecursion (λ number. a < number) names → AllByRecursion (λ number. b < number) names
+moved a b [] le h = tt
+moved a b (x ∷ xs) le h = (omega (arith, le, h.0), moved a b xs le h.1)
+
+-- a table comes into use
+table_used : (s : Session) (capacity limit : ℕ) → s.sender.inserted ≡ [] → s.sender.limit ≡ 0 → IsSound s → IsSound (with_table s capacity limit)
+table_used s capacity limit none zero_limit h =
+    let gone = nothing_dropped capacity s.sender.inserted none in
+    record {
+      received = h.received;
+      accounted = h.accounted;
+      dropped_known = omega (arith, gone);
+      references_held = moved (dropped s.sender.capacity s.sender.inserted) _ (referenced_entries s.sender) (omega (arith, gone)) h.references_held;
+      tracked = h.tracked;
+      acknowledged = h.acknowledged;
+      written = h.written;
+      cancels = h.cancels;
+      within_limit = omega (arith, h.within_limit, zero_limit);
+    }
+
+step_is_sound : (s : Session) (event : SessionEvent) (new : Session) → IsSound s → SessionStep s event new → IsSound new
+step_is_sound s (UseTable capacity limit) new h e = subst IsSound (sym e.2) (table_used s capacity limit e.0 e.1 h)
+step_is_sound s (Encode stream fields) new h e = subst IsSound (sym e) (block_written s stream fields h)
+step_is_sound s (CutOff fields) new h e = subst IsSound (sym e) (insertions_kept s fields h)
+step_is_sound s (InsertionsRead count) new h e = subst IsSound (sym e.2) (insertions_read s count e.1 h)
+step_is_sound s (Decode block) new h e = subst IsSound (sym e.3) (block_decoded s block e.0 e.1 h)
+step_is_sound s (Cancel stream) new h e = subst IsSound (sym e.1) (stream_abandoned s stream h)
+step_is_sound s (DecoderInstructionRead instruction rest) new h e = subst IsSound (sym e.1) (reply_read s instruction rest e.0 h)
+
+run_is_sound : (s : Session) (events : List SessionEvent) (new : Session) → IsSound s → SessionRun s events new → IsSound new
+run_is_sound s [] new h r = subst IsSound (sym r) h
+run_is_sound s (event ∷ events) new h r = run_is_sound r.0 events new (step_is_sound s event r.0 h r.1) r.2
+
+beginning_is_sound : (capacity limit : ℕ) → IsSound (beginning capacity limit)
+beginning_is_sound capacity limit =
+    record {
+      received = omega arith;
+      accounted = refl;
+      dropped_known = omega arith;
+      references_held = tt;
+      tracked = λ stream alive. refl;
+      acknowledged = λ stream. omega arith;
+      written = tt;
+      cancels = tt;
+      within_limit = omega arith;
+    }
+
+pub every_run_is_sound : (capacity limit : ℕ) (events : List SessionEvent) (s : Session) → SessionRun (beginning capacity limit) events s → IsSound s
+every_run_is_sound capacity limit events s r = run_is_sound (beginning capacity limit) events s (beginning_is_sound capacity limit) r

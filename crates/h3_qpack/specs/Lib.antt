@@ -1,0 +1,13 @@
+pub mod Table
+pub mod Sender
+pub mod Written
+pub mod WholeInstructions
+pub mod Block
+pub mod Receiver
+pub mod History
+pub mod Session
+pub mod Schedule
+pub mod Meaning
+pub mod Instructions
+pub mod Stored
+pub mod Worked

@@ -1,0 +1,55 @@
+-- What an encoded field section means to a decoder with this table (RFC 9204, sections 2.2.1, 2.2.3 and 4.5).
+use Rattle.std.specs.Prelude.{◌≡◌, ◌<◌, ◌≤◌, ℕ, ◌+◌, ◌-◌, List, [], ◌∷◌, slice_get, Option, Some, None, option_map}
+use Rattle.h3_field.specs.Field.{Field}
+use Rattle.h3_field.specs.Section.{AreLines, with_value}
+use Rattle.h3_field.specs.StaticTable.{static_table}
+use Rattle.h3_field.specs.Line.{FieldLine}
+use Rattle.h3_field.specs.Line.FieldLine.{StaticField, RelativeField, PostBaseField, StaticName, RelativeName, PostBaseName, Literal}
+use Rattle.h3_field.specs.Reading.{Whole}
+use Rattle.h3_field.specs.PrefixReading.{EncodedPrefix, prefix, IsPrefix}
+use Rattle.h3_qpack.specs.Receiver.{Receiver, count_capacity, entry_at}
+
+-- the field of a line, where what it names is there
+abbrev pub field_at : Receiver → ℕ → FieldLine → Option Field
+field_at r base (StaticField index) = slice_get static_table index
+field_at r base (RelativeField index) = entry_at r (base - index)
+field_at r base (PostBaseField index) = entry_at r (base + index + 1)
+field_at r base (StaticName index value) = with_value value (slice_get static_table index)
+field_at r base (RelativeName index value) = with_value value (entry_at r (base - index))
+field_at r base (PostBaseName index value) = with_value value (entry_at r (base + index + 1))
+field_at r base (Literal name value) = Some (record { name = name; value = value })
+
+-- The lines are of these fields, one of each.
+abbrev pub HaveFields : Receiver → ℕ → List FieldLine → List Field → Type 0
+HaveFields r base [] [] = Unit {0}
+HaveFields r base (line ∷ lines) (field ∷ fields) = (field_at r base line ≡ Some field) × HaveFields r base lines fields
+HaveFields r base [] (field ∷ fields) = ⊥
+HaveFields r base (line ∷ lines) [] = ⊥
+
+-- The section begins with this required insert count and base, and its lines are the rest.
+pub record HasPrefix (r : Receiver) (bytes rest : List ℕ) (count base : ℕ) : Type 0 where
+  pub encoded : EncodedPrefix
+  pub whole : prefix bytes ≡ Whole encoded rest
+  pub is : IsPrefix (count_capacity r) r.inserted encoded count base
+
+-- The section is of these fields and has this required insert count, which is not above the insertions.
+pub record MeansFields (r : Receiver) (bytes : List ℕ) (count : ℕ) (fields : List Field) : Type 0 where
+  pub rest : List ℕ
+  pub base : ℕ
+  pub lines : List FieldLine
+  pub begins : HasPrefix r bytes rest count base
+  pub received : count ≤ r.inserted
+  pub split : AreLines rest lines
+  pub named : HaveFields r base lines fields
+
+-- The section needs so many insertions, and not all were read.
+pub record IsMissing (r : Receiver) (bytes : List ℕ) (count : ℕ) : Type 0 where
+  pub rest : List ℕ
+  pub base : ℕ
+  pub begins : HasPrefix r bytes rest count base
+  pub missing : r.inserted < count
+
+-- The section means nothing.
+pub record IsBadSection (r : Receiver) (bytes : List ℕ) : Type 0 where
+  pub no_fields : (count : ℕ) (fields : List Field) → MeansFields r bytes count fields → ⊥
+  pub none_missing : (count : ℕ) → IsMissing r bytes count → ⊥

@@ -1,0 +1,47 @@
+-- The worked values that the definitions are tried at.
+use Rattle.std.specs.Prelude.{ℕ, List, [], ◌∷◌, codes}
+use Rattle.h3_field.specs.Field.{Field}
+use Rattle.h3_field.specs.Instruction.DecoderInstruction.{Increment}
+use Rattle.h3_qpack.specs.Sender.{Sender, no_table, told}
+use Rattle.h3_field.specs.Instruction.EncoderInstruction.{SetCapacity, InsertLiteral, InsertWithEntryName, Duplicate}
+use Rattle.std.specs.Prelude.{Option, Some}
+use Rattle.h3_qpack.specs.Receiver.{Receiver, announcing, having_read_all}
+use Rattle.h3_qpack.specs.Written.{sent_section}
+
+-- a sender that has written nothing
+abbrev pub fresh : ℕ → ℕ → Sender
+fresh capacity limit = record no_table { capacity = capacity; limit = limit }
+
+abbrev pub sample : List Field
+sample =
+    record { name = codes ":method"; value = codes "GET" } ∷
+    record { name = codes ":scheme"; value = codes "https" } ∷
+    record { name = codes ":authority"; value = codes "www.example.com" } ∷
+    record { name = codes ":path"; value = codes "/sample/path" } ∷ []
+
+abbrev pub host_text : List ℕ
+host_text = 140 ∷ 241 ∷ 227 ∷ 194 ∷ 229 ∷ 242 ∷ 58 ∷ 107 ∷ 160 ∷ 171 ∷ 144 ∷ 244 ∷ 255 ∷ []
+
+abbrev pub path_text : List ℕ
+path_text = 137 ∷ 97 ∷ 3 ∷ 166 ∷ 186 ∷ 10 ∷ 197 ∷ 99 ∷ 76 ∷ 255 ∷ []
+
+abbrev pub x_a : Field
+x_a = record { name = codes "x-a"; value = codes "1" }
+
+abbrev pub x_b : Field
+x_b = record { name = codes "x-b"; value = codes "2" }
+
+-- a response 200 with one more field
+abbrev pub with_header : Field → List Field
+with_header f = record { name = codes ":status"; value = codes "200" } ∷ f ∷ []
+
+abbrev pub x_a_of : List ℕ → Field
+x_a_of value = record { name = codes "x-a"; value = value }
+
+-- Two entries of one name, of which the older one alone is known, and no further block may wait.
+abbrev pub older_known : Sender
+older_known = sent_section (told (sent_section (fresh 200 1) 0 (x_a_of (codes "1") ∷ [])) (Increment 1)) 4 (x_a_of (codes "2") ∷ [])
+
+-- a table of two entries that three were inserted into
+abbrev pub three : Option Receiver
+three = having_read_all (Some (announcing 100)) (SetCapacity 100 ∷ InsertLiteral (codes "x-a") (codes "1") ∷ Duplicate 0 ∷ InsertWithEntryName 0 (codes "2") ∷ [])

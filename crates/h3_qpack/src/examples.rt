@@ -1,0 +1,66 @@
+//! What the definitions give at values worked out by hand. These functions do nothing: the check computes their contracts.
+ghost use Rattle.std.specs.Prelude.{◌≡◌, ℕ, ◌∷◌, ◌++◌, [], List, codes, flat_map};
+ghost use Rattle.h3_field.specs.Field.{Field};
+ghost use Rattle.h3_field.specs.Instruction.{encoder_bytes};
+ghost use Rattle.h3_field.specs.Instruction.DecoderInstruction.{CancelStream, Increment};
+ghost use Rattle.h3_qpack.specs.Sender.{told};
+ghost use Rattle.h3_qpack.specs.Written.{encoded_section, instructions_for, sent_section};
+ghost use Rattle.std.specs.Prelude.{Some, None, option_map, true, false};
+ghost use Rattle.h3_field.specs.Instruction.DecoderInstruction.{Acknowledge};
+ghost use Rattle.h3_field.specs.Instruction.EncoderInstruction.{SetCapacity, InsertWithEntryName};
+ghost use Rattle.h3_qpack.specs.Sender.{is_refused, told_front, withdrawn};
+ghost use Rattle.h3_qpack.specs.Table.{table};
+ghost use Rattle.h3_qpack.specs.Receiver.{announcing, having_read, having_read_all};
+ghost use Rattle.h3_qpack.specs.Worked.{three, fresh, sample, host_text, path_text, with_header, x_a, x_b, x_a_of, older_known};
+
+/// Three requests for the same page: the first inserts two fields, the second names them, and the third may not.
+#[tactic(auto, unfolding(h3_field::specs::StaticTable::static_table, h3_field::specs::StaticTable::static_field, h3_field::specs::StaticTable::static_name, h3_huffman::specs::Huffman::huffman, h3_huffman::specs::Huffman::octets, h3_huffman::specs::Huffman::code_word, h3_huffman::specs::Huffman::bits))]
+pub fn requests()
+    ensures first { encoded_section (fresh 220 2) sample ≡ 3 ∷ 129 ∷ 209 ∷ 215 ∷ 16 ∷ 17 ∷ [] }
+    ensures inserts { flat_map encoder_bytes (instructions_for (fresh 220 2) sample) ≡ 192 ∷ host_text ++ 193 ∷ path_text }
+    ensures second { encoded_section (sent_section (fresh 220 2) 0 sample) sample ≡ 3 ∷ 0 ∷ 209 ∷ 215 ∷ 129 ∷ 128 ∷ [] }
+    ensures third { encoded_section (sent_section (sent_section (fresh 220 2) 0 sample) 4 sample) sample ≡ 0 ∷ 0 ∷ 209 ∷ 215 ∷ 80 ∷ host_text ++ 81 ∷ path_text }
+{}
+
+/// A small table: after a cancellation the entry stays, and after an increment and an acknowledgement it may go.
+#[tactic(auto, unfolding(h3_field::specs::StaticTable::static_table, h3_field::specs::StaticTable::static_field, h3_field::specs::StaticTable::static_name, h3_huffman::specs::Huffman::huffman, h3_huffman::specs::Huffman::octets, h3_huffman::specs::Huffman::code_word, h3_huffman::specs::Huffman::bits))]
+pub fn responses()
+    ensures first { encoded_section (fresh 64 10) (with_header x_a) ≡ 2 ∷ 128 ∷ 217 ∷ 16 ∷ [] }
+    ensures inserts { flat_map encoder_bytes (instructions_for (fresh 64 10) (with_header x_a)) ≡ 99 ∷ 242 ∷ 176 ∷ 255 ∷ 129 ∷ 15 ∷ [] }
+    ensures canceled { encoded_section (told (sent_section (fresh 64 10) 0 (with_header x_a)) (CancelStream 0)) (with_header x_b) ≡ 0 ∷ 0 ∷ 217 ∷ 43 ∷ 242 ∷ 180 ∷ 127 ∷ 129 ∷ 23 ∷ [] }
+{}
+
+/// The newest entry of a name that may be used is not always the newest of the name.
+#[tactic(auto, unfolding(h3_field::specs::StaticTable::static_table, h3_field::specs::StaticTable::static_field, h3_field::specs::StaticTable::static_name, h3_huffman::specs::Huffman::huffman, h3_huffman::specs::Huffman::octets, h3_huffman::specs::Huffman::code_word, h3_huffman::specs::Huffman::bits))]
+pub fn older_entry()
+    ensures { encoded_section older_known (x_a_of (codes "3") ∷ []) ≡ 2 ∷ 1 ∷ 65 ∷ 129 ∷ 103 ∷ [] }
+{}
+
+/// A receiver's table: a smaller capacity drops entries for good, and what is gone, too large or above the announced
+/// capacity is refused.
+#[tactic(auto, unfolding(h3_field::specs::StaticTable::static_table, h3_field::specs::StaticTable::static_field, h3_field::specs::StaticTable::static_name, h3_huffman::specs::Huffman::huffman, h3_huffman::specs::Huffman::octets, h3_huffman::specs::Huffman::code_word, h3_huffman::specs::Huffman::bits))]
+pub fn receiver()
+    ensures two { option_map (λ r. r.entries) three ≡ Some (x_a ∷ x_a_of (codes "2") ∷ []) }
+    ensures one { option_map (λ r. r.entries) (having_read_all three (SetCapacity 40 ∷ SetCapacity 100 ∷ [])) ≡ Some (x_a_of (codes "2") ∷ []) }
+    ensures gone { having_read_all three (SetCapacity 40 ∷ InsertWithEntryName 1 (codes "3") ∷ []) ≡ None }
+    ensures above { having_read_all three (SetCapacity 101 ∷ []) ≡ None }
+    ensures too_large { having_read_all (Some (announcing 220)) (SetCapacity 221 ∷ []) ≡ None }
+    ensures early { having_read_all (Some (announcing 100)) (InsertWithEntryName 0 [] ∷ []) ≡ None }
+{}
+
+/// An acknowledgement needs a tracked block, and what follows a refused one is left.
+#[tactic(auto, unfolding(h3_field::specs::StaticTable::static_table, h3_field::specs::StaticTable::static_field, h3_field::specs::StaticTable::static_name, h3_huffman::specs::Huffman::huffman, h3_huffman::specs::Huffman::octets, h3_huffman::specs::Huffman::code_word, h3_huffman::specs::Huffman::bits))]
+pub fn refusals()
+    ensures none { is_refused (fresh 64 10) (Acknowledge 0) ≡ true }
+    ensures tracked { is_refused (sent_section (fresh 64 10) 0 (with_header x_a)) (Acknowledge 0) ≡ false }
+    ensures front { (told_front (fresh 64 10) (Increment 1 ∷ Acknowledge 0 ∷ Increment 1 ∷ [])).1 ≡ Acknowledge 0 ∷ Increment 1 ∷ [] }
+    ensures known { (told_front (fresh 64 10) (Increment 1 ∷ Acknowledge 0 ∷ Increment 1 ∷ [])).0.known_received ≡ 1 }
+{}
+
+/// A section that is withdrawn leaves its insertions and nothing else.
+#[tactic(auto, unfolding(h3_field::specs::StaticTable::static_table, h3_field::specs::StaticTable::static_field, h3_field::specs::StaticTable::static_name, h3_huffman::specs::Huffman::huffman, h3_huffman::specs::Huffman::octets, h3_huffman::specs::Huffman::code_word, h3_huffman::specs::Huffman::bits))]
+pub fn withdrawal()
+    ensures tracked { (withdrawn (sent_section (fresh 64 10) 0 (with_header x_a)) 0 1).tracked ≡ [] }
+    ensures counts { (withdrawn (sent_section (fresh 64 10) 0 (with_header x_a)) 0 1).required_insert_counts ≡ [] }
+    ensures inserted { (withdrawn (sent_section (fresh 64 10) 0 (with_header x_a)) 0 1).inserted ≡ x_a ∷ [] }
+{}

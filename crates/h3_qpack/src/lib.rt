@@ -1,0 +1,5 @@
+//! QPACK's dynamic table (RFC 9204): what an encoder writes, what a decoder reads, and the law of their sessions.
+#![tactic(auto)]
+
+pub mod examples;
+pub mod laws;
