@@ -1,11 +1,13 @@
 -- What holds of the number that bytes begin with.
-use Rattle.std.proofs.Common.{◌≡◌, ℕ, ◌+◌, ◌-◌, ◌*◌, ◌/◌, ◌%◌, ◌^◌, ◌<◌, ◌≤◌, List, [], ◌∷◌, ◌++◌, length, take, drop, arith, lit<, sym, ◌∙◌, ap, ap₂, refl, ◌⊎◌, subst, zero, suc, length-append, length-take-le, append_assoc, inl, inr, Option, Some, None, Result, Ok, Err, IfOk, IfErr}
-use Rattle.std.proofs.lemmas.List.{take_at, drop_at, length-drop, take-append-drop}
+use Rattle.std.proofs.Common.{◌≡◌, ℕ, ◌+◌, ◌-◌, ◌/◌, ◌^◌, ◌<◌, ◌≤◌, List, [], ◌∷◌, ◌++◌, length, take, drop, arith, lit<, sym, ◌∙◌, ap, ap₂, refl, ◌⊎◌, subst, zero, suc, length-append, length-take-le, length-take, append_assoc, inl, inr, Option, Some, None, Result, Ok, Err, IfOk, IfErr}
+use Rattle.std.proofs.lemmas.List.{take_at, drop_at, take-append-drop}
 use Rattle.std.proofs.Math.Seq.{take-append-add, drop-append-add}
 use Rattle.std.proofs.lemmas.Nat.{pow_pos}
 use Rattle.std.proofs.Math.Nat.{pow-le-pow_right}
 use Rattle.std.proofs.lemmas.Bool.{cases_lt, lt-ltb, le-ltb}
-use Rattle.h3_coding.specs.Encodings.{big_endian, IsEncoding, IsUnfinished, empty, short, encoding}
+use Rattle.std.specs.Prelude.{slice_index}
+use Rattle.bytes.specs.Unread.{IsChunkOf}
+use Rattle.h3_coding.specs.Encodings.{IsEncoding, IsUnfinished, empty, short, encoding}
 use Rattle.h3_coding.specs.EncodingLaws.{opened, encoding_is_valid}
 use Rattle.h3_coding.specs.Reading.{Takes}
 use Rattle.h3_coding.specs.Varint.{varint_at, varint_of, ReadsVarint}
@@ -149,14 +151,22 @@ none_within n bytes e = elim (cases_number (take n bytes)) [
   | inr some ↦ let there = beyond some.0 n bytes some.1 some.2 in absurd (cc)
 ]
 
--- a number that ends past the first n bytes is not read there
-pub past : (v n : ℕ) (bytes rest : List ℕ) → varint_at bytes ≡ Some (v, rest) → n + length rest < length bytes → n ≤ length bytes → varint_at (take n bytes) ≡ None
-past v n bytes rest e long inside = elim (cases_number (take n bytes)) [
-  | inl none ↦ none
-  | inr some ↦
-      let there = beyond some.0 n bytes some.1 some.2 in
-      let pair : (v, rest) ≡ (some.0, some.1 ++ drop n bytes) = cc in
-      let sizes = ap (λ (p : ℕ × List ℕ). length p.1) pair in
-      let size : length rest ≡ length some.1 + length (drop n bytes) = sizes ∙ length-append some.1 (drop n bytes) in
-      absurd (omega (arith, size, length-drop n bytes, long, inside))
-]
+-- a list with a front that is not empty, by its first byte
+pub first_of : (chunk all : List ℕ) → IsChunkOf chunk all → 0 < length chunk → all ≡ slice_index chunk 0 ∷ drop 1 all
+first_of [] all c h = absurd (omega arith)
+first_of (x ∷ xs) [] c h = absurd (omega (arith, c.fits))
+first_of (x ∷ xs) (y ∷ ys) c h = let front = c.front in let same : y ≡ x = cc in rw same refl
+
+-- how long a number is, by its first byte
+pub sized : (v first : ℕ) (bytes tail rest : List ℕ) → bytes ≡ first ∷ tail → varint_at bytes ≡ Some (v, rest) → length bytes ≡ 2 ^ (first / 64) + length rest
+sized v first bytes tail rest is e =
+    let b = begins v bytes rest e in
+    let joined = sym is ∙ b.parts in
+    let same : first ≡ b.first = cc in
+    let power = pow_pos (b.first / 64) in
+    rw same (omega (arith, used v bytes rest b, b.asked, power))
+
+-- fewer bytes than the first one tells are no number
+pub too_few : (n first : ℕ) (bytes tail : List ℕ) → bytes ≡ first ∷ tail → n < 2 ^ (first / 64) → varint_at (take n bytes) ≡ None
+too_few zero first bytes tail is h = none_at_end
+too_few (suc n) first bytes tail is h = ap (λ l. varint_at (take (suc n) l)) is ∙ fewer first (take n tail) (omega (arith, length-take n tail))

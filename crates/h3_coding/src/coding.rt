@@ -130,7 +130,8 @@ pub trait BufExt: Buf + Sized {
         }
     }
 
-    /// Takes a number that lies within the first `len` bytes, and answers it with how many of those bytes follow it.
+    /// Takes a number that lies within the first `len` bytes, and answers it with how many of those
+    /// bytes follow it. Takes nothing where no number lies within them.
     final fn get_var_within(&mut self, len: usize) -> Option<(u64, usize)>
         requires { len ≤ length (Self.unread self.old) }
         ensures some { IfSome result (λ p. (varint_at (take len (Self.unread self.old)) ≡ Some (p.0, take p.1 (Self.unread self.new)))
@@ -138,17 +139,20 @@ pub trait BufExt: Buf + Sized {
         ensures inside { IfSome result (λ p. (p.1 ≤ length (Self.unread self.new)) × (p.1 < len)) }
         ensures below { IfSome result (λ p. p.0 < 2 ^ 62) }
         ensures none { IsNone result → varint_at (take len (Self.unread self.old)) ≡ None }
+        ensures same { IsNone result → Self.unread self.new ≡ Self.unread self.old }
         ensures kept { Self.kept self.new ≡ Self.kept self.old }
     {
-        let before = self.remaining();
+        if len == 0 {
+            return None;
+        }
+        let size = VarInt::encoded_size(self.chunk()[0]);
+        if size > len {
+            return None;
+        }
         let Ok(number) = self.get_var() else {
             return None;
         };
-        let used = before - self.remaining();
-        if used > len {
-            return None;
-        }
-        Some((number, len - used))
+        Some((number, len - size))
     }
 }
 

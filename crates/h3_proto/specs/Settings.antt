@@ -1,0 +1,59 @@
+-- Which settings are kept, and what a payload stands for (RFC 9114, sections 7.2.4 and 7.2.4.1).
+use Rattle.std.specs.Prelude.{ℕ, ◌^◌, Bool, ◌==◌, nat_le, find, List, [], ◌∷◌, ◌++◌, length, Option, Result, Ok, Err, if◌then◌else◌}
+use Rattle.std.specs.List.{list_any}
+use Rattle.std.specs.Option.{option_map}
+use Rattle.h3_proto.specs.Pairs.{Split, split_of}
+use Rattle.h3_proto.specs.declared.frame.SettingsError.{SettingsError}
+use Rattle.h3_proto.specs.declared.frame.SettingsError.TheVariants.{Exceeded, Malformed, Repeated, InvalidSettingId, InvalidSettingValue}
+
+-- the identifier is reserved, since it was one of HTTP/2's, and its receipt is an error (RFC 9114, section 7.2.4.1)
+abbrev pub is_forbidden : ℕ → Bool
+is_forbidden id = list_any (λ x. x == id) (0 ∷ 2 ∷ 3 ∷ 4 ∷ 5 ∷ [])
+
+-- the identifier has a meaning; those of all other settings that were read are left out
+abbrev pub is_known : ℕ → Bool
+is_known id = list_any (λ x. x == id) (1 ∷ 6 ∷ 7 ∷ 8 ∷ 0x33 ∷ 0x2b603742 ∷ 0x2b603743 ∷ [])
+
+-- some pair has the identifier
+abbrev pub has_id : ℕ → List (ℕ × ℕ) → Bool
+has_id id pairs = list_any (λ p. p.0 == id) pairs
+
+-- the value of the first pair of that identifier
+abbrev pub value_of : ℕ → List (ℕ × ℕ) → Option ℕ
+value_of id pairs = option_map (λ p. p.1) (find (λ p. p.0 == id) pairs)
+
+-- the pairs with one more at the end, or why it is refused
+abbrev pub inserted : List (ℕ × ℕ) → ℕ → ℕ → Result (List (ℕ × ℕ)) SettingsError
+inserted pairs id value =
+    if nat_le 8 (length pairs) then Err Exceeded
+    else (if has_id id pairs then Err (Repeated id)
+    else (if nat_le (2 ^ 62) id then Err (InvalidSettingId id)
+    else (if nat_le (2 ^ 62) value then Err (InvalidSettingValue id value)
+    else Ok (pairs ++ (id, value) ∷ []))))
+
+-- the pairs that are kept, with a pair that was read behind them
+abbrev pub received : List (ℕ × ℕ) → ℕ × ℕ → Result (List (ℕ × ℕ)) SettingsError
+received kept p =
+    if is_forbidden p.0 then Err (InvalidSettingId p.0)
+    else (if is_known p.0 then inserted kept p.0 p.1 else Ok kept)
+
+-- and with a list of pairs, in order, up to the first refusal; last is what comes then
+abbrev pub received_then : (List (ℕ × ℕ) → Result (List (ℕ × ℕ)) SettingsError) → Result (List (ℕ × ℕ)) SettingsError → Result (List (ℕ × ℕ)) SettingsError
+received_then go (Ok kept) = go kept
+received_then go (Err e) = Err e
+
+abbrev pub received_all : List (ℕ × ℕ) → List (ℕ × ℕ) → Result (List (ℕ × ℕ)) SettingsError
+received_all kept [] = Ok kept
+received_all kept (p ∷ pairs) = received_then (λ k. received_all k pairs) (received kept p)
+
+-- bytes that begin no pair are malformed
+abbrev pub at_rest : List ℕ → List (ℕ × ℕ) → Result (List (ℕ × ℕ)) SettingsError
+at_rest [] kept = Ok kept
+at_rest (byte ∷ bytes) kept = Err Malformed
+
+abbrev pub settings_behind : List (ℕ × ℕ) → Split → Result (List (ℕ × ℕ)) SettingsError
+settings_behind kept split = received_then (at_rest split.rest) (received_all kept split.pairs)
+
+-- the settings that a payload stands for, or its refusal
+abbrev pub settings_of : List ℕ → Result (List (ℕ × ℕ)) SettingsError
+settings_of payload = settings_behind [] (split_of payload)

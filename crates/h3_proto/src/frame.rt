@@ -1,0 +1,251 @@
+//! The settings that the payload of a SETTINGS frame carries (RFC 9114, section 7.2.4).
+ghost use Rattle.std.specs.Prelude.{◌≡◌, ◌≢◌, ℕ, ◌+◌, ◌^◌, ◌<◌, ◌≤◌, ◌==◌, List, [], ◌∷◌, ◌++◌, length, take, drop, IfOk, IfErr, IfSome, IsNone, Ok, Err, Some, None, OnOk, OnErr};
+ghost use Rattle.h3_coding.specs.Writing.{AppendsFront, UsesRoom};
+ghost use Rattle.h3_proto.specs.Ids.{reserved};
+ghost use Rattle.h3_proto.specs.Pairs.{IsPair, pair_encoding, payload_of, pair_at};
+ghost use Rattle.h3_proto.specs.Settings.{is_forbidden, is_known, has_id, value_of, inserted, received, settings_of};
+ghost use Rattle.h3_proto.specs.Taking.{TakesFront};
+
+use bytes::{Buf, BufMut};
+use h3_coding::coding::{BufExt, BufMutExt, WriteRefused};
+use std::marker::Model;
+
+/// The id of a setting. A contract sees it as its number.
+#[derive(Clone, Copy, PartialEq, Eq, Hash, Debug)]
+pub struct SettingId(pub u64);
+
+impl Model for SettingId {
+    ghost use Rattle.std.specs.Prelude.{ℕ};
+
+    ghost Value = { ℕ };
+
+    ghost view = { λ id. id.0 };
+
+    ghost inverse = { λ n. record { 0 = n } };
+}
+
+impl SettingId {
+    /// The most bytes of the dynamic table (RFC 9204, section 5).
+    pub const QPACK_MAX_TABLE_CAPACITY: SettingId = SettingId(1);
+
+    /// The greatest size of a field section (RFC 9114, section 7.2.4.1).
+    pub const MAX_HEADER_LIST_SIZE: SettingId = SettingId(6);
+
+    /// The most streams that may be blocked (RFC 9204, section 5).
+    pub const QPACK_MAX_BLOCKED_STREAMS: SettingId = SettingId(7);
+
+    /// Whether extended CONNECT may be used (RFC 9220, section 5).
+    pub const ENABLE_CONNECT_PROTOCOL: SettingId = SettingId(8);
+
+    /// Whether datagrams may be used (RFC 9297, section 2.1.1).
+    pub const H3_DATAGRAM: SettingId = SettingId(0x33);
+
+    /// Whether WebTransport may be used.
+    pub const ENABLE_WEBTRANSPORT: SettingId = SettingId(0x2b603742);
+
+    /// The most WebTransport sessions.
+    pub const WEBTRANSPORT_MAX_SESSIONS: SettingId = SettingId(0x2b603743);
+
+    /// An older id of `H3_DATAGRAM`. A setting of it that was read is not kept.
+    pub const H3_SETTING_ENABLE_DATAGRAM_CHROME_SPECIFIC: SettingId = SettingId(0xffd277);
+
+    /// A reserved id, which has no meaning (RFC 9114, section 7.2.4.1).
+    pub fn grease(n: u64) -> Self
+        requires { n < 0x210842108421083 }
+        ensures { result ≡ reserved n }
+    {
+        SettingId(0x1f * n + 0x21)
+    }
+
+    // Whether it is one of HTTP/2's, which HTTP/3 refuses.
+    fn is_forbidden(self) -> bool
+        ensures { result ≡ is_forbidden self }
+    {
+        matches!(self.0, 0 | 2 | 3 | 4 | 5)
+    }
+
+    // Whether it has a meaning here.
+    fn is_known(self) -> bool
+        ensures { result ≡ is_known self }
+    {
+        matches!(self.0, 1 | 6 | 7 | 8 | 0x33 | 0x2b603742 | 0x2b603743)
+    }
+}
+
+/// What is wrong with settings.
+#[derive(Debug, PartialEq, Drop)]
+pub enum SettingsError {
+    /// There are eight settings already.
+    Exceeded,
+    /// A payload ends inside a pair.
+    Malformed,
+    /// There is a setting of this id already.
+    Repeated(SettingId),
+    /// The id is reserved as one of HTTP/2's, or, where a setting is inserted, 2^62 or more.
+    InvalidSettingId(u64),
+    /// The value of the setting is 2^62 or more.
+    InvalidSettingValue(SettingId, u64),
+}
+
+/// At most eight settings, in order, no two of one id. A contract sees them as pairs of an id and
+/// a value.
+#[derive(Drop)]
+pub struct Settings {
+    entries: [(u64, u64); 8],
+    len: usize,
+}
+
+impl Model for Settings {
+    ghost use Rattle.std.specs.Prelude.{◌≡◌, ℕ, ◌≤◌, List, length, take, All};
+    ghost use Rattle.h3_proto.specs.Pairs.{IsPair};
+
+    ghost Value = { List (ℕ × ℕ) };
+
+    ghost view = { λ s. take s.len s.entries };
+
+    ghost invariant = { λ s. (s.len ≤ 8) × (length s.entries ≡ 8) × All IsPair (take s.len s.entries) };
+}
+
+impl Default for Settings {
+    ghost is_default = { λ s. s ≡ [] };
+
+    fn default() -> Self {
+        Settings {
+            entries: [(0, 0); 8],
+            len: 0,
+        }
+    }
+}
+
+impl Settings {
+    /// The most bytes that a payload of eight settings has.
+    pub const MAX_ENCODED_SIZE: usize = 128;
+
+    /// Adds a setting at the end. Refuses, in this order, a ninth one, an id that is there already,
+    /// and an id or a value of 2^62 or more, and then changes nothing.
+    pub fn insert(&mut self, id: SettingId, value: u64) -> Result<(), SettingsError>
+        ensures ok { OnOk result (inserted self.old id value ≡ Ok self.new) }
+        ensures err { IfErr result (λ e. inserted self.old id value ≡ Err e) }
+        ensures same { OnErr result (self.new ≡ self.old) }
+    {
+        if self.len >= 8 {
+            return Err(SettingsError::Exceeded);
+        }
+        if self.contains(id) {
+            return Err(SettingsError::Repeated(id));
+        }
+        if id.0 >= 1 << 62 {
+            return Err(SettingsError::InvalidSettingId(id.0));
+        }
+        if value >= 1 << 62 {
+            return Err(SettingsError::InvalidSettingValue(id, value));
+        }
+        self.entries[self.len] = (id.0, value);
+        self.len += 1;
+        Ok(())
+    }
+
+    /// The value of the setting of this id, if one was inserted.
+    pub fn get(&self, id: SettingId) -> Option<u64>
+        ensures value { result ≡ value_of id self.now }
+        ensures bound { IfSome result (λ v. v < 2 ^ 62) }
+    {
+        self.entries[..self.len]
+            .iter()
+            .find(|pair| pair.0 == id.0)
+            .map(|pair| pair.1)
+    }
+
+    // Whether there is a setting of this id.
+    fn contains(&self, id: SettingId) -> bool
+        ensures { result ≡ has_id id self.now }
+    {
+        self.entries[..self.len].iter().any(|pair| pair.0 == id.0)
+    }
+
+    /// Appends the payload. An `Err` leaves a beginning of it.
+    pub fn write_payload<B: BufMut>(&self, buf: &mut B) -> Result<(), WriteRefused>
+        ensures ok { OnOk result (B.written buf.new ≡ B.written buf.old ++ payload_of self.now) }
+        ensures err { OnErr result (AppendsFront (payload_of self.now) (B.written buf.old) (B.written buf.new)) }
+        ensures room { UsesRoom result (B.spare buf.old) (B.spare buf.new) (length (payload_of self.now)) }
+    {
+        let pairs = &self.entries[..self.len];
+        for pair in pairs {
+            put_pair(buf, pair.0, pair.1)?;
+        }
+        Ok(())
+    }
+
+    /// Reads a payload, to the end of the buffer. An `Err` leaves a part of it taken.
+    pub fn read_payload<B: Buf>(buf: &mut B) -> Result<Self, SettingsError>
+        ensures value { result ≡ settings_of (B.unread buf.old) }
+        ensures rest { OnOk result (B.unread buf.new ≡ []) }
+        ensures err { OnErr result (TakesFront (length (B.unread buf.old)) (B.unread buf.old) (B.unread buf.new)) }
+        ensures kept { B.kept buf.new ≡ B.kept buf.old }
+    {
+        let len = buf.remaining();
+        Settings::read_front(buf, len)
+    }
+
+    /// Reads a payload of `len` bytes, and leaves what follows it. An `Err` leaves a part of the
+    /// bytes taken.
+    pub fn read_front<B: Buf>(buf: &mut B, len: usize) -> Result<Self, SettingsError>
+        requires { len ≤ length (B.unread buf.old) }
+        ensures value { result ≡ settings_of (take len (B.unread buf.old)) }
+        ensures rest { OnOk result (B.unread buf.new ≡ drop len (B.unread buf.old)) }
+        ensures err { OnErr result (TakesFront len (B.unread buf.old) (B.unread buf.new)) }
+        ensures kept { B.kept buf.new ≡ B.kept buf.old }
+    {
+        let mut settings = Settings::default();
+        let mut left = len;
+        while left > 0 {
+            let Some((id, value, rest)) = get_pair(buf, left) else {
+                return Err(SettingsError::Malformed);
+            };
+            left = rest;
+            settings.receive(SettingId(id), value)?;
+        }
+        Ok(settings)
+    }
+
+    // Judges a setting that was read, and keeps it if its id is known.
+    fn receive(&mut self, id: SettingId, value: u64) -> Result<(), SettingsError>
+        ensures ok { OnOk result (received self.old (id, value) ≡ Ok self.new) }
+        ensures err { IfErr result (λ e. received self.old (id, value) ≡ Err e) }
+    {
+        if id.is_forbidden() {
+            return Err(SettingsError::InvalidSettingId(id.0));
+        }
+        if !id.is_known() {
+            return Ok(());
+        }
+        self.insert(id, value)
+    }
+}
+
+// Takes a pair that lies within the first `len` bytes, and answers it with how many of those bytes
+// follow it.
+fn get_pair<B: Buf>(buf: &mut B, len: usize) -> Option<(u64, u64, usize)>
+    requires { len ≤ length (B.unread buf.old) }
+    ensures some { IfSome result (λ p. (pair_at (take len (B.unread buf.old)) ≡ Some ((p.0, p.1), take p.2 (B.unread buf.new)))
+        × (drop len (B.unread buf.old) ≡ drop p.2 (B.unread buf.new))) }
+    ensures inside { IfSome result (λ p. (p.2 ≤ length (B.unread buf.new)) × (p.2 < len)) }
+    ensures none { IsNone result → pair_at (take len (B.unread buf.old)) ≡ None }
+    ensures taken { TakesFront len (B.unread buf.old) (B.unread buf.new) }
+    ensures kept { B.kept buf.new ≡ B.kept buf.old }
+{
+    let (id, behind) = buf.get_var_within(len)?;
+    let (value, left) = buf.get_var_within(behind)?;
+    Some((id, value, left))
+}
+
+// Appends the encoding of a pair.
+fn put_pair<B: BufMut>(buf: &mut B, id: u64, value: u64) -> Result<(), WriteRefused>
+    requires { IsPair (id, value) }
+    ensures ok { OnOk result (B.written buf.new ≡ B.written buf.old ++ pair_encoding (id, value)) }
+    ensures err { OnErr result (AppendsFront (pair_encoding (id, value)) (B.written buf.old) (B.written buf.new)) }
+    ensures room { UsesRoom result (B.spare buf.old) (B.spare buf.new) (length (pair_encoding (id, value))) }
+{
+    buf.write_var(id)?;
+    buf.write_var(value)
+}

@@ -1,0 +1,8 @@
+//! The ids, stream types, error codes and settings of HTTP/3.
+#![tactic(auto)]
+
+pub mod error;
+pub mod frame;
+pub mod push;
+pub mod stream;
+pub mod webtransport;
