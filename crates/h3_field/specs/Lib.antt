@@ -17,3 +17,7 @@ pub mod InstructionLaws
 pub mod Prefix
 pub mod PrefixReading
 pub mod Section
+pub mod IntegerAnswer
+pub mod StringAnswer
+pub mod StaticHash
+pub mod StaticSlots

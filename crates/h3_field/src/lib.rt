@@ -2,7 +2,12 @@
 //! lines and instructions.
 #![tactic(auto)]
 
+pub mod cursor;
 pub mod examples;
 pub mod field;
+mod octets;
+pub mod prefix_int;
+pub mod prefix_string;
+pub mod static_;
 
 pub use field::HeaderField;

@@ -40,6 +40,9 @@ pub length-huffman : (plain : List ℕ) → length (huffman plain) ≡ (length (
 unfolding huffman
 length-huffman plain = length-octets (flat_map code_word plain)
 
+pub huffman_length : (plain : List ℕ) (count : ℕ) → count ≡ length (flat_map code_word plain) → (count + 7) / 8 ≡ length (huffman plain)
+huffman_length plain count e = rw e (sym (length-huffman plain))
+
 -- one byte's word more
 pub words_more : (plain : List ℕ) (i : ℕ) → i < length plain → flat_map code_word (take (i + 1) plain) ≡ flat_map code_word (take i plain) ++ code_word (get_or plain i 0)
 words_more plain i h =

@@ -1,7 +1,8 @@
 //! Reads Huffman payloads.
 ghost use Rattle.std.specs.Prelude.{◌≡◌, ◌↔◌, IsTrue, ℕ, ◌+◌, ◌-◌, ◌*◌, ◌/◌, ◌%◌, ◌^◌, ◌<◌, ◌≤◌, List, ◌++◌, length, take, drop, replicate, flat_map, MatchOption};
+ghost use Rattle.std.specs.List.{AllByRecursion};
 ghost use Rattle.h3_huffman.specs.Huffman.{huffman, bits, code_word};
-ghost use Rattle.h3_huffman.specs.Payload.{IsNoPayload};
+ghost use Rattle.h3_huffman.specs.Payload.{IsByte, IsNoPayload};
 ghost use Rattle.h3_huffman.specs.Tables.{entry_symbols, entry_count, IsEntry};
 
 use crate::tables::{ENTRIES, LENGTHS, LIMITS, OFFSETS, SYMBOLS};
@@ -82,7 +83,7 @@ fn is_padding(acc: u64, count: u64) -> bool
 /// Writes the string whose Huffman encoding the payload is to the front of `out`, and says how long it is.
 pub fn decode_into(payload: &[u8], out: &mut [u8]) -> Option<usize>
     requires room { 8 * length payload.now + 10 ≤ 5 * length out.old }
-    ensures plain { MatchOption result (IsNoPayload payload.now) (λ n. (n ≤ length out.new) × (payload.now ≡ huffman (take n out.new))) }
+    ensures whole { MatchOption result (IsNoPayload payload.now) (λ n. (n ≤ length out.new) × AllByRecursion IsByte (take n out.new) × (payload.now ≡ huffman (take n out.new))) }
 {
     let mut acc: u64 = 0;
     let mut count: u64 = 0;

@@ -1,5 +1,5 @@
 //! Writes Huffman payloads.
-ghost use Rattle.std.specs.Prelude.{◌≡◌, ℕ, ◌+◌, ◌*◌, ◌^◌, ◌<◌, ◌≤◌, List, ◌++◌, take, length};
+ghost use Rattle.std.specs.Prelude.{◌≡◌, ℕ, ◌+◌, ◌*◌, ◌^◌, ◌<◌, ◌≤◌, List, ◌++◌, take, length, flat_map};
 ghost use Rattle.std.specs.Int.{w32, to_be_bytes};
 ghost use Rattle.h3_huffman.specs.Huffman.{huffman, bits, code_word};
 
@@ -31,17 +31,44 @@ fn put_word(out: &mut [u8], place: usize, word: u32)
     out[place..place + 4].copy_from_slice(&word.to_be_bytes());
 }
 
-/// How many bytes the Huffman encoding of a string has.
-pub fn payload_len(plain: &[u8]) -> usize
+/// How many bits the words of a string have, where their sum fits 64 bits.
+fn word_bits(plain: &[u8]) -> u64
     requires { length plain.now < 2 ^ 58 }
+    ensures value { result ≡ length (flat_map code_word plain.now) }
+    ensures most { result ≤ 30 * length plain.now }
+{
+    let mut total: u64 = 0;
+    for byte in plain {
+        total += word_len(*byte);
+    }
+    total
+}
+
+/// How many bits the words of a very long string have.
+fn wide_word_bits(plain: &[u8]) -> u128
+    requires { length plain.now < 2 ^ 62 }
+    ensures value { result ≡ length (flat_map code_word plain.now) }
+    ensures most { result ≤ 30 * length plain.now }
+{
+    let mut total: u128 = 0;
+    for byte in plain {
+        total += u128::from(word_len(*byte));
+    }
+    total
+}
+
+/// How many bytes the Huffman encoding of a string has.
+#[tactic(auto, using(crate::proofs::Writing::huffman_length))]
+pub fn payload_len(plain: &[u8]) -> usize
+    requires { length plain.now < 2 ^ 62 }
     ensures value { result ≡ length (huffman plain.now) }
     ensures most { result ≤ 4 * length plain.now }
 {
-    let mut total: usize = 0;
-    for byte in plain {
-        total += word_len(*byte) as usize;
+    if plain.len() < 1 << 58 {
+        ((word_bits(plain) + 7) / 8) as usize
+    } else {
+        ((wide_word_bits(plain) + 7) / 8) as usize
     }
-    (total + 7) / 8
 }
 
 /// Writes the Huffman encoding of a string.

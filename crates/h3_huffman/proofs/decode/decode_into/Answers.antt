@@ -36,7 +36,7 @@ long_word-word-requires-clause-high c =
 
 pub returns-then-word-eq256 : goal.returns-then-word-eq256
 returns-then-word-eq256 c =
-    record { plain = long_end _ _ _ _ _ _ _ _ c.symbols.invariant.standing c.symbols-test.true c.long_word-word.ensures.word c.long_word-word.ensures.most c.if-word-eq256.true }
+    record { whole = long_end _ _ _ _ _ _ _ _ c.symbols.invariant.standing c.symbols-test.true c.long_word-word.ensures.word c.long_word-word.ensures.most c.if-word-eq256.true }
 
 pub symbols-preserved : goal.symbols-preserved
 symbols-preserved c =
@@ -70,7 +70,7 @@ ending-preserved-then-first_length-count c =
 
 pub returns-else-first_length-count : goal.returns-else-first_length-count
 returns-else-first_length-count c =
-    record { plain = last_refused _ _ _ _ _ _ _ _ c.ending.invariant.standing c.ending.invariant.all c.ending.invariant.few c.entry_at-entry-then-index-lt-LONG-2.ensures c.from-first_length.ensures c.if-first_length-count.false (λ p. false≢true (c.ending-test.ensures.1 p)) }
+    record { whole = last_refused _ _ _ _ _ _ _ _ c.ending.invariant.standing c.ending.invariant.all c.ending.invariant.few c.entry_at-entry-then-index-lt-LONG-2.ensures c.from-first_length.ensures c.if-first_length-count.false (λ p. false≢true (c.ending-test.ensures.1 p)) }
 
 pub long_word-word-requires-else-index-lt-LONG-2-clause-high : goal.long_word-word-requires-else-index-lt-LONG-2-clause-high
 long_word-word-requires-else-index-lt-LONG-2-clause-high c =
@@ -83,7 +83,7 @@ returns-then-word-eq256-2 c =
       | then-word-eq256-2-via-then-word-eq256-2 w ↦ inl w.if-word-eq256-2.true
       | then-word-eq256-2-via-else-word-eq256-2+then-word-count w ↦ inr w.if-word-count.true
     ] in
-    record { plain = last_long_refused _ _ _ _ _ _ _ _ c.ending.invariant.standing c.ending.invariant.all c.ending.invariant.few word.ensures.word word.ensures.symbol word.ensures.most why (λ p. false≢true (c.ending-test.ensures.1 p)) }
+    record { whole = last_long_refused _ _ _ _ _ _ _ _ c.ending.invariant.standing c.ending.invariant.all c.ending.invariant.few word.ensures.word word.ensures.symbol word.ensures.most why (λ p. false≢true (c.ending-test.ensures.1 p)) }
 
 pub ending-preserved : goal.ending-preserved
 ending-preserved c =
@@ -99,4 +99,4 @@ ending-preserved c =
 pub returns : goal.returns
 returns c =
     let s = c.ending.invariant.standing in
-    record { plain = (omega (arith, s.room, s.within, c.ending.invariant.room), all_read _ _ _ _ _ _ (All_from c.args.payload.now (λ k. omega (arith, c.type_inv.payload k))) s c.ending.invariant.all (c.ending-test.ensures.0 refl).0 (c.ending-test.ensures.0 refl).1) }
+    record { whole = (omega (arith, s.room, s.within, c.ending.invariant.room), s.bytes, all_read _ _ _ _ _ _ (All_from c.args.payload.now (λ k. omega (arith, c.type_inv.payload k))) s c.ending.invariant.all (c.ending-test.ensures.0 refl).0 (c.ending-test.ensures.0 refl).1) }

@@ -1,6 +1,6 @@
 use Rattle.std.proofs.Common.{◌≡◌, ◌*◌, ◌≤◌, length, take, flat_map}
 use Rattle.h3_huffman.specs.Huffman.{code_word}
-use Rattle.h3_huffman.proofs.encode.payload_len.Given as goal
+use Rattle.h3_huffman.proofs.encode.wide_word_bits.Given as goal
 
 abbrev pub invariant-loop-byte : goal.invariant-loop-byte
 invariant-loop-byte l = record {

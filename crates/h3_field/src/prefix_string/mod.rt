@@ -1,0 +1,125 @@
+//! String literals (RFC 9204, section 4.1.2; RFC 7541, section 5.2): as they stand or Huffman coded, behind
+//! their length.
+ghost use Rattle.std.specs.Prelude.{◌≡◌, ◌+◌, ◌*◌, ◌-◌, ◌^◌, ◌<◌, ◌≤◌, ℕ, List, ◌++◌, OnOk, OnErr, Result, length, take};
+ghost use Rattle.std.specs.Result.{IsOkUnless};
+ghost use Rattle.h3_huffman.specs.Huffman.{huffman};
+ghost use Rattle.h3_field.specs.StringLiteral.{string_literal};
+ghost use Rattle.h3_field.specs.StringReading.{string};
+ghost use Rattle.h3_field.specs.StringAnswer.{AnswersString, of_integer};
+ghost use Rattle.h3_field.specs.declared.prefix_string.Error.TheVariants as error;
+
+mod payload;
+
+use crate::cursor::SliceCursor;
+use crate::prefix_int;
+pub(crate) use payload::{Payload, take_payload};
+use std::alloc::{AllocError, Global};
+use std::fmt;
+
+/// Why no string was read or written.
+#[derive(Copy, Clone, PartialEq, Eq, Debug)]
+pub enum Error {
+    /// The string is not whole.
+    UnexpectedEnd,
+    /// Its length is out of range.
+    Integer(prefix_int::Error),
+    /// Its bytes are no string's Huffman encoding.
+    HuffmanDecoding,
+    /// Never arises: every string has a Huffman encoding.
+    HuffmanEncoding,
+    /// Never arises: sizes have 64 bits.
+    BufSize,
+    OutOfMemory,
+}
+
+impl fmt::Display for Error {
+    fn fmt<W: fmt::Write>(&self, f: &mut fmt::Formatter<W>) -> fmt::Result {
+        match self {
+            Error::UnexpectedEnd => write!(f, "UnexpectedEnd"),
+            Error::Integer(_) => write!(f, "Integer"),
+            Error::HuffmanDecoding => write!(f, "HuffmanDecoding"),
+            Error::HuffmanEncoding => write!(f, "HuffmanEncoding"),
+            Error::BufSize => write!(f, "BufSize"),
+            Error::OutOfMemory => write!(f, "out of memory"),
+        }
+    }
+}
+
+impl std::error::Error for Error {}
+
+impl From<prefix_int::Error> for Error {
+    ghost from_gives = { λ i e. e ≡ of_integer i };
+
+    fn from(e: prefix_int::Error) -> Error {
+        match e {
+            prefix_int::Error::UnexpectedEnd => Error::UnexpectedEnd,
+            prefix_int::Error::Overflow => Error::Integer(e),
+        }
+    }
+}
+
+impl From<AllocError> for Error {
+    ghost from_gives = { λ _ e. e ≡ error.OutOfMemory };
+
+    fn from(_e: AllocError) -> Error {
+        Error::OutOfMemory
+    }
+}
+
+/// Takes a string from the front. The flags above its `size` bits are let go. A refused read takes nothing.
+pub fn decode(alloc: Global, size: u8, buf: &mut SliceCursor<'_>) -> Result<Vec<u8>, Error>
+    requires least { 2 ≤ size }
+    requires most { size ≤ 8 }
+    ensures { AnswersString (string size buf.old) buf.old buf.new result }
+{
+    let mut ahead = SliceCursor::new(buf.chunk());
+    let payload = match take_payload(size, &mut ahead) {
+        Ok((_, payload)) => payload,
+        Err(prefix_int::Error::UnexpectedEnd) => return Err(Error::UnexpectedEnd),
+        Err(prefix_int::Error::Overflow) => return Err(Error::Integer(prefix_int::Error::Overflow)),
+    };
+    match payload.to_bytes(alloc) {
+        Ok(bytes) => {
+            *buf = ahead;
+            Ok(bytes)
+        }
+        Err(e) => Err(e),
+    }
+}
+
+/// Appends the length and the Huffman encoding of a string. A refusal may leave a part of them.
+fn put(size: u8, flags: u8, value: &[u8], len: usize, buf: &mut Vec<u8>) -> Result<(), AllocError>
+    requires least { 2 ≤ size }
+    requires most { size ≤ 8 }
+    requires flags { flags < 2 ^ (8 - size) }
+    requires len { len ≡ length (huffman value.now) }
+    requires room { len < 2 ^ 63 }
+    ensures ok { OnOk result (buf.new.items ≡ buf.old.items ++ string_literal size flags value.now) }
+    ensures err { OnErr result (take (length buf.old.items) buf.new.items ≡ buf.old.items) }
+{
+    prefix_int::encode(size - 1, 2 * flags + 1, len as u64, buf)?;
+    let start = buf.len();
+    buf.resize(start + len, 0)?;
+    h3_huffman::encode::encode_into(value, &mut buf[start..]);
+    Ok(())
+}
+
+/// Appends a string, Huffman coded, in the low `size` bits of a byte below `flags`. A refusal appends nothing.
+pub fn encode(size: u8, flags: u8, value: &[u8], buf: &mut Vec<u8>) -> Result<(), Error>
+    requires least { 2 ≤ size }
+    requires most { size ≤ 8 }
+    requires flags { flags < 2 ^ (8 - size) }
+    requires value { length value.now < 2 ^ 62 }
+    ensures memory { IsOkUnless result error.OutOfMemory }
+    ensures ok { OnOk result (buf.new.items ≡ buf.old.items ++ string_literal size flags value.now) }
+    ensures err { OnErr result (buf.new.items ≡ buf.old.items) }
+{
+    let len = h3_huffman::encode::payload_len(value);
+    buf.reserve(len)?;
+    let start = buf.len();
+    if put(size, flags, value, len, buf).is_err() {
+        buf.truncate(start);
+        return Err(Error::OutOfMemory);
+    }
+    Ok(())
+}

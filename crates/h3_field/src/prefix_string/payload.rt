@@ -1,0 +1,82 @@
+//! The bytes of a string, before they are decoded.
+ghost use Rattle.std.specs.Prelude.{◌≡◌, ◌-◌, ◌≤◌, ℕ, List, length};
+ghost use Rattle.h3_field.specs.StringReading.{string};
+ghost use Rattle.h3_field.specs.StringAnswer.{AnswersPayload, AnswersBytes};
+
+use crate::cursor::SliceCursor;
+use crate::octets::are_bytes;
+use crate::prefix_int;
+use crate::prefix_string::Error;
+use std::alloc::Global;
+use std::marker::Model;
+
+/// The bytes of a string, and whether they are Huffman coded.
+#[derive(Drop)]
+pub(crate) struct Payload<'a> {
+    is_huffman: bool,
+    bytes: &'a [u8],
+}
+
+impl<'a> Model for Payload<'a> {
+    ghost use Rattle.h3_field.specs.StringReading.{Payload};
+
+    ghost Value = { Payload };
+
+    ghost view = { λ p. record { is_huffman = p.is_huffman; bytes = p.bytes.now } };
+}
+
+/// Takes a string from the front, not yet decoded: the flags above the bit H, and its payload. Nothing is taken
+/// where there is none.
+pub(crate) fn take_payload<'a>(
+    size: u8,
+    buf: &mut SliceCursor<'a>,
+) -> Result<(u8, Payload<'a>), prefix_int::Error>
+    requires least { 2 ≤ size }
+    requires most { size ≤ 8 }
+    ensures { AnswersPayload (string size buf.old) buf.old buf.new result }
+{
+    let mut ahead = SliceCursor::new(buf.chunk());
+    let (head, len) = match prefix_int::decode(size - 1, &mut ahead) {
+        Ok(found) => found,
+        Err(error) => return Err(error),
+    };
+    if len > ahead.remaining() as u64 {
+        return Err(prefix_int::Error::UnexpectedEnd);
+    }
+    let bytes = &ahead.chunk()[..len as usize];
+    ahead.advance(len as usize);
+    *buf = ahead;
+    Ok((
+        head / 2,
+        Payload {
+            is_huffman: head % 2 == 1,
+            bytes,
+        },
+    ))
+}
+
+impl<'a> Payload<'a> {
+    /// The string that it stands for.
+    pub(crate) fn to_bytes(&self, alloc: Global) -> Result<Vec<u8>, Error>
+        ensures { AnswersBytes self.now result }
+    {
+        let encoded = self.bytes;
+        are_bytes(encoded);
+        if !self.is_huffman {
+            let Ok(bytes) = Vec::from_slice(alloc, encoded) else {
+                return Err(Error::OutOfMemory);
+            };
+            return Ok(bytes);
+        }
+        // a code word has at least five bits, and the decoder writes two symbols at a time
+        let room = encoded.len() / 5 * 8 + 12;
+        let Ok(mut bytes) = vec![in alloc; 0u8; room] else {
+            return Err(Error::OutOfMemory);
+        };
+        let Some(len) = h3_huffman::decode::decode_into(encoded, &mut bytes) else {
+            return Err(Error::HuffmanDecoding);
+        };
+        bytes.truncate(len);
+        Ok(bytes)
+    }
+}
