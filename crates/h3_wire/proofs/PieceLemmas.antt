@@ -1,0 +1,52 @@
+-- Pieces joined, one more and one less.
+use Rattle.std.proofs.Common.{◌≡◌, ℕ, ◌+◌, ◌<◌, List, [], ◌∷◌, ◌++◌, length, drop, get_or, append-nil, append_assoc, length-append, ap, sym, refl, ◌∙◌, inl, inr, arith}
+use Rattle.std.proofs.lemmas.List.{drop-drop, drop_more, drop_at, drop_all, length-drop}
+use Rattle.std.proofs.lemmas.Bool.{cases_lt}
+use Rattle.h3_wire.specs.Pieces.{joined, with_piece, without}
+
+pub joined-push : {T : Type 0} (unread : T → List ℕ) (xs : List T) (x : T) → joined unread (xs ++ x ∷ []) ≡ joined unread xs ++ unread x
+joined-push unread [] x = append-nil (unread x)
+joined-push unread (y ∷ xs) x = ap (λ l. unread y ++ l) (joined-push unread xs x) ∙ sym (append_assoc (unread y) (joined unread xs) (unread x))
+
+pub length-joined-push : {T : Type 0} (unread : T → List ℕ) (xs : List T) (x : T) → length (joined unread (xs ++ x ∷ [])) ≡ length (joined unread xs) + length (unread x)
+length-joined-push unread xs x = ap length (joined-push unread xs x) ∙ length-append (joined unread xs) (unread x)
+
+-- some bytes further within a piece
+pub further : (all rest : List ℕ) (p f n : ℕ) → drop p all ≡ drop f rest → drop (p + n) all ≡ drop (f + n) rest
+further all rest p f n same = sym (drop-drop n p all) ∙ ap (drop n) same ∙ drop-drop n f rest
+
+-- to the piece after it
+pub over : {T : Type 0} (unread : T → List ℕ) (items : List T) (i p f n : ℕ) (x : T) → i < length items → x ≡ get_or items i x
+    → f + n ≡ length (unread x) → drop p (joined unread items) ≡ drop f (joined unread (drop i items))
+    → drop (p + n) (joined unread items) ≡ joined unread (drop (i + 1) items)
+over unread items i p f n x inside is sum same =
+    let first : drop i items ≡ x ∷ drop (i + 1) items = drop_more items i x inside ∙ ap (λ y. y ∷ drop (i + 1) items) (sym is) in
+    further (joined unread items) (joined unread (drop i items)) p f n same
+    ∙ ap (λ l. drop (f + n) (joined unread l)) first
+    ∙ drop_at (unread x) (joined unread (drop (i + 1) items)) (f + n) (sym sum)
+
+-- where bytes are left, there is a piece under the place
+pub some_piece : {T : Type 0} (unread : T → List ℕ) (items : List T) (i p f : ℕ) → drop p (joined unread items) ≡ drop f (joined unread (drop i items))
+    → 0 < length (drop p (joined unread items)) → i < length items
+some_piece unread items i p f same some =
+    elim (cases_lt i (length items)) [
+      | inl inside ↦ inside
+      | inr past ↦
+          let none = same ∙ ap (λ l. drop f (joined unread l)) (drop_all i items past) in
+          let size = ap length none ∙ length-drop f [] in
+          absurd (omega arith)
+    ]
+
+-- a piece that is not empty is added
+pub with_piece-some : (pieces : List (List ℕ)) (x : List ℕ) → 0 < length x → with_piece pieces x ≡ pieces ++ x ∷ []
+with_piece-some pieces [] h = absurd (omega arith)
+with_piece-some pieces (byte ∷ bytes) h = refl
+
+-- and an empty one is not
+pub with_piece-none : (pieces : List (List ℕ)) (x : List ℕ) → length x ≡ 0 → with_piece pieces x ≡ pieces
+with_piece-none pieces [] h = refl
+with_piece-none pieces (byte ∷ bytes) h = absurd (omega arith)
+
+pub without-none : (pieces : List (List ℕ)) → without 0 pieces ≡ pieces
+without-none [] = refl
+without-none (p ∷ pieces) = refl

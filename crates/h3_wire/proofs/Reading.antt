@@ -1,0 +1,112 @@
+-- What a read leaves of all the bytes that are left.
+use Rattle.std.proofs.Common.{◌≡◌, ◌⊎◌, inl, inr, ℕ, ◌<◌, Bool, true, false, List, [], ◌++◌, length, arith, sym, ◌∙◌, ap, ap₂, subst, refl, append_assoc, append-nil, length-append, Result, Ok, Err, Option, Some, None}
+use Rattle.h3_wire.specs.declared.quic.Poll.{Poll}
+use Rattle.h3_wire.specs.declared.quic.Poll.TheVariants.{Ready, Pending}
+use Rattle.h3_wire.specs.declared.quic.StreamErrorIncoming.{StreamErrorIncoming}
+use Rattle.h3_wire.specs.declared.quic.StreamErrorIncoming.TheVariants as incoming
+use Rattle.h3_wire.specs.Source.{Answer, Polls, coming, Asked, done, more}
+use Rattle.h3_wire.specs.Streams.{Buffered, ReadsMore, Tells, AsksFirst, stream_error}
+use Rattle.h3_wire.specs.declared.frame.errors.FrameStreamError.{FrameStreamError}
+use Rattle.h3_wire.specs.declared.frame.errors.FrameStreamError.TheVariants as stream
+
+-- What a read of an open stream leaves.
+pub record Reading {S : Type 0} (rest : S → List ℕ) (answers : S → Answer → S → Type 0) (old new : Buffered S) : Type 0 where
+  pub all : new.buffered ++ coming new.is_eos (rest new.source) ≡ old.buffered ++ coming old.is_eos (rest old.source)
+  pub grows : (piece : List ℕ) × (new.buffered ≡ old.buffered ++ piece)
+  pub asked : Asked answers old.source new.source
+
+-- an open stream's source still gives its rest
+opened : {S : Type 0} (rest : S → List ℕ) (old : Buffered S) → old.is_eos ≡ false → old.buffered ++ rest old.source ≡ old.buffered ++ coming old.is_eos (rest old.source)
+opened rest old e = ap (λ t. old.buffered ++ coming t (rest old.source)) (sym e)
+
+still : {S : Type 0} (rest : S → List ℕ) (answers : S → Answer → S → Type 0) (old new : Buffered S) (answer : Answer) → old.is_eos ≡ false
+    → answers old.source answer new.source → rest new.source ≡ rest old.source → new.buffered ≡ old.buffered → new.is_eos ≡ old.is_eos → Reading rest answers old new
+still rest answers old new answer open_here a same b e = record {
+  all = ap₂ (λ x y. x ++ y) b (ap (λ t. coming t (rest new.source)) (e ∙ open_here) ∙ same) ∙ opened rest old open_here;
+  grows = ([], b ∙ sym (append-nil old.buffered));
+  asked = more old.source new.source new.source answer a (done new.source new.source refl);
+}
+
+unasked : {S : Type 0} (rest : S → List ℕ) (answers : S → Answer → S → Type 0) (old new : Buffered S) → old.is_eos ≡ false
+    → new.source ≡ old.source → new.buffered ≡ old.buffered → new.is_eos ≡ old.is_eos → Reading rest answers old new
+unasked rest answers old new open_here same b e = record {
+  all = ap₂ (λ x y. x ++ y) b (ap (λ t. coming t (rest new.source)) (e ∙ open_here) ∙ ap rest same) ∙ opened rest old open_here;
+  grows = ([], b ∙ sym (append-nil old.buffered));
+  asked = done old.source new.source same;
+}
+
+pub reading : {S : Type 0} (rest : S → List ℕ) (answers : S → Answer → S → Type 0) → ((s t : S) (answer : Answer) → answers s answer t → Polls answer (rest s) (rest t))
+    → (result : Poll (Result Bool StreamErrorIncoming)) (old new : Buffered S) → old.is_eos ≡ false → ReadsMore answers result old new → Reading rest answers old new
+reading rest answers polls (Ready (Ok false)) old new open_here h =
+    let p = polls old.source new.source (Ready (Ok (Some h.0))) h.1 in
+    record {
+      all = ap₂ (λ x y. x ++ y) h.2 (ap (λ t. coming t (rest new.source)) (h.3 ∙ open_here)) ∙ append_assoc old.buffered h.0 (rest new.source) ∙ ap (λ l. old.buffered ++ l) (sym p.1) ∙ opened rest old open_here;
+      grows = (h.0, h.2);
+      asked = more old.source new.source new.source (Ready (Ok (Some h.0))) h.1 (done new.source new.source refl);
+    }
+reading rest answers polls (Ready (Ok true)) old new open_here h =
+    let p = polls old.source new.source (Ready (Ok None)) h.0 in
+    record {
+      all = ap₂ (λ x y. x ++ y) h.1 (ap (λ t. coming t (rest new.source)) h.2 ∙ sym p.0) ∙ opened rest old open_here;
+      grows = ([], h.1 ∙ sym (append-nil old.buffered));
+      asked = more old.source new.source new.source (Ready (Ok None)) h.0 (done new.source new.source refl);
+    }
+reading rest answers polls (Ready (Err incoming.OutOfMemory)) old new open_here h = elim h.2 [
+  | inl same ↦ unasked rest answers old new open_here same h.0 h.1
+  | inr a ↦ still rest answers old new (Ready (Err incoming.OutOfMemory)) open_here a (polls old.source new.source (Ready (Err incoming.OutOfMemory)) a) h.0 h.1
+]
+reading rest answers polls (Ready (Err incoming.Unknown)) old new open_here h = still rest answers old new (Ready (Err incoming.Unknown)) open_here h.2 (polls old.source new.source (Ready (Err incoming.Unknown)) h.2) h.0 h.1
+reading rest answers polls (Ready (Err (incoming.ConnectionErrorIncoming code))) old new open_here h = still rest answers old new (Ready (Err (incoming.ConnectionErrorIncoming code))) open_here h.2 (polls old.source new.source (Ready (Err (incoming.ConnectionErrorIncoming code))) h.2) h.0 h.1
+reading rest answers polls (Ready (Err (incoming.StreamTerminated code))) old new open_here h = still rest answers old new (Ready (Err (incoming.StreamTerminated code))) open_here h.2 (polls old.source new.source (Ready (Err (incoming.StreamTerminated code))) h.2) h.0 h.1
+reading rest answers polls Pending old new open_here h = still rest answers old new Pending open_here h.0 (polls old.source new.source Pending h.0) h.1 h.2
+
+-- a piece makes what comes shorter
+pub comes_less : {S : Type 0} (rest : S → List ℕ) (answers : S → Answer → S → Type 0) → ((s t : S) (answer : Answer) → answers s answer t → Polls answer (rest s) (rest t))
+    → (old new : Buffered S) → old.is_eos ≡ false → ReadsMore answers (Ready (Ok false)) old new → length (coming new.is_eos (rest new.source)) < length (coming old.is_eos (rest old.source))
+comes_less rest answers polls old new open_here h =
+    let p = polls old.source new.source (Ready (Ok (Some h.0))) h.1 in
+    rw (h.3 ∙ open_here, open_here) (omega (arith, ap length p.1, length-append h.0 (rest new.source), p.0))
+
+-- an error but want of memory is the source's
+pub answered : {S : Type 0} (answers : S → Answer → S → Type 0) (e : StreamErrorIncoming) (old new : Buffered S) → (e ≡ incoming.OutOfMemory → ⊥) → ReadsMore answers (Ready (Err e)) old new → answers old.source (Ready (Err e)) new.source
+answered answers incoming.OutOfMemory old new other h = absurd (other refl)
+answered answers incoming.Unknown old new other h = h.2
+answered answers (incoming.ConnectionErrorIncoming code) old new other h = h.2
+answered answers (incoming.StreamTerminated code) old new other h = h.2
+
+-- no error tells the end
+pub error_keeps : {S : Type 0} (answers : S → Answer → S → Type 0) (e : StreamErrorIncoming) (old new : Buffered S) → ReadsMore answers (Ready (Err e)) old new → new.is_eos ≡ old.is_eos
+error_keeps answers incoming.OutOfMemory old new h = h.1
+error_keeps answers incoming.Unknown old new h = h.1
+error_keeps answers (incoming.ConnectionErrorIncoming code) old new h = h.1
+error_keeps answers (incoming.StreamTerminated code) old new h = h.1
+
+same_error : (e d : StreamErrorIncoming) (a b : Answer) → a ≡ Ready (Err e) → b ≡ Ready (Err d) → a ≡ b → e ≡ d
+same_error e d a b p q r = cc
+
+error_first : {S : Type 0} (answers : S → Answer → S → Type 0) (s t : S) (e : StreamErrorIncoming) (told : Option FrameStreamError) → answers s (Ready (Err e)) t → told ≡ Some (stream_error e) → AsksFirst answers s told
+error_first answers s t e told a f = inr (Ready (Err e), t, a, λ d q. f ∙ ap (λ x. Some (stream_error x)) (same_error e d (Ready (Err e)) (Ready (Err d)) refl refl q))
+
+-- what a read asks of the source first
+pub asks_first : {S : Type 0} (answers : S → Answer → S → Type 0) (r : Poll (Result Bool StreamErrorIncoming)) (old new : Buffered S) (told : Option FrameStreamError) → ReadsMore answers r old new → ((e : StreamErrorIncoming) → r ≡ Ready (Err e) → told ≡ Some (stream_error e)) → AsksFirst answers old.source told
+asks_first answers (Ready (Ok false)) old new told h f = inr (Ready (Ok (Some h.0)), new.source, h.1, λ e q. absurd (cc))
+asks_first answers (Ready (Ok true)) old new told h f = inr (Ready (Ok None), new.source, h.0, λ e q. absurd (cc))
+asks_first answers (Ready (Err incoming.OutOfMemory)) old new told h f = inl (f incoming.OutOfMemory refl)
+asks_first answers (Ready (Err incoming.Unknown)) old new told h f = error_first answers old.source new.source incoming.Unknown told h.2 (f incoming.Unknown refl)
+asks_first answers (Ready (Err (incoming.ConnectionErrorIncoming code))) old new told h f = error_first answers old.source new.source (incoming.ConnectionErrorIncoming code) told h.2 (f (incoming.ConnectionErrorIncoming code) refl)
+asks_first answers (Ready (Err (incoming.StreamTerminated code))) old new told h f = error_first answers old.source new.source (incoming.StreamTerminated code) told h.2 (f (incoming.StreamTerminated code) refl)
+asks_first answers Pending old new told h f = inr (Pending, new.source, h.0, λ e q. absurd (cc))
+
+pub read_error : (r : Poll (Result Bool StreamErrorIncoming)) (e d : StreamErrorIncoming) → r ≡ Ready (Err e) → r ≡ Ready (Err d) → e ≡ d
+read_error r e d p q = cc
+
+pub tells_error : {S : Type 0} (rest : S → List ℕ) (answers : S → Answer → S → Type 0) (e : StreamErrorIncoming) (old new : Buffered S) → ReadsMore answers (Ready (Err e)) old new → Tells rest answers (Err (stream_error e)) old new
+tells_error rest answers incoming.OutOfMemory old new h = tt
+tells_error rest answers incoming.Unknown old new h = (old.source, h.2)
+tells_error rest answers (incoming.ConnectionErrorIncoming code) old new h = (old.source, h.2)
+tells_error rest answers (incoming.StreamTerminated code) old new h = (old.source, h.2)
+
+-- what came without an error is followed by anything
+pub no_error_first : {S : Type 0} (answers : S → Answer → S → Type 0) (s : S) (told : Option FrameStreamError) → AsksFirst answers s None → AsksFirst answers s told
+no_error_first answers s told (inl m) = absurd (cc)
+no_error_first answers s told (inr a) = inr (a.0, a.1, a.2, λ e q. let none = a.3 e q in absurd (cc))

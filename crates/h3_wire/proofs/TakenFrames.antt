@@ -1,0 +1,114 @@
+-- What taking a frame off the buffer says of all the bytes that are left.
+use Rattle.std.proofs.Common.{◌≡◌, ◌⊎◌, ℕ, ◌<◌, ◌≤◌, Bool, true, false, List, [], ◌++◌, length, arith, sym, ◌∙◌, ap, ap₂, subst, refl, append_assoc, append-nil, length-append, Result, Ok, Err, Option, Some, None}
+use Rattle.h3_wire.specs.declared.quic.Poll.{Poll}
+use Rattle.h3_wire.specs.declared.quic.Poll.TheVariants.{Ready, Pending}
+use Rattle.h3_wire.specs.declared.stream.Received.TheVariants as received
+use Rattle.h3_wire.specs.declared.proto.frame.PayloadLen.{PayloadLen}
+use Rattle.h3_wire.specs.declared.proto.frame.Frame.{Frame}
+use Rattle.h3_wire.specs.declared.proto.frame.FrameError.{FrameError}
+use Rattle.h3_wire.specs.declared.frame.errors.FrameStreamError.{FrameStreamError}
+use Rattle.h3_wire.specs.declared.frame.errors.FrameStreamError.TheVariants as stream
+use Rattle.h3_wire.specs.Source.{Answer, coming}
+use Rattle.h3_wire.specs.Frames.{Front, Whole, Unknown, Refused, Unfinished, frame_at}
+use Rattle.h3_wire.specs.FrameLaws.{IsFinished, with_more, IsShorter, frame_at-more, frame_at-shorter}
+use Rattle.h3_wire.specs.Known.{known, Gives, IsWaiting, refusal}
+use Rattle.h3_wire.specs.KnownLaws.{IsKnown, known-more, known-other, known_is, known_known, known-length}
+use Rattle.h3_wire.specs.Streams.{Buffered, Framing, left, Answered, Tells, PollsFrame, Continues}
+
+more_known : (x : Front) (more : List ℕ) → IsKnown x → IsKnown (with_more x more)
+more_known (Whole f rest) more h = tt
+more_known (Unknown kind rest) more h = absurd h
+more_known (Refused e) more h = tt
+more_known (Unfinished k) more h = tt
+
+-- bytes behind a front that is read leave it where it is
+pub known-behind : (b more : List ℕ) → IsFinished (frame_at (known b)) → (known (b ++ more) ≡ known b ++ more) × (frame_at (known b ++ more) ≡ with_more (frame_at (known b)) more)
+known-behind b more h =
+    let there = frame_at-more (known b) more h in
+    let here = subst IsKnown (sym there) (more_known (frame_at (known b)) more (known_is b)) in
+    (known-more b more ∙ known-other (known b ++ more) here, there)
+
+pub whole_behind : (f : Frame PayloadLen) (b new more : List ℕ) → frame_at (known b) ≡ Whole f new → frame_at (known (b ++ more)) ≡ Whole f (new ++ more)
+whole_behind f b new more e =
+    let k = known-behind b more (subst IsFinished (sym e) tt) in
+    ap frame_at k.0 ∙ k.1 ∙ ap (λ x. with_more x more) e
+
+pub refused_behind : (e : FrameError) (b new more : List ℕ) → new ≡ known b → frame_at new ≡ Refused e → (new ++ more ≡ known (b ++ more)) × (frame_at (new ++ more) ≡ Refused e)
+refused_behind e b new more same h =
+    let here : frame_at (known b) ≡ Refused e = ap frame_at (sym same) ∙ h in
+    let k = known-behind b more (subst IsFinished (sym here) tt) in
+    (ap (λ l. l ++ more) same ∙ sym k.0, ap (λ l. frame_at (l ++ more)) same ∙ k.1 ∙ ap (λ x. with_more x more) here)
+
+pub same_behind : (b new more : List ℕ) → new ≡ known b → known (new ++ more) ≡ known (b ++ more)
+same_behind b new more same = ap (λ l. known (l ++ more)) same ∙ sym (known-more b more)
+
+-- no frame makes the bytes more
+pub gives_fewer : (r : Result (Option (Frame PayloadLen)) FrameStreamError) (old new : List ℕ) → Gives r old new → length new ≤ length old
+gives_fewer (Ok (Some f)) old new h =
+    let less : length new < length (known old) = subst (IsShorter (length (known old))) h (frame_at-shorter (known old)) in
+    omega (arith, less, known-length old)
+gives_fewer (Ok None) old new h = omega (arith, ap length h.0, known-length old)
+gives_fewer (Err (stream.Proto e)) old new h = omega (arith, ap length h.0, known-length old)
+gives_fewer (Err stream.OutOfMemory) old new h = omega (arith, ap length h.0, known-length old)
+gives_fewer (Err (stream.Quic e)) old new h = absurd h
+gives_fewer (Err stream.UnexpectedEnd) old new h = absurd h
+
+-- What was read, and what comes behind it, before and after a frame was taken.
+pub record Taken {S : Type 0} (rest : S → List ℕ) (old new : Framing S) (read behind : List ℕ) : Type 0 where
+  pub before : left rest old ≡ read ++ behind
+  pub after : left rest new ≡ new.buffered ++ behind
+
+pub taken_fewer : {S : Type 0} (rest : S → List ℕ) (old new : Framing S) (read behind : List ℕ) (r : Result (Option (Frame PayloadLen)) FrameStreamError) → Taken rest old new read behind → Gives r read new.buffered → length (left rest new) ≤ length (left rest old)
+taken_fewer rest old new read behind r t g =
+    omega (arith, ap length t.before, ap length t.after, length-append read behind, length-append new.buffered behind, gives_fewer r read new.buffered g)
+
+pub polls_error : {S : Type 0} (rest : S → List ℕ) (answers : S → Answer → S → Type 0) (old new : Framing S) (read behind : List ℕ) (e : FrameStreamError) → Taken rest old new read behind → Gives (Err e) read new.buffered → new.payload ≡ old.payload
+    → PollsFrame rest answers (Ready (Err e)) old new
+polls_error rest answers old new read behind (stream.Proto e) t g p =
+    let r = refused_behind (refusal e) read new.buffered behind g.0 g.1 in
+    (t.after ∙ r.0 ∙ ap known (sym t.before), ap frame_at t.after ∙ r.1, p)
+polls_error rest answers old new read behind stream.OutOfMemory t g p = (ap known t.after ∙ same_behind read new.buffered behind g.0 ∙ ap known (sym t.before), p)
+polls_error rest answers old new read behind (stream.Quic e) t g p = absurd g
+polls_error rest answers old new read behind stream.UnexpectedEnd t g p = absurd g
+
+pub polls_frame : {S : Type 0} (rest : S → List ℕ) (old new : Framing S) (read behind : List ℕ) (f : Frame PayloadLen) → Taken rest old new read behind → Gives (Ok (Some f)) read new.buffered
+    → frame_at (known (left rest old)) ≡ Whole f (left rest new)
+polls_frame rest old new read behind f t g =
+    ap (λ l. frame_at (known l)) t.before ∙ whole_behind f read new.buffered behind g ∙ ap (Whole f) (sym t.after)
+
+pub polls_same : {S : Type 0} (rest : S → List ℕ) (old new : Framing S) (read behind : List ℕ) → Taken rest old new read behind → Gives (Ok None) read new.buffered → known (left rest new) ≡ known (left rest old)
+polls_same rest old new read behind t g = ap known t.after ∙ same_behind read new.buffered behind g.0 ∙ ap known (sym t.before)
+
+-- at the end nothing comes behind
+pub polls_end : {S : Type 0} (rest : S → List ℕ) (old new : Framing S) (read behind : List ℕ) → Taken rest old new read behind → Gives (Ok None) read new.buffered → behind ≡ []
+    → (left rest new ≡ known (left rest old)) × IsWaiting (frame_at (left rest new)) × (left rest new ≡ new.buffered)
+polls_end rest old new read behind t g none =
+    let after : left rest new ≡ new.buffered = t.after ∙ ap (λ l. new.buffered ++ l) none ∙ append-nil new.buffered in
+    let before : left rest old ≡ read = t.before ∙ ap (λ l. read ++ l) none ∙ append-nil read in
+    (after ∙ g.0 ∙ ap known (sym before), subst (λ l. IsWaiting (frame_at l)) (sym after) g.1, after)
+
+-- an error of the source takes nothing
+pub polls_failed : {S : Type 0} (rest : S → List ℕ) (answers : S → Answer → S → Type 0) (old new : Framing S) (mid : Buffered S) (before : Buffered S) (e : FrameStreamError) → left rest new ≡ left rest old → Tells rest answers (Err e) before mid → new.source ≡ mid.source → new.payload ≡ old.payload
+    → PollsFrame rest answers (Ready (Err e)) old new
+polls_failed rest answers old new mid before (stream.Proto e) same t s p = absurd t
+polls_failed rest answers old new mid before stream.OutOfMemory same t s p = (ap known same, p)
+polls_failed rest answers old new mid before (stream.Quic e) same t s p = (ap known same, (t.0, subst (λ x. answers t.0 (Ready (Err e)) x) (sym s) t.1), p)
+polls_failed rest answers old new mid before stream.UnexpectedEnd same t s p = absurd t
+
+-- a front that was looked at earlier says the same of the whole
+pub polls_on : {S : Type 0} (rest : S → List ℕ) (answers : S → Answer → S → Type 0) (start old new : Framing S) (r : Poll (Result (Option (Frame PayloadLen)) FrameStreamError)) → known (left rest old) ≡ known (left rest start) → old.payload ≡ start.payload → PollsFrame rest answers r old new → PollsFrame rest answers r start new
+polls_on rest answers start old new (Ready (Ok (Some f))) k p h = (ap frame_at (sym k) ∙ h.0, h.1)
+polls_on rest answers start old new (Ready (Ok None)) k p h = (sym k ∙ h.0, h.1, h.2, h.3 ∙ p)
+polls_on rest answers start old new (Ready (Err (stream.Proto e))) k p h = (h.0 ∙ k, h.1, h.2 ∙ p)
+polls_on rest answers start old new (Ready (Err (stream.Quic e))) k p h = (h.0 ∙ k, h.1, h.2 ∙ p)
+polls_on rest answers start old new (Ready (Err stream.UnexpectedEnd)) k p h = (h.0 ∙ k, h.1, h.2, h.3, h.4 ∙ p)
+polls_on rest answers start old new (Ready (Err stream.OutOfMemory)) k p h = (h.0 ∙ k, h.1 ∙ p)
+polls_on rest answers start old new Pending k p h = (h.0 ∙ k, h.1, h.2, h.3 ∙ p)
+
+pub taken : {S : Type 0} (rest : S → List ℕ) (now inside new : Framing S) (mid took : Buffered S) → inside ≡ now → mid.buffered ++ coming mid.is_eos (rest mid.source) ≡ left rest inside
+    → took.source ≡ mid.source → took.is_eos ≡ mid.is_eos → new.buffered ≡ took.buffered → new.source ≡ took.source → new.is_eos ≡ took.is_eos
+    → Taken rest now new mid.buffered (coming mid.is_eos (rest mid.source))
+taken rest now inside new mid took view all source is_eos b s e = record {
+  before = ap (left rest) (sym view) ∙ sym all;
+  after = ap₂ (λ t x. new.buffered ++ coming t (rest x)) (e ∙ is_eos) (s ∙ source);
+}

@@ -1,0 +1,13 @@
+use Rattle.std.proofs.Common.{◌≡◌, ◌≤◌, length, drop}
+use Rattle.h3_wire.specs.Pieces.{without}
+use Rattle.h3_wire.proofs.buf.BufListBuf.advance.Given as goal
+
+abbrev pub invariant-loop-left : goal.invariant-loop-left
+invariant-loop-left g l = record {
+  inside : l.left ≤ length l.self.bytes;
+  rest : drop l.left l.self.bytes ≡ drop l.fn.cnt l.fn.self.bytes;
+  pieces : without l.left l.self.pieces ≡ without l.fn.cnt l.fn.self.pieces;
+}
+
+abbrev pub decreases-loop-left : goal.decreases-loop-left
+decreases-loop-left g l = l.left

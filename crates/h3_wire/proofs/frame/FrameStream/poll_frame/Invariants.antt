@@ -1,0 +1,19 @@
+use Rattle.std.proofs.Common.{◌≡◌, ◌≤◌, ◌⊎◌, length, false, None}
+use Rattle.h3_wire.specs.Source.{Asked, coming}
+use Rattle.h3_wire.specs.Known.{known}
+use Rattle.h3_wire.specs.Streams.{left, AsksFirst}
+use Rattle.h3_wire.proofs.frame.FrameStream.poll_frame.Given as goal
+
+-- bytes came that end no frame
+abbrev pub invariant-loop-answer : goal.invariant-loop-answer
+invariant-loop-answer g l = record {
+  same : known (left g.S.RecvStream.rest l.self) ≡ known (left g.S.RecvStream.rest l.fn.self);
+  fewer : length (left g.S.RecvStream.rest l.self) ≤ length (left g.S.RecvStream.rest l.fn.self);
+  payload : l.self.payload ≡ l.fn.self.payload;
+  is_eos : l.self.is_eos ≡ l.fn.self.is_eos;
+  first : l.fn.self.is_eos ≡ false → (l.self.source ≡ l.fn.self.source) ⊎ AsksFirst g.S.RecvStream.answers l.fn.self.source None;
+  asked : Asked g.S.RecvStream.answers l.fn.self.source l.self.source;
+}
+
+abbrev pub decreases-loop-answer : goal.decreases-loop-answer
+decreases-loop-answer g l = length (coming l.self.is_eos (g.S.RecvStream.rest l.self.source))

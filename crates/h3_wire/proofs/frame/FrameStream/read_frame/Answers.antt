@@ -1,0 +1,86 @@
+use Rattle.std.proofs.Common.{◌≡◌, ◌++◌, ℕ, List, [], true, length, arith, sym, ◌∙◌, ap, ap₂, subst, refl, rules}
+use Rattle.h3_wire.specs.Source.{coming}
+use Rattle.h3_wire.specs.Known.{Expects}
+use Rattle.h3_wire.specs.KnownLaws.{Expects-more}
+use Rattle.h3_wire.specs.Streams.{Framing, left}
+use Rattle.h3_wire.specs.declared.quic.Poll.TheVariants.{Pending}
+use Rattle.h3_wire.proofs.TakenFrames.{taken, Taken, taken_fewer, polls_error, polls_frame, polls_same, polls_end, polls_failed}
+use Rattle.h3_wire.proofs.frame.FrameStream.read_frame.Goals as goal
+
+pub invariant_of-self : goal.invariant_of-self
+invariant_of-self g c =
+    let more = c.receive.ensures.grows in
+    (subst (λ l. Expects c.self.inside.decoder l) (sym more.1) (Expects-more c.self.inside.decoder c.self.inside.stream.buffered more.0 c.self.invariant.0), c.self.invariant.1)
+
+pub take_frame-requires : goal.take_frame-requires
+take_frame-requires g c =
+    let more = c.receive.ensures.grows in
+    record { expects = subst (λ l. Expects c.self.inside.decoder l) (sym more.1) (Expects-more c.self.inside.decoder c.self.inside.stream.buffered more.0 c.self.invariant.0) }
+
+pub returns-in-Err-take_frame-clause-polls : goal.returns-in-Err-take_frame-clause-polls
+returns-in-Err-take_frame-clause-polls g c =
+    let rest = g.S.RecvStream.rest in
+    let new : Framing g.row.S.Denot = record { buffered = c.take_frame.new.self.buffered; source = c.take_frame.new.self.source; is_eos = c.take_frame.new.self.is_eos; payload = c.self.inside.payload } in
+    let t = taken rest c.args.self.now _ new c.receive.new.self c.take_frame.new.self c.self.view_is c.receive.ensures.all c.take_frame.ensures.source c.take_frame.ensures.is_eos refl refl refl in
+    polls_error rest g.S.RecvStream.answers c.args.self.now new _ _ c.in-Err-take_frame.e t c.in-Err-take_frame.ensures.gives (ap (λ (x : Framing g.row.S.Denot). x.payload) c.self.view_is)
+
+pub returns-in-Err-take_frame-clause-fewer : goal.returns-in-Err-take_frame-clause-fewer
+returns-in-Err-take_frame-clause-fewer g c =
+    let rest = g.S.RecvStream.rest in
+    let new : Framing g.row.S.Denot = record { buffered = c.take_frame.new.self.buffered; source = c.take_frame.new.self.source; is_eos = c.take_frame.new.self.is_eos; payload = c.self.inside.payload } in
+    let t = taken rest c.args.self.now _ new c.receive.new.self c.take_frame.new.self c.self.view_is c.receive.ensures.all c.take_frame.ensures.source c.take_frame.ensures.is_eos refl refl refl in
+    taken_fewer rest c.args.self.now new _ _ c.take_frame.result t c.take_frame.ensures.gives
+
+pub returns-in-Ok-Some-clause-polls : goal.returns-in-Ok-Some-clause-polls
+returns-in-Ok-Some-clause-polls g c =
+    let rest = g.S.RecvStream.rest in
+    let new : Framing g.row.S.Denot = record { buffered = c.take_frame.new.self.buffered; source = c.take_frame.new.self.source; is_eos = c.take_frame.new.self.is_eos; payload = c.payload_of-self-inside.result } in
+    let t = taken rest c.args.self.now _ new c.receive.new.self c.take_frame.new.self c.self.view_is c.receive.ensures.all c.take_frame.ensures.source c.take_frame.ensures.is_eos refl refl refl in
+    (polls_frame rest c.args.self.now new _ _ c.in-Ok-Some.frame t (rw c.in-Ok-Some.field-0-is at c.in-Ok-Some.ensures.gives), c.payload_of-self-inside.ensures)
+
+pub returns-in-Ok-Some-clause-fewer : goal.returns-in-Ok-Some-clause-fewer
+returns-in-Ok-Some-clause-fewer g c =
+    let rest = g.S.RecvStream.rest in
+    let new : Framing g.row.S.Denot = record { buffered = c.take_frame.new.self.buffered; source = c.take_frame.new.self.source; is_eos = c.take_frame.new.self.is_eos; payload = c.payload_of-self-inside.result } in
+    let t = taken rest c.args.self.now _ new c.receive.new.self c.take_frame.new.self c.self.view_is c.receive.ensures.all c.take_frame.ensures.source c.take_frame.ensures.is_eos refl refl refl in
+    taken_fewer rest c.args.self.now new _ _ c.take_frame.result t c.take_frame.ensures.gives
+
+pub returns-in-More-clause-polls : goal.returns-in-More-clause-polls
+returns-in-More-clause-polls g c =
+    let rest = g.S.RecvStream.rest in
+    let new : Framing g.row.S.Denot = record { buffered = c.take_frame.new.self.buffered; source = c.take_frame.new.self.source; is_eos = c.take_frame.new.self.is_eos; payload = c.self.inside.payload } in
+    let t = taken rest c.args.self.now _ new c.receive.new.self c.take_frame.new.self c.self.view_is c.receive.ensures.all c.take_frame.ensures.source c.take_frame.ensures.is_eos refl refl refl in
+    let less = rw c.in-More.is at c.in-Ok.ensures.tells in
+    let here = ap (λ (x : Framing g.row.S.Denot). length (coming x.is_eos (rest x.source))) c.self.view_is in
+    let there = ap₂ (λ t x. length (coming t (rest x))) c.take_frame.ensures.is_eos c.take_frame.ensures.source in
+    (polls_same rest c.args.self.now new _ _ t (rw c.in-Ok-None.field-0-is at c.in-Ok-None.ensures.gives), omega (arith, less.0, here, there), ap (λ (x : Framing g.row.S.Denot). x.payload) c.self.view_is, c.take_frame.ensures.is_eos ∙ less.1 ∙ ap (λ (x : Framing g.row.S.Denot). x.is_eos) c.self.view_is)
+
+pub returns-in-More-clause-fewer : goal.returns-in-More-clause-fewer
+returns-in-More-clause-fewer g c =
+    let rest = g.S.RecvStream.rest in
+    let new : Framing g.row.S.Denot = record { buffered = c.take_frame.new.self.buffered; source = c.take_frame.new.self.source; is_eos = c.take_frame.new.self.is_eos; payload = c.self.inside.payload } in
+    let t = taken rest c.args.self.now _ new c.receive.new.self c.take_frame.new.self c.self.view_is c.receive.ensures.all c.take_frame.ensures.source c.take_frame.ensures.is_eos refl refl refl in
+    taken_fewer rest c.args.self.now new _ _ c.take_frame.result t c.take_frame.ensures.gives
+
+pub returns-in-Nothing-clause-polls : goal.returns-in-Nothing-clause-polls
+returns-in-Nothing-clause-polls g c =
+    let rest = g.S.RecvStream.rest in
+    let new : Framing g.row.S.Denot = record { buffered = c.take_frame.new.self.buffered; source = c.take_frame.new.self.source; is_eos = c.take_frame.new.self.is_eos; payload = c.self.inside.payload } in
+    let t = taken rest c.args.self.now _ new c.receive.new.self c.take_frame.new.self c.self.view_is c.receive.ensures.all c.take_frame.ensures.source c.take_frame.ensures.is_eos refl refl refl in
+    let gives = rw c.in-Ok-None.field-0-is at c.in-Ok-None.ensures.gives in
+    let told = rw c.in-Nothing.is at c.in-Ok.ensures.tells in
+    (polls_same rest c.args.self.now new _ _ t gives, gives.1, (told.0, subst (λ x. g.S.RecvStream.answers told.0 Pending x) (sym c.take_frame.ensures.source) told.1), ap (λ (x : Framing g.row.S.Denot). x.payload) c.self.view_is)
+
+pub returns-in-Nothing-clause-fewer : goal.returns-in-Nothing-clause-fewer
+returns-in-Nothing-clause-fewer g c =
+    let rest = g.S.RecvStream.rest in
+    let new : Framing g.row.S.Denot = record { buffered = c.take_frame.new.self.buffered; source = c.take_frame.new.self.source; is_eos = c.take_frame.new.self.is_eos; payload = c.self.inside.payload } in
+    let t = taken rest c.args.self.now _ new c.receive.new.self c.take_frame.new.self c.self.view_is c.receive.ensures.all c.take_frame.ensures.source c.take_frame.ensures.is_eos refl refl refl in
+    taken_fewer rest c.args.self.now new _ _ c.take_frame.result t c.take_frame.ensures.gives
+
+pub returns-then-remaining-gt0-clause-fewer : goal.returns-then-remaining-gt0-clause-fewer
+returns-then-remaining-gt0-clause-fewer g c =
+    let rest = g.S.RecvStream.rest in
+    let new : Framing g.row.S.Denot = record { buffered = c.take_frame.new.self.buffered; source = c.take_frame.new.self.source; is_eos = c.take_frame.new.self.is_eos; payload = c.self.inside.payload } in
+    let t = taken rest c.args.self.now _ new c.receive.new.self c.take_frame.new.self c.self.view_is c.receive.ensures.all c.take_frame.ensures.source c.take_frame.ensures.is_eos refl refl refl in
+    taken_fewer rest c.args.self.now new _ _ c.take_frame.result t c.take_frame.ensures.gives

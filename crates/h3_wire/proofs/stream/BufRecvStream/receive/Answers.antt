@@ -1,0 +1,51 @@
+use Rattle.std.proofs.Common.{refl, sym, ap, ◌∙◌, ◌≡◌, false, inl, inr, Some}
+use Rattle.h3_wire.specs.Source.{done}
+use Rattle.h3_wire.specs.Streams.{Buffered, stream_error}
+use Rattle.h3_wire.specs.declared.quic.Poll.TheVariants.{Ready}
+use Rattle.h3_wire.proofs.Reading.{Reading, reading, error_keeps, asks_first, tells_error, read_error}
+use Rattle.h3_wire.specs.ReadLaws.{apart}
+use Rattle.h3_wire.proofs.stream.BufRecvStream.receive.Goals as goal
+
+pub returns-then-self-clause-asked : goal.returns-then-self-clause-asked
+returns-then-self-clause-asked g c = done _ _ refl
+
+pub returns-then-self-clause-first : goal.returns-then-self-clause-first
+returns-then-self-clause-first g c = λ e. let k = ap (λ (b : Buffered g.row.S.Denot). b.is_eos) c.self.view_is in absurd (apart (sym c.if-self.true ∙ k ∙ e))
+
+pub returns-in-Ready-Ok-true-clause-asked : goal.returns-in-Ready-Ok-true-clause-asked
+returns-in-Ready-Ok-true-clause-asked g c =
+    let open_here = sym (ap (λ (b : Buffered g.row.S.Denot). b.is_eos) c.self.view_is) ∙ c.if-self.false in
+    (reading g.S.RecvStream.rest g.S.RecvStream.answers g.met.S.RecvStream.polls c.poll_read.result _ _ open_here c.poll_read.ensures).asked
+
+pub returns-in-Ready-Ok-true-clause-first : goal.returns-in-Ready-Ok-true-clause-first
+returns-in-Ready-Ok-true-clause-first g c = λ _. asks_first g.S.RecvStream.answers c.poll_read.result c.args.self.now c.poll_read.new.self _ c.poll_read.ensures (λ e q. absurd (cc))
+
+pub returns-in-Ready-Ok-false-clause-asked : goal.returns-in-Ready-Ok-false-clause-asked
+returns-in-Ready-Ok-false-clause-asked g c =
+    let open_here = sym (ap (λ (b : Buffered g.row.S.Denot). b.is_eos) c.self.view_is) ∙ c.if-self.false in
+    (reading g.S.RecvStream.rest g.S.RecvStream.answers g.met.S.RecvStream.polls c.poll_read.result _ _ open_here c.poll_read.ensures).asked
+
+pub returns-in-Ready-Ok-false-clause-first : goal.returns-in-Ready-Ok-false-clause-first
+returns-in-Ready-Ok-false-clause-first g c = λ _. asks_first g.S.RecvStream.answers c.poll_read.result c.args.self.now c.poll_read.new.self _ c.poll_read.ensures (λ e q. absurd (cc))
+
+pub returns-in-Pending-clause-asked : goal.returns-in-Pending-clause-asked
+returns-in-Pending-clause-asked g c =
+    let open_here = sym (ap (λ (b : Buffered g.row.S.Denot). b.is_eos) c.self.view_is) ∙ c.if-self.false in
+    (reading g.S.RecvStream.rest g.S.RecvStream.answers g.met.S.RecvStream.polls c.poll_read.result _ _ open_here c.poll_read.ensures).asked
+
+pub returns-in-Pending-clause-first : goal.returns-in-Pending-clause-first
+returns-in-Pending-clause-first g c = λ _. asks_first g.S.RecvStream.answers c.poll_read.result c.args.self.now c.poll_read.new.self _ c.poll_read.ensures (λ e q. absurd (cc))
+
+pub returns-in-Ready-Err : goal.returns-in-Ready-Err
+returns-in-Ready-Err g c =
+    let open_here = sym (ap (λ (b : Buffered g.row.S.Denot). b.is_eos) c.self.view_is) ∙ c.if-self.false in
+    let r = reading g.S.RecvStream.rest g.S.RecvStream.answers g.met.S.RecvStream.polls c.poll_read.result _ _ open_here c.poll_read.ensures in
+    let here = rw c.in-Ready-Err.field-0-is at c.in-Ready-Err.ensures in
+    record {
+      all = r.all;
+      grows = r.grows;
+      tells = rw c.as_stream_error.ensures (tells_error g.S.RecvStream.rest g.S.RecvStream.answers c.in-Ready-Err.e c.args.self.now c.poll_read.new.self here);
+      asked = r.asked;
+      ended = inl (error_keeps g.S.RecvStream.answers c.in-Ready-Err.e c.args.self.now c.poll_read.new.self here);
+      first = λ _. asks_first g.S.RecvStream.answers c.poll_read.result c.args.self.now c.poll_read.new.self _ c.poll_read.ensures (λ e q. ap (λ x. Some x) c.as_stream_error.ensures ∙ ap (λ x. Some (stream_error x)) (read_error c.poll_read.result c.in-Ready-Err.e e (c.in-Ready-Err.is ∙ ap (λ x. Ready x) c.in-Ready-Err.field-0-is) q));
+    }

@@ -1,0 +1,12 @@
+pub mod FrameLaws
+pub mod Frames
+pub mod Known
+pub mod KnownLaws
+pub mod Pieces
+pub mod Place
+pub mod Promise
+pub mod ReadLaws
+pub mod Reads
+pub mod Source
+pub mod Streams
+pub mod ReadsOn

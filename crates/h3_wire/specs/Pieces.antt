@@ -1,0 +1,34 @@
+-- Bytes in pieces, one after another.
+use Rattle.std.specs.Prelude.{ℕ, zero, suc, ◌-◌, List, [], ◌∷◌, ◌++◌, length, take, drop, map, nat_lt, nat_le, if◌then◌else◌, Option, Some, None}
+use Rattle.std.specs.List.{concat}
+
+-- the bytes of the pieces, joined
+abbrev pub joined : {T : Type 0} → (T → List ℕ) → List T → List ℕ
+joined unread pieces = concat (map unread pieces)
+
+-- What is seen of a list of pieces: the pieces, the bytes of all of them, and how many more pieces fit with no allocation.
+pub record Listed : Type 0 where
+  pub pieces : List (List ℕ)
+  pub bytes : List ℕ
+  pub room : ℕ
+
+-- the pieces with one more at the end; an empty one is none
+abbrev pub with_piece : List (List ℕ) → List ℕ → List (List ℕ)
+with_piece pieces [] = pieces
+with_piece pieces (byte ∷ bytes) = pieces ++ (byte ∷ bytes) ∷ []
+
+-- what is left of the pieces behind their first n bytes
+abbrev pub without : ℕ → List (List ℕ) → List (List ℕ)
+without n [] = []
+without zero (p ∷ pieces) = p ∷ pieces
+without (suc n) (p ∷ pieces) = if nat_lt (suc n) (length p) then drop (suc n) p ∷ pieces else without (suc n - length p) pieces
+
+-- the first piece, and the others
+abbrev pub first_of : List (List ℕ) → Option (List ℕ) × List (List ℕ)
+first_of [] = (None, [])
+first_of (p ∷ pieces) = (Some p, pieces)
+
+-- the first piece's first bytes, at most max, and what is left
+abbrev pub chunk_of : ℕ → List (List ℕ) → Option (List ℕ) × List (List ℕ)
+chunk_of max [] = (None, [])
+chunk_of max (p ∷ pieces) = if nat_le (length p) max then (Some p, pieces) else (Some (take max p), drop max p ∷ pieces)

@@ -1,0 +1,221 @@
+//! A list of pieces of bytes that is read as one run.
+ghost use Rattle.std.specs.Prelude.{◌≡◌, ◌+◌, ◌-◌, ◌^◌, ◌<◌, ◌≤◌, ◌++◌, [], ◌∷◌, length, drop, nat_le, IfOk, IfErr, OnOk, OnErr, Some, MatchOption};
+ghost use Rattle.h3_wire.specs.Pieces.{with_piece, without, chunk_of, first_of};
+
+use bytes::{Buf, Bytes};
+use std::alloc::{AllocError, AllocFailed, Global};
+use std::collections::VecDeque;
+use std::fmt;
+use std::marker::Model;
+
+mod pieces;
+
+pub use pieces::{Cursor, Piece};
+
+/// Pieces, none of them empty. A contract sees the pieces as byte lists, the bytes of all of them
+/// joined, and how many more pieces fit.
+#[derive(Drop)]
+pub struct BufList<T: Buf> {
+    bufs: VecDeque<T>,
+    len: usize,
+}
+
+impl<T: Buf> Model for BufList<T> {
+    ghost use Rattle.std.specs.Prelude.{◌≡◌, ℕ, ◌<◌, ◌-◌, List, length, All, map};
+    ghost use Rattle.std.specs.VecDeque.{deque_len, deque_capacity};
+    ghost use Rattle.h3_wire.specs.Pieces.{Listed, joined};
+
+    ghost Value = { Listed };
+
+    ghost view = { λ b. record {
+      pieces = map T.unread b.bufs.items;
+      bytes = joined T.unread b.bufs.items;
+      room = deque_capacity b.bufs - deque_len b.bufs;
+    } };
+
+    ghost invariant = { λ b. (b.len ≡ length (joined T.unread b.bufs.items)) × All (λ p. 0 < length (T.unread p)) b.bufs.items };
+}
+
+impl<T: Buf> BufList<T> {
+    pub fn new(alloc: Global) -> BufList<T>
+        ensures pieces { result.pieces ≡ [] }
+        ensures bytes { result.bytes ≡ [] }
+    {
+        BufList {
+            bufs: VecDeque::new(alloc),
+            len: 0,
+        }
+    }
+
+    /// A cursor at the first byte.
+    pub fn cursor(&self) -> Cursor<'_, T>
+        ensures position { result.position ≡ 0 }
+        ensures all { result.all ≡ self.now.bytes }
+    {
+        Cursor::new(&self.bufs, self.len)
+    }
+
+    /// Adds a piece at the end. An empty one keeps nothing. An `Err` hands the piece back.
+    pub fn push(&mut self, piece: T) -> Result<(), AllocFailed<T>>
+    where
+        T: Drop,
+        requires fits { length self.old.bytes + length (T.unread piece) < 2 ^ 64 }
+        ensures pieces { OnOk result (self.new.pieces ≡ with_piece self.old.pieces (T.unread piece)) }
+        ensures bytes { OnOk result (self.new.bytes ≡ self.old.bytes ++ T.unread piece) }
+        ensures same { OnErr result ((self.new.pieces ≡ self.old.pieces) × (self.new.bytes ≡ self.old.bytes)) }
+        ensures value { IfErr result (λ e. e.value ≡ piece) }
+    {
+        if self.reserve().is_err() {
+            return Err(AllocFailed { value: piece });
+        }
+        self.push_reserved(piece);
+        Ok(())
+    }
+
+    /// Room for one more piece.
+    pub(crate) fn reserve(&mut self) -> Result<(), AllocError>
+        ensures pieces { self.new.pieces ≡ self.old.pieces }
+        ensures bytes { self.new.bytes ≡ self.old.bytes }
+        ensures room { OnOk result (0 < self.new.room) }
+        ensures full { OnErr result (self.old.room < 1) }
+    {
+        self.bufs.reserve(1)
+    }
+
+    /// Adds a piece at the end, where there is room. An empty one keeps nothing.
+    pub(crate) fn push_reserved(&mut self, piece: T)
+    where
+        T: Drop,
+        requires room { 0 < self.old.room }
+        requires fits { length self.old.bytes + length (T.unread piece) < 2 ^ 64 }
+        ensures pieces { self.new.pieces ≡ with_piece self.old.pieces (T.unread piece) }
+        ensures bytes { self.new.bytes ≡ self.old.bytes ++ T.unread piece }
+    {
+        let len = piece.remaining();
+        if len == 0 {
+            return;
+        }
+        self.len += len;
+        self.bufs.push_back_reserved(piece);
+    }
+
+    // Whether there is at most one piece.
+    pub(crate) fn is_one_piece(&self) -> bool
+        ensures { result ≡ nat_le (length self.now.pieces) 1 }
+    {
+        self.bufs.len() <= 1
+    }
+}
+
+impl<T: Buf + Drop> Buf for BufList<T> {
+    ghost unread = { λ b. b.bytes };
+
+    fn remaining(&self) -> usize {
+        self.len
+    }
+
+    fn chunk(&self) -> &[u8] {
+        match self.bufs.front() {
+            Some(first) => first.chunk(),
+            None => &[],
+        }
+    }
+
+    fn advance(&mut self, cnt: usize)
+        requires { cnt ≤ length self.old.bytes }
+        ensures value { self.new.bytes ≡ drop cnt self.old.bytes }
+        ensures pieces { self.new.pieces ≡ without cnt self.old.pieces }
+    {
+        let mut left = cnt;
+        while left > 0 {
+            left -= self.advance_first(left);
+        }
+    }
+}
+
+impl<T: Buf + Drop> BufList<T> {
+    // Passes up to `cnt` bytes of the first piece, and answers how many.
+    fn advance_first(&mut self, cnt: usize) -> usize
+        requires { (0 < cnt) × (cnt ≤ length self.old.bytes) }
+        ensures count { (0 < result) × (result ≤ cnt) }
+        ensures rest { self.new.bytes ≡ drop result self.old.bytes }
+        ensures pieces { without (cnt - result) self.new.pieces ≡ without cnt self.old.pieces }
+    {
+        let Some(mut first) = self.bufs.pop_front() else {
+            unreachable!()
+        };
+        let passed = cnt.min(first.remaining());
+        first.advance(passed);
+        if first.has_remaining() {
+            self.bufs.push_front_reserved(first);
+        }
+        self.len -= passed;
+        passed
+    }
+}
+
+impl BufList<Bytes> {
+    /// The first piece, which leaves the list.
+    pub fn take_first_chunk(&mut self) -> Option<Bytes>
+        ensures pieces { (result, self.new.pieces) ≡ first_of self.old.pieces }
+        ensures bytes { MatchOption result ((self.old.bytes ≡ []) × (self.new.bytes ≡ []))
+            (λ b. (self.old.bytes ≡ b ++ self.new.bytes) × (0 < length b)) }
+    {
+        let first = self.bufs.pop_front()?;
+        self.len -= first.len();
+        Some(first)
+    }
+
+    /// The first piece's first bytes, `max` or all of it. Nothing is copied. An `Err` changes
+    /// nothing.
+    pub fn take_chunk(&mut self, max: usize) -> Result<Option<Bytes>, AllocError>
+        ensures pieces { IfOk result (λ o. (o, self.new.pieces) ≡ chunk_of max self.old.pieces) }
+        ensures some { IfOk result (λ o. MatchOption o ((self.old.bytes ≡ []) × (self.new.bytes ≡ []))
+            (λ b. (self.old.bytes ≡ b ++ self.new.bytes) × (length b ≤ max) × (0 < max → 0 < length b))) }
+        ensures err { OnErr result ((self.new.pieces ≡ self.old.pieces) × (self.new.bytes ≡ self.old.bytes)) }
+    {
+        let Some(mut first) = self.bufs.pop_front() else {
+            return Ok(None);
+        };
+        if first.len() <= max {
+            self.len -= first.len();
+            return Ok(Some(first));
+        }
+        match first.split_to(max) {
+            Ok(front) => {
+                self.len -= front.len();
+                self.bufs.push_front_reserved(first);
+                Ok(Some(front))
+            }
+            Err(e) => {
+                self.bufs.push_front_reserved(first);
+                Err(e)
+            }
+        }
+    }
+
+    /// Adds all of a buffer at the end, as one piece, which is a copy. An empty one keeps nothing.
+    /// An `Err` leaves the list as it was, and the buffer with a front of its bytes taken.
+    pub fn push_bytes<B: Buf>(&mut self, alloc: Global, buf: &mut B) -> Result<(), AllocError>
+        requires fits { length self.old.bytes + length (B.unread buf.old) < 2 ^ 64 }
+        ensures pieces { OnOk result (self.new.pieces ≡ with_piece self.old.pieces (B.unread buf.old)) }
+        ensures bytes { OnOk result (self.new.bytes ≡ self.old.bytes ++ B.unread buf.old) }
+        ensures drained { OnOk result (B.unread buf.new ≡ []) }
+        ensures same { OnErr result ((self.new.pieces ≡ self.old.pieces) × (self.new.bytes ≡ self.old.bytes)) }
+        ensures kept { B.kept buf.new ≡ B.kept buf.old }
+    {
+        self.reserve()?;
+        let len = buf.remaining();
+        let Ok(piece) = buf.copy_to_bytes(alloc, len) else {
+            return Err(AllocError);
+        };
+        self.push_reserved(piece);
+        Ok(())
+    }
+}
+
+impl<T: Buf + fmt::Debug> fmt::Debug for BufList<T> {
+    fn fmt<W: fmt::Write>(&self, f: &mut fmt::Formatter<W>) -> fmt::Result {
+        f.debug_struct("BufList").field("bufs", &self.bufs).finish()
+    }
+}

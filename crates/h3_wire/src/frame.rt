@@ -1,0 +1,272 @@
+//! A stream of frames.
+ghost use Rattle.std.specs.Prelude.{◌≡◌, ◌<◌, ◌≤◌, ◌-◌, ◌^◌, ℕ, List, false, true, None, [], length, MatchOption};
+ghost use Rattle.std.specs.Borrow.{Lends, sem};
+ghost use Rattle.h3_wire.specs.contracts.frame.FrameStream.{the_row};
+ghost use Rattle.h3_wire.specs.Source.{Asked, coming};
+ghost use Rattle.h3_wire.specs.ReadsOn.{ReadsFrame, ReadsData};
+ghost use Rattle.h3_wire.specs.Streams.{left, is_open, payload_behind, stream_part, Tells, PollsFrame, PollsData, TakesData, IsCutShort, Continues, EndIsTold, AsksFirst, error_of, poll_error, round_error};
+
+use crate::proto::frame::{Frame, PayloadLen};
+use crate::proto::stream::StreamId;
+use crate::quic::{Poll, RecvStream};
+use crate::stream::{BufRecvStream, Received};
+use bytes::Bytes;
+use std::alloc::Global;
+use std::marker::Model;
+
+mod decoder;
+mod errors;
+mod payload_left;
+
+pub use decoder::FrameDecoder;
+pub use errors::{FrameProtocolError, FrameStreamError};
+pub use payload_left::PayloadLeft;
+
+/// Reads frames, and the payloads of DATA and of WebTransport in pieces.
+#[derive(Drop)]
+pub struct FrameStream<S> {
+    stream: BufRecvStream<S>,
+    decoder: FrameDecoder,
+    payload: PayloadLeft,
+    alloc: Global,
+}
+
+impl<S> Model for FrameStream<S> {
+    ghost use Rattle.std.specs.Prelude.{◌≡◌, true, None};
+    ghost use Rattle.h3_wire.specs.Known.{Expects};
+    ghost use Rattle.h3_wire.specs.Streams.{Framing, is_open};
+
+    ghost Value = { Framing S };
+
+    ghost view = { λ s. record { buffered = s.stream.buffered; source = s.stream.source; is_eos = s.stream.is_eos; payload = s.payload } };
+
+    ghost invariant = { λ s. Expects s.decoder s.stream.buffered × (is_open s.payload ≡ true → s.decoder ≡ None) };
+}
+
+// The payload that is under way behind a frame.
+fn payload_of(frame: &Frame<PayloadLen>) -> PayloadLeft
+    ensures { result ≡ payload_behind frame.now }
+{
+    match frame {
+        Frame::Data(len) => PayloadLeft::Bytes(len.0),
+        Frame::WebTransportStream(_) => PayloadLeft::ToEnd,
+        _ => PayloadLeft::Bytes(0),
+    }
+}
+
+impl<S> FrameStream<S> {
+    /// Reads frames from here on. What was read of the stream and not yet taken comes first.
+    pub fn new(alloc: Global, stream: BufRecvStream<S>) -> Self
+        ensures buffered { result.buffered ≡ stream.buffered }
+        ensures source { result.source ≡ stream.source }
+        ensures is_eos { result.is_eos ≡ stream.is_eos }
+        ensures payload { is_open result.payload ≡ false }
+    {
+        FrameStream {
+            stream,
+            decoder: FrameDecoder::default(),
+            payload: PayloadLeft::Bytes(0),
+            alloc,
+        }
+    }
+
+    /// The stream with the bytes that no call took.
+    pub fn into_inner(self) -> BufRecvStream<S>
+        ensures buffered { result.buffered ≡ self.buffered }
+        ensures source { result.source ≡ self.source }
+        ensures is_eos { result.is_eos ≡ self.is_eos }
+    {
+        self.stream
+    }
+
+    /// Whether a payload is under way.
+    pub fn has_data(&self) -> bool
+        ensures { result ≡ is_open self.now.payload }
+    {
+        match self.payload {
+            PayloadLeft::Bytes(count) => 0 < count,
+            PayloadLeft::ToEnd => true,
+        }
+    }
+
+    /// Lends the source, so that more can be put into it.
+    pub fn source_mut(&mut self) -> &mut S
+        ensures value { result.now ≡ self.old.source }
+        ensures* writes_back { sem 𝓛 (Lends (the_row S.row) S.row self.entry result (λ x. record self.old { source = x })) }
+    {
+        self.stream.source_mut()
+    }
+}
+
+impl<S: RecvStream> FrameStream<S> {
+    /// The id of the stream.
+    pub fn id(&self) -> StreamId
+        ensures { result ≡ S.id self.now.source }
+    {
+        self.stream.recv_id()
+    }
+
+    /// The next frame, of DATA its head. The source is asked before the buffer, so that a reset comes before a frame that
+    /// was read.
+    pub fn poll_next(&mut self) -> Poll<Result<Option<Frame<PayloadLen>>, FrameStreamError>>
+        requires closed { is_open self.old.payload ≡ false }
+        requires few { length (left S.rest self.old) < 2 ^ 62 }
+        ensures reads { (more : List ℕ) → ReadsFrame S.rest result self.old self.new more }
+        ensures polls { PollsFrame S.rest S.answers result self.old self.new }
+        ensures fewer { length (left S.rest self.new) ≤ length (left S.rest self.old) }
+        ensures asked { Asked S.answers self.old.source self.new.source }
+        ensures ended { EndIsTold S.answers self.new.source self.old.is_eos self.new.is_eos }
+        ensures first { self.old.is_eos ≡ false → AsksFirst S.answers self.old.source (poll_error result) }
+    {
+        self.poll_frame()
+    }
+
+    fn poll_frame(&mut self) -> Poll<Result<Option<Frame<PayloadLen>>, FrameStreamError>>
+        requires closed { is_open self.old.payload ≡ false }
+        requires few { length (left S.rest self.old) < 2 ^ 62 }
+        ensures polls { PollsFrame S.rest S.answers result self.old self.new }
+        ensures fewer { length (left S.rest self.new) ≤ length (left S.rest self.old) }
+        ensures asked { Asked S.answers self.old.source self.new.source }
+        ensures ended { EndIsTold S.answers self.new.source self.old.is_eos self.new.is_eos }
+        ensures first { self.old.is_eos ≡ false → AsksFirst S.answers self.old.source (poll_error result) }
+    {
+        loop {
+            if let Some(answer) = self.read_frame() {
+                return answer;
+            }
+        }
+    }
+
+    // Asks the source once, and takes a frame where one is whole. `None` where more bytes came that end no frame.
+    fn read_frame(&mut self) -> Option<Poll<Result<Option<Frame<PayloadLen>>, FrameStreamError>>>
+        requires closed { is_open self.old.payload ≡ false }
+        requires few { length (left S.rest self.old) < 2 ^ 62 }
+        ensures polls { MatchOption result (Continues S.rest self.old self.new)
+            (λ answer. PollsFrame S.rest S.answers answer self.old self.new) }
+        ensures fewer { length (left S.rest self.new) ≤ length (left S.rest self.old) }
+        ensures asked { Asked S.answers self.old.source self.new.source }
+        ensures ended { EndIsTold S.answers self.new.source self.old.is_eos self.new.is_eos }
+        ensures first { self.old.is_eos ≡ false → AsksFirst S.answers self.old.source (round_error result) }
+    {
+        match self.stream.receive() {
+            Err(e) => Some(Poll::Ready(Err(e))),
+            Ok(received) => match self.stream.take_frame(self.alloc, &mut self.decoder) {
+                Err(e) => Some(Poll::Ready(Err(e))),
+                Ok(Some(frame)) => {
+                    self.payload = payload_of(&frame);
+                    Some(Poll::Ready(Ok(Some(frame))))
+                }
+                Ok(None) => match received {
+                    Received::More => return None,
+                    Received::Nothing => return Some(Poll::Pending),
+                    Received::End => {
+                        if self.stream.remaining() > 0 {
+                            return Some(Poll::Ready(Err(FrameStreamError::UnexpectedEnd)));
+                        }
+                        return Some(Poll::Ready(Ok(None)));
+                    }
+                },
+            },
+        }
+    }
+
+    /// The next bytes of the payload under way, and `None` at its end. The source is asked before the buffer. At a known
+    /// end the last piece of a payload that is cut short is refused, and stays.
+    pub fn poll_data(&mut self) -> Poll<Result<Option<Bytes>, FrameStreamError>>
+        requires { length (left S.rest self.old) < 2 ^ 62 }
+        ensures reads { (more : List ℕ) → ReadsData S.rest result self.old self.new more }
+        ensures polls { PollsData S.rest S.answers result self.old self.new }
+        ensures asked { Asked S.answers self.old.source self.new.source }
+        ensures ended { EndIsTold S.answers self.new.source self.old.is_eos self.new.is_eos }
+        ensures first { self.old.is_eos ≡ false → is_open self.old.payload ≡ true → AsksFirst S.answers self.old.source (poll_error result) }
+    {
+        self.poll_payload()
+    }
+
+    fn poll_payload(&mut self) -> Poll<Result<Option<Bytes>, FrameStreamError>>
+        requires { length (left S.rest self.old) < 2 ^ 62 }
+        ensures polls { PollsData S.rest S.answers result self.old self.new }
+        ensures asked { Asked S.answers self.old.source self.new.source }
+        ensures ended { EndIsTold S.answers self.new.source self.old.is_eos self.new.is_eos }
+        ensures first { self.old.is_eos ≡ false → is_open self.old.payload ≡ true → AsksFirst S.answers self.old.source (poll_error result) }
+    {
+        if !self.has_data() {
+            return Poll::Ready(Ok(None));
+        }
+        match self.ask() {
+            Err(e) => Poll::Ready(Err(e)),
+            Ok(Received::More) => match self.take_data() {
+                Err(e) => Poll::Ready(Err(e)),
+                Ok(Some(bytes)) => Poll::Ready(Ok(Some(bytes))),
+                Ok(None) => unreachable!(),
+            },
+            Ok(Received::Nothing) => match self.take_data() {
+                Err(e) => Poll::Ready(Err(e)),
+                Ok(Some(bytes)) => Poll::Ready(Ok(Some(bytes))),
+                Ok(None) => Poll::Pending,
+            },
+            Ok(Received::End) => {
+                if self.is_cut_short() {
+                    return Poll::Ready(Err(FrameStreamError::UnexpectedEnd));
+                }
+                match self.take_data() {
+                    Err(e) => Poll::Ready(Err(e)),
+                    Ok(Some(bytes)) => Poll::Ready(Ok(Some(bytes))),
+                    Ok(None) => Poll::Ready(Ok(None)),
+                }
+            }
+        }
+    }
+
+    // Asks the source, unless the end was told.
+    fn ask(&mut self) -> Result<Received, FrameStreamError>
+        requires { length (left S.rest self.old) < 2 ^ 62 }
+        ensures all { left S.rest self.new ≡ left S.rest self.old }
+        ensures payload { self.new.payload ≡ self.old.payload }
+        ensures tells { Tells S.rest S.answers result (stream_part self.old) (stream_part self.new) }
+        ensures asked { Asked S.answers self.old.source self.new.source }
+        ensures ended { EndIsTold S.answers self.new.source self.old.is_eos self.new.is_eos }
+        ensures first { self.old.is_eos ≡ false → AsksFirst S.answers self.old.source (error_of result) }
+    {
+        self.stream.receive()
+    }
+}
+
+impl<S> FrameStream<S> {
+    // Whether all that was read is the last piece of a payload that is longer.
+    fn is_cut_short(&self) -> bool
+        ensures short { result ≡ true → IsCutShort (length self.now.buffered) self.now.payload }
+        ensures whole { result ≡ false → self.now.buffered ≡ [] → is_open self.now.payload ≡ true → self.now.payload ≡ PayloadLeft.ToEnd }
+    {
+        match self.payload {
+            PayloadLeft::Bytes(count) => {
+                let there = self.stream.remaining();
+                there < count && (there == 0 || self.stream.is_one_piece())
+            }
+            PayloadLeft::ToEnd => false,
+        }
+    }
+
+    // Takes bytes of the payload from what was read.
+    fn take_data(&mut self) -> Result<Option<Bytes>, FrameStreamError>
+        requires { is_open self.old.payload ≡ true }
+        ensures takes { TakesData result self.old self.new }
+        ensures source { self.new.source ≡ self.old.source }
+        ensures is_eos { self.new.is_eos ≡ self.old.is_eos }
+    {
+        match self.payload {
+            PayloadLeft::Bytes(count) => match self.stream.take_chunk(count) {
+                Ok(Some(bytes)) => {
+                    self.payload = PayloadLeft::Bytes(count - bytes.len());
+                    Ok(Some(bytes))
+                }
+                Ok(None) => Ok(None),
+                Err(_) => Err(FrameStreamError::OutOfMemory),
+            },
+            PayloadLeft::ToEnd => match self.stream.take_chunk(usize::MAX) {
+                Ok(bytes) => Ok(bytes),
+                Err(_) => Err(FrameStreamError::OutOfMemory),
+            },
+        }
+    }
+}

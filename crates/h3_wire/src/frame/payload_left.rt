@@ -1,0 +1,9 @@
+//! What is left of a payload.
+
+/// What is left of the payload under way: so many bytes (none where no payload is), or all to the
+/// stream's end.
+#[derive(Clone, Copy, Debug, PartialEq, Eq)]
+pub enum PayloadLeft {
+    Bytes(usize),
+    ToEnd,
+}

@@ -1,0 +1,10 @@
+//! Frames, and streams of bytes that come in pieces.
+#![tactic(auto)]
+
+pub mod buf;
+pub mod frame;
+pub mod proto;
+pub mod quic;
+pub mod stream;
+#[cfg(test)]
+mod tests;

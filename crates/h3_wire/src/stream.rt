@@ -1,0 +1,170 @@
+//! A source with a buffer before it.
+ghost use Rattle.std.specs.Prelude.{◌≡◌, ◌<◌, ◌+◌, ◌^◌, ◌++◌, ◌≤◌, ℕ, List, false, true, [], length, MatchOption, IfOk, IfSome, None, OnErr, Err, IsTrue, ◌↔◌};
+ghost use Rattle.h3_wire.specs.Source.{Asked, coming};
+ghost use Rattle.std.specs.Borrow.{Lends, sem};
+ghost use Rattle.h3_wire.specs.contracts.stream.BufRecvStream.{the_row};
+ghost use Rattle.h3_wire.specs.Known.{Gives, Expects};
+ghost use Rattle.h3_wire.specs.Streams.{ReadsMore, Tells, EndIsTold, AsksFirst, stream_error, error_of};
+
+use crate::buf::BufList;
+use crate::frame::{FrameDecoder, FrameStreamError};
+use crate::proto::frame::{Frame, PayloadLen};
+use crate::proto::stream::StreamId;
+use crate::quic::{Poll, RecvStream, StreamErrorIncoming};
+use bytes::{Buf, Bytes};
+use std::alloc::{AllocError, Global};
+use std::marker::Model;
+
+/// A source, and the bytes of it that were read and not yet taken.
+#[derive(Drop)]
+pub struct BufRecvStream<S> {
+    buf: BufList<Bytes>,
+    eos: bool,
+    stream: S,
+}
+
+impl<S> Model for BufRecvStream<S> {
+    ghost use Rattle.h3_wire.specs.Streams.{Buffered};
+
+    ghost Value = { Buffered S };
+
+    ghost view = { λ s. record { buffered = s.buf.bytes; source = s.stream; is_eos = s.eos } };
+}
+
+impl<S> BufRecvStream<S> {
+    pub fn new(alloc: Global, stream: S) -> Self
+        ensures buffered { result.buffered ≡ [] }
+        ensures source { result.source ≡ stream }
+        ensures is_eos { result.is_eos ≡ false }
+    {
+        BufRecvStream {
+            buf: BufList::new(alloc),
+            eos: false,
+            stream,
+        }
+    }
+
+    /// Lends the source, so that more can be put into it.
+    pub fn source_mut(&mut self) -> &mut S
+        ensures value { result.now ≡ self.old.source }
+        ensures* writes_back { sem 𝓛 (Lends (the_row S.row) S.row self.entry result (λ x. record self.old { source = x })) }
+    {
+        &mut self.stream
+    }
+
+    /// How many bytes were read and not yet taken.
+    pub fn remaining(&self) -> usize
+        ensures { result ≡ length self.now.buffered }
+    {
+        self.buf.remaining()
+    }
+
+    /// Takes the first piece's first bytes, `max` or all of it.
+    pub fn take_chunk(&mut self, max: usize) -> Result<Option<Bytes>, AllocError>
+        ensures some { IfOk result (λ o. MatchOption o ((self.old.buffered ≡ []) × (self.new.buffered ≡ []))
+            (λ b. (self.old.buffered ≡ b ++ self.new.buffered) × (length b ≤ max) × (0 < max → 0 < length b))) }
+        ensures err { OnErr result (self.new.buffered ≡ self.old.buffered) }
+        ensures source { self.new.source ≡ self.old.source }
+        ensures is_eos { self.new.is_eos ≡ self.old.is_eos }
+    {
+        self.buf.take_chunk(max)
+    }
+
+    // Whether all that was read lies in one piece.
+    pub(crate) fn is_one_piece(&self) -> bool {
+        self.buf.is_one_piece()
+    }
+
+    /// Whether the end was told.
+    pub fn is_eos(&self) -> bool
+        ensures { result ≡ self.now.is_eos }
+    {
+        self.eos
+    }
+}
+
+// What a read gave: more bytes, the end, or nothing yet.
+#[derive(Clone, Copy)]
+pub(crate) enum Received {
+    More,
+    End,
+    Nothing,
+}
+
+impl<S: RecvStream> BufRecvStream<S> {
+    /// The id of the stream.
+    pub(crate) fn recv_id(&self) -> StreamId
+        ensures { result ≡ S.id self.now.source }
+    {
+        self.stream.recv_id()
+    }
+
+    /// Reads a piece into the buffer, and answers whether the end came. Room is taken before the source is asked.
+    pub fn poll_read(&mut self) -> Poll<Result<bool, StreamErrorIncoming>>
+        requires { length self.old.buffered + length (S.rest self.old.source) < 2 ^ 62 }
+        ensures { ReadsMore S.answers result self.old self.new }
+    {
+        if self.buf.reserve().is_err() {
+            return Poll::Ready(Err(StreamErrorIncoming::OutOfMemory));
+        }
+        match self.stream.poll_data() {
+            Poll::Ready(Ok(Some(piece))) => {
+                self.buf.push_reserved(piece);
+                Poll::Ready(Ok(false))
+            }
+            Poll::Ready(Ok(None)) => {
+                self.eos = true;
+                Poll::Ready(Ok(true))
+            }
+            Poll::Ready(Err(e)) => Poll::Ready(Err(e)),
+            Poll::Pending => Poll::Pending,
+        }
+    }
+
+    // Reads more, unless the end was told.
+    pub(crate) fn receive(&mut self) -> Result<Received, FrameStreamError>
+        requires { length (self.old.buffered ++ coming self.old.is_eos (S.rest self.old.source)) < 2 ^ 62 }
+        ensures all { self.new.buffered ++ coming self.new.is_eos (S.rest self.new.source) ≡ self.old.buffered ++ coming self.old.is_eos (S.rest self.old.source) }
+        ensures grows { (more : List ℕ) × (self.new.buffered ≡ self.old.buffered ++ more) }
+        ensures tells { Tells S.rest S.answers result self.old self.new }
+        ensures asked { Asked S.answers self.old.source self.new.source }
+        ensures ended { EndIsTold S.answers self.new.source self.old.is_eos self.new.is_eos }
+        ensures first { self.old.is_eos ≡ false → AsksFirst S.answers self.old.source (error_of result) }
+    {
+        if self.eos {
+            return Ok(Received::End);
+        }
+        match self.poll_read() {
+            Poll::Ready(Ok(false)) => Ok(Received::More),
+            Poll::Ready(Ok(true)) => Ok(Received::End),
+            Poll::Ready(Err(e)) => Err(as_stream_error(e)),
+            Poll::Pending => Ok(Received::Nothing),
+        }
+    }
+
+    // Takes the next known frame of what was read.
+    pub(crate) fn take_frame(
+        &mut self,
+        alloc: Global,
+        decoder: &mut FrameDecoder,
+    ) -> Result<Option<Frame<PayloadLen>>, FrameStreamError>
+        requires expects { Expects decoder.old self.old.buffered }
+        ensures gives { Gives result self.old.buffered self.new.buffered }
+        ensures expects { Expects decoder.new self.new.buffered }
+        ensures fresh { IfOk result (λ o. IfSome o (λ f. decoder.new ≡ None)) }
+        ensures source { self.new.source ≡ self.old.source }
+        ensures is_eos { self.new.is_eos ≡ self.old.is_eos }
+    {
+        decoder.decode(alloc, &mut self.buf)
+    }
+}
+
+// An error of the source as the stream of frames tells it.
+fn as_stream_error(e: StreamErrorIncoming) -> FrameStreamError
+    ensures { result ≡ stream_error e }
+{
+    match e {
+        StreamErrorIncoming::OutOfMemory => FrameStreamError::OutOfMemory,
+        e => FrameStreamError::Quic(e),
+    }
+}
