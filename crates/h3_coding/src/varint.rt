@@ -76,7 +76,8 @@ impl VarInt {
     /// How many bytes the shortest encoding has.
     #[tactic(auto, unfolding(crate::specs::Encodings::encoding))]
     pub fn size(self) -> usize
-        ensures { result ≡ length (encoding self) }
+        ensures value { result ≡ length (encoding self) }
+        ensures bound { (1 ≤ result) × (result ≤ 8) }
     {
         let x = self.0;
         if x < 1 << 6 {

@@ -1,5 +1,5 @@
 -- The payload of a SETTINGS frame as bytes: pairs of two variable-length integers (RFC 9114, section 7.2.4).
-use Rattle.std.specs.Prelude.{ℕ, zero, suc, ◌^◌, ◌<◌, List, [], ◌∷◌, ◌++◌, length, Option, Some, None}
+use Rattle.std.specs.Prelude.{ℕ, zero, suc, ◌^◌, ◌<◌, Bool, ◌==◌, ◌&&◌, List, [], ◌∷◌, ◌++◌, length, Option, Some, None}
 use Rattle.std.specs.List.{flat_map}
 use Rattle.h3_coding.specs.Encodings.{encoding}
 use Rattle.h3_coding.specs.Varint.{varint_at}
@@ -8,6 +8,9 @@ use Rattle.h3_coding.specs.Varint.{varint_at}
 pub record IsPair (p : ℕ × ℕ) : Type 0 where
   pub id : p.0 < 2 ^ 62
   pub value : p.1 < 2 ^ 62
+
+abbrev pub same_pair : ℕ × ℕ → ℕ × ℕ → Bool
+same_pair p q = (p.0 == q.0) && (p.1 == q.1)
 
 -- a pair as it is written: the identifier, then the value
 abbrev pub pair_encoding : ℕ × ℕ → List ℕ

@@ -1,5 +1,6 @@
 -- Which settings are kept, and what a payload stands for (RFC 9114, sections 7.2.4 and 7.2.4.1).
-use Rattle.std.specs.Prelude.{ℕ, ◌^◌, Bool, ◌==◌, nat_le, find, List, [], ◌∷◌, ◌++◌, length, Option, Result, Ok, Err, if◌then◌else◌}
+use Rattle.std.specs.Prelude.{ℕ, ◌^◌, Bool, ◌==◌, nat_le, find, List, [], ◌∷◌, ◌++◌, length, Option, Result, Ok, Err, codes, false, if◌then◌else◌}
+use Rattle.std.specs.Fmt.{digits, decimal}
 use Rattle.std.specs.List.{list_any}
 use Rattle.std.specs.Option.{option_map}
 use Rattle.h3_proto.specs.Pairs.{Split, split_of}
@@ -21,6 +22,14 @@ has_id id pairs = list_any (λ p. p.0 == id) pairs
 -- the value of the first pair of that identifier
 abbrev pub value_of : ℕ → List (ℕ × ℕ) → Option ℕ
 value_of id pairs = option_map (λ p. p.1) (find (λ p. p.0 == id) pairs)
+
+-- the texts of the errors, with numbers in lower case hexadecimal digits
+abbrev pub error_text : SettingsError → List ℕ
+error_text Exceeded = codes "max settings number exceeded, check for duplicate entries"
+error_text Malformed = codes "malformed settings frame"
+error_text (Repeated id) = codes "got setting 0x" ++ digits 16 false id ++ codes " twice"
+error_text (InvalidSettingId id) = codes "setting id 0x" ++ digits 16 false id ++ codes " is invalid"
+error_text (InvalidSettingValue id value) = codes "setting 0x" ++ (digits 16 false id ++ (codes " has invalid value " ++ decimal value))
 
 -- the pairs with one more at the end, or why it is refused
 abbrev pub inserted : List (ℕ × ℕ) → ℕ → ℕ → Result (List (ℕ × ℕ)) SettingsError

@@ -1,13 +1,18 @@
 //! The settings that the payload of a SETTINGS frame carries (RFC 9114, section 7.2.4).
 ghost use Rattle.std.specs.Prelude.{◌≡◌, ◌≢◌, ℕ, ◌+◌, ◌^◌, ◌<◌, ◌≤◌, ◌==◌, List, [], ◌∷◌, ◌++◌, length, take, drop, IfOk, IfErr, IfSome, IsNone, Ok, Err, Some, None, OnOk, OnErr};
+ghost use Rattle.std.specs.Cmp.Lexicographic.{pointwise};
 ghost use Rattle.h3_coding.specs.Writing.{AppendsFront, UsesRoom};
 ghost use Rattle.h3_proto.specs.Ids.{reserved};
-ghost use Rattle.h3_proto.specs.Pairs.{IsPair, pair_encoding, payload_of, pair_at};
-ghost use Rattle.h3_proto.specs.Settings.{is_forbidden, is_known, has_id, value_of, inserted, received, settings_of};
+ghost use Rattle.h3_proto.specs.PairLaws.{same_pairs};
+ghost use Rattle.h3_proto.specs.Pairs.{IsPair, same_pair, pair_encoding, payload_of, pair_at};
+ghost use Rattle.h3_proto.specs.Settings.{error_text, is_forbidden, is_known, has_id, value_of, inserted, received, settings_of};
 ghost use Rattle.h3_proto.specs.Taking.{TakesFront};
 
 use bytes::{Buf, BufMut};
 use h3_coding::coding::{BufExt, BufMutExt, WriteRefused};
+use h3_coding::varint::VarInt;
+use std::error::Error;
+use std::fmt;
 use std::marker::Model;
 
 /// The id of a setting. A contract sees it as its number.
@@ -87,9 +92,30 @@ pub enum SettingsError {
     InvalidSettingValue(SettingId, u64),
 }
 
+impl fmt::Display for SettingsError {
+    ghost output = { λ e. Some (error_text e) };
+
+    fn fmt<W: fmt::Write>(&self, f: &mut fmt::Formatter<W>) -> fmt::Result {
+        match self {
+            SettingsError::Exceeded => {
+                f.write_str("max settings number exceeded, check for duplicate entries")
+            }
+            SettingsError::Malformed => f.write_str("malformed settings frame"),
+            SettingsError::Repeated(id) => write!(f, "got setting 0x{:x} twice", id.0),
+            SettingsError::InvalidSettingId(id) => write!(f, "setting id 0x{:x} is invalid", id),
+            SettingsError::InvalidSettingValue(id, value) => {
+                let id = id.0;
+                write!(f, "setting 0x{id:x} has invalid value {value}")
+            }
+        }
+    }
+}
+
+impl Error for SettingsError {}
+
 /// At most eight settings, in order, no two of one id. A contract sees them as pairs of an id and
 /// a value.
-#[derive(Drop)]
+#[derive(Debug, Drop)]
 pub struct Settings {
     entries: [(u64, u64); 8],
     len: usize,
@@ -97,6 +123,7 @@ pub struct Settings {
 
 impl Model for Settings {
     ghost use Rattle.std.specs.Prelude.{◌≡◌, ℕ, ◌≤◌, List, length, take, All};
+    ghost use Rattle.h3_proto.specs.PairLaws.{same_pairs};
     ghost use Rattle.h3_proto.specs.Pairs.{IsPair};
 
     ghost Value = { List (ℕ × ℕ) };
@@ -104,6 +131,16 @@ impl Model for Settings {
     ghost view = { λ s. take s.len s.entries };
 
     ghost invariant = { λ s. (s.len ≤ 8) × (length s.entries ≡ 8) × All IsPair (take s.len s.entries) };
+}
+
+impl PartialEq for Settings {
+    ghost eq = { pointwise same_pair };
+
+    ghost laws = { same_pairs };
+
+    fn eq(&self, other: &Settings) -> bool {
+        self.entries[..self.len] == other.entries[..other.len]
+    }
 }
 
 impl Default for Settings {
@@ -161,6 +198,19 @@ impl Settings {
         ensures { result ≡ has_id id self.now }
     {
         self.entries[..self.len].iter().any(|pair| pair.0 == id.0)
+    }
+
+    /// How many bytes the payload has, at most `MAX_ENCODED_SIZE`.
+    pub fn payload_len(&self) -> usize
+        ensures value { result ≡ length (payload_of self.now) }
+        ensures bound { result ≤ 128 }
+    {
+        let mut len = 0;
+        let pairs = &self.entries[..self.len];
+        for pair in pairs {
+            len += pair_len(pair.0, pair.1);
+        }
+        len
     }
 
     /// Appends the payload. An `Err` leaves a beginning of it.
@@ -237,6 +287,15 @@ fn get_pair<B: Buf>(buf: &mut B, len: usize) -> Option<(u64, u64, usize)>
     let (id, behind) = buf.get_var_within(len)?;
     let (value, left) = buf.get_var_within(behind)?;
     Some((id, value, left))
+}
+
+// How many bytes the encoding of a pair has.
+fn pair_len(id: u64, value: u64) -> usize
+    requires { IsPair (id, value) }
+    ensures value { result ≡ length (pair_encoding (id, value)) }
+    ensures bound { result ≤ 16 }
+{
+    VarInt::from_u64_unchecked(id).size() + VarInt::from_u64_unchecked(value).size()
 }
 
 // Appends the encoding of a pair.

@@ -1,8 +1,11 @@
 //! The ids, stream types, error codes and settings of HTTP/3.
 #![tactic(auto)]
 
+pub mod config;
 pub mod error;
 pub mod frame;
 pub mod push;
 pub mod stream;
+#[cfg(test)]
+mod tests;
 pub mod webtransport;

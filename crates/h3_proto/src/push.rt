@@ -1,6 +1,6 @@
 //! The ids of pushes (RFC 9114, section 4.6).
-ghost use Rattle.std.specs.Prelude.{◌≡◌, ℕ, ◌^◌, ◌<◌, ◌++◌, Some, codes};
-ghost use Rattle.std.specs.Fmt.{decimal};
+ghost use Rattle.std.specs.Prelude.{◌≡◌, ℕ, ◌^◌, ◌<◌, ◌++◌, Some, codes, false};
+ghost use Rattle.std.specs.Fmt.{decimal, digits};
 ghost use Rattle.h3_proto.specs.Ids.{Converts};
 
 use h3_coding::varint::VarInt;
@@ -65,6 +65,8 @@ impl fmt::Display for PushId {
 }
 
 impl fmt::Display for InvalidPushId {
+    ghost output = { λ e. Some (codes "invalid push id: " ++ digits 16 false e.0) };
+
     fn fmt<W: fmt::Write>(&self, f: &mut fmt::Formatter<W>) -> fmt::Result {
         write!(f, "invalid push id: {:x}", self.0)
     }

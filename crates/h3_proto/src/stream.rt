@@ -1,5 +1,6 @@
 //! Stream ids (RFC 9000, section 2.1) and the types of one-way streams (RFC 9114, section 6.2).
-ghost use Rattle.std.specs.Prelude.{◌≡◌, ℕ, ◌+◌, ◌*◌, ◌/◌, ◌%◌, ◌-◌, ◌^◌, ◌<◌, min, Some};
+ghost use Rattle.std.specs.Prelude.{◌≡◌, ℕ, ◌+◌, ◌*◌, ◌/◌, ◌%◌, ◌-◌, ◌^◌, ◌<◌, min, Some, codes, false, ◌++◌};
+ghost use Rattle.std.specs.Fmt.{digits};
 ghost use Rattle.h3_coding.specs.Encodings.{IsEncoding, IsUnfinished, encoding};
 ghost use Rattle.h3_coding.specs.EncodingLaws.{one_encoding, finished, encoding_is_valid};
 ghost use Rattle.h3_proto.specs.Ids.{Converts, reserved};
@@ -172,6 +173,8 @@ impl fmt::Display for StreamId {
 }
 
 impl fmt::Display for InvalidStreamId {
+    ghost output = { λ e. Some (codes "invalid stream id: " ++ digits 16 false e.0) };
+
     fn fmt<W: fmt::Write>(&self, f: &mut fmt::Formatter<W>) -> fmt::Result {
         write!(f, "invalid stream id: {:x}", self.0)
     }

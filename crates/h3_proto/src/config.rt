@@ -1,0 +1,175 @@
+//! What an end of a connection announces of itself, and what its peer announced.
+ghost use Rattle.std.specs.Prelude.{◌≡◌, ℕ, ◌-◌, ◌^◌, ◌<◌, true, false};
+ghost use Rattle.h3_proto.specs.Config.{announced, default_settings, peer_settings};
+
+use crate::frame;
+use crate::frame::{SettingId, SettingsError};
+use h3_coding::varint::VarInt;
+
+/// The settings of one end (RFC 9114, section 7.2.4.1), those of QPACK aside.
+#[derive(Clone, Copy, Debug)]
+pub struct Settings {
+    // The greatest size of a field section that is accepted, 2^62 - 1 where none is named.
+    max_field_section_size: u64,
+    enable_webtransport: bool,
+    enable_extended_connect: bool,
+    enable_datagram: bool,
+    max_webtransport_sessions: u64,
+}
+
+impl Default for Settings {
+    ghost is_default = { λ s. s ≡ default_settings };
+
+    fn default() -> Self {
+        Settings {
+            max_field_section_size: VarInt::MAX.into_inner(),
+            enable_webtransport: false,
+            enable_extended_connect: false,
+            enable_datagram: false,
+            max_webtransport_sessions: 0,
+        }
+    }
+}
+
+impl Settings {
+    /// Whether WebTransport may be used.
+    pub fn enable_webtransport(&self) -> bool
+        ensures { result ≡ self.now.enable_webtransport }
+    {
+        self.enable_webtransport
+    }
+
+    /// Whether datagrams may be used (RFC 9297, section 2.1.1).
+    pub fn enable_datagram(&self) -> bool
+        ensures { result ≡ self.now.enable_datagram }
+    {
+        self.enable_datagram
+    }
+
+    /// Whether extended CONNECT may be used (RFC 9220, section 3).
+    pub fn enable_extended_connect(&self) -> bool
+        ensures { result ≡ self.now.enable_extended_connect }
+    {
+        self.enable_extended_connect
+    }
+}
+
+/// The settings that a peer announced: a flag holds where its value is other than 0, and what is
+/// missing has its default.
+impl From<&frame::Settings> for Settings {
+    ghost from_gives = { λ pairs s. s ≡ peer_settings pairs.now };
+
+    fn from(settings: &frame::Settings) -> Self {
+        let flag = |id| settings.get(id).unwrap_or(0) != 0;
+        Settings {
+            max_field_section_size: settings
+                .get(SettingId::MAX_HEADER_LIST_SIZE)
+                .unwrap_or(VarInt::MAX.into_inner()),
+            enable_webtransport: flag(SettingId::ENABLE_WEBTRANSPORT),
+            enable_extended_connect: flag(SettingId::ENABLE_CONNECT_PROTOCOL),
+            enable_datagram: flag(SettingId::H3_DATAGRAM),
+            max_webtransport_sessions: settings
+                .get(SettingId::WEBTRANSPORT_MAX_SESSIONS)
+                .unwrap_or(0),
+        }
+    }
+}
+
+/// How an end of a connection is set up.
+#[derive(Clone, Copy, Debug)]
+pub struct Config {
+    // Whether a setting without meaning is sent (RFC 9114, section 7.2.4.1).
+    send_grease: bool,
+    settings: Settings,
+}
+
+impl Default for Config {
+    ghost is_default = { λ c. c ≡ record { send_grease = true; settings = default_settings } };
+
+    fn default() -> Self {
+        Config {
+            send_grease: true,
+            settings: Settings::default(),
+        }
+    }
+}
+
+impl Config {
+    /// Whether a setting without meaning is sent, so that peers go on to ignore such settings.
+    pub fn with_grease(mut self, send: bool) -> Self
+        ensures { result ≡ record self { send_grease = send } }
+    {
+        self.send_grease = send;
+        self
+    }
+
+    /// The greatest size of a field section that is accepted. 2^62 or more is refused by
+    /// `into_settings`.
+    pub fn with_max_field_section_size(mut self, size: u64) -> Self
+        ensures { result ≡ record self { settings = record self.settings { max_field_section_size = size } } }
+    {
+        self.settings.max_field_section_size = size;
+        self
+    }
+
+    /// Whether WebTransport may be used.
+    pub fn with_webtransport(mut self, enable: bool) -> Self
+        ensures { result ≡ record self { settings = record self.settings { enable_webtransport = enable } } }
+    {
+        self.settings.enable_webtransport = enable;
+        self
+    }
+
+    /// Whether extended CONNECT may be used.
+    pub fn with_extended_connect(mut self, enable: bool) -> Self
+        ensures { result ≡ record self { settings = record self.settings { enable_extended_connect = enable } } }
+    {
+        self.settings.enable_extended_connect = enable;
+        self
+    }
+
+    /// Whether datagrams may be used.
+    pub fn with_datagram(mut self, enable: bool) -> Self
+        ensures { result ≡ record self { settings = record self.settings { enable_datagram = enable } } }
+    {
+        self.settings.enable_datagram = enable;
+        self
+    }
+
+    /// The most WebTransport sessions. 2^62 or more is refused by `into_settings`.
+    pub fn with_max_webtransport_sessions(mut self, sessions: u64) -> Self
+        ensures { result ≡ record self { settings = record self.settings { max_webtransport_sessions = sessions } } }
+    {
+        self.settings.max_webtransport_sessions = sessions;
+        self
+    }
+
+    /// The settings to send: where it greases the reserved one of the number `grease` with value 0,
+    /// then the greatest size of a field section, extended CONNECT, WebTransport, datagrams and the
+    /// most WebTransport sessions. Refuses a size or a count of 2^62 or more.
+    pub fn into_settings(self, grease: u64) -> Result<frame::Settings, SettingsError>
+        requires { grease < 0x210842108421083 }
+        ensures { result ≡ announced self grease }
+    {
+        let mut settings = frame::Settings::default();
+        if self.send_grease {
+            settings.insert(SettingId::grease(grease), 0)?;
+        }
+        let own = self.settings;
+        settings.insert(SettingId::MAX_HEADER_LIST_SIZE, own.max_field_section_size)?;
+        settings.insert(
+            SettingId::ENABLE_CONNECT_PROTOCOL,
+            u64::from(own.enable_extended_connect),
+        )?;
+        settings.insert(
+            SettingId::ENABLE_WEBTRANSPORT,
+            u64::from(own.enable_webtransport),
+        )?;
+        settings.insert(SettingId::H3_DATAGRAM, u64::from(own.enable_datagram))?;
+        settings.insert(
+            SettingId::WEBTRANSPORT_MAX_SESSIONS,
+            own.max_webtransport_sessions,
+        )?;
+        Ok(settings)
+    }
+}
