@@ -1,6 +1,6 @@
--- A decoder's table by the plain list of all insertions: its entries are an end of that list, and what is gone does not
--- come back (RFC 9204, sections 3.2.2 and 3.2.3).
-use Rattle.std.specs.Prelude.{ℕ, ◌-◌, ◌≤◌, List, [], ◌∷◌, ◌++◌, length, drop, max, slice_get, nat_lt, nat_le, if◌then◌else◌, ◌^◌, Option, Some, None, unwrap_or}
+-- A table by the plain list of all insertions: its entries are an end of that list, and what is gone does not come back
+-- (RFC 9204, sections 3.2.2 and 3.2.3).
+use Rattle.std.specs.Prelude.{ℕ, ◌+◌, ◌-◌, ◌^◌, ◌≤◌, ◌&&◌, List, [], ◌∷◌, ◌++◌, length, drop, max, slice_get, nat_lt, nat_le, if◌then◌else◌, Option, Some, None}
 use Rattle.h3_field.specs.Field.{Field, field_size}
 use Rattle.h3_field.specs.Section.{with_value}
 use Rattle.h3_field.specs.StaticTable.{static_table}
@@ -8,17 +8,16 @@ use Rattle.h3_field.specs.Instruction.{EncoderInstruction}
 use Rattle.h3_field.specs.Instruction.EncoderInstruction.{SetCapacity, InsertWithStaticName, InsertWithEntryName, InsertLiteral, Duplicate}
 use Rattle.h3_qpack.specs.Block.{insertion_at}
 use Rattle.h3_qpack.specs.Table.{dropped}
-use Rattle.h3_qpack.specs.Receiver.{Receiver}
+use Rattle.h3_qpack.specs.Held.{Held}
 
 pub record History : Type 0 where
-  pub announced : Option ℕ
   pub capacity : ℕ
   pub inserted : List Field
   pub gone : ℕ
 
 -- what is held of it
-abbrev pub held : History → Receiver
-held h = record { announced = h.announced; capacity = h.capacity; entries = drop h.gone h.inserted; inserted = length h.inserted }
+abbrev pub held : History → Held
+held h = record { capacity = h.capacity; entries = drop h.gone h.inserted; inserted = length h.inserted }
 
 -- What is gone was inserted, and what is there fits.
 pub record IsHistory (h : History) : Type 0 where
@@ -38,17 +37,16 @@ field_inserted h (Duplicate index) = still_at h (length h.inserted - index)
 abbrev pub longer : History → Option Field → Option History
 longer h None = None
 longer h (Some f) =
-    if nat_le (field_size f) h.capacity
+    if nat_lt (length h.inserted + 1) (2 ^ 62) && nat_le (field_size f) h.capacity
     then Some (record h { inserted = h.inserted ++ f ∷ []; gone = max h.gone (dropped h.capacity (h.inserted ++ f ∷ [])) }) else None
 
--- after an instruction, or none where it is bad
-abbrev pub further : History → EncoderInstruction → Option History
-further h (SetCapacity capacity) =
-    if nat_le capacity (unwrap_or h.announced (2 ^ 30 - 1))
-    then Some (record h { capacity = capacity; gone = max h.gone (dropped capacity h.inserted) }) else None
-further h instruction = longer h (field_inserted h instruction)
+-- after an instruction, where a capacity up to the greatest may be set, or none where it is bad
+abbrev pub further : ℕ → History → EncoderInstruction → Option History
+further greatest h (SetCapacity capacity) =
+    if nat_le capacity greatest then Some (record h { capacity = capacity; gone = max h.gone (dropped capacity h.inserted) }) else None
+further greatest h instruction = longer h (field_inserted h instruction)
 
-abbrev pub further_all : Option History → List EncoderInstruction → Option History
-further_all h [] = h
-further_all None (instruction ∷ rest) = None
-further_all (Some h) (instruction ∷ rest) = further_all (further h instruction) rest
+abbrev pub further_all : ℕ → Option History → List EncoderInstruction → Option History
+further_all greatest h [] = h
+further_all greatest None (instruction ∷ rest) = None
+further_all greatest (Some h) (instruction ∷ rest) = further_all greatest (further greatest h instruction) rest

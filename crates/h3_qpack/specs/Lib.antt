@@ -3,6 +3,9 @@ pub mod Sender
 pub mod Written
 pub mod WholeInstructions
 pub mod Block
+pub mod Held
+pub mod Matches
+pub mod EntriesInside
 pub mod Receiver
 pub mod History
 pub mod Session

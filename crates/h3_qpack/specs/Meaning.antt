@@ -7,30 +7,31 @@ use Rattle.h3_field.specs.Line.{FieldLine}
 use Rattle.h3_field.specs.Line.FieldLine.{StaticField, RelativeField, PostBaseField, StaticName, RelativeName, PostBaseName, Literal}
 use Rattle.h3_field.specs.Reading.{Whole}
 use Rattle.h3_field.specs.PrefixReading.{EncodedPrefix, prefix, IsPrefix}
-use Rattle.h3_qpack.specs.Receiver.{Receiver, count_capacity, entry_at}
+use Rattle.h3_qpack.specs.Held.{Held, entry_at}
+use Rattle.h3_qpack.specs.Receiver.{Receiver, count_capacity}
 
 -- the field of a line, where what it names is there
-abbrev pub field_at : Receiver → ℕ → FieldLine → Option Field
-field_at r base (StaticField index) = slice_get static_table index
-field_at r base (RelativeField index) = entry_at r (base - index)
-field_at r base (PostBaseField index) = entry_at r (base + index + 1)
-field_at r base (StaticName index value) = with_value value (slice_get static_table index)
-field_at r base (RelativeName index value) = with_value value (entry_at r (base - index))
-field_at r base (PostBaseName index value) = with_value value (entry_at r (base + index + 1))
-field_at r base (Literal name value) = Some (record { name = name; value = value })
+abbrev pub field_at : Held → ℕ → FieldLine → Option Field
+field_at h base (StaticField index) = slice_get static_table index
+field_at h base (RelativeField index) = entry_at h (base - index)
+field_at h base (PostBaseField index) = entry_at h (base + index + 1)
+field_at h base (StaticName index value) = with_value value (slice_get static_table index)
+field_at h base (RelativeName index value) = with_value value (entry_at h (base - index))
+field_at h base (PostBaseName index value) = with_value value (entry_at h (base + index + 1))
+field_at h base (Literal name value) = Some (record { name = name; value = value })
 
 -- The lines are of these fields, one of each.
-abbrev pub HaveFields : Receiver → ℕ → List FieldLine → List Field → Type 0
-HaveFields r base [] [] = Unit {0}
-HaveFields r base (line ∷ lines) (field ∷ fields) = (field_at r base line ≡ Some field) × HaveFields r base lines fields
-HaveFields r base [] (field ∷ fields) = ⊥
-HaveFields r base (line ∷ lines) [] = ⊥
+abbrev pub HaveFields : Held → ℕ → List FieldLine → List Field → Type 0
+HaveFields h base [] [] = Unit {0}
+HaveFields h base (line ∷ lines) (field ∷ fields) = (field_at h base line ≡ Some field) × HaveFields h base lines fields
+HaveFields h base [] (field ∷ fields) = ⊥
+HaveFields h base (line ∷ lines) [] = ⊥
 
 -- The section begins with this required insert count and base, and its lines are the rest.
 pub record HasPrefix (r : Receiver) (bytes rest : List ℕ) (count base : ℕ) : Type 0 where
   pub encoded : EncodedPrefix
   pub whole : prefix bytes ≡ Whole encoded rest
-  pub is : IsPrefix (count_capacity r) r.inserted encoded count base
+  pub is : IsPrefix (count_capacity r) r.table.inserted encoded count base
 
 -- The section is of these fields and has this required insert count, which is not above the insertions.
 pub record MeansFields (r : Receiver) (bytes : List ℕ) (count : ℕ) (fields : List Field) : Type 0 where
@@ -38,16 +39,16 @@ pub record MeansFields (r : Receiver) (bytes : List ℕ) (count : ℕ) (fields :
   pub base : ℕ
   pub lines : List FieldLine
   pub begins : HasPrefix r bytes rest count base
-  pub received : count ≤ r.inserted
+  pub received : count ≤ r.table.inserted
   pub split : AreLines rest lines
-  pub named : HaveFields r base lines fields
+  pub named : HaveFields r.table base lines fields
 
 -- The section needs so many insertions, and not all were read.
 pub record IsMissing (r : Receiver) (bytes : List ℕ) (count : ℕ) : Type 0 where
   pub rest : List ℕ
   pub base : ℕ
   pub begins : HasPrefix r bytes rest count base
-  pub missing : r.inserted < count
+  pub missing : r.table.inserted < count
 
 -- The section means nothing.
 pub record IsBadSection (r : Receiver) (bytes : List ℕ) : Type 0 where

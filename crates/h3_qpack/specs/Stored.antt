@@ -2,6 +2,7 @@
 use Rattle.std.specs.Prelude.{ℕ, ◌-◌, ◌^◌, min, List, [], ◌∷◌, length, map, filter, fold, nat_lt}
 use Rattle.h3_field.specs.Field.{Field}
 use Rattle.h3_qpack.specs.Table.{table}
+use Rattle.h3_qpack.specs.Held.{Held}
 use Rattle.h3_qpack.specs.Sender.{Sender, Tracked}
 
 -- a section that names entries and is neither acknowledged nor canceled, with the oldest entry that it names
@@ -10,10 +11,8 @@ pub record StoredSection : Type 0 where
   pub oldest : ℕ
 
 pub record StoredSender : Type 0 where
-  pub capacity : ℕ
+  pub table : Held
   pub limit : ℕ
-  pub entries : List Field
-  pub inserted : ℕ
   pub known_received : ℕ
   -- the required insert counts above what is known to be received
   pub waiting : List ℕ
@@ -34,10 +33,8 @@ greatest = 2 ^ 64 - 1
 abbrev pub stored : Sender → StoredSender
 stored s =
     record {
-      capacity = s.capacity;
+      table = record { capacity = s.capacity; entries = table s.capacity s.inserted; inserted = length s.inserted };
       limit = s.limit;
-      entries = table s.capacity s.inserted;
-      inserted = length s.inserted;
       known_received = min s.known_received greatest;
       waiting = filter (λ count. nat_lt s.known_received count) s.required_insert_counts;
       tracked = map stored_section s.tracked;

@@ -40,8 +40,8 @@ pub fn older_entry()
 /// capacity is refused.
 #[tactic(auto, unfolding(h3_field::specs::StaticTable::static_table, h3_field::specs::StaticTable::static_field, h3_field::specs::StaticTable::static_name, h3_huffman::specs::Huffman::huffman, h3_huffman::specs::Huffman::octets, h3_huffman::specs::Huffman::code_word, h3_huffman::specs::Huffman::bits))]
 pub fn receiver()
-    ensures two { option_map (λ r. r.entries) three ≡ Some (x_a ∷ x_a_of (codes "2") ∷ []) }
-    ensures one { option_map (λ r. r.entries) (having_read_all three (SetCapacity 40 ∷ SetCapacity 100 ∷ [])) ≡ Some (x_a_of (codes "2") ∷ []) }
+    ensures two { option_map (λ r. r.table.entries) three ≡ Some (x_a ∷ x_a_of (codes "2") ∷ []) }
+    ensures one { option_map (λ r. r.table.entries) (having_read_all three (SetCapacity 40 ∷ SetCapacity 100 ∷ [])) ≡ Some (x_a_of (codes "2") ∷ []) }
     ensures gone { having_read_all three (SetCapacity 40 ∷ InsertWithEntryName 1 (codes "3") ∷ []) ≡ None }
     ensures above { having_read_all three (SetCapacity 101 ∷ []) ≡ None }
     ensures too_large { having_read_all (Some (announcing 220)) (SetCapacity 221 ∷ []) ≡ None }

@@ -1,5 +1,6 @@
 //! QPACK's dynamic table (RFC 9204): what an encoder writes, what a decoder reads, and the law of their sessions.
 #![tactic(auto)]
 
+mod entries;
 pub mod examples;
 pub mod laws;

@@ -1,0 +1,16 @@
+use Rattle.std.proofs.Common.{◌≡◌, ◌≤◌, ◌+◌, ◌-◌, ℕ, List, length, drop}
+use Rattle.h3_field.specs.Field.{Field, field_size, section_size}
+use Rattle.h3_qpack.specs.Table.{table}
+use Rattle.h3_qpack.specs.Held.{Held, gone}
+use Rattle.h3_qpack.proofs.entries.Entries.gone_after.Given as goal
+
+pub record Invariant (es : List Field) (room sum dropped : ℕ) : Type 0 where
+  pub inside : dropped ≤ length es
+  pub sum_is : sum ≡ section_size (drop dropped es)
+  pub same : table room es ≡ table room (drop dropped es)
+
+abbrev pub invariant-loop-sum : goal.invariant-loop-sum
+invariant-loop-sum l = Invariant l.self-inside.fields.items l.room l.sum l.dropped × (l.gone + l.dropped ≤ l.most)
+
+abbrev pub decreases-loop-sum : goal.decreases-loop-sum
+decreases-loop-sum l = length l.self-inside.fields.items - l.dropped

@@ -1,0 +1,15 @@
+-- What the fields of a table's struct stand for.
+use Rattle.std.specs.Prelude.{◌≡◌, ◌<◌, ◌≤◌, ℕ, ◌^◌, length}
+use Rattle.h3_field.specs.Field.{section_size}
+use Rattle.h3_qpack.specs.Held.{Held}
+use Rattle.h3_qpack.specs.declared.entries.Entries.TheInside.{Inside}
+
+abbrev pub held_inside : Inside → Held
+held_inside e = record { capacity = e.capacity; entries = e.fields.items; inserted = e.inserted }
+
+pub record IsEntries (e : Inside) : Type 0 where
+  pub sum : e.size ≡ section_size e.fields.items
+  pub fits : e.size ≤ e.capacity
+  pub small : e.capacity < 2 ^ 30
+  pub made : length e.fields.items ≤ e.inserted
+  pub few : e.inserted < 2 ^ 62

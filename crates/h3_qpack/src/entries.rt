@@ -1,0 +1,206 @@
+//! The entries of a dynamic table (RFC 9204, section 3.2): present ones in a ring, each with its number.
+ghost use Rattle.std.specs.Prelude.{◌≡◌, ℕ, ◌+◌, ◌-◌, ◌^◌, ◌<◌, ◌≤◌, List, [], ◌∷◌, ◌++◌, length, min, drop, true, Some, None, IfSome, IfNone, IfOk, OnErr, OnOk};
+ghost use Rattle.std.specs.Option.{option_copied};
+ghost use Rattle.std.specs.VecDeque.{deque_capacity, deque_len};
+ghost use Rattle.h3_field.specs.Field.{Field, field_size, section_size};
+ghost use Rattle.h3_qpack.specs.Table.{table};
+ghost use Rattle.h3_qpack.specs.Held.{Held, no_entries, gone, entry_at, newest_in, with_entry, with_capacity};
+ghost use Rattle.h3_qpack.specs.Matches.{matches};
+
+use h3_field::HeaderField;
+use std::alloc::{AllocError, Global};
+use std::collections::VecDeque;
+use std::marker::Model;
+
+/// The greatest capacity of a table, in bytes.
+pub(crate) const MAX_CAPACITY: usize = 1073741823;
+
+/// The size of a field in a table, stopping at the greatest number (RFC 9204, section 3.2.1).
+pub(crate) fn size_of(field: &HeaderField) -> usize
+    ensures { result ≡ min (2 ^ 64 - 1) (field_size field.now) }
+{
+    field.name().len().saturating_add(field.value().len()).saturating_add(32)
+}
+
+/// What an entry has in common with a field.
+#[derive(Clone, Copy)]
+pub(crate) enum Match {
+    Name,
+    Field,
+}
+
+impl Match {
+    fn is_met(self, field: &HeaderField, entry: &HeaderField) -> bool
+        ensures { result ≡ matches self field.now entry.now }
+    {
+        match self {
+            Match::Name => entry.name() == field.name(),
+            Match::Field => entry.name() == field.name() && entry.value() == field.value(),
+        }
+    }
+}
+
+/// Drops the oldest fields until the sizes of the others sum to at most that, and answers this sum.
+fn drop_oldest(fields: &mut VecDeque<HeaderField>, size: usize, most: usize) -> usize
+    requires { size ≡ section_size fields.old.items }
+    ensures items { fields.new.items ≡ table most fields.old.items }
+    ensures sum { result ≡ section_size fields.new.items }
+    ensures within { result ≤ most }
+    ensures len { length fields.new.items ≤ length fields.old.items }
+    ensures room { deque_capacity fields.new ≡ deque_capacity fields.old }
+{
+    let mut sum = size;
+    while sum > most {
+        let Some(field) = fields.pop_front() else {
+            return 0;
+        };
+        sum -= size_of(&field);
+    }
+    sum
+}
+
+/// The entries that are there, the oldest first, and how many there ever were.
+#[derive(Drop)]
+pub(crate) struct Entries {
+    fields: VecDeque<HeaderField>,
+    inserted: usize,
+    // the sum of the sizes of the fields
+    size: usize,
+    capacity: usize,
+}
+
+impl Model for Entries {
+    ghost use Rattle.h3_qpack.specs.Held.{Held};
+
+    ghost Value = { Held };
+
+    ghost use Rattle.h3_qpack.specs.EntriesInside.{held_inside, IsEntries};
+
+    ghost view = { held_inside };
+
+    ghost invariant = { IsEntries };
+}
+
+impl Entries {
+    pub(crate) fn new(alloc: Global) -> Entries
+        ensures { result ≡ no_entries }
+    {
+        Entries {
+            fields: VecDeque::new(alloc),
+            inserted: 0,
+            size: 0,
+            capacity: 0,
+        }
+    }
+
+    pub(crate) fn capacity(&self) -> usize
+        ensures value { result ≡ self.now.capacity }
+        ensures small { result < 2 ^ 30 }
+    {
+        self.capacity
+    }
+
+    /// How many entries there ever were: the number of the newest one.
+    pub(crate) fn inserted(&self) -> usize
+        ensures value { result ≡ self.now.inserted }
+        ensures small { result < 2 ^ 62 }
+    {
+        self.inserted
+    }
+
+    /// How many entries are gone.
+    pub(crate) fn gone(&self) -> usize
+        ensures value { result ≡ gone self.now }
+        ensures small { result ≤ self.now.inserted }
+    {
+        self.inserted - self.fields.len()
+    }
+
+    /// The sum of the sizes of the entries.
+    pub(crate) fn size(&self) -> usize
+        ensures value { result ≡ section_size self.now.entries }
+        ensures small { result ≤ self.now.capacity }
+    {
+        self.size
+    }
+
+    /// The entry of that number, where it is there.
+    pub(crate) fn get(&self, number: usize) -> Option<&HeaderField>
+        ensures { option_copied result ≡ entry_at self.now number }
+    {
+        let gone = self.inserted - self.fields.len();
+        if number <= gone {
+            return None;
+        }
+        self.fields.get(number - gone - 1)
+    }
+
+    /// The number of the newest entry that matches the field, of those above one number and up to another. The search
+    /// goes from the newest backwards, and compares lengths before bytes.
+    pub(crate) fn newest(&self, what: Match, field: &HeaderField, above: usize, most: usize) -> Option<usize>
+        requires { gone self.now ≤ above }
+        ensures { result ≡ newest_in self.now (matches what field.now) above most }
+    {
+        let gone = self.inserted - self.fields.len();
+        let lowest = above - gone;
+        let mut left = most.min(self.inserted).saturating_sub(gone);
+        while left > lowest {
+            left -= 1;
+            let Some(entry) = self.fields.get(left) else {
+                return None;
+            };
+            if what.is_met(field, entry) {
+                return Some(gone + left + 1);
+            }
+        }
+        None
+    }
+
+    /// How many entries are gone once this field is inserted, unless that is above the most.
+    pub(crate) fn gone_after(&self, field: &HeaderField, most: usize) -> Option<usize>
+        requires fits { field_size field.now ≤ self.now.capacity }
+        requires may { gone self.now ≤ most }
+        ensures some { IfSome result (λ n. (n ≡ gone (with_entry self.now field.now)) × (n ≤ most)) }
+        ensures none { IfNone result (most < gone (with_entry self.now field.now)) }
+    {
+        let gone = self.inserted - self.fields.len();
+        let room = self.capacity - size_of(field);
+        let mut sum = self.size;
+        let mut dropped = 0;
+        while sum > room {
+            if gone + dropped >= most {
+                return None;
+            }
+            let Some(entry) = self.fields.get(dropped) else {
+                return None;
+            };
+            sum -= size_of(entry);
+            dropped += 1;
+        }
+        Some(gone + dropped)
+    }
+
+    /// Sets the capacity: the oldest entries give way.
+    pub(crate) fn set_capacity(&mut self, capacity: usize)
+        requires { capacity < 2 ^ 30 }
+        ensures { self.new ≡ with_capacity self.old capacity }
+    {
+        self.size = drop_oldest(&mut self.fields, self.size, capacity);
+        self.capacity = capacity;
+    }
+
+    /// Inserts a field for which there is room: the oldest entries give way. Where memory is refused nothing changes.
+    pub(crate) fn insert(&mut self, field: HeaderField) -> Result<(), AllocError>
+        requires few { self.old.inserted + 1 < 2 ^ 62 }
+        requires fits { field_size field ≤ self.old.capacity }
+        ensures ok { OnOk result (self.new ≡ with_entry self.old field) }
+        ensures err { OnErr result (self.new ≡ self.old) }
+    {
+        self.fields.reserve(1)?;
+        let size = size_of(&field);
+        self.size = drop_oldest(&mut self.fields, self.size, self.capacity - size) + size;
+        self.fields.push_back_reserved(field);
+        self.inserted += 1;
+        Ok(())
+    }
+}
