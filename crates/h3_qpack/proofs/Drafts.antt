@@ -23,6 +23,7 @@ pub record IsDraft (s : Sender) (d : Draft) : Type 0 where
   pub references : AllByRecursion (IsNamed s d.inserted) d.references
   pub held : AllByRecursion (λ number. dropped s.capacity d.inserted < number) (referenced_entries s)
   pub dropped_known : dropped s.capacity d.inserted ≤ max s.known_received (dropped s.capacity s.inserted)
+  pub small : length s.inserted < 2 ^ 62 → length d.inserted < 2 ^ 62
 
 pub both : (a b : Bool) → (a && b) ≡ true → (a ≡ true) × (b ≡ true)
 both true b h = (refl, h)
@@ -54,7 +55,7 @@ All-second P (x ∷ xs) ys h = All-second P xs ys h.1
 -- a line that names entries that may be named
 line_is_draft : (s : Sender) (d : Draft) (line : FieldLine) (names : List ℕ) → IsDraft s d → AllByRecursion (IsNamed s d.inserted) names → IsDraft s (add_line d line names)
 line_is_draft s d line names h n =
-    record { more = h.more; begins = h.begins; references = All-join (IsNamed s d.inserted) d.references names h.references n; held = h.held; dropped_known = h.dropped_known }
+    record { more = h.more; begins = h.begins; references = All-join (IsNamed s d.inserted) d.references names h.references n; held = h.held; dropped_known = h.dropped_known; small = h.small }
 
 -- a field that fits is in the table after it is inserted
 still_there : (capacity : ℕ) (fs : List Field) (f : Field) → field_size f ≤ capacity → dropped capacity (fs ++ f ∷ []) < length fs + 1
@@ -63,6 +64,7 @@ still_there capacity (g ∷ fs) f h = grind (arith, common_steps, still_there ca
 
 -- what the test of an insertion says
 pub record MayInsert (s : Sender) (d : Draft) (f : Field) : Type 0 where
+  pub few : length d.inserted + 1 < 2 ^ 62
   pub room_for_block : nat_lt (blocks_out s) s.limit ≡ true
   pub fits : field_size f ≤ s.capacity
   pub known_received : dropped_by s d f ≤ max s.known_received (dropped s.capacity d.inserted)
@@ -72,6 +74,9 @@ pub record MayInsert (s : Sender) (d : Draft) (f : Field) : Type 0 where
 le_true : (a b : ℕ) → nat_le a b ≡ true → a ≤ b
 le_true a b e = grind (arith, common_steps)
 
+lt_true : (a b : ℕ) → nat_lt a b ≡ true → a < b
+lt_true a b e = grind (arith, common_steps)
+
 may_insert : (s : Sender) (d : Draft) (f : Field) → is_insertable s d f ≡ true → MayInsert s d f
 may_insert s d f h =
     let a = both _ (list_all (λ number. nat_lt (dropped_by s d f) number) (referenced_entries s ++ d.references)) h in
@@ -80,6 +85,7 @@ may_insert s d f h =
     let room = both (nat_lt (length d.inserted + 1) (2 ^ 62)) (nat_lt (blocks_out s) s.limit) c.0 in
     let all = All-tested (dropped_by s d f) (referenced_entries s ++ d.references) a.1 in
     record {
+      few = lt_true _ _ room.0;
       room_for_block = room.1;
       fits = le_true _ _ c.1;
       known_received = le_true _ _ b.1;
@@ -115,6 +121,7 @@ inserted_is_draft s d f h m =
       );
       held = m.held;
       dropped_known = omega (arith, m.known_received, h.dropped_known);
+      small = λ k. omega (arith, m.few, length-append d.inserted (f ∷ []));
     }
 
 -- what the search for an equal entry, or for an entry of the name, finds may be named
@@ -163,4 +170,4 @@ fields_are_draft s d (f ∷ fields) h = fields_are_draft s (add_field s d f) fie
 pub draft_is_draft : (s : Sender) (fields : List Field) → AllByRecursion (λ number. dropped s.capacity s.inserted < number) (referenced_entries s) → IsDraft s (draft_of s fields)
 draft_is_draft s fields held =
     fields_are_draft s (record { inserted = s.inserted; instructions = []; lines = []; references = [] }) fields
-    (record { more = []; begins = sym (append-nil s.inserted); references = tt; held = held; dropped_known = omega arith })
+    (record { more = []; begins = sym (append-nil s.inserted); references = tt; held = held; dropped_known = omega arith; small = λ k. k })

@@ -31,6 +31,7 @@ table_used s capacity limit none zero_limit h =
       written = h.written;
       cancels = h.cancels;
       within_limit = omega (arith, h.within_limit, zero_limit);
+      small = h.small;
     }
 
 step_is_sound : (s : Session) (event : SessionEvent) (new : Session) → IsSound s → SessionStep s event new → IsSound new
@@ -58,6 +59,7 @@ beginning_is_sound capacity limit =
       written = tt;
       cancels = tt;
       within_limit = omega arith;
+      small = omega arith;
     }
 
 pub every_run_is_sound : (capacity limit : ℕ) (events : List SessionEvent) (s : Session) → SessionRun (beginning capacity limit) events s → IsSound s

@@ -1,5 +1,5 @@
 -- Each event keeps a session sound.
-use Rattle.std.proofs.Common.{◌≡◌, ◌≢◌, ℕ, ◌+◌, ◌<◌, ◌≤◌, ⊎_elim, Bool, true, false, ◌&&◌, ◌||◌, List, [], ◌∷◌, ◌++◌, length, drop, refl, sym, ◌∙◌, ap, subst, arith, length-append, length-drop, not, filter, cond, append_assoc, append-nil, add-zero, max, Some, nat_le, nat_lt, if◌then◌else◌, unwrap_or}
+use Rattle.std.proofs.Common.{◌≡◌, ◌≢◌, ℕ, ◌^◌, ◌-◌, min, ◌+◌, ◌<◌, ◌≤◌, ⊎_elim, Bool, true, false, ◌&&◌, ◌||◌, List, [], ◌∷◌, ◌++◌, length, drop, refl, sym, ◌∙◌, ap, subst, arith, length-append, length-drop, not, filter, cond, append_assoc, append-nil, add-zero, max, Some, nat_le, nat_lt, if◌then◌else◌, unwrap_or}
 use Rattle.std.specs.List.{AllByRecursion, list_any, count_by, flat_map, fold}
 use Rattle.std.specs.Prelude.{◌==◌}
 use Rattle.std.proofs.lemmas.Bool.{cases_eq}
@@ -57,26 +57,28 @@ released_others stream other [] ne = refl
 released_others stream other (b ∷ bs) ne = grind (arith, common_steps, released_others stream other bs ne)
 
 -- more is known, so fewer blocks are out
-fewer_out : (counts : List ℕ) (known more : ℕ) → count_by (λ c. nat_lt (known + more) c) counts ≤ count_by (λ c. nat_lt known c) counts
-fewer_out [] known more = omega arith
-fewer_out (c ∷ cs) known more =
-    grind (arith, common_steps, fewer_out cs known more, sum_by-cons (λ c. if nat_lt (known + more) c then 1 else 0) c cs, sum_by-cons (λ c. if nat_lt known c then 1 else 0) c cs)
+fewer_out : (counts : List ℕ) (known later : ℕ) → known ≤ later → count_by (λ c. nat_lt later c) counts ≤ count_by (λ c. nat_lt known c) counts
+fewer_out [] known later le = omega arith
+fewer_out (c ∷ cs) known later le =
+    grind (arith, common_steps, fewer_out cs known later le, sum_by-cons (λ c. if nat_lt later c then 1 else 0) c cs, sum_by-cons (λ c. if nat_lt known c then 1 else 0) c cs)
 
 -- the increments are read: what is known grows
 increment_read : (s : Session) (count : ℕ) (rest : List DecoderInstruction) → s.decoder_instructions ≡ Increment count ∷ rest → IsSound s → IsSound (after_decoder_instruction s (Increment count) rest)
 increment_read s count rest is h =
     let sum : increments s.decoder_instructions ≡ count + increments rest = ap increments is in
+    let exact : min (s.sender.known_received + count) (2 ^ 64 - 1) ≡ s.sender.known_received + count = omega (arith, h.accounted, sum, h.received, h.small) in
     let acks : (stream : ℕ) → acknowledgements stream s.decoder_instructions ≡ acknowledgements stream rest = λ stream. ap (acknowledgements stream) is in
     record {
       received = h.received;
-      accounted = omega (arith, h.accounted, sum);
-      dropped_known = omega (arith, h.dropped_known);
+      accounted = omega (arith, h.accounted, sum, exact);
+      dropped_known = omega (arith, h.dropped_known, exact);
       references_held = h.references_held;
       tracked = λ stream alive. subst (λ n. drop n (tracked_references stream s.sender.tracked) ≡ references_under_way stream s.blocks) (acks stream) (h.tracked stream alive);
       acknowledged = λ stream. omega (arith, h.acknowledged stream, acks stream);
       written = h.written;
       cancels = subst (CancelsAreLast s.canceled) is h.cancels;
-      within_limit = omega (arith, h.within_limit, fewer_out s.sender.required_insert_counts s.sender.known_received count);
+      within_limit = omega (arith, h.within_limit, fewer_out s.sender.required_insert_counts s.sender.known_received (min (s.sender.known_received + count) (2 ^ 64 - 1)) (omega (arith, exact)));
+      small = h.small;
     }
 
 cancels_more : (canceled : List ℕ) (decoder_instructions : List DecoderInstruction) (count : ℕ) → CancelsAreLast canceled decoder_instructions → CancelsAreLast canceled (decoder_instructions ++ Increment count ∷ [])
@@ -101,6 +103,7 @@ insertions_read s count fits h =
       written = h.written;
       cancels = cancels_more s.canceled s.decoder_instructions count h.cancels;
       within_limit = h.within_limit;
+      small = h.small;
     }
 
 -- of an acknowledgement under way the stream has a tracked block
@@ -148,6 +151,7 @@ acknowledgement_read s stream rest is h =
       written = h.written;
       cancels = subst (CancelsAreLast s.canceled) is h.cancels;
       within_limit = h.within_limit;
+      small = h.small;
     }
 
 -- a cancellation is read: the stream's two oldest blocks are released, and no acknowledgement of it is under way
@@ -174,6 +178,7 @@ cancellation_read s stream rest is h =
       written = h.written;
       cancels = last.2;
       within_limit = h.within_limit;
+      small = h.small;
     }
 
 -- the encoder reads whatever the decoder wrote
@@ -282,6 +287,7 @@ block_written s stream fields h =
           (record { more = []; begins = sym (append-nil draft.inserted) }, tt);
       cancels = h.cancels;
       within_limit = one_more_out s.sender (required_insert_count draft) h.within_limit (may_wait s.sender draft.inserted draft.references 0 (omega arith) d.references);
+      small = d.small h.small;
     }
 
 -- the oldest block of a stream goes: of the names under way its own are the first
@@ -366,6 +372,7 @@ plain_decoded s b none is h =
       written = without_written (IsWrittenOver s.sender.inserted) b.stream s.blocks h.written;
       cancels = rw same h.cancels;
       within_limit = h.within_limit;
+      small = h.small;
     }
 
 -- a block that named entries is decoded and acknowledged
@@ -400,6 +407,7 @@ acknowledged_decoded s b some is alive h =
       written = without_written (IsWrittenOver s.sender.inserted) b.stream s.blocks h.written;
       cancels = cancels_without s.canceled s.decoder_instructions b.stream alive h.cancels;
       within_limit = h.within_limit;
+      small = h.small;
     }
 
 -- the oldest block of a stream is decoded
@@ -458,6 +466,7 @@ stream_abandoned s stream h =
       written = kept_written (IsWrittenOver s.sender.inserted) _ s.blocks h.written;
       cancels = cancels_last s.canceled s.decoder_instructions stream h.cancels;
       within_limit = h.within_limit;
+      small = h.small;
     }
   where
     same_no : true ≡ false → ⊥
@@ -478,4 +487,5 @@ insertions_kept s fields h =
       written = longer_written s.sender.inserted draft.inserted d.more d.begins s.blocks h.written;
       cancels = h.cancels;
       within_limit = h.within_limit;
+      small = d.small h.small;
     }

@@ -1,5 +1,5 @@
 -- What a sender of blocks goes by: the insertions that it made, and what it was told of the receiver.
-use Rattle.std.specs.Prelude.{ℕ, ◌+◌, Bool, false, not, List, [], ◌∷◌, flat_map, count_by, nat_lt, if◌then◌else◌, ◌==◌}
+use Rattle.std.specs.Prelude.{ℕ, ◌+◌, ◌-◌, ◌^◌, min, Bool, false, not, List, [], ◌∷◌, flat_map, count_by, nat_lt, if◌then◌else◌, ◌==◌}
 use Rattle.std.specs.List.{list_any}
 use Rattle.h3_field.specs.Field.{Field}
 use Rattle.h3_field.specs.Instruction.{DecoderInstruction}
@@ -38,11 +38,11 @@ abbrev pub released : ℕ → List Tracked → List Tracked
 released stream [] = []
 released stream (block ∷ blocks) = if block.stream == stream then blocks else block ∷ released stream blocks
 
--- the sender after an instruction of the receiver
+-- the sender after an instruction of the receiver. The known received count stops at the greatest number of 64 bits
 abbrev pub told : Sender → DecoderInstruction → Sender
 told s (Acknowledge stream) = record s { tracked = released stream s.tracked }
 told s (CancelStream stream) = record s { tracked = released stream (released stream s.tracked) }
-told s (Increment count) = record s { known_received = s.known_received + count }
+told s (Increment count) = record s { known_received = min (s.known_received + count) (2 ^ 64 - 1) }
 
 abbrev pub told_all : Sender → List DecoderInstruction → Sender
 told_all s [] = s

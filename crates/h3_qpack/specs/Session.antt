@@ -1,5 +1,5 @@
 -- One encoder and one decoder, and what is under way between them.
-use Rattle.std.specs.Prelude.{◌≡◌, ℕ, ◌+◌, ◌≤◌, ◌<◌, Bool, true, false, List, [], ◌∷◌, ◌++◌, length, filter, drop, take, ◌&&◌, nat_lt, ◌==◌, not, if◌then◌else◌, Option, Some, None}
+use Rattle.std.specs.Prelude.{◌≡◌, ℕ, ◌+◌, ◌^◌, ◌≤◌, ◌<◌, Bool, true, false, List, [], ◌∷◌, ◌++◌, length, filter, drop, take, ◌&&◌, nat_lt, ◌==◌, not, if◌then◌else◌, Option, Some, None}
 use Rattle.std.specs.List.{AllByRecursion, list_any}
 use Rattle.h3_field.specs.Field.{Field}
 use Rattle.h3_field.specs.Instruction.{DecoderInstruction}
@@ -133,6 +133,8 @@ pub record IsSound (s : Session) : Type 0 where
   pub cancels : CancelsAreLast s.canceled s.decoder_instructions
   -- so many blocks may still wait
   pub within_limit : blocks_out s.sender ≤ s.sender.limit
+  -- numbers of entries stay below 2 ^ 62
+  pub small : length s.sender.inserted < 2 ^ 62
 
 -- The decoder that has read so many insertions reads the block: its table holds what the lines name, and they stand
 -- for the fields.

@@ -26,16 +26,12 @@ least (n ∷ ns) = fold min n ns
 abbrev pub stored_section : Tracked → StoredSection
 stored_section t = record { stream = t.stream; oldest = least t.references }
 
--- the greatest number of 64 bits, at which the known received count stops
-abbrev pub greatest : ℕ
-greatest = 2 ^ 64 - 1
-
 abbrev pub stored : Sender → StoredSender
 stored s =
     record {
       table = record { capacity = s.capacity; entries = table s.capacity s.inserted; inserted = length s.inserted };
       limit = s.limit;
-      known_received = min s.known_received greatest;
+      known_received = s.known_received;
       waiting = filter (λ count. nat_lt s.known_received count) s.required_insert_counts;
       tracked = map stored_section s.tracked;
     }
