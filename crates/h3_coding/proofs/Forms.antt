@@ -1,4 +1,4 @@
--- What the first byte of a encoding tells, and what the whole encoding is.
+-- What the first byte of an encoding tells, and what the whole encoding is.
 use Rattle.std.proofs.Common.{◌≡◌, ℕ, ◌-◌, ◌*◌, ◌/◌, ◌%◌, ◌^◌, ◌<◌, ◌≤◌, List, [], ◌∷◌, length, take, drop, get_or, arith, lit<, ap, refl, zero, suc, length-take-le}
 use Rattle.std.specs.List.{AllByRecursion}
 use Rattle.std.proofs.lemmas.List.{take-append-drop}

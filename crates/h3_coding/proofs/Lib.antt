@@ -1,3 +1,4 @@
 pub mod Forms
+pub mod Fronts
 pub mod Numbers
 pub mod WholeEncodings

@@ -1,4 +1,4 @@
--- What a call of `decode` gives where the bytes begin with a encoding.
+-- What a call of `decode` gives where the bytes begin with an encoding.
 use Rattle.std.proofs.Common.{◌≡◌, ℕ, List, ◌++◌, Result, Ok, Err, IfOk, IfErr, ap, sym, ◌∙◌}
 use Rattle.std.proofs.lemmas.List.{append_cancel_left}
 use Rattle.h3_coding.specs.declared.coding.UnexpectedEnd.{UnexpectedEnd}

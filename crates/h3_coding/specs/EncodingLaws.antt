@@ -15,7 +15,7 @@ big_endian_below (x ∷ xs) h =
     let at : 256 ^ suc (length xs) ≡ 256 ^ length xs * 256 = rw (← add-one (length xs)) (pow_more 256 (length xs)) in
     rw at (mul-add-lt x (256 ^ length xs) (big_endian xs) 256 h.0 (big_endian_below xs h.1))
 
--- A encoding, by its first byte.
+-- An encoding, by its first byte.
 pub record Opened (v : ℕ) (bytes : List ℕ) : Type 0 where
   pub first : ℕ
   pub rest : List ℕ
@@ -58,7 +58,7 @@ opened v bytes (two f) = opened_form 1 v bytes (lit< tt) f
 opened v bytes (four f) = opened_form 2 v bytes (lit< tt) f
 opened v bytes (eight f) = opened_form 3 v bytes (lit< tt) f
 
--- No encoding of a number begins a encoding of another.
+-- No encoding of a number begins an encoding of another.
 pub one_encoding : (v w : ℕ) (t u r s : List ℕ) → IsEncoding v t → IsEncoding w u → t ++ r ≡ u ++ s → (v ≡ w) × (t ≡ u)
 one_encoding v w t u r s p q e =
     let a = opened v t p in
@@ -70,7 +70,7 @@ one_encoding v w t u r s p q e =
     let same : a.rest ≡ b.rest = sym (take_at a.rest r (length a.rest) refl) ∙ ap (λ x. take (length a.rest) x) rests ∙ take_at b.rest s (length a.rest) counts in
     (a.value ∙ rw (firsts, same) (sym b.value), a.is ∙ rw (firsts, same) (sym b.is))
 
--- What begins with a encoding is not unfinished.
+-- What begins with an encoding is not unfinished.
 pub finished : (v : ℕ) (t r left : List ℕ) (count : ℕ) → IsEncoding v t → IsUnfinished (t ++ r) count left → ⊥
 finished v t r left count p (empty e k l) =
     let a = opened v t p in
@@ -135,7 +135,7 @@ encoding_below_eight v h k =
     let fits : 3 * 2 ^ 62 + v < 2 ^ 64 = omega arith in
     rw at (eight (record { count = refl; each = each_byte 8 (3 * 2 ^ 62 + v); below = k; worth = omega (arith, worth_eight (3 * 2 ^ 62 + v) fits) }))
 
--- The encoding is a encoding.
+-- The encoding is an encoding.
 pub encoding_is_valid : (v : ℕ) → v < 2 ^ 62 → IsEncoding v (encoding v)
 encoding_is_valid v h = elim (cases_lt v (2 ^ 6)) [
   | inl k ↦ encoding_below_one v k
@@ -167,7 +167,7 @@ shortest v octets (two f) = rw f.count (length_below_two v f.below)
 shortest v octets (four f) = rw f.count (length_below_four v f.below)
 shortest v octets (eight f) = rw f.count (length_below_eight v f.below)
 
--- The number of a encoding's form.
+-- The number of an encoding's form.
 form_of : (v : ℕ) (bytes : List ℕ) → IsEncoding v bytes → (k : ℕ) × IsForm k (2 ^ k) v bytes
 form_of v bytes (one f) = (0, f)
 form_of v bytes (two f) = (1, f)

@@ -18,7 +18,7 @@ pub record IsForm (form len v : ℕ) (bytes : List ℕ) : Type 0 where
   pub below : v < 2 ^ (8 * len - 2)
   pub worth : big_endian bytes ≡ v + form * 2 ^ (8 * len - 2)
 
--- The bytes are a encoding of v.
+-- The bytes are an encoding of v.
 pub data IsEncoding (v : ℕ) (bytes : List ℕ) : Type 0 where
   one : IsForm 0 1 v bytes → IsEncoding v bytes
   two : IsForm 1 2 v bytes → IsEncoding v bytes

@@ -17,7 +17,7 @@ enough : (first : ℕ) (rest : List ℕ) → 2 ^ (first / 64) - 1 ≤ length res
 unfolding varint_at
 enough first rest h = rw (le-ltb (length rest) (2 ^ (first / 64) - 1) h) refl
 
-fewer : (first : ℕ) (rest : List ℕ) → length rest < 2 ^ (first / 64) - 1 → varint_at (first ∷ rest) ≡ None
+pub fewer : (first : ℕ) (rest : List ℕ) → length rest < 2 ^ (first / 64) - 1 → varint_at (first ∷ rest) ≡ None
 unfolding varint_at
 fewer first rest h = rw (lt-ltb (length rest) (2 ^ (first / 64) - 1) h) refl
 
@@ -25,7 +25,7 @@ pub none_at_end : varint_at [] ≡ None
 unfolding varint_at
 none_at_end = refl
 
--- a encoding of v in front is read as v
+-- an encoding of v in front is read as v
 pub reads_encoding : (v : ℕ) (octets rest : List ℕ) → IsEncoding v octets → varint_at (octets ++ rest) ≡ Some (v, rest)
 reads_encoding v octets rest p =
     let o = opened v octets p in
@@ -170,3 +170,14 @@ sized v first bytes tail rest is e =
 pub too_few : (n first : ℕ) (bytes tail : List ℕ) → bytes ≡ first ∷ tail → n < 2 ^ (first / 64) → varint_at (take n bytes) ≡ None
 too_few zero first bytes tail is h = none_at_end
 too_few (suc n) first bytes tail is h = ap (λ l. varint_at (take (suc n) l)) is ∙ fewer first (take n tail) (omega (arith, length-take n tail))
+
+-- each encoding is read as its number, whatever follows it
+pub reads_whole : (r : Result ℕ UnexpectedEnd) (n : ℕ) (octets rest old new : List ℕ) → ReadsVarint r old new → IsEncoding n octets → old ≡ octets ++ rest → (r ≡ Ok n) × (new ≡ rest)
+reads_whole (Ok v) n octets rest old new e p is =
+    let here = ap varint_at is ∙ reads_encoding n octets rest p in
+    let pair : (v, new) ≡ (n, rest) = cc in
+    let value : v ≡ n = ap (λ (q : ℕ × List ℕ). q.0) pair in
+    (ap (λ x. Ok x) value, ap (λ (q : ℕ × List ℕ). q.1) pair)
+reads_whole (Err k) n octets rest old new e p is =
+    let here = ap varint_at is ∙ reads_encoding n octets rest p in
+    absurd (cc)

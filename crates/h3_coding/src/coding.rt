@@ -1,4 +1,5 @@
-//! Reading and writing values at a buffer, with an error where bytes or room are missing.
+//! Reading and writing values at a buffer, with an error where bytes or room are missing. Each trait
+//! says in ghost members which bytes stand for a value, so that generic code knows them.
 ghost use Rattle.std.specs.Prelude.{◌≡◌, ℕ, ◌<◌, ◌^◌, List, [], ◌∷◌, ◌++◌, length, IfOk, IfErr, IfSome, IsNone, OnOk, OnErr, None, Some, ◌≤◌, take, drop, refl};
 ghost use Rattle.h3_coding.specs.ByteLaws.{one_byte, byte_finished};
 ghost use Rattle.h3_coding.specs.Reading.{Takes};
@@ -9,7 +10,8 @@ ghost use Rattle.h3_coding.specs.Writing.{AppendsFront, UsesRoom};
 use crate::varint::VarInt;
 use bytes::{Buf, BufMut};
 
-/// The input ended inside a value.
+/// The input ended inside a value. The count is that of the type that was read: of a variable-length
+/// integer see `VarInt::decode`, of a byte it is 1.
 #[derive(Clone, Copy, Debug, PartialEq, Eq)]
 pub struct UnexpectedEnd(pub usize);
 
@@ -17,51 +19,53 @@ pub struct UnexpectedEnd(pub usize);
 #[derive(Clone, Copy, Debug, PartialEq, Eq)]
 pub struct WriteRefused;
 
+/// What a read answers.
 pub type Result<T> = std::result::Result<T, UnexpectedEnd>;
 
-/// A value that has a encoding.
+/// A value that can be written.
 pub trait Encode {
     // The encoding that is written.
     ghost encoding: { Self → List ℕ };
 
-    /// Appends the encoding. An `Err` leaves a beginning of it.
+    /// Appends the encoding. It is refused only where the buffer is full or was refused memory, and then
+    /// leaves the bytes that were there and a beginning of the encoding.
     fn encode<B: BufMut>(&self, buf: &mut B) -> std::result::Result<(), WriteRefused>
         ensures ok { OnOk result (B.written buf.new ≡ B.written buf.old ++ encoding self.now) }
         ensures err { OnErr result (AppendsFront (encoding self.now) (B.written buf.old) (B.written buf.new)) }
         ensures room { UsesRoom result (B.spare buf.old) (B.spare buf.new) (length (encoding self.now)) };
 }
 
-/// A value that is read from its encoding.
+/// A value that can be read. No encoding of one value begins an encoding of another.
 pub trait Decode: Sized {
-    // The bytes are a encoding of the value.
+    // The bytes are an encoding of the value.
     ghost is_encoding: { Self → List ℕ → Type 0 };
 
     // The bytes begin no encoding: the count that the error has, and what is left.
     ghost is_unfinished: { List ℕ → ℕ → List ℕ → Type 0 };
 
-    /// Takes a encoding from the front.
+    /// Takes an encoding from the front, and leaves what follows it.
     fn decode<B: Buf>(buf: &mut B) -> Result<Self>
         ensures ok { IfOk result (λ v. Takes (is_encoding v) (B.unread buf.old) (B.unread buf.new)) }
         ensures err { IfErr result (λ e. is_unfinished (B.unread buf.old) e.0 (B.unread buf.new)) }
         ensures kept { B.kept buf.new ≡ B.kept buf.old };
 
-    // No encoding of a value begins a encoding of another.
+    // No encoding of a value begins an encoding of another.
     ghost one_encoding: { (v w : Self) (t u r s : List ℕ) → is_encoding v t → is_encoding w u → t ++ r ≡ u ++ s → (v ≡ w) × (t ≡ u) };
 
-    // What begins with a encoding is not unfinished.
+    // What begins with an encoding is not unfinished.
     ghost finished: { (v : Self) (t r left : List ℕ) (count : ℕ) → is_encoding v t → is_unfinished (t ++ r) count left → ⊥ };
 }
 
-/// A value that is read from what is written of it.
+/// A value that is read back from what is written of it.
 pub trait Codec: Encode + Decode {
     // Holds of each value of the type.
     ghost is_value: { Self → Type 0 };
 
-    /// The value is one.
+    /// Tells a proof that the value is one. It does nothing.
     fn known(&self)
         ensures { is_value self.now };
 
-    // What is written is a encoding of the value.
+    // What is written is an encoding of the value.
     ghost encoding_is_valid: { (v : Self) → is_value v → Self.is_encoding v (Self.encoding v) };
 }
 
@@ -102,7 +106,7 @@ impl Decode for u8 {
 
 /// Reading values from a buffer.
 pub trait BufExt: Buf + Sized {
-    /// Takes a encoding of a value from the front.
+    /// Takes an encoding of a value from the front.
     final fn get<T: Decode>(&mut self) -> Result<T>
         ensures ok { IfOk result (λ v. Takes (T.is_encoding v) (Self.unread self.old) (Self.unread self.new)) }
         ensures err { IfErr result (λ e. T.is_unfinished (Self.unread self.old) e.0 (Self.unread self.new)) }
@@ -115,7 +119,7 @@ pub trait BufExt: Buf + Sized {
         T::decode(self)
     }
 
-    /// Takes a encoding of a number below 2^62 from the front.
+    /// Takes a variable-length integer from the front (RFC 9000, section 16).
     final fn get_var(&mut self) -> Result<u64>
         ensures reads { ReadsVarint result (Self.unread self.old) (Self.unread self.new) }
         ensures few { OnErr result (length (Self.unread self.old) < 8) }
@@ -123,6 +127,10 @@ pub trait BufExt: Buf + Sized {
         ensures below { IfOk result (λ n. n < 2 ^ 62) }
         ensures err { IfErr result (λ e. IsUnfinished (Self.unread self.old) e.0 (Self.unread self.new)) }
         ensures kept { Self.kept self.new ≡ Self.kept self.old }
+
+        // Each encoding is read as its number, whatever follows it.
+        ensures whole { (n : ℕ) (octets rest : List ℕ) → IsEncoding n octets
+            → Self.unread self.old ≡ octets ++ rest → (result ≡ Ok n) × (Self.unread self.new ≡ rest) }
     {
         match VarInt::decode(self) {
             Ok(v) => Ok(v.into_inner()),
@@ -169,7 +177,7 @@ pub trait BufMutExt: BufMut + Sized {
         x.encode(self)
     }
 
-    /// Appends the shortest encoding of a number.
+    /// Appends the shortest encoding of a number below 2^62, whole or not at all (RFC 9000, section 16).
     final fn write_var(&mut self, x: u64) -> std::result::Result<(), WriteRefused>
         requires { x < 2 ^ 62 }
         ensures ok { OnOk result (Self.written self.new ≡ Self.written self.old ++ encoding x) }

@@ -15,7 +15,7 @@ pub fn encoding_is_shortest()
     ensures { (v : ℕ) → v < 2 ^ 62 → IsShortest v (encoding v) }
 {}
 
-/// No encoding of a number begins a encoding of another, so a encoding is read as its number, whatever follows.
+/// No encoding of a number begins an encoding of another, so an encoding is read as its number, whatever follows.
 pub fn one_encoding()
     ensures { (v w : ℕ) (t u r s : List ℕ) → IsEncoding v t → IsEncoding w u → t ++ r ≡ u ++ s → (v ≡ w) × (t ≡ u) }
 {}

@@ -1,11 +1,12 @@
-//! An integer below 2^62, in one to eight bytes.
-ghost use Rattle.std.specs.Prelude.{◌≡◌, ℕ, ◌+◌, ◌-◌, ◌*◌, ◌/◌, ◌^◌, ◌<◌, ◌≤◌, List, ◌∷◌, ◌++◌, length, take, drop, IfOk, IfErr, OnOk, OnErr, Some};
+//! Variable-length integers: numbers below 2^62 in one, two, four or eight bytes (RFC 9000, section 16).
+ghost use Rattle.std.specs.Prelude.{◌≡◌, ℕ, ◌+◌, ◌-◌, ◌*◌, ◌/◌, ◌^◌, ◌<◌, ◌≤◌, List, ◌∷◌, ◌++◌, length, take, drop, IfOk, IfErr, IfSome, IsNone, OnOk, OnErr, Some, None};
 ghost use Rattle.std.specs.Result.{OkIff};
 ghost use Rattle.std.specs.Fmt.{decimal};
 ghost use Rattle.std.specs.List.{AllByRecursion};
 ghost use Rattle.h3_coding.specs.Bounds.{ConvertsBelowLimit};
 ghost use Rattle.h3_coding.specs.Encodings.{big_endian, IsByte, IsEncoding, encoding, IsUnfinished};
 ghost use Rattle.h3_coding.specs.Reading.{Takes};
+ghost use Rattle.h3_coding.specs.Varint.{varint_at};
 ghost use Rattle.h3_coding.specs.Writing.{AppendsFront, UsesRoom};
 ghost use Rattle.h3_coding.specs.EncodingLaws.{one_encoding, finished, encoding_is_valid};
 
@@ -16,7 +17,8 @@ use std::fmt;
 use std::marker::Model;
 use std::ops::Div;
 
-/// An integer below 2^62. A contract sees it as the number.
+/// A variable-length integer, from 0 to 2^62 - 1 (RFC 9000, section 16). A contract sees it as its
+/// number.
 #[derive(Clone, Copy, PartialEq, Eq, PartialOrd, Ord, Hash)]
 pub struct VarInt(u64);
 
@@ -30,24 +32,25 @@ impl Model for VarInt {
     ghost inverse = { λ n. record { 0 = n } };
 }
 
-/// The number is 2^62 or more.
+/// The number, which is 2^62 or more, is no variable-length integer.
 #[derive(Clone, Copy, Debug, PartialEq, Eq)]
 pub struct VarIntBoundsExceeded(pub u64);
 
 impl VarInt {
-    /// The greatest value.
+    /// The greatest one, 2^62 - 1.
     pub const MAX: VarInt = VarInt((1 << 62) - 1);
 
-    /// The most bytes that a encoding has.
+    /// The most bytes that an encoding has.
     pub const MAX_SIZE: usize = 8;
 
+    /// Every `u32` is one.
     pub fn from_u32(x: u32) -> Self
         ensures { result ≡ x }
     {
         VarInt(u64::from(x))
     }
 
-    /// Succeeds where `x` is below 2^62.
+    /// Refuses a number of 2^62 or more.
     pub fn from_u64(x: u64) -> Result<Self, VarIntBoundsExceeded>
         ensures ok { OkIff result (x < 2 ^ 62) x }
         ensures err { IfErr result (λ e. e.0 ≡ x) }
@@ -59,6 +62,7 @@ impl VarInt {
         }
     }
 
+    /// A number that is known to be below 2^62.
     pub fn from_u64_unchecked(x: u64) -> Self
         requires { x < 2 ^ 62 }
         ensures { result ≡ x }
@@ -66,6 +70,7 @@ impl VarInt {
         VarInt(x)
     }
 
+    /// The number, below 2^62.
     pub fn into_inner(self) -> u64
         ensures value { result ≡ self }
         ensures bound { result < 2 ^ 62 }
@@ -73,7 +78,7 @@ impl VarInt {
         self.0
     }
 
-    /// How many bytes the shortest encoding has.
+    /// How many bytes the shortest encoding has: 1, 2, 4 or 8.
     #[tactic(auto, unfolding(crate::specs::Encodings::encoding))]
     pub fn size(self) -> usize
         ensures value { result ≡ length (encoding self) }
@@ -91,15 +96,72 @@ impl VarInt {
         }
     }
 
-    /// How many bytes a encoding has that begins with this one.
+    /// How many bytes an encoding has whose first byte is this one: 1, 2, 4 or 8, by its two highest
+    /// bits (RFC 9000, table 4).
     pub fn encoded_size(first: u8) -> usize
         ensures { result ≡ 2 ^ (first / 64) }
     {
         1 << (first >> 6)
     }
 
-    /// Reads a encoding.
+    /// Takes an encoding from the front, also one that is longer than needed. The error of input that
+    /// is empty has the count 0; of a form of 2, 4 or 8 bytes that is not whole it has 1, 2 or 3, and the
+    /// first byte is taken.
     pub fn decode<B: Buf>(buf: &mut B) -> Result<Self, UnexpectedEnd>
+        ensures ok { IfOk result (λ v. Takes (IsEncoding v) (B.unread buf.old) (B.unread buf.new)) }
+        ensures err { IfErr result (λ e. IsUnfinished (B.unread buf.old) e.0 (B.unread buf.new)) }
+        ensures kept { B.kept buf.new ≡ B.kept buf.old }
+    {
+        if let Some((number, size)) = VarInt::at_front(buf.chunk()) {
+            buf.advance(size);
+            return Ok(number);
+        }
+        VarInt::decode_in_pieces(buf)
+    }
+
+    // The number that the bytes begin with, and how many of them it has; none where it does not lie
+    // whole in them.
+    #[inline(always)]
+    fn at_front(bytes: &[u8]) -> Option<(Self, usize)>
+        ensures some { IfSome result (λ p. IsEncoding p.0 (take p.1 bytes.now) × (p.1 ≤ length bytes.now)) }
+        ensures none { IsNone result → varint_at bytes.now ≡ None }
+    {
+        let len = bytes.len();
+        if len == 0 {
+            return None;
+        }
+        let first = bytes[0];
+        if first < 0x40 {
+            return Some((VarInt(u64::from(first)), 1));
+        }
+        if first < 0x80 {
+            if len < 2 {
+                return None;
+            }
+            let number = u16::from_be_bytes([first, bytes[1]]) & 0x3fff;
+            return Some((VarInt(u64::from(number)), 2));
+        }
+        if first < 0xc0 {
+            if len < 4 {
+                return None;
+            }
+            let number = u32::from_be_bytes([first, bytes[1], bytes[2], bytes[3]]) & 0x3fff_ffff;
+            return Some((VarInt(u64::from(number)), 4));
+        }
+        if len < 8 {
+            return None;
+        }
+        let octets = [
+            first, bytes[1], bytes[2], bytes[3], bytes[4], bytes[5], bytes[6], bytes[7],
+        ];
+        let number = u64::from_be_bytes(octets) & 0x3fff_ffff_ffff_ffff;
+        Some((VarInt(number), 8))
+    }
+
+    // Reads an encoding byte by byte, across the pieces of the buffer.
+    // Out of line, since most numbers lie in one piece.
+    #[inline(never)]
+    fn decode_in_pieces<B: Buf>(buf: &mut B) -> Result<Self, UnexpectedEnd>
         ensures ok { IfOk result (λ v. Takes (IsEncoding v) (B.unread buf.old) (B.unread buf.new)) }
         ensures err { IfErr result (λ e. IsUnfinished (B.unread buf.old) e.0 (B.unread buf.new)) }
         ensures kept { B.kept buf.new ≡ B.kept buf.old }
@@ -115,7 +177,8 @@ impl VarInt {
         Ok(VarInt(get_number(buf, first & 0x3f, more)))
     }
 
-    /// Appends the shortest encoding, whole or not at all.
+    /// Appends the shortest encoding, whole or, where the buffer is full or was refused memory, not at
+    /// all.
     pub fn encode<B: BufMut>(&self, buf: &mut B) -> Result<(), WriteRefused>
         ensures ok { OnOk result (B.written buf.new ≡ B.written buf.old ++ encoding self.now) }
         ensures err { OnErr result (B.written buf.new ≡ B.written buf.old) }
@@ -161,7 +224,7 @@ impl From<u8> for VarInt {
     ghost from_gives = { λ x v. v ≡ x };
 
     fn from(x: u8) -> Self {
-        VarInt(u64::from(x))
+        VarInt::from_u32(u32::from(x))
     }
 }
 
@@ -169,7 +232,7 @@ impl From<u16> for VarInt {
     ghost from_gives = { λ x v. v ≡ x };
 
     fn from(x: u16) -> Self {
-        VarInt(u64::from(x))
+        VarInt::from_u32(u32::from(x))
     }
 }
 
@@ -177,7 +240,7 @@ impl From<u32> for VarInt {
     ghost from_gives = { λ x v. v ≡ x };
 
     fn from(x: u32) -> Self {
-        VarInt(u64::from(x))
+        VarInt::from_u32(x)
     }
 }
 
