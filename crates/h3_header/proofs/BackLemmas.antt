@@ -4,9 +4,13 @@ use Rattle.http_header.specs.Token.{IsToken}
 use Rattle.http.specs.StatusCode.{IsStatusCode, code_digits}
 use Rattle.http_uri.specs.Grammar.{IsScheme, IsAuthority, IsPathAndQuery, or_slash}
 use Rattle.h3_header.specs.ProtocolText.{IsProtocolText}
+use Rattle.http_header.specs.FieldValue.{FieldValue}
+use Rattle.http_header.specs.HeaderMap.{Entries}
+use Rattle.h3_header.specs.Parts.{head_of_parts}
+use Rattle.h3_header.specs.declared.headers.pseudo.Pseudo.{Pseudo}
 use Rattle.h3_header.specs.Head.{Head, trailer_head, optional_field, head_fields}
 use Rattle.h3_header.specs.Reads.{kind_of, status_number}
-use Rattle.h3_header.specs.ReadsBack.{IsValidHead, ReadsBack}
+use Rattle.h3_header.specs.ReadsBack.{IsValidPseudo, IsValidMap, ReadsBack}
 use Rattle.h3_header.proofs.PathLemmas.{IsPathAndQuery-or_slash, IsPathInput-or_slash, without_fragment_of, or_slash-or_slash}
 use Rattle.h3_header.proofs.MapLemmas.{Reading, Reading-none, Reading-one, Reading-append, unmarked, regular_fields-unmarked, Reading-map}
 
@@ -65,20 +69,21 @@ same_path (Some t) = ap Some (or_slash-or_slash t)
 back : Head → Head
 back h = record h { path = option_map or_slash h.path; regular = unmarked h.regular }
 
-Reading-back : (h : Head) → IsValidHead h → Reading (trailer_head []) (head_fields h) (back h)
+Reading-back : (q : Pseudo) (m : Entries FieldValue) → IsValidPseudo q → IsValidMap m
+    → Reading (trailer_head []) (head_fields (head_of_parts q m)) (back (head_of_parts q m))
 unfolding back
-Reading-back h valid =
+Reading-back q m valid map =
     Reading-append _ _ _ _ _
     (Reading-append _ _ _ _ _
     (Reading-append _ _ _ _ _
     (Reading-append _ _ _ _ _
     (Reading-append _ _ _ _ _
-    (Reading-append _ _ _ _ _ (read_method h.method valid.method) (read_scheme h.method h.scheme valid.scheme))
-    (read_authority h.method h.scheme h.authority valid.authority))
-    (read_path h.method h.scheme h.authority h.path valid.path))
-    (read_status h.method h.scheme h.authority (option_map or_slash h.path) h.status valid.status))
-    (read_protocol h.method h.scheme h.authority (option_map or_slash h.path) h.status h.protocol valid.protocol))
-    (Reading-map (parts h.method h.scheme h.authority (option_map or_slash h.path) h.status h.protocol) h.regular valid.map valid.regular)
+    (Reading-append _ _ _ _ _ (read_method q.method valid.method) (read_scheme q.method q.scheme valid.scheme))
+    (read_authority q.method q.scheme q.authority valid.authority))
+    (read_path q.method q.scheme q.authority q.path valid.path))
+    (read_status q.method q.scheme q.authority (option_map or_slash q.path) q.status valid.status))
+    (read_protocol q.method q.scheme q.authority (option_map or_slash q.path) q.status q.protocol valid.protocol))
+    (Reading-map (parts q.method q.scheme q.authority (option_map or_slash q.path) q.status q.protocol) m map.map map.fields)
 
 same_fields : (h : Head) → head_fields (back h) ≡ head_fields h
 unfolding back
@@ -88,5 +93,6 @@ same_fields h =
     ++ optional_field (codes ":status") (option_map code_digits h.status) ++ optional_field (codes ":protocol") h.protocol ++ q)
     (same_path h.path) (regular_fields-unmarked h.regular)
 
-pub reads_back : (h : Head) → IsValidHead h → ReadsBack (head_fields h)
-reads_back h valid = let r = Reading-back h valid in (r.accepts, ap head_fields r.makes ∙ same_fields h)
+-- the field list of valid parts reads back to a head with that list
+pub reads_back : (q : Pseudo) (m : Entries FieldValue) → IsValidPseudo q → IsValidMap m → ReadsBack (head_fields (head_of_parts q m))
+reads_back q m valid map = let r = Reading-back q m valid map in (r.accepts, ap head_fields r.makes ∙ same_fields (head_of_parts q m))

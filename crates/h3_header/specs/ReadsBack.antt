@@ -3,11 +3,12 @@ use Rattle.std.specs.Prelude.{◌≡◌, ℕ, List, [], IfSome, All}
 use Rattle.http_header.specs.Token.{IsToken}
 use Rattle.http_header.specs.FieldName.{IsHeaderName}
 use Rattle.http_header.specs.FieldValue.{FieldValue, IsFieldValue}
-use Rattle.http_header.specs.HeaderMap.{pairs, IsHeaderMap}
+use Rattle.http_header.specs.HeaderMap.{Entries, pairs, IsHeaderMap}
 use Rattle.http.specs.StatusCode.{IsStatusCode}
 use Rattle.http_uri.specs.Grammar.{IsScheme, IsAuthority, IsPathAndQuery}
 use Rattle.h3_header.specs.ProtocolText.{IsProtocolText}
 use Rattle.h3_field.specs.Field.{Field}
+use Rattle.h3_header.specs.declared.headers.pseudo.Pseudo.{Pseudo}
 use Rattle.h3_header.specs.Head.{Head, trailer_head, head_fields}
 use Rattle.h3_header.specs.Reads.{AcceptsAll, head_of_fields}
 
@@ -15,16 +16,19 @@ use Rattle.h3_header.specs.Reads.{AcceptsAll, head_of_fields}
 abbrev pub IsPair : List ℕ × FieldValue → Type 0
 IsPair p = IsHeaderName p.0 × IsFieldValue p.1.bytes
 
--- each part is what its type holds
-pub record IsValidHead (h : Head) : Type 0 where
-  pub method : IfSome h.method IsToken
-  pub scheme : IfSome h.scheme IsScheme
-  pub authority : IfSome h.authority IsAuthority
-  pub path : IfSome h.path IsPathAndQuery
-  pub status : IfSome h.status IsStatusCode
-  pub protocol : IfSome h.protocol IsProtocolText
-  pub regular : All IsPair (pairs h.regular)
-  pub map : IsHeaderMap h.regular
+-- each pseudo-header field is what its type holds
+pub record IsValidPseudo (p : Pseudo) : Type 0 where
+  pub method : IfSome p.method IsToken
+  pub scheme : IfSome p.scheme IsScheme
+  pub authority : IfSome p.authority IsAuthority
+  pub path : IfSome p.path IsPathAndQuery
+  pub status : IfSome p.status IsStatusCode
+  pub protocol : IfSome p.protocol IsProtocolText
+
+-- each name and value is what its type holds, and the map is one
+pub record IsValidMap (m : Entries FieldValue) : Type 0 where
+  pub fields : All IsPair (pairs m)
+  pub map : IsHeaderMap m
 
 -- the list is that of a head, and this head has this list
 abbrev pub ReadsBack : List Field → Type 0

@@ -3,25 +3,19 @@ ghost use Rattle.std.specs.Prelude.{◌≡◌, [], unwrap_or, IfOk};
 ghost use Rattle.std.specs.Iterator.{item_count};
 ghost use Rattle.h3_header.specs.Left.{TakesField};
 
+use super::pseudo::Pseudo;
 use super::write::{pseudo_field, regular_field};
-use crate::ext::Protocol;
 use h3_field::HeaderField;
-use http::{Method, StatusCode};
 use http_header::{HeaderName, HeaderValue};
-use http_uri::{Authority, PathAndQuery, Scheme};
 use std::alloc::{AllocError, Global};
 use std::marker::Model;
 
-/// The fields that are left. A field that finds no memory is passed over.
+/// The fields that are left. A field that finds no memory is passed over,
+/// and its refusal stands in its place. At the end it goes on to answer `None`.
 #[derive(Drop)]
 pub struct HeaderIter {
     pub(crate) alloc: Global,
-    pub(crate) method: Option<Method>,
-    pub(crate) scheme: Option<Scheme>,
-    pub(crate) authority: Option<Authority>,
-    pub(crate) path: Option<PathAndQuery>,
-    pub(crate) status: Option<StatusCode>,
-    pub(crate) protocol: Option<Protocol>,
+    pub(crate) pseudo: Pseudo,
     pub(crate) regular: RegularIter,
 }
 
@@ -71,11 +65,11 @@ fn make_field(
 impl Model for HeaderIter {
     ghost use Rattle.std.specs.Prelude.{List, ◌++◌};
     ghost use Rattle.h3_field.specs.Field.{Field};
-    ghost use Rattle.h3_header.specs.Head.{pseudo_fields};
+    ghost use Rattle.h3_header.specs.Parts.{fields_of_pseudo};
 
     ghost Value = { List Field };
 
-    ghost view = { λ i. pseudo_fields i.method i.scheme i.authority i.path i.status i.protocol ++ i.regular };
+    ghost view = { λ i. fields_of_pseudo i.pseudo ++ i.regular };
 }
 
 impl Iterator for HeaderIter {
@@ -87,22 +81,22 @@ impl Iterator for HeaderIter {
 
     fn next(&mut self) -> Option<Result<HeaderField, AllocError>> {
         let alloc = self.alloc;
-        if let Some(part) = self.method.take() {
+        if let Some(part) = self.pseudo.method.take() {
             return Some(pseudo_field(alloc, b":method", part.as_str()));
         }
-        if let Some(part) = self.scheme.take() {
+        if let Some(part) = self.pseudo.scheme.take() {
             return Some(pseudo_field(alloc, b":scheme", part.as_str()));
         }
-        if let Some(part) = self.authority.take() {
+        if let Some(part) = self.pseudo.authority.take() {
             return Some(pseudo_field(alloc, b":authority", part.as_str()));
         }
-        if let Some(part) = self.path.take() {
+        if let Some(part) = self.pseudo.path.take() {
             return Some(pseudo_field(alloc, b":path", part.as_str()));
         }
-        if let Some(part) = self.status.take() {
+        if let Some(part) = self.pseudo.status.take() {
             return Some(pseudo_field(alloc, b":status", part.as_str()));
         }
-        if let Some(part) = self.protocol.take() {
+        if let Some(part) = self.pseudo.protocol.take() {
             return Some(pseudo_field(alloc, b":protocol", part.as_str()));
         }
         self.regular.take_field(alloc)

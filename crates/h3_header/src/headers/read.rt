@@ -7,10 +7,14 @@ ghost use Rattle.http_header.specs.HeaderMap.{append, RefusesAppend};
 ghost use Rattle.http.specs.StatusCode.{IsCodeText};
 ghost use Rattle.http_uri.specs.Grammar.{IsScheme, IsAuthority, IsPathInput, without_fragment};
 ghost use Rattle.h3_header.specs.ProtocolText.{IsProtocolText};
-ghost use Rattle.h3_header.specs.Reads.{status_number, RefusesName, RefusesValue, RefusesRegular};
+ghost use Rattle.h3_header.specs.Reads.{status_number, RefusesName, RefusesValue, RefusesRegular, Accepts, Refuses, with_field};
+ghost use Rattle.h3_header.specs.Parts.{head_of_parts};
 
 use super::error::HeaderError;
+use super::kind::FieldKind;
+use super::pseudo::Pseudo;
 use crate::ext::Protocol;
+use h3_field::HeaderField;
 use http::method::MethodError;
 use http::{Method, StatusCode};
 use http_header::{
@@ -19,7 +23,7 @@ use http_header::{
 use http_uri::{Authority, PathAndQuery, Scheme, UriError};
 use std::alloc::Global;
 
-pub(crate) fn read_method(alloc: Global, value: &[u8]) -> Result<Method, HeaderError>
+fn read_method(alloc: Global, value: &[u8]) -> Result<Method, HeaderError>
     ensures ok { IfOk result (λ m. IsToken value.now × (m ≡ value.now)) }
     ensures err { IfErr result (RefusesValue (IsToken value.now)) }
 {
@@ -30,7 +34,7 @@ pub(crate) fn read_method(alloc: Global, value: &[u8]) -> Result<Method, HeaderE
     }
 }
 
-pub(crate) fn read_scheme(alloc: Global, value: &[u8]) -> Result<Scheme, HeaderError>
+fn read_scheme(alloc: Global, value: &[u8]) -> Result<Scheme, HeaderError>
     ensures ok { IfOk result (λ m. IsScheme value.now × (m ≡ value.now)) }
     ensures err { IfErr result (RefusesValue (IsScheme value.now)) }
 {
@@ -41,7 +45,7 @@ pub(crate) fn read_scheme(alloc: Global, value: &[u8]) -> Result<Scheme, HeaderE
     }
 }
 
-pub(crate) fn read_authority(alloc: Global, value: &[u8]) -> Result<Authority, HeaderError>
+fn read_authority(alloc: Global, value: &[u8]) -> Result<Authority, HeaderError>
     ensures ok { IfOk result (λ m. IsAuthority value.now × (m ≡ value.now)) }
     ensures err { IfErr result (RefusesValue (IsAuthority value.now)) }
 {
@@ -52,7 +56,7 @@ pub(crate) fn read_authority(alloc: Global, value: &[u8]) -> Result<Authority, H
     }
 }
 
-pub(crate) fn read_path(alloc: Global, value: &[u8]) -> Result<PathAndQuery, HeaderError>
+fn read_path(alloc: Global, value: &[u8]) -> Result<PathAndQuery, HeaderError>
     ensures ok { IfOk result (λ m. IsPathInput value.now × (m ≡ without_fragment value.now)) }
     ensures err { IfErr result (RefusesValue (IsPathInput value.now)) }
 {
@@ -63,7 +67,7 @@ pub(crate) fn read_path(alloc: Global, value: &[u8]) -> Result<PathAndQuery, Hea
     }
 }
 
-pub(crate) fn read_status(alloc: Global, value: &[u8]) -> Result<StatusCode, HeaderError>
+fn read_status(alloc: Global, value: &[u8]) -> Result<StatusCode, HeaderError>
     ensures ok { IfOk result (λ m. IsCodeText value.now × (m ≡ status_number value.now)) }
     ensures err { IfErr result (RefusesValue (IsCodeText value.now)) }
 {
@@ -73,7 +77,7 @@ pub(crate) fn read_status(alloc: Global, value: &[u8]) -> Result<StatusCode, Hea
     }
 }
 
-pub(crate) fn read_protocol(alloc: Global, value: &[u8]) -> Result<Protocol, HeaderError>
+fn read_protocol(alloc: Global, value: &[u8]) -> Result<Protocol, HeaderError>
     ensures ok { IfOk result (λ m. IsProtocolText value.now × (m ≡ value.now)) }
     ensures err { IfErr result (RefusesValue (IsProtocolText value.now)) }
 {
@@ -106,7 +110,7 @@ fn read_value(alloc: Global, name: &[u8], value: &[u8]) -> Result<HeaderValue, H
 }
 
 /// Appends a regular field to the map.
-pub(crate) fn append_field(
+fn append_field(
     alloc: Global,
     map: &mut HeaderMap,
     name: &[u8],
@@ -124,5 +128,50 @@ pub(crate) fn append_field(
         Ok(_) => Ok(()),
         Err(HeaderMapError::MaxSizeReached) => Err(HeaderError::TooManyFields),
         Err(HeaderMapError::OutOfMemory) => Err(HeaderError::OutOfMemory),
+    }
+}
+
+/// Reads one field into the parts of a header.
+pub(crate) fn read_field(
+    alloc: Global,
+    pseudo: &mut Pseudo,
+    map: &mut HeaderMap,
+    field: &HeaderField,
+) -> Result<(), HeaderError>
+    ensures ok { OnOk result (Accepts (head_of_parts pseudo.old map.old) field.now
+        × (head_of_parts pseudo.new map.new ≡ with_field (head_of_parts pseudo.old map.old) field.now)) }
+    ensures err { IfErr result (Refuses (head_of_parts pseudo.old map.old) field.now) }
+{
+    let name = field.name();
+    let value = field.value();
+    match FieldKind::of(name) {
+        FieldKind::Method => {
+            pseudo.method = Some(read_method(alloc, value)?);
+            Ok(())
+        }
+        FieldKind::Scheme => {
+            pseudo.scheme = Some(read_scheme(alloc, value)?);
+            Ok(())
+        }
+        FieldKind::Authority => {
+            pseudo.authority = Some(read_authority(alloc, value)?);
+            Ok(())
+        }
+        FieldKind::Path => {
+            pseudo.path = Some(read_path(alloc, value)?);
+            Ok(())
+        }
+        FieldKind::Status => {
+            pseudo.status = Some(read_status(alloc, value)?);
+            Ok(())
+        }
+        FieldKind::Protocol => {
+            pseudo.protocol = Some(read_protocol(alloc, value)?);
+            Ok(())
+        }
+        FieldKind::Regular => {
+            append_field(alloc, map, name, value)?;
+            Ok(())
+        }
     }
 }

@@ -1,8 +1,7 @@
 //! The fields of a header, made one by one or appended to a list.
-ghost use Rattle.std.specs.Prelude.{◌≡◌, ◌∷◌, [], ◌++◌, IfOk, OnOk, option_copied, All};
-ghost use Rattle.http_header.specs.HeaderMap.{pairs, IsHeaderMap};
+ghost use Rattle.std.specs.Prelude.{◌≡◌, ◌∷◌, [], ◌++◌, IfOk, OnOk, option_copied};
 ghost use Rattle.h3_header.specs.Head.{optional_field, regular_fields};
-ghost use Rattle.h3_header.specs.ReadsBack.{IsPair};
+ghost use Rattle.h3_header.specs.ReadsBack.{IsValidMap};
 
 use h3_field::HeaderField;
 use http_header::HeaderMap;
@@ -58,8 +57,7 @@ pub(crate) fn append_regular(
     map: &HeaderMap,
 ) -> Result<(), AllocError>
     ensures value { OnOk result (list.new.items ≡ list.old.items ++ regular_fields map.now) }
-    ensures valid { OnOk result (All IsPair (pairs map.now)) }
-    ensures map { IsHeaderMap map.now }
+    ensures valid { OnOk result (IsValidMap map.now) }
 {
     let _count = map.len();
     for (name, value) in map.iter() {

@@ -1,0 +1,151 @@
+//! The pseudo-header fields of a message (RFC 9114, 4.3).
+ghost use Rattle.std.specs.Prelude.{◌≡◌, ◌++◌, OnOk, length, None, Some, option_map, option_copied, IfSome};
+ghost use Rattle.http_header.specs.Token.{IsToken};
+ghost use Rattle.http.specs.StatusCode.{IsStatusCode, code_digits};
+ghost use Rattle.http_uri.specs.Grammar.{IsScheme, IsAuthority, IsPathAndQuery, or_slash};
+ghost use Rattle.h3_header.specs.ProtocolText.{IsProtocolText};
+ghost use Rattle.h3_header.specs.Parts.{no_pseudo, fields_of_pseudo};
+ghost use Rattle.h3_header.specs.ReadsBack.{IsValidPseudo};
+
+use super::write::append_pseudo;
+use crate::ext::Protocol;
+use h3_field::HeaderField;
+use http::{Method, StatusCode};
+use http_uri::{Authority, PathAndQuery, Scheme};
+use std::alloc::{AllocError, Global};
+
+/// The pseudo-header fields that are there.
+#[derive(Debug, Drop)]
+pub(crate) struct Pseudo {
+    pub(crate) method: Option<Method>,
+    pub(crate) scheme: Option<Scheme>,
+    pub(crate) authority: Option<Authority>,
+    pub(crate) path: Option<PathAndQuery>,
+    pub(crate) status: Option<StatusCode>,
+    pub(crate) protocol: Option<Protocol>,
+}
+
+impl Pseudo {
+    /// No pseudo-header field, as in a trailer.
+    pub(crate) fn none() -> Pseudo
+        ensures { result ≡ no_pseudo }
+    {
+        Pseudo {
+            method: None,
+            scheme: None,
+            authority: None,
+            path: None,
+            status: None,
+            protocol: None,
+        }
+    }
+
+    /// The status of a response alone.
+    pub(crate) fn response(status: StatusCode) -> Pseudo
+        ensures { result ≡ record no_pseudo { status = Some status } }
+    {
+        Pseudo {
+            method: None,
+            scheme: None,
+            authority: None,
+            path: None,
+            status: Some(status),
+            protocol: None,
+        }
+    }
+
+    pub(crate) fn method_text(&self) -> Option<&str>
+        ensures value { option_copied result ≡ self.now.method }
+        ensures valid { IfSome self.now.method IsToken }
+    {
+        match &self.method {
+            Some(part) => Some(part.as_str()),
+            None => None,
+        }
+    }
+
+    pub(crate) fn scheme_text(&self) -> Option<&str>
+        ensures value { option_copied result ≡ self.now.scheme }
+        ensures valid { IfSome self.now.scheme IsScheme }
+    {
+        match &self.scheme {
+            Some(part) => Some(part.as_str()),
+            None => None,
+        }
+    }
+
+    pub(crate) fn authority_text(&self) -> Option<&str>
+        ensures value { option_copied result ≡ self.now.authority }
+        ensures valid { IfSome self.now.authority IsAuthority }
+    {
+        match &self.authority {
+            Some(part) => Some(part.as_str()),
+            None => None,
+        }
+    }
+
+    pub(crate) fn path_text(&self) -> Option<&str>
+        ensures value { option_copied result ≡ option_map or_slash self.now.path }
+        ensures valid { IfSome self.now.path IsPathAndQuery }
+    {
+        match &self.path {
+            Some(part) => Some(part.as_str()),
+            None => None,
+        }
+    }
+
+    pub(crate) fn status_text(&self) -> Option<&'static str>
+        ensures value { option_copied result ≡ option_map code_digits self.now.status }
+        ensures valid { IfSome self.now.status IsStatusCode }
+    {
+        match &self.status {
+            Some(part) => {
+                // `as_u16` tells that the code is valid.
+                let _code = part.as_u16();
+                Some(part.as_str())
+            }
+            None => None,
+        }
+    }
+
+    pub(crate) fn protocol_text(&self) -> Option<&'static str>
+        ensures value { option_copied result ≡ self.now.protocol }
+        ensures valid { IfSome self.now.protocol IsProtocolText }
+    {
+        match &self.protocol {
+            Some(part) => Some(part.as_str()),
+            None => None,
+        }
+    }
+
+    /// How many there are.
+    pub(crate) fn len(&self) -> usize
+        ensures { result ≡ length (fields_of_pseudo self.now) }
+    {
+        self.method.is_some() as usize
+            + self.scheme.is_some() as usize
+            + self.authority.is_some() as usize
+            + self.path.is_some() as usize
+            + self.status.is_some() as usize
+            + self.protocol.is_some() as usize
+    }
+
+    /// Appends the fields in order.
+    pub(crate) fn append_to(
+        &self,
+        alloc: Global,
+        list: &mut Vec<HeaderField>,
+    ) -> Result<(), AllocError>
+        ensures value { OnOk result (list.new.items
+            ≡ list.old.items ++ fields_of_pseudo self.now) }
+        ensures valid { OnOk result (IsValidPseudo self.now) }
+    {
+        append_pseudo(alloc, list, b":method", self.method_text())?;
+        append_pseudo(alloc, list, b":scheme", self.scheme_text())?;
+        append_pseudo(alloc, list, b":authority", self.authority_text())?;
+        append_pseudo(alloc, list, b":path", self.path_text())?;
+        append_pseudo(alloc, list, b":status", self.status_text())?;
+        append_pseudo(alloc, list, b":protocol", self.protocol_text())?;
+        Ok(())
+    }
+}
