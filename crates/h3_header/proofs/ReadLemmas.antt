@@ -43,21 +43,3 @@ pub Rest-refused_at : (all xs : List Field) (i : ℕ) (h : Head) (f : Field) (e 
     → Refuses h f e → Rest all (drop i xs) h → RefusesOne (trailer_head []) all e
 Rest-refused_at all xs i h f e inside is why r =
     Rest-refused all _ f h e why (subst (λ rest. Rest all rest h) (drop_more xs i f inside ∙ ap (λ g. g ∷ drop (i + 1) xs) (sym is)) r)
-
-only_memory_at : (at : FieldKind) (h : Head) (f : Field) (e : HeaderError) → AcceptsAt at h f → RefusesAt at h f e → e ≡ OutOfMemory
-only_memory_at at h f (InvalidHeaderName _) ok why = absurd (why ok.name)
-only_memory_at at h f (InvalidHeaderValue _) ok why = absurd (why.1 ok.value)
-only_memory_at at h f TooManyFields ok why = absurd (subst (λ a. HasRoomAt a h f) why.0 ok.room why.3)
-only_memory_at at h f InvalidRequest ok why = absurd why
-only_memory_at at h f MissingMethod ok why = absurd why
-only_memory_at at h f MissingStatus ok why = absurd why
-only_memory_at at h f MissingAuthority ok why = absurd why
-only_memory_at at h f ContradictedAuthority ok why = absurd why
-only_memory_at at h f OutOfMemory ok why = refl
-
--- a list that can be read is refused for memory alone
-pub only_memory : (h : Head) (fields : List Field) (e : HeaderError) → AcceptsAll h fields → RefusesOne h fields e → e ≡ OutOfMemory
-unfolding AcceptsAll RefusesOne
-only_memory h [] e ok why = why
-only_memory h (f ∷ fields) e ok (inl here) = only_memory_at (kind_of f.name) h f e ok.0 here
-only_memory h (f ∷ fields) e ok (inr later) = only_memory (with_field h f) fields e ok.1 later.1

@@ -59,6 +59,16 @@ impl Protocol {
     }
 }
 
+impl FromStr for Protocol {
+    type Err = InvalidProtocol;
+
+    ghost from_str_gives = { λ text r. MatchResult r (λ p. (p ≡ text) × IsProtocolText p) (λ _. ¬ (IsProtocolText text)) };
+
+    fn from_str(s: &str) -> Result<Protocol, InvalidProtocol> {
+        Protocol::from_bytes(s.as_bytes())
+    }
+}
+
 /// The text names neither protocol.
 #[derive(Clone, Copy, Debug, PartialEq, Eq)]
 pub struct InvalidProtocol;

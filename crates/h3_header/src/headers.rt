@@ -233,6 +233,14 @@ impl Header {
         Ok(list)
     }
 
+    // Reads each part, since the types of the parts tell by their calls what they hold.
+    pub(crate) fn visit_parts(&self)
+        ensures { ReadsBack (head_fields self.now) }
+    {
+        self.pseudo.visit();
+        write::visit_regular(&self.fields);
+    }
+
     /// The fields in the order of `fields`, each made as it is asked for.
     pub fn into_iter(self, alloc: Global) -> HeaderIter
         ensures { result ≡ head_fields self }

@@ -1,7 +1,11 @@
 //! Why a field list is no header, or a header gives no request or response.
+ghost use Rattle.std.specs.Prelude.{Some};
+ghost use Rattle.h3_header.specs.ErrorText.{error_text};
 ghost use Rattle.h3_header.specs.Reads.{RefusesName, RefusesValue};
 
 use std::alloc::Global;
+use std::error::Error;
+use std::fmt;
 
 /// Why a field list is no header, or a header gives no request or response.
 #[derive(Debug, Drop)]
@@ -53,3 +57,25 @@ impl HeaderError {
         }
     }
 }
+
+impl fmt::Display for HeaderError {
+    ghost output = { λ e. Some (error_text e) };
+
+    fn fmt<W: fmt::Write>(&self, f: &mut fmt::Formatter<W>) -> fmt::Result {
+        match self {
+            HeaderError::InvalidHeaderName(text) => write!(f, "invalid header name: {text}"),
+            HeaderError::InvalidHeaderValue(text) => write!(f, "invalid header value: {text}"),
+            HeaderError::InvalidRequest => f.write_str("invalid request"),
+            HeaderError::MissingMethod => f.write_str("missing method in request headers"),
+            HeaderError::MissingStatus => f.write_str("missing status in response headers"),
+            HeaderError::MissingAuthority => f.write_str("missing authority"),
+            HeaderError::ContradictedAuthority => {
+                f.write_str("uri and authority field are in contradiction")
+            }
+            HeaderError::TooManyFields => f.write_str("too many fields"),
+            HeaderError::OutOfMemory => f.write_str("out of memory"),
+        }
+    }
+}
+
+impl Error for HeaderError {}

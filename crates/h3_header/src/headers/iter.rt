@@ -4,7 +4,7 @@ ghost use Rattle.std.specs.Iterator.{item_count};
 ghost use Rattle.h3_header.specs.Left.{TakesField};
 
 use super::pseudo::Pseudo;
-use super::write::{pseudo_field, regular_field};
+use super::write::{pseudo_field, regular_field, static_field};
 use h3_field::HeaderField;
 use http_header::{HeaderName, HeaderValue};
 use std::alloc::{AllocError, Global};
@@ -94,10 +94,10 @@ impl Iterator for HeaderIter {
             return Some(pseudo_field(alloc, b":path", part.as_str()));
         }
         if let Some(part) = self.pseudo.status.take() {
-            return Some(pseudo_field(alloc, b":status", part.as_str()));
+            return Some(Ok(static_field(b":status", part.as_str())));
         }
         if let Some(part) = self.pseudo.protocol.take() {
-            return Some(pseudo_field(alloc, b":protocol", part.as_str()));
+            return Some(Ok(static_field(b":protocol", part.as_str())));
         }
         self.regular.take_field(alloc)
     }

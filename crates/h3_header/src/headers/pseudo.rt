@@ -7,7 +7,7 @@ ghost use Rattle.h3_header.specs.ProtocolText.{IsProtocolText};
 ghost use Rattle.h3_header.specs.Parts.{no_pseudo, fields_of_pseudo};
 ghost use Rattle.h3_header.specs.ReadsBack.{IsValidPseudo};
 
-use super::write::append_pseudo;
+use super::write::{append_pseudo, append_static};
 use crate::ext::Protocol;
 use h3_field::HeaderField;
 use http::{Method, StatusCode};
@@ -118,6 +118,18 @@ impl Pseudo {
         }
     }
 
+    /// Reads each part.
+    pub(crate) fn visit(&self)
+        ensures { IsValidPseudo self.now }
+    {
+        let _method = self.method_text();
+        let _scheme = self.scheme_text();
+        let _authority = self.authority_text();
+        let _path = self.path_text();
+        let _status = self.status_text();
+        let _protocol = self.protocol_text();
+    }
+
     /// How many there are.
     pub(crate) fn len(&self) -> usize
         ensures { result ≡ length (fields_of_pseudo self.now) }
@@ -144,8 +156,8 @@ impl Pseudo {
         append_pseudo(alloc, list, b":scheme", self.scheme_text())?;
         append_pseudo(alloc, list, b":authority", self.authority_text())?;
         append_pseudo(alloc, list, b":path", self.path_text())?;
-        append_pseudo(alloc, list, b":status", self.status_text())?;
-        append_pseudo(alloc, list, b":protocol", self.protocol_text())?;
+        append_static(list, b":status", self.status_text())?;
+        append_static(list, b":protocol", self.protocol_text())?;
         Ok(())
     }
 }

@@ -1,5 +1,5 @@
 //! The fields of a header, made one by one or appended to a list.
-ghost use Rattle.std.specs.Prelude.{◌≡◌, ◌∷◌, [], ◌++◌, IfOk, OnOk, option_copied};
+ghost use Rattle.std.specs.Prelude.{◌≡◌, ◌∷◌, [], ◌++◌, IfOk, IfSome, OnOk, option_copied};
 ghost use Rattle.h3_header.specs.Head.{optional_field, regular_fields};
 ghost use Rattle.h3_header.specs.ReadsBack.{IsValidMap};
 
@@ -8,7 +8,26 @@ use http_header::HeaderMap;
 use std::alloc::{AllocError, Global};
 use std::borrow::CowSlice;
 
-/// A pseudo-header field, whose name is not copied.
+/// The static copy of a value that is common in pseudo-header fields, if there is one.
+fn static_value(value: &str) -> Option<&'static str>
+    ensures { IfSome result (λ s. s.now ≡ value.now) }
+{
+    match value {
+        "GET" => Some("GET"),
+        "POST" => Some("POST"),
+        "HEAD" => Some("HEAD"),
+        "PUT" => Some("PUT"),
+        "DELETE" => Some("DELETE"),
+        "OPTIONS" => Some("OPTIONS"),
+        "CONNECT" => Some("CONNECT"),
+        "https" => Some("https"),
+        "http" => Some("http"),
+        "/" => Some("/"),
+        _ => None,
+    }
+}
+
+/// A pseudo-header field. Its name is not copied, nor is a common value.
 pub(crate) fn pseudo_field(
     alloc: Global,
     name: &'static [u8],
@@ -16,8 +35,21 @@ pub(crate) fn pseudo_field(
 ) -> Result<HeaderField, AllocError>
     ensures { IfOk result (λ f. f ≡ record { name = name.now; value = value.now }) }
 {
+    if let Some(value) = static_value(value) {
+        return Ok(static_field(name, value));
+    }
     let value = Vec::from_slice(alloc, value.as_bytes())?;
     Ok(HeaderField::new(CowSlice::Borrowed(name), CowSlice::Owned(value)))
+}
+
+/// A pseudo-header field of static parts.
+pub(crate) fn static_field(name: &'static [u8], value: &'static str) -> HeaderField
+    ensures { result ≡ record { name = name.now; value = value.now } }
+{
+    HeaderField::new(
+        CowSlice::Borrowed(name),
+        CowSlice::Borrowed(value.as_bytes()),
+    )
 }
 
 /// A regular field.
@@ -50,6 +82,22 @@ pub(crate) fn append_pseudo(
     Ok(())
 }
 
+/// Appends a pseudo-header field of static parts that may be missing.
+pub(crate) fn append_static(
+    list: &mut Vec<HeaderField>,
+    name: &'static [u8],
+    value: Option<&'static str>,
+) -> Result<(), AllocError>
+    ensures { OnOk result (list.new.items
+        ≡ list.old.items ++ optional_field name.now (option_copied value.entry)) }
+{
+    let Some(value) = value else {
+        return Ok(());
+    };
+    list.push(static_field(name, value))?;
+    Ok(())
+}
+
 /// Appends the fields of a map.
 pub(crate) fn append_regular(
     alloc: Global,
@@ -64,4 +112,15 @@ pub(crate) fn append_regular(
         list.push(regular_field(alloc, name.as_bytes(), value.as_bytes())?)?;
     }
     Ok(())
+}
+
+/// Reads each name and value of a map.
+pub(crate) fn visit_regular(map: &HeaderMap)
+    ensures { IsValidMap map.now }
+{
+    let _count = map.len();
+    for (name, value) in map.iter() {
+        let _name = name.as_bytes();
+        let _value = value.as_bytes();
+    }
 }

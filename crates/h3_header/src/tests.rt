@@ -1,0 +1,404 @@
+//! Worked values: field lists and the headers that they make, refusals and texts.
+use crate::ext::Protocol;
+use crate::headers::{Header, HeaderError};
+use h3_field::HeaderField;
+use http::{Method, StatusCode};
+use http_header::{HeaderMap, HeaderName, HeaderValue};
+use http_uri::Uri;
+use std::alloc::Global;
+use std::borrow::CowSlice;
+use std::str::FromStr;
+use std::test::Fail;
+
+fn owned(alloc: Global, name: &[u8], value: &[u8]) -> Result<HeaderField, Fail> {
+    let name = Vec::from_slice(alloc, name)?;
+    let value = Vec::from_slice(alloc, value)?;
+    Ok(HeaderField::new(CowSlice::Owned(name), CowSlice::Owned(value)))
+}
+
+fn list(alloc: Global, fields: &[(&[u8], &[u8])]) -> Result<Vec<HeaderField>, Fail> {
+    let mut list = Vec::new(alloc);
+    for (name, value) in fields {
+        list.push(owned(alloc, *name, *value)?)?;
+    }
+    Ok(list)
+}
+
+fn read(alloc: Global, fields: &[(&[u8], &[u8])]) -> Result<Header, Fail> {
+    Ok(Header::try_from(alloc, list(alloc, fields)?)?)
+}
+
+// The text of the refusal, or `read`.
+fn refusal(alloc: Global, fields: &[(&[u8], &[u8])]) -> Result<String, Fail> {
+    match Header::try_from(alloc, list(alloc, fields)?) {
+        Ok(_) => Ok(String::from_str(alloc, "read")?),
+        Err(e) => Ok(e.to_string(alloc)?),
+    }
+}
+
+// The URI of the request, or the text of the refusal.
+fn target(alloc: Global, fields: &[(&[u8], &[u8])]) -> Result<String, Fail> {
+    match read(alloc, fields)?.into_request_parts(alloc) {
+        Ok((_, uri, _, _)) => Ok(uri.to_string(alloc)?),
+        Err(e) => Ok(e.to_string(alloc)?),
+    }
+}
+
+fn push_word(text: &mut String, field: &HeaderField) -> Result<(), Fail> {
+    text.push_str(str::from_utf8(field.name())?)?;
+    text.push('=')?;
+    text.push_str(str::from_utf8(field.value())?)?;
+    text.push(' ')?;
+    Ok(())
+}
+
+// The fields that `fields` lists, as `name=value` words.
+fn words(alloc: Global, header: &Header) -> Result<String, Fail> {
+    let mut text = String::new(alloc);
+    for field in header.fields(alloc)? {
+        push_word(&mut text, &field)?;
+    }
+    Ok(text)
+}
+
+// The same from `into_iter`.
+fn iterated(alloc: Global, header: Header) -> Result<String, Fail> {
+    let mut text = String::new(alloc);
+    for field in header.into_iter(alloc) {
+        push_word(&mut text, &field?)?;
+    }
+    Ok(text)
+}
+
+#[test]
+fn repeated_names_stand_together(rt: HostRuntime) -> Result<(), Fail> {
+    let header = read(
+        rt.alloc(),
+        &[
+            (b":method", b"GET"),
+            (b":authority", b"test.com"),
+            (b"set-cookie", b"foo=foo"),
+            (b"other-header", b"x"),
+            (b"set-cookie", b"bar=bar"),
+        ],
+    )?;
+    assert_eq!(rt; header.len(), 5);
+    assert_eq!(rt; header.size(), 5);
+    let text = words(rt.alloc(), &header)?;
+    assert_eq!(rt;
+        text.as_str(),
+        ":method=GET :authority=test.com set-cookie=foo=foo set-cookie=bar=bar other-header=x "
+    );
+    let again = iterated(rt.alloc(), header)?;
+    assert_eq!(rt; again.as_str(), text.as_str());
+    Ok(())
+}
+
+#[test]
+fn pseudo_fields_come_first_in_their_order(rt: HostRuntime) -> Result<(), Fail> {
+    let header = read(
+        rt.alloc(),
+        &[
+            (b"x-a", b"1"),
+            (b":protocol", b"webtransport"),
+            (b":status", b"200"),
+            (b":path", b"/p"),
+            (b":authority", b"test.com"),
+            (b":scheme", b"http"),
+            (b":method", b"CONNECT"),
+        ],
+    )?;
+    let text = words(rt.alloc(), &header)?;
+    assert_eq!(rt;
+        text.as_str(),
+        ":method=CONNECT :scheme=http :authority=test.com :path=/p :status=200 \
+         :protocol=webtransport x-a=1 "
+    );
+    let again = iterated(rt.alloc(), header)?;
+    assert_eq!(rt; again.as_str(), text.as_str());
+    Ok(())
+}
+
+#[test]
+fn the_last_of_repeated_pseudo_fields_stays(rt: HostRuntime) -> Result<(), Fail> {
+    let header = read(
+        rt.alloc(),
+        &[
+            (b":path", b"/1"),
+            (b":method", b"GET"),
+            (b"x-a", b"1"),
+            (b":path", b"/2"),
+            (b":method", b"PUT"),
+        ],
+    )?;
+    assert_eq!(rt; header.len(), 3);
+    let text = words(rt.alloc(), &header)?;
+    assert_eq!(rt; text.as_str(), ":method=PUT :path=/2 x-a=1 ");
+    Ok(())
+}
+
+#[test]
+fn names_that_are_refused(rt: HostRuntime) -> Result<(), Fail> {
+    let alloc = rt.alloc();
+    let text = refusal(alloc, &[(b"", b"1")])?;
+    assert_eq!(rt; text.as_str(), "invalid header name: name is empty");
+    let text = refusal(alloc, &[(b"X-", b"1")])?;
+    assert_eq!(rt; text.as_str(), "invalid header name: [88, 45]");
+    let text = refusal(alloc, &[(b"Host", b"a")])?;
+    assert_eq!(rt; text.as_str(), "invalid header name: [72, 111, 115, 116]");
+    let text = refusal(alloc, &[(b":foo", b"1")])?;
+    assert_eq!(rt; text.as_str(), "invalid header name: [58, 102, 111, 111]");
+    let text = refusal(alloc, &[(b":Path", b"/")])?;
+    assert_eq!(rt;
+        text.as_str(),
+        "invalid header name: [58, 80, 97, 116, 104]"
+    );
+    let text = refusal(alloc, &[(b"a b", b"1")])?;
+    assert_eq!(rt; text.as_str(), "invalid header name: [97, 32, 98]");
+    // a name is judged before its value, and fields in their order
+    let text = refusal(alloc, &[(b"x-a", b"1"), (b"X", b"\n"), (b":status", b"1")])?;
+    assert_eq!(rt; text.as_str(), "invalid header name: [88]");
+    Ok(())
+}
+
+#[test]
+fn values_that_are_refused(rt: HostRuntime) -> Result<(), Fail> {
+    let alloc = rt.alloc();
+    let text = refusal(alloc, &[(b"x-a", b"\n")])?;
+    assert_eq!(rt; text.as_str(), "invalid header value: \"x-a\" [10]");
+    let text = refusal(alloc, &[(b":method", b"GET"), (b":authority", b"")])?;
+    assert_eq!(rt; text.as_str(), "invalid header value: \":authority\" []");
+    let text = refusal(alloc, &[(b":method", b"")])?;
+    assert_eq!(rt; text.as_str(), "invalid header value: \":method\" []");
+    let text = refusal(alloc, &[(b":scheme", b"a b")])?;
+    assert_eq!(rt;
+        text.as_str(),
+        "invalid header value: \":scheme\" [97, 32, 98]"
+    );
+    let text = refusal(alloc, &[(b":path", b"a")])?;
+    assert_eq!(rt; text.as_str(), "invalid header value: \":path\" [97]");
+    let text = refusal(alloc, &[(b":path", b"")])?;
+    assert_eq!(rt; text.as_str(), "invalid header value: \":path\" []");
+    let text = refusal(alloc, &[(b":status", b"99")])?;
+    assert_eq!(rt; text.as_str(), "invalid header value: \":status\" [57, 57]");
+    let text = refusal(alloc, &[(b":status", b"099")])?;
+    assert_eq!(rt;
+        text.as_str(),
+        "invalid header value: \":status\" [48, 57, 57]"
+    );
+    let text = refusal(alloc, &[(b":protocol", b"websocket")])?;
+    assert_eq!(rt;
+        text.as_str(),
+        "invalid header value: \":protocol\" [119, 101, 98, 115, 111, 99, 107, 101, 116]"
+    );
+    Ok(())
+}
+
+#[test]
+fn parts_of_requests(rt: HostRuntime) -> Result<(), Fail> {
+    let alloc = rt.alloc();
+    let text = target(alloc, &[(b":method", b"GET")])?;
+    assert_eq!(rt; text.as_str(), "missing authority");
+    let text = target(alloc, &[(b":method", b"GET"), (b"host", b"")])?;
+    assert_eq!(rt; text.as_str(), "invalid request");
+    let text = target(alloc, &[(b":method", b"GET"), (b":authority", b"test.com")])?;
+    assert_eq!(rt; text.as_str(), "test.com");
+    let text = target(alloc, &[(b":method", b"GET"), (b"host", b"test.com")])?;
+    assert_eq!(rt; text.as_str(), "test.com");
+    let both: &[(&[u8], &[u8])] = &[
+        (b":method", b"GET"),
+        (b":authority", b"test.com"),
+        (b"host", b"test.com"),
+    ];
+    let text = target(alloc, both)?;
+    assert_eq!(rt; text.as_str(), "test.com");
+    let other: &[(&[u8], &[u8])] = &[
+        (b":method", b"GET"),
+        (b":authority", b"authority.com"),
+        (b"host", b"host.com"),
+    ];
+    let text = target(alloc, other)?;
+    assert_eq!(rt;
+        text.as_str(),
+        "uri and authority field are in contradiction"
+    );
+    // bytes are compared, so that letter case counts
+    let case: &[(&[u8], &[u8])] = &[
+        (b":method", b"GET"),
+        (b":authority", b"test.com"),
+        (b"host", b"TEST.com"),
+    ];
+    let text = target(alloc, case)?;
+    assert_eq!(rt;
+        text.as_str(),
+        "uri and authority field are in contradiction"
+    );
+    // the authority is judged before the method
+    let text = target(alloc, &[(b":path", b"/")])?;
+    assert_eq!(rt; text.as_str(), "missing authority");
+    let text = target(alloc, &[(b"host", b"")])?;
+    assert_eq!(rt; text.as_str(), "missing method in request headers");
+    let whole: &[(&[u8], &[u8])] = &[
+        (b":method", b"GET"),
+        (b":scheme", b"https"),
+        (b":authority", b"www.example.com"),
+        (b":path", b"/a?b#c"),
+    ];
+    let text = target(alloc, whole)?;
+    assert_eq!(rt; text.as_str(), "https://www.example.com/a?b");
+    // a scheme needs a path
+    let text = target(
+        alloc,
+        &[
+            (b":method", b"GET"),
+            (b":scheme", b"https"),
+            (b"host", b"a"),
+        ],
+    )?;
+    assert_eq!(rt; text.as_str(), "invalid request");
+    Ok(())
+}
+
+#[test]
+fn parts_of_responses(rt: HostRuntime) -> Result<(), Fail> {
+    let alloc = rt.alloc();
+    let header = read(alloc, &[(b":status", b"404"), (b"x-a", b"1")])?;
+    assert_eq!(rt; header.is_response(), true);
+    assert_eq!(rt; header.is_request(), false);
+    assert_eq!(rt; header.has_pseudo(), true);
+    assert_eq!(rt; header.status(), Some(StatusCode::NOT_FOUND));
+    let (status, fields) = header.into_response_parts()?;
+    assert_eq!(rt; status, StatusCode::NOT_FOUND);
+    assert_eq!(rt; fields.len(), 1);
+    let header = read(alloc, &[(b"x-a", b"1")])?;
+    assert_eq!(rt; header.has_pseudo(), false);
+    assert_eq!(rt; header.status(), None);
+    match header.into_response_parts() {
+        Ok(_) => assert_eq!(rt; true, false),
+        Err(e) => {
+            let text = e.to_string(alloc)?;
+            assert_eq!(rt; text.as_str(), "missing status in response headers");
+        }
+    }
+    let both = read(alloc, &[(b":status", b"200"), (b":method", b"GET")])?;
+    assert_eq!(rt; both.is_response(), false);
+    assert_eq!(rt; both.is_request(), false);
+    Ok(())
+}
+
+#[test]
+fn requests_that_are_made(rt: HostRuntime) -> Result<(), Fail> {
+    let alloc = rt.alloc();
+    let uri = Uri::from_str(alloc, "https://www.example.com/")?;
+    let header = Header::request(Method::GET, uri, HeaderMap::new(alloc), None)?;
+    assert_eq!(rt; header.is_request(), true);
+    let text = words(rt.alloc(), &header)?;
+    assert_eq!(rt;
+        text.as_str(),
+        ":method=GET :scheme=https :authority=www.example.com :path=/ "
+    );
+    // the protocol counts for CONNECT alone
+    let uri = Uri::from_str(alloc, "https://a/p")?;
+    let protocol = Some(Protocol::CONNECT_UDP);
+    let header = Header::request(Method::CONNECT, uri, HeaderMap::new(alloc), protocol)?;
+    let text = words(rt.alloc(), &header)?;
+    assert_eq!(rt;
+        text.as_str(),
+        ":method=CONNECT :scheme=https :authority=a :path=/p :protocol=connect-udp "
+    );
+    let uri = Uri::from_str(alloc, "https://a/p")?;
+    let header = Header::request(Method::GET, uri, HeaderMap::new(alloc), protocol)?;
+    let text = words(rt.alloc(), &header)?;
+    assert_eq!(rt;
+        text.as_str(),
+        ":method=GET :scheme=https :authority=a :path=/p "
+    );
+    // with `host` alone there is no `:authority`, and the scheme is https
+    let mut fields = HeaderMap::new(alloc);
+    let host = HeaderName::from_static("host");
+    fields.append(host, HeaderValue::from_static("a"))?;
+    let uri = Uri::from_str(alloc, "/p")?;
+    let header = Header::request(Method::GET, uri, fields, None)?;
+    let text = words(rt.alloc(), &header)?;
+    assert_eq!(rt; text.as_str(), ":method=GET :scheme=https :path=/p host=a ");
+    Ok(())
+}
+
+#[test]
+fn requests_that_are_refused(rt: HostRuntime) -> Result<(), Fail> {
+    let alloc = rt.alloc();
+    let uri = Uri::from_str(alloc, "/p")?;
+    match Header::request(Method::GET, uri, HeaderMap::new(alloc), None) {
+        Err(HeaderError::MissingAuthority) => {}
+        _ => assert_eq!(rt; true, false),
+    }
+    let mut fields = HeaderMap::new(alloc);
+    let host = HeaderName::from_static("host");
+    fields.append(host, HeaderValue::from_static("A"))?;
+    let uri = Uri::from_str(alloc, "https://a/")?;
+    match Header::request(Method::GET, uri, fields, None) {
+        Err(HeaderError::ContradictedAuthority) => {}
+        _ => assert_eq!(rt; true, false),
+    }
+    Ok(())
+}
+
+// A map of regular fields holds 24,576 names, each with any number of values.
+#[test]
+fn full_maps(rt: HostRuntime) -> Result<(), Fail> {
+    let alloc = rt.alloc();
+    let mut names = Vec::new(alloc);
+    let mut values = Vec::new(alloc);
+    for i in 0..24577u32 {
+        let name = format!(in alloc; "x-{i}")?;
+        names.push(owned(alloc, name.as_bytes(), b"")?)?;
+        values.push(owned(alloc, b"x-a", b"")?)?;
+    }
+    match Header::try_from(alloc, names) {
+        Err(HeaderError::TooManyFields) => {}
+        _ => assert_eq!(rt; true, false),
+    }
+    let header = Header::try_from(alloc, values)?;
+    assert_eq!(rt; header.len(), 24577);
+    assert_eq!(rt; header.into_fields().len(), 24577);
+    Ok(())
+}
+
+#[test]
+fn protocols(rt: HostRuntime) -> Result<(), Fail> {
+    assert_eq!(rt;
+        Protocol::from_str("webtransport"),
+        Ok(Protocol::WEB_TRANSPORT)
+    );
+    assert_eq!(rt;
+        Protocol::from_str("connect-udp"),
+        Ok(Protocol::CONNECT_UDP)
+    );
+    assert_eq!(rt; Protocol::from_str("websocket").is_err(), true);
+    assert_eq!(rt; Protocol::from_str("").is_err(), true);
+    assert_eq!(rt; Protocol::WEB_TRANSPORT.as_str(), "webtransport");
+    Ok(())
+}
+
+#[test]
+fn an_iterator_ends(rt: HostRuntime) -> Result<(), Fail> {
+    let alloc = rt.alloc();
+    let mut iter = Header::response(StatusCode::OK, HeaderMap::new(alloc)).into_iter(alloc);
+    assert_eq!(rt; iter.next().is_some(), true);
+    assert_eq!(rt; iter.next().is_none(), true);
+    assert_eq!(rt; iter.next().is_none(), true);
+    Ok(())
+}
+
+#[test]
+fn printed_for_programmers(rt: HostRuntime) -> Result<(), Fail> {
+    let alloc = rt.alloc();
+    let header = Header::response(StatusCode::OK, HeaderMap::new(alloc));
+    let text = format!(in alloc; "{header:?}")?;
+    assert_eq!(rt;
+        text.as_str(),
+        "Header { pseudo: Pseudo { method: None, scheme: None, authority: None, path: None, \
+         status: Some(200), protocol: None }, fields: {} }"
+    );
+    Ok(())
+}
