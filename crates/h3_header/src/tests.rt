@@ -299,15 +299,24 @@ fn requests_that_are_made(rt: HostRuntime) -> Result<(), Fail> {
     );
     // the protocol counts for CONNECT alone
     let uri = Uri::from_str(alloc, "https://a/p")?;
-    let protocol = Some(Protocol::CONNECT_UDP);
-    let header = Header::request(Method::CONNECT, uri, HeaderMap::new(alloc), protocol)?;
+    let header = Header::request(
+        Method::CONNECT,
+        uri,
+        HeaderMap::new(alloc),
+        Some(Protocol::CONNECT_UDP),
+    )?;
     let text = words(rt.alloc(), &header)?;
     assert_eq!(rt;
         text.as_str(),
         ":method=CONNECT :scheme=https :authority=a :path=/p :protocol=connect-udp "
     );
     let uri = Uri::from_str(alloc, "https://a/p")?;
-    let header = Header::request(Method::GET, uri, HeaderMap::new(alloc), protocol)?;
+    let header = Header::request(
+        Method::GET,
+        uri,
+        HeaderMap::new(alloc),
+        Some(Protocol::CONNECT_UDP),
+    )?;
     let text = words(rt.alloc(), &header)?;
     assert_eq!(rt;
         text.as_str(),
