@@ -1,0 +1,30 @@
+/* Our figures beside nghttp3's and plain C's, in one run. */
+#include "measure.h"
+#include "plain.h"
+#include "rows.h"
+#include <stdio.h>
+#include <stdlib.h>
+#include <string.h>
+
+void done(const char *what, uint32_t status) {
+  if (status != H3_DONE) stop(what, (long)status);
+}
+
+void same(const char *what, const void *ours, size_t our_len, const void *theirs, size_t their_len) {
+  if (our_len != their_len || memcmp(ours, theirs, our_len)) stop(what, (long)our_len);
+}
+
+int main(int argc, char **argv) {
+  const char *dir = argc > 1 ? argv[1] : "data";
+  if (argc > 2) measure_seconds = atof(argv[2]);
+  plain_build();
+  field_lists requests = load_lists(dir, "requests"), responses = load_lists(dir, "responses");
+  printf("nghttp3 %s; requests: %zu lists, %zu fields, %zu bytes; responses: %zu, %zu, %zu\n",
+         nghttp3_version(0)->version_str, requests.count, requests.fields, requests.bytes, responses.count,
+         responses.fields, responses.bytes);
+  print_head();
+  varint_rows();
+  huffman_rows((const field_lists *const[]){&requests, &responses}, 2);
+  printf("%d rows below their target\n", rows_below());
+  return 0;
+}

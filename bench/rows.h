@@ -1,0 +1,14 @@
+/* The rows of the table, by what they measure. */
+#ifndef ROWS_H
+#define ROWS_H
+#include "h3_bench.h"
+#include "lists.h"
+
+void varint_rows(void);
+void huffman_rows(const field_lists *const *sets, size_t count);
+
+/* Ends the program where the static library gave a work up. */
+void done(const char *what, uint32_t status);
+/* Ends the program where two contenders did not do the same. */
+void same(const char *what, const void *ours, size_t our_len, const void *theirs, size_t their_len);
+#endif

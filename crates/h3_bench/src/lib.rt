@@ -1,0 +1,10 @@
+//! What `bench/` measures, for C: each export does one kind of work a number of times over what it is handed.
+//!
+//! Contracts here promise safety only. What the work gives is what the called crates prove; the driver compares
+//! the counts and the bytes.
+#![tactic(auto)]
+
+mod huffman;
+mod input;
+mod report;
+mod varint;
