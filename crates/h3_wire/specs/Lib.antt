@@ -10,3 +10,7 @@ pub mod Reads
 pub mod Source
 pub mod Streams
 pub mod ReadsOn
+pub mod Encoded
+pub mod StreamHeaders
+pub mod Outgoing
+pub mod Lent

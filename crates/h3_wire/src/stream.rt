@@ -15,6 +15,13 @@ use bytes::{Buf, Bytes};
 use std::alloc::{AllocError, Global};
 use std::marker::Model;
 
+mod head;
+mod headers;
+mod write_buf;
+
+pub use headers::{BidiStreamHeader, UniStreamHeader};
+pub use write_buf::WriteBuf;
+
 /// A source, and the bytes of it that were read and not yet taken.
 #[derive(Drop)]
 pub struct BufRecvStream<S> {

@@ -12,9 +12,13 @@ use h3_coding::varint::VarInt;
 use std::marker::Model;
 
 mod decode;
+mod encode;
+mod payload;
 mod show;
 
+pub(crate) use encode::{write_numbers, write_settings};
 pub use h3_proto::frame::{SettingId, Settings, SettingsError};
+pub use payload::{Payload, PayloadMut};
 
 /// The type of a frame, below 2^62. A contract sees it as its number.
 #[derive(Clone, Copy, PartialEq, Eq, Debug)]

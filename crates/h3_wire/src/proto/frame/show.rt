@@ -15,7 +15,7 @@ impl fmt::Display for FrameError {
             FrameError::UnknownFrame(kind) => write!(f, "frame {kind:#x} ignored"),
             FrameError::InvalidFrameValue => f.write_str("frame value is invalid"),
             FrameError::Incomplete(least) => write!(f, "internal error: frame incomplete {least}"),
-            FrameError::Settings(e) => write!(f, "invalid settings: {e:?}"),
+            FrameError::Settings(e) => write!(f, "invalid settings: {e}"),
             FrameError::InvalidStreamId(e) => write!(f, "{e}"),
             FrameError::InvalidPushId(e) => write!(f, "{e}"),
             FrameError::OutOfMemory => f.write_str("out of memory"),

@@ -1,0 +1,18 @@
+-- The bytes that a frame lends, behind a reference.
+use Rattle.std.specs.Prelude.{ℕ, List}
+use Rattle.h3_wire.specs.declared.proto.frame.Frame.{Frame}
+use Rattle.h3_wire.specs.declared.proto.frame.Frame.TheVariants as frame
+use Rattle.h3_wire.specs.declared.proto.frame.payload.Payload.{Payload}
+use Rattle.h3_wire.specs.declared.proto.frame.payload.Payload.TheVariants as payload
+
+-- the frame has a part that it lends
+abbrev pub lends : {B : Type 0} → Frame B → Type 0
+lends (frame.Data b) = Unit {0}
+lends (frame.Headers section) = Unit {0}
+lends (frame.PushPromise p) = Unit {0}
+lends _ = ⊥
+
+-- the bytes that are left of it
+abbrev pub payload_left : {B : Type 0} → (B → List ℕ) → Payload B → List ℕ
+payload_left unread (payload.Data b) = unread b.now
+payload_left unread (payload.Bytes bytes) = bytes.now
