@@ -1,9 +1,10 @@
 -- What the first byte of an encoding tells, and what the whole encoding is.
-use Rattle.std.proofs.Common.{◌≡◌, ℕ, ◌-◌, ◌*◌, ◌/◌, ◌%◌, ◌^◌, ◌<◌, ◌≤◌, List, [], ◌∷◌, length, take, drop, get_or, arith, lit<, ap, refl, zero, suc, length-take-le}
+use Rattle.std.proofs.Common.{◌≡◌, ℕ, ◌-◌, ◌*◌, ◌/◌, ◌%◌, ◌^◌, ◌<◌, ◌≤◌, List, [], ◌∷◌, length, take, drop, get_or, arith, lit<, ap, refl, length-take-le}
 use Rattle.std.specs.List.{AllByRecursion}
 use Rattle.std.proofs.lemmas.List.{take-append-drop}
 use Rattle.std.proofs.Math.Nat.{pow-le-pow_right}
-use Rattle.h3_coding.specs.Encodings.{big_endian, IsByte, IsEncoding, one, two, four, eight, IsUnfinished, short}
+use Rattle.h3_coding.specs.Encodings.{big_endian, IsByte, IsEncoding, IsUnfinished, short}
+use Rattle.h3_coding.specs.EncodingLaws.{form}
 use Rattle.h3_coding.specs.Reading.{Takes}
 
 pub few_more : (first size : ℕ) → first < 256 → size ≡ 2 ^ (first / 64) → size - 1 < 8
@@ -17,18 +18,6 @@ below_limit number more h k =
     let few : more ≤ 7 = omega arith in
     let le : 256 ^ more ≤ 256 ^ 7 = pow-le-pow_right (lit< tt) few in
     omega arith
-
--- the form of k, where the first byte tells k
-form : (k first : ℕ) (bytes : List ℕ) → first < 256 → first / 64 ≡ k → length bytes ≡ 2 ^ k - 1 → AllByRecursion IsByte bytes → big_endian (first % 64 ∷ bytes) < 64 * 256 ^ length bytes → IsEncoding (big_endian (first % 64 ∷ bytes)) (first ∷ bytes)
-form zero first bytes h e len each below =
-    one (record { count = omega arith; each = (h, each); below = rw len (rw len at below); worth = rw len (omega arith) })
-form (suc zero) first bytes h e len each below =
-    two (record { count = omega arith; each = (h, each); below = rw len (rw len at below); worth = rw len (omega arith) })
-form (suc (suc zero)) first bytes h e len each below =
-    four (record { count = omega arith; each = (h, each); below = rw len (rw len at below); worth = rw len (omega arith) })
-form (suc (suc (suc zero))) first bytes h e len each below =
-    eight (record { count = omega arith; each = (h, each); below = rw len (rw len at below); worth = rw len (omega arith) })
-form (suc (suc (suc (suc k)))) first bytes h e len each below = absurd (omega arith)
 
 -- The first byte and the bytes that it asks for are taken.
 pub takes_form : (all next rest : List ℕ) (first low size number : ℕ) → first < 256 → size ≡ 2 ^ (first / 64) → 0 < length all → first ≡ get_or all 0 0 → low ≡ first % 64 → next ≡ drop 1 all → size - 1 ≤ length next → AllByRecursion IsByte (take (size - 1) next) → number ≡ big_endian (low ∷ take (size - 1) next) → number < 64 * 256 ^ (size - 1) → rest ≡ drop (size - 1) next → Takes (IsEncoding number) all rest

@@ -195,3 +195,15 @@ encoding_is_shortest v h = record {
   shortest = shortest v;
   only = λ octets p few. let most = shortest v octets p in one_of_length v octets (encoding v) p (encoding_is_valid v h) (omega arith);
 }
+
+-- the form of k, where the first byte tells k
+pub form : (k first : ℕ) (bytes : List ℕ) → first < 256 → first / 64 ≡ k → length bytes ≡ 2 ^ k - 1 → AllByRecursion IsByte bytes → big_endian (first % 64 ∷ bytes) < 64 * 256 ^ length bytes → IsEncoding (big_endian (first % 64 ∷ bytes)) (first ∷ bytes)
+form zero first bytes h e len each below =
+    one (record { count = omega arith; each = (h, each); below = rw len (rw len at below); worth = rw len (omega arith) })
+form (suc zero) first bytes h e len each below =
+    two (record { count = omega arith; each = (h, each); below = rw len (rw len at below); worth = rw len (omega arith) })
+form (suc (suc zero)) first bytes h e len each below =
+    four (record { count = omega arith; each = (h, each); below = rw len (rw len at below); worth = rw len (omega arith) })
+form (suc (suc (suc zero))) first bytes h e len each below =
+    eight (record { count = omega arith; each = (h, each); below = rw len (rw len at below); worth = rw len (omega arith) })
+form (suc (suc (suc (suc k)))) first bytes h e len each below = absurd (omega arith)

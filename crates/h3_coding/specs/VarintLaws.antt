@@ -1,14 +1,15 @@
 -- What holds of the number that bytes begin with.
-use Rattle.std.proofs.Common.{◌≡◌, ℕ, ◌+◌, ◌-◌, ◌/◌, ◌^◌, ◌<◌, ◌≤◌, List, [], ◌∷◌, ◌++◌, length, take, drop, arith, lit<, sym, ◌∙◌, ap, ap₂, refl, ◌⊎◌, subst, zero, suc, length-append, length-take-le, length-take, append_assoc, inl, inr, Option, Some, None, Result, Ok, Err, IfOk, IfErr}
+use Rattle.std.proofs.Common.{◌≡◌, ℕ, ◌+◌, ◌-◌, ◌/◌, ◌^◌, ◌%◌, ◌*◌, ◌<◌, ◌≤◌, List, [], ◌∷◌, ◌++◌, length, take, drop, arith, lit<, sym, ◌∙◌, ap, ap₂, refl, ◌⊎◌, subst, zero, suc, length-append, length-take-le, length-take, append_assoc, inl, inr, Option, Some, None, Result, Ok, Err, IfOk, IfErr}
 use Rattle.std.proofs.lemmas.List.{take_at, drop_at, take-append-drop}
 use Rattle.std.proofs.Math.Seq.{take-append-add, drop-append-add}
-use Rattle.std.proofs.lemmas.Nat.{pow_pos}
+use Rattle.std.proofs.lemmas.Nat.{pow_pos, mul-add-lt}
 use Rattle.std.proofs.Math.Nat.{pow-le-pow_right}
 use Rattle.std.proofs.lemmas.Bool.{cases_lt, lt-ltb, le-ltb}
 use Rattle.std.specs.Prelude.{slice_index}
+use Rattle.std.specs.List.{AllByRecursion}
 use Rattle.bytes.specs.Unread.{IsChunkOf}
-use Rattle.h3_coding.specs.Encodings.{IsEncoding, IsUnfinished, empty, short, encoding}
-use Rattle.h3_coding.specs.EncodingLaws.{opened, encoding_is_valid}
+use Rattle.h3_coding.specs.Encodings.{IsEncoding, IsUnfinished, empty, short, encoding, IsByte, big_endian}
+use Rattle.h3_coding.specs.EncodingLaws.{opened, encoding_is_valid, big_endian_below, form}
 use Rattle.h3_coding.specs.Reading.{Takes}
 use Rattle.h3_coding.specs.Varint.{varint_at, varint_of, ReadsVarint}
 use Rattle.h3_coding.specs.declared.coding.UnexpectedEnd.{UnexpectedEnd}
@@ -181,3 +182,22 @@ reads_whole (Ok v) n octets rest old new e p is =
 reads_whole (Err k) n octets rest old new e p is =
     let here = ap varint_at is ∙ reads_encoding n octets rest p in
     absurd (cc)
+
+each_front : (xs ys : List ℕ) → AllByRecursion IsByte (xs ++ ys) → AllByRecursion IsByte xs
+each_front [] ys h = tt
+each_front (x ∷ xs) ys h = (h.0, each_front xs ys h.1)
+
+-- the number at the front of bytes is there as one of its encodings
+pub is_read : (v : ℕ) (bytes rest : List ℕ) → AllByRecursion IsByte bytes → varint_at bytes ≡ Some (v, rest) → Takes (IsEncoding v) bytes rest
+is_read v bytes rest each e =
+    let b = begins v bytes rest e in
+    let all : AllByRecursion IsByte (b.first ∷ (b.more ++ rest)) = subst (λ l. AllByRecursion IsByte l) b.parts each in
+    let more = each_front b.more rest all.1 in
+    let low = big_endian_below b.more more in
+    let sum = mul-add-lt (b.first % 64) (256 ^ length b.more) (big_endian b.more) 64 (omega arith) low in
+    let room : b.first % 64 * 256 ^ length b.more + big_endian b.more < 64 * 256 ^ length b.more = omega (arith, sum) in
+    record {
+      octets = b.first ∷ b.more;
+      is_encoding = subst (λ x. IsEncoding x (b.first ∷ b.more)) (sym b.value) (form (b.first / 64) b.first b.more all.0 refl b.asked more room);
+      parts = b.parts;
+    }

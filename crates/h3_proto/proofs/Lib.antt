@@ -1,3 +1,2 @@
-pub mod PairLemmas
 pub mod Received
 pub mod Taken

@@ -4,7 +4,7 @@ use Rattle.h3_proto.specs.Pairs.{pair_at, split_of}
 use Rattle.h3_proto.specs.Settings.{received, received_all, received_then, at_rest, settings_behind}
 use Rattle.h3_proto.specs.declared.frame.SettingsError.{SettingsError}
 use Rattle.h3_proto.specs.declared.frame.SettingsError.TheVariants.{Malformed}
-use Rattle.h3_proto.proofs.PairLemmas.{split_none, split_pair}
+use Rattle.h3_proto.specs.PairLaws.{split_none, split_pair}
 
 pub at_end : (kept : List (ℕ × ℕ)) → settings_behind kept (split_of []) ≡ Ok kept
 unfolding split_of

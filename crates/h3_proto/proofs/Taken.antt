@@ -5,7 +5,7 @@ use Rattle.h3_coding.specs.Varint.{varint_at}
 use Rattle.h3_coding.specs.VarintLaws.{begins}
 use Rattle.h3_proto.specs.Pairs.{pair_at}
 use Rattle.h3_proto.specs.Taking.{TakesFront}
-use Rattle.h3_proto.proofs.PairLemmas.{both_at}
+use Rattle.h3_proto.specs.PairLaws.{both_at}
 
 -- Of the first n bytes of old some were taken, and the first m of new are left of them.
 pub record Leaves (n m : ℕ) (old new : List ℕ) : Type 0 where

@@ -3,6 +3,8 @@ pub mod Config
 pub mod Ids
 pub mod PairLaws
 pub mod Pairs
+pub mod PayloadLaws
+pub mod Payloads
 pub mod Settings
 pub mod StreamIds
 pub mod Taking

@@ -4,6 +4,7 @@
 pub mod config;
 pub mod error;
 pub mod frame;
+pub mod laws;
 pub mod push;
 pub mod stream;
 #[cfg(test)]
