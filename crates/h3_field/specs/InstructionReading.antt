@@ -2,7 +2,8 @@
 use Rattle.std.specs.Prelude.{◌≡◌, ◌==◌, ℕ, ◌%◌, Bool, true, false, List, [], ◌∷◌, if◌then◌else◌, nat_le}
 use Rattle.h3_field.specs.Reading.{Reading, Whole, Unfinished, then_read}
 use Rattle.h3_field.specs.IntegerReading.{integer}
-use Rattle.h3_field.specs.StringReading.{Payload, StandsFor, string}
+use Rattle.h3_field.specs.StringReading.{Payload, StandsFor}
+use Rattle.h3_field.specs.Shapes.{index_and_string, two_strings}
 use Rattle.h3_field.specs.Instruction.{EncoderInstruction, DecoderInstruction}
 use Rattle.h3_field.specs.Instruction.EncoderInstruction.{SetCapacity, InsertWithStaticName, InsertWithEntryName, InsertLiteral, Duplicate}
 use Rattle.h3_field.specs.Instruction.DecoderInstruction.{Acknowledge, CancelStream, Increment}
@@ -16,17 +17,11 @@ pub data InstructionForm : Type 0 where
 
 -- Insert With Name Reference
 abbrev pub name_reference : List ℕ → Reading InstructionForm
-name_reference bytes =
-    then_read (integer 6 bytes) (λ head rest.
-    then_read (string 8 rest) (λ value after.
-    Whole (NameReference (head.0 % 2 == 1) head.1 value.1) after))
+name_reference bytes = then_read (index_and_string 6 bytes) (λ parts rest. Whole (NameReference (parts.flags % 2 == 1) parts.index parts.value) rest)
 
 -- Insert With Literal Name
 abbrev pub literal_name : List ℕ → Reading InstructionForm
-literal_name bytes =
-    then_read (string 6 bytes) (λ name rest.
-    then_read (string 8 rest) (λ value after.
-    Whole (LiteralName name.1 value.1) after))
+literal_name bytes = then_read (two_strings 6 bytes) (λ parts rest. Whole (LiteralName parts.name parts.value) rest)
 
 -- Set Dynamic Table Capacity
 abbrev pub capacity : List ℕ → Reading InstructionForm

@@ -8,6 +8,8 @@ pub mod StringLiteral
 pub mod StringReading
 pub mod StringLaws
 pub mod StaticTable
+pub mod Shapes
+pub mod ShapeLaws
 pub mod Line
 pub mod LineReading
 pub mod LineLaws
@@ -21,3 +23,5 @@ pub mod IntegerAnswer
 pub mod StringAnswer
 pub mod StaticHash
 pub mod StaticSlots
+pub mod ShapeAnswer
+pub mod LineAnswer

@@ -2,7 +2,8 @@
 use Rattle.std.specs.Prelude.{◌≡◌, ◌==◌, ℕ, ◌%◌, Bool, true, false, List, [], ◌∷◌, if◌then◌else◌, nat_le}
 use Rattle.h3_field.specs.Reading.{Reading, Whole, Unfinished, then_read}
 use Rattle.h3_field.specs.IntegerReading.{integer}
-use Rattle.h3_field.specs.StringReading.{Payload, StandsFor, string}
+use Rattle.h3_field.specs.StringReading.{Payload, StandsFor}
+use Rattle.h3_field.specs.Shapes.{index_and_string, two_strings}
 use Rattle.h3_field.specs.Line.{FieldLine}
 use Rattle.h3_field.specs.Line.FieldLine.{StaticField, RelativeField, PostBaseField, StaticName, RelativeName, PostBaseName, Literal}
 
@@ -21,13 +22,13 @@ abbrev pub post_base : List ℕ → Reading LineForm
 post_base bytes = then_read (integer 4 bytes) (λ head rest. Whole (PostBase head.1) rest)
 
 abbrev pub named : List ℕ → Reading LineForm
-named bytes = then_read (integer 4 bytes) (λ head rest. then_read (string 8 rest) (λ value after. Whole (Named (head.0 % 2 == 1) head.1 value.1) after))
+named bytes = then_read (index_and_string 4 bytes) (λ parts rest. Whole (Named (parts.flags % 2 == 1) parts.index parts.value) rest)
 
 abbrev pub post_base_named : List ℕ → Reading LineForm
-post_base_named bytes = then_read (integer 3 bytes) (λ head rest. then_read (string 8 rest) (λ value after. Whole (PostBaseNamed head.1 value.1) after))
+post_base_named bytes = then_read (index_and_string 3 bytes) (λ parts rest. Whole (PostBaseNamed parts.index parts.value) rest)
 
 abbrev pub literal : List ℕ → Reading LineForm
-literal bytes = then_read (string 4 bytes) (λ name rest. then_read (string 8 rest) (λ value after. Whole (LiteralField name.1 value.1) after))
+literal bytes = then_read (two_strings 4 bytes) (λ parts rest. Whole (LiteralField parts.name parts.value) rest)
 
 -- by the top bits of the first byte
 abbrev pub line : List ℕ → Reading LineForm

@@ -1,0 +1,61 @@
+-- What the calls of field lines read and write.
+use Rattle.std.specs.Prelude.{◌≡◌, ◌<◌, ◌≤◌, ◌^◌, ℕ, List, length, Result, Ok, Err}
+use Rattle.h3_field.specs.Reading.{Reading, Whole, Unfinished, Bad}
+
+use Rattle.h3_field.specs.Line.{FieldLine}
+use Rattle.h3_field.specs.Line.{FieldLine as of}
+use Rattle.h3_field.specs.LineReading.{LineForm, SaysLine}
+use Rattle.h3_field.specs.ShapeAnswer.{IsRefused}
+use Rattle.h3_field.specs.declared.prefix_int.Error.TheVariants.{Overflow, UnexpectedEnd}
+use Rattle.h3_field.specs.declared.parse_error.ParseError.{ParseError}
+use Rattle.h3_field.specs.declared.parse_error.ParseError.TheVariants.{Integer}
+use Rattle.h3_field.specs.declared.block.HeaderBlockField as kind
+use Rattle.h3_field.specs.declared.block.indexed.Indexed as indexed
+use Rattle.h3_field.specs.declared.block.indexed.IndexedWithPostBase.{IndexedWithPostBase}
+use Rattle.h3_field.specs.declared.block.literal.LiteralWithNameRef as named
+use Rattle.h3_field.specs.declared.block.literal.LiteralWithPostBaseNameRef.{LiteralWithPostBaseNameRef}
+use Rattle.h3_field.specs.declared.block.literal.Literal.{Literal}
+
+-- the line that each value is
+abbrev pub indexed_line : indexed.Indexed → FieldLine
+indexed_line (indexed.TheVariants.Static index) = of.StaticField index
+indexed_line (indexed.TheVariants.Dynamic index) = of.RelativeField index
+
+abbrev pub post_base_line : IndexedWithPostBase → FieldLine
+post_base_line l = of.PostBaseField l.0
+
+abbrev pub named_line : named.LiteralWithNameRef → FieldLine
+named_line (named.TheVariants.Static index value) = of.StaticName index value.items
+named_line (named.TheVariants.Dynamic index value) = of.RelativeName index value.items
+
+abbrev pub post_base_named_line : LiteralWithPostBaseNameRef → FieldLine
+post_base_named_line l = of.PostBaseName l.index l.value.items
+
+abbrev pub literal_line : Literal → FieldLine
+literal_line l = of.Literal l.name.items l.value.items
+
+-- indexes and lengths that a writer takes
+abbrev pub IsWritable : FieldLine → Type 0
+IsWritable (of.StaticField index) = index < 2 ^ 62
+IsWritable (of.RelativeField index) = index < 2 ^ 62
+IsWritable (of.PostBaseField index) = index < 2 ^ 62
+IsWritable (of.StaticName index value) = (index < 2 ^ 62) × (length value < 2 ^ 62)
+IsWritable (of.RelativeName index value) = (index < 2 ^ 62) × (length value < 2 ^ 62)
+IsWritable (of.PostBaseName index value) = (index < 2 ^ 62) × (length value < 2 ^ 62)
+IsWritable (of.Literal name value) = (length name < 2 ^ 62) × (length value < 2 ^ 62)
+
+-- The line, and what stands behind it is left; or why it is none, and nothing is taken.
+abbrev pub AnswersLine : {L : Type 0} → (L → FieldLine) → Reading LineForm → List ℕ → List ℕ → Result L ParseError → Type 0
+AnswersLine line_of (Whole form rest) old new (Ok l) = SaysLine form (line_of l) × (new ≡ rest)
+AnswersLine line_of (Whole form rest) old new (Err e) = IsRefused ((l : FieldLine) → SaysLine form l → ⊥) e × (new ≡ old)
+AnswersLine line_of Unfinished old new result = (result ≡ Err (Integer UnexpectedEnd)) × (new ≡ old)
+AnswersLine line_of Bad old new result = (result ≡ Err (Integer Overflow)) × (new ≡ old)
+
+-- which line a first byte begins
+abbrev pub IsLineKind : ℕ → kind.HeaderBlockField → Type 0
+IsLineKind first kind.TheVariants.Indexed = 128 ≤ first
+IsLineKind first kind.TheVariants.LiteralWithNameRef = (64 ≤ first) × (first < 128)
+IsLineKind first kind.TheVariants.Literal = (32 ≤ first) × (first < 64)
+IsLineKind first kind.TheVariants.IndexedWithPostBase = (16 ≤ first) × (first < 32)
+IsLineKind first kind.TheVariants.LiteralWithPostBaseNameRef = first < 16
+IsLineKind first kind.TheVariants.Unknown = ⊥

@@ -1,0 +1,46 @@
+-- What the readers of an integer and a string, and of two strings, answer.
+use Rattle.std.specs.Prelude.{◌≡◌, ◌⊎◌, ℕ, List, Result, Ok, Err}
+use Rattle.h3_field.specs.Reading.{Reading, Whole, Unfinished, Bad}
+use Rattle.h3_field.specs.StringReading.{StandsFor, StandsForNone}
+use Rattle.h3_field.specs.Shapes as shape
+use Rattle.h3_field.specs.declared.prefix_int.Error.TheVariants.{Overflow, UnexpectedEnd}
+use Rattle.h3_field.specs.declared.prefix_string.Error as string
+use Rattle.h3_field.specs.declared.parse_error.ParseError.{ParseError}
+use Rattle.h3_field.specs.declared.parse_error.ParseError.TheVariants.{Integer, String, InvalidPrefix, InvalidBase, OutOfMemory}
+use Rattle.h3_field.specs.declared.shapes.IndexAndString.{IndexAndString}
+use Rattle.h3_field.specs.declared.shapes.TwoStrings.{TwoStrings}
+
+-- the error of a refused string
+abbrev pub of_string : string.Error → ParseError
+of_string string.TheVariants.OutOfMemory = OutOfMemory
+of_string string.TheVariants.UnexpectedEnd = String string.TheVariants.UnexpectedEnd
+of_string (string.TheVariants.Integer e) = String (string.TheVariants.Integer e)
+of_string string.TheVariants.HuffmanDecoding = String string.TheVariants.HuffmanDecoding
+of_string string.TheVariants.HuffmanEncoding = String string.TheVariants.HuffmanEncoding
+of_string string.TheVariants.BufSize = String string.TheVariants.BufSize
+
+-- Why what is whole is refused: a string of it is no Huffman encoding, or want of memory.
+abbrev pub IsRefused : Type 0 → ParseError → Type 0
+IsRefused None (String string.TheVariants.HuffmanDecoding) = None
+IsRefused None (String string.TheVariants.OutOfMemory) = ⊥
+IsRefused None (String string.TheVariants.UnexpectedEnd) = ⊥
+IsRefused None (String (string.TheVariants.Integer e)) = ⊥
+IsRefused None (String string.TheVariants.HuffmanEncoding) = ⊥
+IsRefused None (String string.TheVariants.BufSize) = ⊥
+IsRefused None OutOfMemory = Unit {0}
+IsRefused None (Integer e) = ⊥
+IsRefused None (InvalidPrefix first) = ⊥
+IsRefused None InvalidBase = ⊥
+
+-- the parts, and what stands behind them is left; a refused read takes nothing
+abbrev pub AnswersIndexAndString : Reading shape.IndexAndString → List ℕ → List ℕ → Result IndexAndString ParseError → Type 0
+AnswersIndexAndString (Whole p rest) old new (Ok r) = (r.flags ≡ p.flags) × (r.index ≡ p.index) × StandsFor p.value r.value.items × (new ≡ rest)
+AnswersIndexAndString (Whole p rest) old new (Err e) = IsRefused (StandsForNone p.value) e × (new ≡ old)
+AnswersIndexAndString Unfinished old new result = (result ≡ Err (Integer UnexpectedEnd)) × (new ≡ old)
+AnswersIndexAndString Bad old new result = (result ≡ Err (Integer Overflow)) × (new ≡ old)
+
+abbrev pub AnswersTwoStrings : Reading shape.TwoStrings → List ℕ → List ℕ → Result TwoStrings ParseError → Type 0
+AnswersTwoStrings (Whole p rest) old new (Ok r) = StandsFor p.name r.name.items × StandsFor p.value r.value.items × (new ≡ rest)
+AnswersTwoStrings (Whole p rest) old new (Err e) = IsRefused (StandsForNone p.name ⊎ StandsForNone p.value) e × (new ≡ old)
+AnswersTwoStrings Unfinished old new result = (result ≡ Err (Integer UnexpectedEnd)) × (new ≡ old)
+AnswersTwoStrings Bad old new result = (result ≡ Err (Integer Overflow)) × (new ≡ old)

@@ -1,0 +1,227 @@
+//! Lines with a literal value (RFC 9204, sections 4.5.4 to 4.5.6). The bit N is written 0, and read either way.
+ghost use Rattle.std.specs.Prelude.{◌≡◌, ◌<◌, ◌^◌, ◌++◌, true, false, length, slice_index, OnOk, OnErr, Err};
+ghost use Rattle.std.specs.Result.{IsOkUnless};
+ghost use Rattle.h3_field.specs.Line.{line_bytes};
+ghost use Rattle.h3_field.specs.Line.FieldLine.{StaticName, RelativeName, PostBaseName};
+ghost use Rattle.h3_field.specs.Line.{FieldLine as line};
+ghost use Rattle.h3_field.specs.Shapes.{begins};
+ghost use Rattle.h3_field.specs.LineReading.{named, post_base_named, literal};
+ghost use Rattle.h3_field.specs.LineAnswer.{AnswersLine, IsWritable, named_line, post_base_named_line, literal_line};
+ghost use Rattle.h3_field.specs.declared.parse_error.ParseError.TheVariants.{InvalidPrefix};
+ghost use Rattle.h3_field.specs.declared.prefix_string.Error.TheVariants.{OutOfMemory};
+ghost use Rattle.h3_field.specs.declared.block.literal.LiteralWithNameRef.TheVariants as named_ref;
+
+use crate::cursor::SliceCursor;
+use crate::parse_error::ParseError;
+use crate::prefix_string;
+use crate::shapes::{
+    other_first, put_index_and_string, put_two_strings, take_index_and_string, take_two_strings,
+};
+use std::alloc::Global;
+
+/// A line with the name of a static entry, or of a dynamic one by its distance below the base.
+#[derive(PartialEq, Debug, Drop)]
+pub enum LiteralWithNameRef {
+    Static { index: usize, value: Vec<u8> },
+    Dynamic { index: usize, value: Vec<u8> },
+}
+
+impl LiteralWithNameRef {
+    pub fn new_static(index: usize, value: Vec<u8>) -> LiteralWithNameRef
+        ensures { result ≡ named_ref.Static index value }
+    {
+        LiteralWithNameRef::Static { index, value }
+    }
+
+    pub fn new_dynamic(index: usize, value: Vec<u8>) -> LiteralWithNameRef
+        ensures { result ≡ named_ref.Dynamic index value }
+    {
+        LiteralWithNameRef::Dynamic { index, value }
+    }
+
+    /// Takes the line from the front. A refused read takes nothing.
+    pub fn decode(alloc: Global, buf: &mut SliceCursor<'_>) -> Result<LiteralWithNameRef, ParseError>
+        ensures own { begins 64 127 buf.old ≡ true → AnswersLine named_line (named buf.old) buf.old buf.new result }
+        ensures other { begins 64 127 buf.old ≡ false → (result ≡ Err (InvalidPrefix (slice_index buf.old 0))) × (buf.new ≡ buf.old) }
+    {
+        if let Some(first) = other_first(buf, 64, 127) {
+            return Err(ParseError::InvalidPrefix(u64::from(first)));
+        }
+        match take_index_and_string(alloc, 4, buf) {
+            Ok(parts) => {
+                let index = parts.index as usize;
+                let value = parts.value;
+                if parts.flags % 2 == 1 {
+                    Ok(LiteralWithNameRef::Static { index, value })
+                } else {
+                    Ok(LiteralWithNameRef::Dynamic { index, value })
+                }
+            }
+            Err(e) => Err(e),
+        }
+    }
+
+    /// Appends the line. A refusal appends nothing.
+    pub fn encode(&self, buf: &mut Vec<u8>) -> Result<(), prefix_string::Error>
+        requires { IsWritable (named_line self.now) }
+        ensures memory { IsOkUnless result OutOfMemory }
+        ensures ok { OnOk result (buf.new.items ≡ buf.old.items ++ line_bytes (named_line self.now)) }
+        ensures err { OnErr result (buf.new.items ≡ buf.old.items) }
+    {
+        match self {
+            LiteralWithNameRef::Static { index, value } => {
+                LiteralWithNameRef::write_static(*index, value.as_slice(), buf)
+            }
+            LiteralWithNameRef::Dynamic { index, value } => {
+                LiteralWithNameRef::write_dynamic(*index, value.as_slice(), buf)
+            }
+        }
+    }
+
+    /// Appends the line with the name of a static entry.
+    pub fn write_static(
+        index: usize,
+        value: &[u8],
+        buf: &mut Vec<u8>,
+    ) -> Result<(), prefix_string::Error>
+        requires index { index < 2 ^ 62 }
+        requires value { length value.now < 2 ^ 62 }
+        ensures memory { IsOkUnless result OutOfMemory }
+        ensures ok { OnOk result (buf.new.items ≡ buf.old.items ++ line_bytes (StaticName index value.now)) }
+        ensures err { OnErr result (buf.new.items ≡ buf.old.items) }
+    {
+        put_index_and_string(4, 5, index as u64, value, buf)
+    }
+
+    /// Appends the line with the name of a dynamic entry.
+    pub fn write_dynamic(
+        index: usize,
+        value: &[u8],
+        buf: &mut Vec<u8>,
+    ) -> Result<(), prefix_string::Error>
+        requires index { index < 2 ^ 62 }
+        requires value { length value.now < 2 ^ 62 }
+        ensures memory { IsOkUnless result OutOfMemory }
+        ensures ok { OnOk result (buf.new.items ≡ buf.old.items ++ line_bytes (RelativeName index value.now)) }
+        ensures err { OnErr result (buf.new.items ≡ buf.old.items) }
+    {
+        put_index_and_string(4, 4, index as u64, value, buf)
+    }
+}
+
+/// A line with the name of a dynamic entry, by its distance from the base on.
+#[derive(PartialEq, Debug, Drop)]
+pub struct LiteralWithPostBaseNameRef {
+    pub index: usize,
+    pub value: Vec<u8>,
+}
+
+impl LiteralWithPostBaseNameRef {
+    pub fn new(index: usize, value: Vec<u8>) -> LiteralWithPostBaseNameRef
+        ensures { result ≡ record { index = index; value = value } }
+    {
+        LiteralWithPostBaseNameRef { index, value }
+    }
+
+    /// Takes the line from the front. A refused read takes nothing.
+    pub fn decode(
+        alloc: Global,
+        buf: &mut SliceCursor<'_>,
+    ) -> Result<LiteralWithPostBaseNameRef, ParseError>
+        ensures own { begins 0 15 buf.old ≡ true → AnswersLine post_base_named_line (post_base_named buf.old) buf.old buf.new result }
+        ensures other { begins 0 15 buf.old ≡ false → (result ≡ Err (InvalidPrefix (slice_index buf.old 0))) × (buf.new ≡ buf.old) }
+    {
+        if let Some(first) = other_first(buf, 0, 15) {
+            return Err(ParseError::InvalidPrefix(u64::from(first)));
+        }
+        match take_index_and_string(alloc, 3, buf) {
+            Ok(parts) => Ok(LiteralWithPostBaseNameRef {
+                index: parts.index as usize,
+                value: parts.value,
+            }),
+            Err(e) => Err(e),
+        }
+    }
+
+    /// Appends the line. A refusal appends nothing.
+    pub fn encode(&self, buf: &mut Vec<u8>) -> Result<(), prefix_string::Error>
+        requires { IsWritable (post_base_named_line self.now) }
+        ensures memory { IsOkUnless result OutOfMemory }
+        ensures ok { OnOk result (buf.new.items ≡ buf.old.items ++ line_bytes (post_base_named_line self.now)) }
+        ensures err { OnErr result (buf.new.items ≡ buf.old.items) }
+    {
+        LiteralWithPostBaseNameRef::write(self.index, self.value.as_slice(), buf)
+    }
+
+    /// Appends the line with that index and value.
+    pub fn write(
+        index: usize,
+        value: &[u8],
+        buf: &mut Vec<u8>,
+    ) -> Result<(), prefix_string::Error>
+        requires index { index < 2 ^ 62 }
+        requires value { length value.now < 2 ^ 62 }
+        ensures memory { IsOkUnless result OutOfMemory }
+        ensures ok { OnOk result (buf.new.items ≡ buf.old.items ++ line_bytes (PostBaseName index value.now)) }
+        ensures err { OnErr result (buf.new.items ≡ buf.old.items) }
+    {
+        put_index_and_string(3, 0, index as u64, value, buf)
+    }
+}
+
+/// A line with a literal name.
+#[derive(PartialEq, Debug, Drop)]
+pub struct Literal {
+    pub name: Vec<u8>,
+    pub value: Vec<u8>,
+}
+
+impl Literal {
+    pub fn new(name: Vec<u8>, value: Vec<u8>) -> Literal
+        ensures { result ≡ record { name = name; value = value } }
+    {
+        Literal { name, value }
+    }
+
+    /// Takes the line from the front. A refused read takes nothing.
+    pub fn decode(alloc: Global, buf: &mut SliceCursor<'_>) -> Result<Literal, ParseError>
+        ensures own { begins 32 63 buf.old ≡ true → AnswersLine literal_line (literal buf.old) buf.old buf.new result }
+        ensures other { begins 32 63 buf.old ≡ false → (result ≡ Err (InvalidPrefix (slice_index buf.old 0))) × (buf.new ≡ buf.old) }
+    {
+        if let Some(first) = other_first(buf, 32, 63) {
+            return Err(ParseError::InvalidPrefix(u64::from(first)));
+        }
+        match take_two_strings(alloc, 4, buf) {
+            Ok(parts) => Ok(Literal {
+                name: parts.name,
+                value: parts.value,
+            }),
+            Err(e) => Err(e),
+        }
+    }
+
+    /// Appends the line. A refusal appends nothing.
+    pub fn encode(&self, buf: &mut Vec<u8>) -> Result<(), prefix_string::Error>
+        requires { IsWritable (literal_line self.now) }
+        ensures memory { IsOkUnless result OutOfMemory }
+        ensures ok { OnOk result (buf.new.items ≡ buf.old.items ++ line_bytes (literal_line self.now)) }
+        ensures err { OnErr result (buf.new.items ≡ buf.old.items) }
+    {
+        Literal::write(self.name.as_slice(), self.value.as_slice(), buf)
+    }
+
+    /// Appends the line with that name and value.
+    pub fn write(
+        name: &[u8],
+        value: &[u8],
+        buf: &mut Vec<u8>,
+    ) -> Result<(), prefix_string::Error>
+        requires name { length name.now < 2 ^ 62 }
+        requires value { length value.now < 2 ^ 62 }
+        ensures memory { IsOkUnless result OutOfMemory }
+        ensures ok { OnOk result (buf.new.items ≡ buf.old.items ++ line_bytes (line.Literal name.now value.now)) }
+        ensures err { OnErr result (buf.new.items ≡ buf.old.items) }
+    {
+        put_two_strings(4, 2, name, value, buf)
+    }
+}

@@ -1,0 +1,63 @@
+//! Why a line, an instruction or a prefix is refused.
+ghost use Rattle.std.specs.Prelude.{◌≡◌};
+ghost use Rattle.h3_field.specs.ShapeAnswer.{of_string};
+ghost use Rattle.h3_field.specs.declared.parse_error.ParseError.TheVariants as error;
+
+use crate::{prefix_int, prefix_string};
+use std::alloc::AllocError;
+use std::fmt;
+
+/// Why a line, an instruction or a prefix is refused.
+#[derive(Copy, Clone, PartialEq, Eq, Debug)]
+pub enum ParseError {
+    /// It is not whole, or an integer of it is out of range.
+    Integer(prefix_int::Error),
+    /// A string of it is refused.
+    String(prefix_string::Error),
+    /// The first byte is that of another line or instruction, or the required insert count stands for none.
+    InvalidPrefix(u64),
+    /// The base would be below zero.
+    InvalidBase,
+    OutOfMemory,
+}
+
+impl fmt::Display for ParseError {
+    fn fmt<W: fmt::Write>(&self, f: &mut fmt::Formatter<W>) -> fmt::Result {
+        match self {
+            ParseError::Integer(_) => write!(f, "Integer"),
+            ParseError::String(_) => write!(f, "String"),
+            ParseError::InvalidPrefix(_) => write!(f, "InvalidPrefix"),
+            ParseError::InvalidBase => write!(f, "InvalidBase"),
+            ParseError::OutOfMemory => write!(f, "out of memory"),
+        }
+    }
+}
+
+impl std::error::Error for ParseError {}
+
+impl From<prefix_int::Error> for ParseError {
+    ghost from_gives = { λ i e. e ≡ error.Integer i };
+
+    fn from(e: prefix_int::Error) -> ParseError {
+        ParseError::Integer(e)
+    }
+}
+
+impl From<prefix_string::Error> for ParseError {
+    ghost from_gives = { λ s e. e ≡ of_string s };
+
+    fn from(e: prefix_string::Error) -> ParseError {
+        match e {
+            prefix_string::Error::OutOfMemory => ParseError::OutOfMemory,
+            _ => ParseError::String(e),
+        }
+    }
+}
+
+impl From<AllocError> for ParseError {
+    ghost from_gives = { λ _ e. e ≡ error.OutOfMemory };
+
+    fn from(_e: AllocError) -> ParseError {
+        ParseError::OutOfMemory
+    }
+}

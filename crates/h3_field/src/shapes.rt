@@ -1,0 +1,163 @@
+//! What lines and instructions are made of: an integer, an integer and a string, or two strings.
+ghost use Rattle.std.specs.Prelude.{◌≡◌, ◌<◌, ◌≤◌, ◌-◌, ◌^◌, ◌++◌, true, false, length, slice_index, MatchOption, OnOk, OnErr};
+ghost use Rattle.std.specs.Result.{IsOkUnless};
+ghost use Rattle.h3_field.specs.Integer.{prefixed};
+ghost use Rattle.h3_field.specs.StringLiteral.{string_literal};
+ghost use Rattle.h3_field.specs.declared.prefix_string.Error.TheVariants as string_error;
+ghost use Rattle.h3_field.specs.Shapes.{begins, index_and_string, two_strings};
+ghost use Rattle.h3_field.specs.ShapeAnswer.{AnswersIndexAndString, AnswersTwoStrings};
+
+use crate::cursor::SliceCursor;
+use crate::parse_error::ParseError;
+use crate::prefix_int;
+use crate::prefix_string::{self, take_payload};
+use std::alloc::Global;
+
+/// The first byte, where there is one and it is not from `low` to `high`.
+pub(crate) fn other_first(buf: &SliceCursor<'_>, low: u8, high: u8) -> Option<u8>
+    ensures { MatchOption result (begins low high buf.now ≡ true) (λ first. (begins low high buf.now ≡ false) × (first ≡ slice_index buf.now 0)) }
+{
+    let bytes = buf.chunk();
+    if bytes.is_empty() {
+        return None;
+    }
+    let first = bytes[0];
+    if first < low || first > high {
+        return Some(first);
+    }
+    None
+}
+
+/// An integer, the flags above it, and the string behind it.
+#[derive(Drop)]
+pub(crate) struct IndexAndString {
+    pub(crate) flags: u8,
+    pub(crate) index: u64,
+    pub(crate) value: Vec<u8>,
+}
+
+/// Takes an integer and a string from the front. A refused read takes nothing.
+pub(crate) fn take_index_and_string(
+    alloc: Global,
+    size: u8,
+    buf: &mut SliceCursor<'_>,
+) -> Result<IndexAndString, ParseError>
+    requires least { 1 ≤ size }
+    requires most { size ≤ 8 }
+    ensures { AnswersIndexAndString (index_and_string size buf.old) buf.old buf.new result }
+{
+    let mut ahead = SliceCursor::new(buf.chunk());
+    let (flags, index) = match prefix_int::decode(size, &mut ahead) {
+        Ok(found) => found,
+        Err(e) => return Err(ParseError::Integer(e)),
+    };
+    let payload = match take_payload(8, &mut ahead) {
+        Ok((_, payload)) => payload,
+        Err(e) => return Err(ParseError::Integer(e)),
+    };
+    match payload.to_bytes(alloc) {
+        Ok(value) => {
+            *buf = ahead;
+            Ok(IndexAndString {
+                flags,
+                index,
+                value,
+            })
+        }
+        Err(prefix_string::Error::OutOfMemory) => Err(ParseError::OutOfMemory),
+        Err(e) => Err(ParseError::String(e)),
+    }
+}
+
+/// Two strings, one behind the other.
+#[derive(Drop)]
+pub(crate) struct TwoStrings {
+    pub(crate) name: Vec<u8>,
+    pub(crate) value: Vec<u8>,
+}
+
+/// Takes two strings from the front. A refused read takes nothing.
+pub(crate) fn take_two_strings(
+    alloc: Global,
+    size: u8,
+    buf: &mut SliceCursor<'_>,
+) -> Result<TwoStrings, ParseError>
+    requires least { 2 ≤ size }
+    requires most { size ≤ 8 }
+    ensures { AnswersTwoStrings (two_strings size buf.old) buf.old buf.new result }
+{
+    let mut ahead = SliceCursor::new(buf.chunk());
+    let first = match take_payload(size, &mut ahead) {
+        Ok((_, payload)) => payload,
+        Err(e) => return Err(ParseError::Integer(e)),
+    };
+    let second = match take_payload(8, &mut ahead) {
+        Ok((_, payload)) => payload,
+        Err(e) => return Err(ParseError::Integer(e)),
+    };
+    let name = match first.to_bytes(alloc) {
+        Ok(name) => name,
+        Err(prefix_string::Error::OutOfMemory) => return Err(ParseError::OutOfMemory),
+        Err(e) => return Err(ParseError::String(e)),
+    };
+    match second.to_bytes(alloc) {
+        Ok(value) => {
+            *buf = ahead;
+            Ok(TwoStrings { name, value })
+        }
+        Err(prefix_string::Error::OutOfMemory) => Err(ParseError::OutOfMemory),
+        Err(e) => Err(ParseError::String(e)),
+    }
+}
+
+/// Appends an integer and a string behind it. A refusal appends nothing.
+pub(crate) fn put_index_and_string(
+    size: u8,
+    flags: u8,
+    index: u64,
+    value: &[u8],
+    buf: &mut Vec<u8>,
+) -> Result<(), prefix_string::Error>
+    requires least { 1 ≤ size }
+    requires most { size ≤ 8 }
+    requires flags { flags < 2 ^ (8 - size) }
+    requires index { index < 2 ^ 62 }
+    requires value { length value.now < 2 ^ 62 }
+    ensures memory { IsOkUnless result string_error.OutOfMemory }
+    ensures ok { OnOk result (buf.new.items ≡ buf.old.items ++ (prefixed size flags index ++ string_literal 8 0 value.now)) }
+    ensures err { OnErr result (buf.new.items ≡ buf.old.items) }
+{
+    let start = buf.len();
+    prefix_int::encode(size, flags, index, buf)?;
+    if prefix_string::encode(8, 0, value, buf).is_err() {
+        buf.truncate(start);
+        return Err(prefix_string::Error::OutOfMemory);
+    }
+    Ok(())
+}
+
+/// Appends two strings. A refusal appends nothing.
+pub(crate) fn put_two_strings(
+    size: u8,
+    flags: u8,
+    name: &[u8],
+    value: &[u8],
+    buf: &mut Vec<u8>,
+) -> Result<(), prefix_string::Error>
+    requires least { 2 ≤ size }
+    requires most { size ≤ 8 }
+    requires flags { flags < 2 ^ (8 - size) }
+    requires name { length name.now < 2 ^ 62 }
+    requires value { length value.now < 2 ^ 62 }
+    ensures memory { IsOkUnless result string_error.OutOfMemory }
+    ensures ok { OnOk result (buf.new.items ≡ buf.old.items ++ (string_literal size flags name.now ++ string_literal 8 0 value.now)) }
+    ensures err { OnErr result (buf.new.items ≡ buf.old.items) }
+{
+    let start = buf.len();
+    prefix_string::encode(size, flags, name, buf)?;
+    if prefix_string::encode(8, 0, value, buf).is_err() {
+        buf.truncate(start);
+        return Err(prefix_string::Error::OutOfMemory);
+    }
+    Ok(())
+}
