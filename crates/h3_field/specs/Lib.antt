@@ -25,3 +25,5 @@ pub mod StaticHash
 pub mod StaticSlots
 pub mod ShapeAnswer
 pub mod LineAnswer
+pub mod Addresses
+pub mod Errors

@@ -1,7 +1,6 @@
 -- What the calls of field lines read and write.
 use Rattle.std.specs.Prelude.{◌≡◌, ◌<◌, ◌≤◌, ◌^◌, ℕ, List, length, Result, Ok, Err}
 use Rattle.h3_field.specs.Reading.{Reading, Whole, Unfinished, Bad}
-
 use Rattle.h3_field.specs.Line.{FieldLine}
 use Rattle.h3_field.specs.Line.{FieldLine as of}
 use Rattle.h3_field.specs.LineReading.{LineForm, SaysLine}

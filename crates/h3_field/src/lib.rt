@@ -4,6 +4,10 @@
 
 pub mod block;
 pub mod cursor;
+mod decoder_error;
+pub mod dynamic;
+mod encoder_error;
+mod error;
 pub mod examples;
 pub mod field;
 mod octets;
@@ -12,5 +16,10 @@ pub mod prefix_int;
 pub mod prefix_string;
 mod shapes;
 pub mod static_;
+pub mod vas;
 
+pub use cursor::SliceCursor;
+pub use decoder_error::DecoderError;
+pub use encoder_error::EncoderError;
+pub use error::Error;
 pub use field::HeaderField;

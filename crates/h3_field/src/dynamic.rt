@@ -1,0 +1,62 @@
+//! Why a call of the dynamic table is refused.
+ghost use Rattle.std.specs.Prelude.{◌≡◌};
+ghost use Rattle.h3_field.specs.Errors.{of_address};
+ghost use Rattle.h3_field.specs.declared.dynamic.Error.TheVariants as error;
+
+use crate::vas;
+use std::alloc::AllocError;
+use std::fmt;
+
+/// Why a call of the dynamic table is refused.
+#[derive(Copy, Clone, PartialEq, Eq, Debug)]
+pub enum Error {
+    BadRelativeIndex(usize),
+    BadPostbaseIndex(usize),
+    BadIndex(usize),
+    MaxTableSizeReached,
+    MaximumTableSizeTooLarge,
+    MaxBlockedStreamsTooLarge,
+    UnknownStreamId(u64),
+    NoTrackingData,
+    InvalidTrackingCount,
+    OutOfMemory,
+}
+
+impl fmt::Display for Error {
+    fn fmt<W: fmt::Write>(&self, f: &mut fmt::Formatter<W>) -> fmt::Result {
+        match self {
+            Error::BadRelativeIndex(_) => write!(f, "BadRelativeIndex"),
+            Error::BadPostbaseIndex(_) => write!(f, "BadPostbaseIndex"),
+            Error::BadIndex(_) => write!(f, "BadIndex"),
+            Error::MaxTableSizeReached => write!(f, "MaxTableSizeReached"),
+            Error::MaximumTableSizeTooLarge => write!(f, "MaximumTableSizeTooLarge"),
+            Error::MaxBlockedStreamsTooLarge => write!(f, "MaxBlockedStreamsTooLarge"),
+            Error::UnknownStreamId(_) => write!(f, "UnknownStreamId"),
+            Error::NoTrackingData => write!(f, "NoTrackingData"),
+            Error::InvalidTrackingCount => write!(f, "InvalidTrackingCount"),
+            Error::OutOfMemory => write!(f, "out of memory"),
+        }
+    }
+}
+
+impl std::error::Error for Error {}
+
+impl From<vas::Error> for Error {
+    ghost from_gives = { λ a e. e ≡ of_address a };
+
+    fn from(e: vas::Error) -> Error {
+        match e {
+            vas::Error::RelativeIndex(index) => Error::BadRelativeIndex(index),
+            vas::Error::PostbaseIndex(index) => Error::BadPostbaseIndex(index),
+            vas::Error::Index(index) => Error::BadIndex(index),
+        }
+    }
+}
+
+impl From<AllocError> for Error {
+    ghost from_gives = { λ _ e. e ≡ error.OutOfMemory };
+
+    fn from(_e: AllocError) -> Error {
+        Error::OutOfMemory
+    }
+}

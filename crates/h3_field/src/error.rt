@@ -1,0 +1,41 @@
+//! The error of either side.
+ghost use Rattle.std.specs.Prelude.{◌≡◌};
+ghost use Rattle.h3_field.specs.declared.error.Error.TheVariants as error;
+
+use crate::decoder_error::DecoderError;
+use crate::encoder_error::EncoderError;
+use std::fmt;
+
+/// What an encoder or a decoder refused.
+#[derive(Copy, Clone, PartialEq, Eq, Debug)]
+pub enum Error {
+    Encoder(EncoderError),
+    Decoder(DecoderError),
+}
+
+impl fmt::Display for Error {
+    fn fmt<W: fmt::Write>(&self, f: &mut fmt::Formatter<W>) -> fmt::Result {
+        match self {
+            Error::Encoder(_) => write!(f, "Encoder"),
+            Error::Decoder(_) => write!(f, "Decoder"),
+        }
+    }
+}
+
+impl std::error::Error for Error {}
+
+impl From<EncoderError> for Error {
+    ghost from_gives = { λ x e. e ≡ error.Encoder x };
+
+    fn from(e: EncoderError) -> Error {
+        Error::Encoder(e)
+    }
+}
+
+impl From<DecoderError> for Error {
+    ghost from_gives = { λ x e. e ≡ error.Decoder x };
+
+    fn from(e: DecoderError) -> Error {
+        Error::Decoder(e)
+    }
+}
