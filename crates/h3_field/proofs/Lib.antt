@@ -1,3 +1,5 @@
 pub mod Integers
 pub mod Strings
 pub mod StaticEntries
+pub mod Prefixes
+pub mod Sections

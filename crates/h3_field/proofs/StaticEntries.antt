@@ -5,7 +5,7 @@ use Rattle.std.proofs.lemmas.Bool.{and_parts, eqb-true, leb-true, ltb-true, case
 use Rattle.std.proofs.lemmas.Slice.Eq.{bytes_eq-Decides}
 use Rattle.h3_huffman.proofs.Words.{bytes_same}
 use Rattle.h3_field.specs.Field.{Field, field_eq}
-use Rattle.h3_field.specs.StaticTable.{static_name, static_field, static_table}
+use Rattle.h3_field.specs.StaticTable.{static_name, static_field, static_table, NamesEntry}
 use Rattle.h3_field.specs.StaticHash.{name_hash, field_hash, slot_of_field, is_some_of, is_name_found, are_names_found, all_names, is_field_found, are_fields_found, all_fields, are_entries}
 use Rattle.h3_field.specs.StaticSlots.{name_slot, name_of, name_start, name_part, field_slot, value_of, value_start, value_part, are_places}
 
@@ -29,7 +29,7 @@ table_is : are_entries name_of value_of 0 static_table ≡ true
 unfolding name_of name_start name_part value_of value_start value_part static_table
 table_is = refl
 
-table_length : length static_table ≡ 99
+pub table_length : length static_table ≡ 99
 unfolding static_table
 table_length = refl
 
@@ -240,3 +240,6 @@ field_other_value f found hash slot s at ne =
 pub field_here : (f : Field) (name value : List ℕ) (hash slot : ℕ) → Sought f hash slot → slot < 99 → name ≡ name_of slot → false ≡ not (bytes_eq name f.name) → value ≡ value_of slot → false ≡ not (bytes_eq value f.value) → Some slot ≡ static_field f
 field_here f name value hash slot s lt at eq value_at value_eq =
     field_match f slot (at_slot f hash slot s) lt (sym at ∙ are_same name f.name eq) (sym value_at ∙ are_same value f.value value_eq)
+
+pub names_entry : (i : ℕ) (name : List ℕ) → i < 99 → name ≡ name_of i → NamesEntry i name
+names_entry i name lt n = record { entry = entry_of i; here = entry_is i (name_of i) (value_of i) lt refl refl; name_is = sym n }

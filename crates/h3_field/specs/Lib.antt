@@ -27,3 +27,6 @@ pub mod ShapeAnswer
 pub mod LineAnswer
 pub mod Addresses
 pub mod Errors
+pub mod PrefixWriting
+pub mod PrefixAnswer
+pub mod SectionAnswer

@@ -1,5 +1,5 @@
 -- The static table (RFC 9204, appendix A): names, and the values of consecutive indexes.
-use Rattle.std.specs.Prelude.{ℕ, List, [], ◌∷◌, map, codes, flat_map, position, bytes_eq, Option}
+use Rattle.std.specs.Prelude.{ℕ, List, [], ◌∷◌, map, codes, flat_map, position, bytes_eq, Option, Some, slice_get, ◌≡◌}
 use Rattle.h3_field.specs.Field.{Field, field_eq}
 
 -- one entry for each value
@@ -74,3 +74,9 @@ static_field f = position (λ entry. field_eq entry f) static_table
 -- the least index of an entry of that name
 unfoldable pub static_name : List ℕ → Option ℕ
 static_name name = position (λ entry. bytes_eq entry.name name) static_table
+
+-- The entry of that index has that name.
+pub record NamesEntry (index : ℕ) (name : List ℕ) : Type 0 where
+  pub entry : Field
+  pub here : slice_get static_table index ≡ Some entry
+  pub name_is : entry.name ≡ name

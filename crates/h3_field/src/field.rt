@@ -1,6 +1,7 @@
 //! A field of two byte strings, static or owned.
-ghost use Rattle.std.specs.Prelude.{◌≡◌, ◌++◌, ◌∷◌, [], codes, string_bytes, IfOk, Some, encode_utf8_all, nat_eq};
+ghost use Rattle.std.specs.Prelude.{◌≡◌, ◌++◌, ◌∷◌, [], codes, string_bytes, IfOk, Some, encode_utf8_all, nat_eq, min, ◌^◌, ◌-◌};
 ghost use Rattle.std.specs.Cow.{cow_slice_items};
+ghost use Rattle.h3_field.specs.Field.{field_size};
 ghost use Rattle.std.specs.Hash as fed;
 ghost use Rattle.std.specs.Cmp.Lexicographic.{pointwise};
 ghost use Rattle.std.specs.Ordering.{on, eq_of_both};
@@ -14,6 +15,9 @@ use std::borrow::CowSlice;
 use std::fmt;
 use std::hash::{Hash, Hasher};
 use std::marker::Model;
+
+/// What a field counts beside its bytes (RFC 9204, section 3.2.1).
+pub const ESTIMATED_OVERHEAD_BYTES: usize = 32;
 
 /// A name and a value. A contract sees the two byte lists.
 #[derive(Drop)]
@@ -58,6 +62,16 @@ impl HeaderField {
         ensures { result.now ≡ self.now.value }
     {
         self.value.as_slice()
+    }
+
+    /// The bytes of name and value and 32 more, or the greatest number where the sum passes it (RFC 9204, section 3.2.1).
+    pub fn mem_size(&self) -> usize
+        ensures { result ≡ min (2 ^ 64 - 1) (field_size self.now) }
+    {
+        self.name()
+            .len()
+            .saturating_add(self.value().len())
+            .saturating_add(ESTIMATED_OVERHEAD_BYTES)
     }
 
     /// Name, tab, value, with U+FFFD for what is no character.

@@ -4,6 +4,7 @@
 
 pub mod block;
 pub mod cursor;
+pub mod decoder;
 mod decoder_error;
 pub mod dynamic;
 mod encoder_error;
@@ -19,6 +20,7 @@ pub mod static_;
 pub mod vas;
 
 pub use cursor::SliceCursor;
+pub use decoder::{Decoded, decode_stateless};
 pub use decoder_error::DecoderError;
 pub use encoder_error::EncoderError;
 pub use error::Error;

@@ -1,5 +1,5 @@
 //! Prefixed integers (RFC 9204, section 4.1.1; RFC 7541, section 5.1).
-ghost use Rattle.std.specs.Prelude.{◌≡◌, ◌+◌, ◌-◌, ◌^◌, ◌<◌, ◌≤◌, ℕ, List, ◌++◌, OnOk, OnErr, Result, length, MatchOption, ◌*◌, ◌∷◌, take};
+ghost use Rattle.std.specs.Prelude.{◌≡◌, ◌+◌, ◌-◌, ◌^◌, ◌<◌, ◌≤◌, ℕ, List, ◌++◌, OnOk, OnErr, IfOk, Result, length, MatchOption, ◌*◌, ◌∷◌, take};
 ghost use Rattle.h3_field.specs.Integer.{prefixed, ones, groups};
 ghost use Rattle.h3_field.specs.IntegerReading.{integer, integer_limit};
 ghost use Rattle.h3_field.specs.IntegerAnswer.{AnswersInteger};
@@ -64,7 +64,8 @@ fn add_group(limit: u64, sum: u64, place: usize, group: u64) -> Option<u64>
 pub fn decode(size: u8, buf: &mut SliceCursor<'_>) -> Result<(u8, u64), Error>
     requires least { 1 ≤ size }
     requires most { size ≤ 8 }
-    ensures { AnswersInteger (integer size buf.old) buf.old buf.new result }
+    ensures answer { AnswersInteger (integer size buf.old) buf.old buf.new result }
+    ensures below { IfOk result (λ found. found.1 < integer_limit size) }
 {
     let bytes = buf.chunk();
     if bytes.is_empty() {

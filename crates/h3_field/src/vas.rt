@@ -33,7 +33,7 @@ impl fmt::Display for Error {
 impl std::error::Error for Error {}
 
 /// How many entries were added and dropped. A contract sees both numbers.
-#[derive(Default)]
+#[derive(Default, Drop)]
 pub struct VirtualAddressSpace {
     added: usize,
     gone: usize,

@@ -4,9 +4,11 @@ ghost use Rattle.h3_field.specs.LineAnswer.{IsLineKind};
 
 mod indexed;
 mod literal;
+mod prefix;
 
 pub use indexed::{Indexed, IndexedWithPostBase};
 pub use literal::{Literal, LiteralWithNameRef, LiteralWithPostBaseNameRef};
+pub use prefix::HeaderPrefix;
 
 /// Which line a first byte begins.
 #[derive(Copy, Clone, PartialEq, Eq, Debug)]

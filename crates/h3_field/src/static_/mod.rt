@@ -1,7 +1,7 @@
 //! The static table (RFC 9204, appendix A). A hash that tells its names apart and one that tells its entries apart
 //! find an entry by one look.
 ghost use Rattle.std.specs.Prelude.{◌≡◌, ◌<◌, ◌≤◌, length, Some, MatchResult, slice_get};
-ghost use Rattle.h3_field.specs.StaticTable.{static_table, static_field, static_name};
+ghost use Rattle.h3_field.specs.StaticTable.{static_table, static_field, static_name, NamesEntry};
 ghost use Rattle.h3_field.specs.StaticHash.{name_hash, field_hash};
 ghost use Rattle.h3_field.specs.StaticSlots.{name_slot, name_of, name_start, name_part, field_slot, value_of, value_start, value_part};
 ghost use Rattle.h3_field.specs.declared.static_.Error.TheVariants.{Unknown};
@@ -147,6 +147,16 @@ impl StaticTable {
             CowSlice::Borrowed(name_at(index)),
             CowSlice::Borrowed(value_at(index)),
         ))
+    }
+
+    /// The name of the entry of that index.
+    pub fn get_name(index: usize) -> Result<&'static [u8], Error>
+        ensures { MatchResult result (λ name. NamesEntry index name.now) (λ e. (e ≡ Unknown index) × (99 ≤ index)) }
+    {
+        if index >= COUNT {
+            return Err(Error::Unknown(index));
+        }
+        Ok(name_at(index))
     }
 
     /// The index of the entry with that name and value.

@@ -2,8 +2,8 @@ use Rattle.std.proofs.Common.{arith, sym, refl}
 use Rattle.h3_field.proofs.Integers.{answer_low, some_bytes, loop_bad, loop_last, loop_more, loop_end}
 use Rattle.h3_field.proofs.prefix_int.decode.Goals as goal
 
-pub returns-then-low-ones : goal.returns-then-low-ones
-returns-then-low-ones c =
+pub returns-then-low-ones-clause-answer : goal.returns-then-low-ones-clause-answer
+returns-then-low-ones-clause-answer c =
     rw (← c.chunk-bytes.ensures) (answer_low c.args.size c.from-first.result c.greatest-ones.result c.chunk-bytes.result.now _ (some_bytes _ (c.if-is_empty.ensures)) c.from-first.ensures c.greatest-ones.ensures.value c.if-low-ones.true (rw c.chunk-bytes.ensures c.advance.ensures))
 
 pub loop-i-init : goal.loop-i-init
@@ -14,14 +14,14 @@ loop-i-init c = record {
   kept = sym c.chunk-bytes.ensures;
 }
 
-pub returns-in_default : goal.returns-in_default
-returns-in_default c = rw (← c.chunk-bytes.ensures) (loop_bad _ _ _ _ _ _ _ _ c.loop-i.invariant.standing c.loop-i-test.true c.from.ensures c.in_default.ensures c.loop-i.invariant.kept)
+pub returns-in_default-clause-answer : goal.returns-in_default-clause-answer
+returns-in_default-clause-answer c = rw (← c.chunk-bytes.ensures) (loop_bad _ _ _ _ _ _ _ _ c.loop-i.invariant.standing c.loop-i-test.true c.from.ensures c.in_default.ensures c.loop-i.invariant.kept)
 
 pub advance-requires-then-byte-lt128 : goal.advance-requires-then-byte-lt128
 advance-requires-then-byte-lt128 c = rw c.loop-i.invariant.kept (omega arith)
 
-pub returns-then-byte-lt128 : goal.returns-then-byte-lt128
-returns-then-byte-lt128 c =
+pub returns-then-byte-lt128-clause-answer : goal.returns-then-byte-lt128-clause-answer
+returns-then-byte-lt128-clause-answer c =
     let some = c.in-Some.ensures in
     rw (← c.chunk-bytes.ensures) (loop_last _ _ _ _ _ _ _ _ _ c.loop-i.invariant.standing c.loop-i-test.true c.from.ensures some.0 some.1 c.if-byte-lt128.true (rw c.loop-i.invariant.kept at c.advance-then-byte-lt128.ensures))
 
@@ -35,5 +35,5 @@ loop-i-preserved c =
       kept = c.loop-i.invariant.kept;
     }
 
-pub returns : goal.returns
-returns c = rw (← c.chunk-bytes.ensures) (loop_end _ _ _ _ _ _ _ c.loop-i.invariant.standing c.loop-i-test.false c.loop-i.invariant.kept)
+pub returns-clause-answer : goal.returns-clause-answer
+returns-clause-answer c = rw (← c.chunk-bytes.ensures) (loop_end _ _ _ _ _ _ _ c.loop-i.invariant.standing c.loop-i-test.false c.loop-i.invariant.kept)

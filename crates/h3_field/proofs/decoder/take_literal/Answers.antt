@@ -1,0 +1,9 @@
+use Rattle.std.proofs.Common.{refl, sym}
+use Rattle.h3_field.specs.LineReading.{literal}
+use Rattle.h3_field.specs.LineAnswer.{literal_line}
+use Rattle.h3_field.proofs.Sections.{has_field, line_literal, literal_shortens}
+use Rattle.h3_field.proofs.decoder.take_literal.Goals as goal
+
+pub returns-in-Ok : goal.returns-in-Ok
+returns-in-Ok c =
+    has_field literal_line literal _ _ _ _ literal_shortens (line_literal _ c.requires.some c.requires.own) (c.in-Ok.ensures.own c.requires.own) (rw (c.in-Ok.field-0-is, c.new.ensures) refl)

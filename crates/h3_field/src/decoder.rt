@@ -1,0 +1,124 @@
+//! Field sections that name no dynamic entry, decoded (RFC 9204, section 4.5).
+ghost use Rattle.std.specs.Prelude.{◌≡◌, ◌<◌, ◌≤◌, [], true, false, length, OnOk, MatchResult};
+ghost use Rattle.h3_field.specs.Shapes.{begins};
+ghost use Rattle.h3_field.specs.Section.{AnswersSection, Fields};
+ghost use Rattle.h3_field.specs.SectionAnswer.{AnswersField, IsRefusal};
+
+use crate::block::{
+    HeaderBlockField, HeaderPrefix, Indexed, Literal, LiteralWithNameRef,
+};
+use crate::cursor::SliceCursor;
+use crate::decoder_error::DecoderError;
+use crate::field::HeaderField;
+use crate::static_::StaticTable;
+use std::alloc::Global;
+use std::borrow::CowSlice;
+
+/// A decoded field section.
+#[derive(Drop)]
+pub struct Decoded {
+    /// The fields, in order.
+    pub fields: Vec<HeaderField>,
+    /// Whether the required insert count was above 0.
+    pub dyn_ref: bool,
+    /// The sum of the fields' sizes, which stops at the greatest number.
+    pub mem_size: u64,
+}
+
+/// The field of an indexed line.
+fn take_indexed(buf: &mut SliceCursor<'_>) -> Result<HeaderField, DecoderError>
+    requires some { 0 < length buf.old }
+    requires own { begins 128 255 buf.old ≡ true }
+    ensures { AnswersField buf.old buf.new result }
+{
+    match Indexed::decode(buf) {
+        Ok(Indexed::Static(index)) => match StaticTable::get(index) {
+            Ok(field) => Ok(field),
+            Err(e) => Err(DecoderError::InvalidStaticIndex(e)),
+        },
+        Ok(Indexed::Dynamic(_)) => Err(DecoderError::MissingRefs(0)),
+        Err(e) => Err(DecoderError::from(e)),
+    }
+}
+
+/// The field of a line with a literal value and the name of an entry.
+fn take_named(alloc: Global, buf: &mut SliceCursor<'_>) -> Result<HeaderField, DecoderError>
+    requires some { 0 < length buf.old }
+    requires own { begins 64 127 buf.old ≡ true }
+    ensures { AnswersField buf.old buf.new result }
+{
+    match LiteralWithNameRef::decode(alloc, buf) {
+        Ok(LiteralWithNameRef::Static { index, value }) => match StaticTable::get_name(index) {
+            Ok(name) => Ok(HeaderField::with_static_name(name, value)),
+            Err(e) => Err(DecoderError::InvalidStaticIndex(e)),
+        },
+        Ok(LiteralWithNameRef::Dynamic { .. }) => Err(DecoderError::MissingRefs(0)),
+        Err(e) => Err(DecoderError::from(e)),
+    }
+}
+
+/// The field of a line with a literal name and value.
+fn take_literal(alloc: Global, buf: &mut SliceCursor<'_>) -> Result<HeaderField, DecoderError>
+    requires some { 0 < length buf.old }
+    requires own { begins 32 63 buf.old ≡ true }
+    ensures { AnswersField buf.old buf.new result }
+{
+    match Literal::decode(alloc, buf) {
+        Ok(Literal { name, value }) => Ok(HeaderField::new(
+            CowSlice::Owned(name),
+            CowSlice::Owned(value),
+        )),
+        Err(e) => Err(DecoderError::from(e)),
+    }
+}
+
+/// The field of the line at the front, where it names no dynamic entry.
+fn take_field(alloc: Global, buf: &mut SliceCursor<'_>) -> Result<HeaderField, DecoderError>
+    requires { 0 < length buf.old }
+    ensures { AnswersField buf.old buf.new result }
+{
+    match HeaderBlockField::decode(buf.chunk()[0]) {
+        HeaderBlockField::Indexed => take_indexed(buf),
+        HeaderBlockField::LiteralWithNameRef => take_named(alloc, buf),
+        HeaderBlockField::Literal => take_literal(alloc, buf),
+        _ => Err(DecoderError::MissingRefs(0)),
+    }
+}
+
+/// Decodes a field section that names no dynamic entry, to the end of `buf`. It stops at the first field that makes the
+/// sum of the sizes pass `max_size`. A refused read takes nothing.
+pub fn decode_stateless(
+    alloc: Global,
+    buf: &mut SliceCursor<'_>,
+    max_size: u64,
+) -> Result<Decoded, DecoderError>
+    ensures { MatchResult result
+        (λ d. AnswersSection max_size buf.old (Fields d.fields.items d.mem_size) × (d.dyn_ref ≡ false) × (buf.new ≡ []))
+        (λ e. IsRefusal max_size buf.old e × (buf.new ≡ buf.old)) }
+{
+    let mut ahead = SliceCursor::new(buf.chunk());
+    if let Err(e) = HeaderPrefix::decode(&mut ahead) {
+        return Err(DecoderError::from(e));
+    }
+    let mut fields = Vec::new(alloc);
+    let mut mem_size: u64 = 0;
+    while ahead.remaining() > 0 {
+        let field = match take_field(alloc, &mut ahead) {
+            Ok(field) => field,
+            Err(e) => return Err(e),
+        };
+        mem_size = mem_size.saturating_add(field.mem_size() as u64);
+        if mem_size > max_size {
+            return Err(DecoderError::HeaderTooLong(mem_size));
+        }
+        if fields.push(field).is_err() {
+            return Err(DecoderError::OutOfMemory);
+        }
+    }
+    *buf = ahead;
+    Ok(Decoded {
+        fields,
+        dyn_ref: false,
+        mem_size,
+    })
+}
