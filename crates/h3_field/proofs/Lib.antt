@@ -3,3 +3,5 @@ pub mod Strings
 pub mod StaticEntries
 pub mod Prefixes
 pub mod Sections
+pub mod Standing
+pub mod SectionWriting

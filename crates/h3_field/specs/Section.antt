@@ -46,8 +46,11 @@ abbrev pub static_line : Field → FieldLine
 static_line f = line_or_literal (static_field f) f
 
 -- a section that names no dynamic entry: a prefix of count 0 and base 0, and the lines
+abbrev pub static_lines : List Field → List ℕ
+static_lines fields = flat_map (λ f. line_bytes (static_line f)) fields
+
 abbrev pub section_bytes : List Field → List ℕ
-section_bytes fields = 0 ∷ 0 ∷ flat_map (λ f. line_bytes (static_line f)) fields
+section_bytes fields = 0 ∷ 0 ∷ static_lines fields
 
 -- a sum of sizes stops at the greatest number of 64 bits
 abbrev pub add_size : ℕ → Field → ℕ

@@ -4,9 +4,7 @@ ghost use Rattle.h3_field.specs.Shapes.{begins};
 ghost use Rattle.h3_field.specs.Section.{AnswersSection, Fields};
 ghost use Rattle.h3_field.specs.SectionAnswer.{AnswersField, IsRefusal};
 
-use crate::block::{
-    HeaderBlockField, HeaderPrefix, Indexed, Literal, LiteralWithNameRef,
-};
+use crate::block::{HeaderBlockField, HeaderPrefix, Indexed, Literal, LiteralWithNameRef};
 use crate::cursor::SliceCursor;
 use crate::decoder_error::DecoderError;
 use crate::field::HeaderField;
@@ -102,7 +100,7 @@ pub fn decode_stateless(
     }
     let mut fields = Vec::new(alloc);
     let mut mem_size: u64 = 0;
-    while ahead.remaining() > 0 {
+    'lines: while ahead.remaining() > 0 {
         let field = match take_field(alloc, &mut ahead) {
             Ok(field) => field,
             Err(e) => return Err(e),
@@ -111,9 +109,9 @@ pub fn decode_stateless(
         if mem_size > max_size {
             return Err(DecoderError::HeaderTooLong(mem_size));
         }
-        if fields.push(field).is_err() {
+        let Ok(()) = fields.push(field) else {
             return Err(DecoderError::OutOfMemory);
-        }
+        };
     }
     *buf = ahead;
     Ok(Decoded {

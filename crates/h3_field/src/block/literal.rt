@@ -40,7 +40,10 @@ impl LiteralWithNameRef {
     }
 
     /// Takes the line from the front. A refused read takes nothing.
-    pub fn decode(alloc: Global, buf: &mut SliceCursor<'_>) -> Result<LiteralWithNameRef, ParseError>
+    pub fn decode(
+        alloc: Global,
+        buf: &mut SliceCursor<'_>,
+    ) -> Result<LiteralWithNameRef, ParseError>
         ensures own { begins 64 127 buf.old ≡ true → AnswersLine named_line (named buf.old) buf.old buf.new result }
         ensures other { begins 64 127 buf.old ≡ false → (result ≡ Err (InvalidPrefix (slice_index buf.old 0))) × (buf.new ≡ buf.old) }
     {
@@ -154,11 +157,7 @@ impl LiteralWithPostBaseNameRef {
     }
 
     /// Appends the line with that index and value.
-    pub fn write(
-        index: usize,
-        value: &[u8],
-        buf: &mut Vec<u8>,
-    ) -> Result<(), prefix_string::Error>
+    pub fn write(index: usize, value: &[u8], buf: &mut Vec<u8>) -> Result<(), prefix_string::Error>
         requires index { index < 2 ^ 62 }
         requires value { length value.now < 2 ^ 62 }
         ensures memory { IsOkUnless result OutOfMemory }
@@ -211,11 +210,7 @@ impl Literal {
     }
 
     /// Appends the line with that name and value.
-    pub fn write(
-        name: &[u8],
-        value: &[u8],
-        buf: &mut Vec<u8>,
-    ) -> Result<(), prefix_string::Error>
+    pub fn write(name: &[u8], value: &[u8], buf: &mut Vec<u8>) -> Result<(), prefix_string::Error>
         requires name { length name.now < 2 ^ 62 }
         requires value { length value.now < 2 ^ 62 }
         ensures memory { IsOkUnless result OutOfMemory }

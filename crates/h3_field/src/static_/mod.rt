@@ -1,6 +1,6 @@
 //! The static table (RFC 9204, appendix A). A hash that tells its names apart and one that tells its entries apart
 //! find an entry by one look.
-ghost use Rattle.std.specs.Prelude.{◌≡◌, ◌<◌, ◌≤◌, length, Some, MatchResult, slice_get};
+ghost use Rattle.std.specs.Prelude.{◌≡◌, ◌<◌, ◌≤◌, length, Some, MatchResult, IfSome, slice_get};
 ghost use Rattle.h3_field.specs.StaticTable.{static_table, static_field, static_name, NamesEntry};
 ghost use Rattle.h3_field.specs.StaticHash.{name_hash, field_hash};
 ghost use Rattle.h3_field.specs.StaticSlots.{name_slot, name_of, name_start, name_part, field_slot, value_of, value_start, value_part};
@@ -161,7 +161,8 @@ impl StaticTable {
 
     /// The index of the entry with that name and value.
     pub fn find(field: &HeaderField) -> Option<usize>
-        ensures { result ≡ static_field field.now }
+        ensures entry { result ≡ static_field field.now }
+        ensures below { IfSome result (λ index. index < 99) }
     {
         let name = field.name();
         let value = field.value();
@@ -183,7 +184,8 @@ impl StaticTable {
 
     /// The least index of an entry with that name.
     pub fn find_name(name: &[u8]) -> Option<usize>
-        ensures { result ≡ static_name name.now }
+        ensures entry { result ≡ static_name name.now }
+        ensures below { IfSome result (λ index. index < 99) }
     {
         if name.is_empty() {
             return None;

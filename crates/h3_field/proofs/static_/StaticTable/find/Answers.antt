@@ -1,25 +1,25 @@
 use Rattle.h3_field.proofs.StaticEntries.{Sought, field_empty, field_free, field_other_name, field_other_value, field_here}
 use Rattle.h3_field.proofs.static_.StaticTable.find.Goals as goal
 
-pub returns-then-is_empty : goal.returns-then-is_empty
-returns-then-is_empty c = field_empty c.args.field.now (rw c.name-name.ensures at c.if-is_empty.ensures)
+pub returns-then-is_empty-clause-entry : goal.returns-then-is_empty-clause-entry
+returns-then-is_empty-clause-entry c = field_empty c.args.field.now (rw c.name-name.ensures at c.if-is_empty.ensures)
 
-pub returns-then-slot-ge-COUNT : goal.returns-then-slot-ge-COUNT
-returns-then-slot-ge-COUNT c =
+pub returns-then-slot-ge-COUNT-clause-entry : goal.returns-then-slot-ge-COUNT-clause-entry
+returns-then-slot-ge-COUNT-clause-entry c =
     let s : Sought c.args.field.now c.hash_of_field.result c.field_slot_at-slot.result = record { hash_is = rw (c.hash_of_name.ensures.value, c.name-name.ensures, c.value-value.ensures) at c.hash_of_field.ensures.value; slot_is = c.field_slot_at-slot.ensures } in
     field_free _ _ _ s c.if-slot-ge-COUNT.true
 
-pub returns-then-ne : goal.returns-then-ne
-returns-then-ne c =
+pub returns-then-ne-clause-entry : goal.returns-then-ne-clause-entry
+returns-then-ne-clause-entry c =
     let s : Sought c.args.field.now c.hash_of_field.result c.field_slot_at-slot.result = record { hash_is = rw (c.hash_of_name.ensures.value, c.name-name.ensures, c.value-value.ensures) at c.hash_of_field.ensures.value; slot_is = c.field_slot_at-slot.ensures } in
     field_other_name _ _ _ _ s c.name_at.ensures (rw c.name-name.ensures at c.if-ne.ensures)
 
-pub returns-then-ne-2 : goal.returns-then-ne-2
-returns-then-ne-2 c =
+pub returns-then-ne-2-clause-entry : goal.returns-then-ne-2-clause-entry
+returns-then-ne-2-clause-entry c =
     let s : Sought c.args.field.now c.hash_of_field.result c.field_slot_at-slot.result = record { hash_is = rw (c.hash_of_name.ensures.value, c.name-name.ensures, c.value-value.ensures) at c.hash_of_field.ensures.value; slot_is = c.field_slot_at-slot.ensures } in
     field_other_value _ _ _ _ s c.value_at.ensures (rw c.value-value.ensures at c.if-ne-2.ensures)
 
-pub returns : goal.returns
-returns c =
+pub returns-clause-entry : goal.returns-clause-entry
+returns-clause-entry c =
     let s : Sought c.args.field.now c.hash_of_field.result c.field_slot_at-slot.result = record { hash_is = rw (c.hash_of_name.ensures.value, c.name-name.ensures, c.value-value.ensures) at c.hash_of_field.ensures.value; slot_is = c.field_slot_at-slot.ensures } in
     field_here _ _ _ _ _ s c.if-slot-ge-COUNT.false c.name_at.ensures (rw c.name-name.ensures at c.if-ne.ensures) c.value_at.ensures (rw c.value-value.ensures at c.if-ne-2.ensures)
