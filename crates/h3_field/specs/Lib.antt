@@ -30,3 +30,4 @@ pub mod Errors
 pub mod PrefixWriting
 pub mod PrefixAnswer
 pub mod SectionAnswer
+pub mod InstructionAnswer

@@ -18,6 +18,7 @@ pub mod prefix_int;
 pub mod prefix_string;
 mod shapes;
 pub mod static_;
+pub mod stream;
 pub mod vas;
 
 pub use cursor::SliceCursor;

@@ -1,0 +1,84 @@
+-- What the calls of instructions read and write.
+use Rattle.std.specs.Prelude.{◌≡◌, ◌<◌, ◌≤◌, ◌^◌, ℕ, List, length, Option, Some, None, Result, Ok, Err}
+use Rattle.h3_field.specs.Reading.{Reading, Whole, Unfinished, Bad}
+use Rattle.h3_field.specs.Instruction.{EncoderInstruction, DecoderInstruction}
+use Rattle.h3_field.specs.Instruction.{EncoderInstruction as to_decoder, DecoderInstruction as to_encoder}
+use Rattle.h3_field.specs.InstructionReading.{InstructionForm, Says}
+use Rattle.h3_field.specs.ShapeAnswer.{IsRefused}
+use Rattle.h3_field.specs.declared.prefix_int.Error.TheVariants.{Overflow}
+use Rattle.h3_field.specs.declared.parse_error.ParseError.{ParseError}
+use Rattle.h3_field.specs.declared.parse_error.ParseError.TheVariants.{Integer}
+use Rattle.h3_field.specs.declared.stream.EncoderInstruction as encoder_kind
+use Rattle.h3_field.specs.declared.stream.DecoderInstruction as decoder_kind
+use Rattle.h3_field.specs.declared.stream.insertion.InsertWithNameRef as named
+use Rattle.h3_field.specs.declared.stream.insertion.InsertWithoutNameRef.{InsertWithoutNameRef}
+use Rattle.h3_field.specs.declared.stream.table.Duplicate.{Duplicate}
+use Rattle.h3_field.specs.declared.stream.table.DynamicTableSizeUpdate.{DynamicTableSizeUpdate}
+use Rattle.h3_field.specs.declared.stream.reply.InsertCountIncrement.{InsertCountIncrement}
+use Rattle.h3_field.specs.declared.stream.reply.HeaderAck.{HeaderAck}
+use Rattle.h3_field.specs.declared.stream.reply.StreamCancel.{StreamCancel}
+
+-- the instruction that each value is
+abbrev pub named_insertion : named.InsertWithNameRef → EncoderInstruction
+named_insertion (named.TheVariants.Static index value) = to_decoder.InsertWithStaticName index value.items
+named_insertion (named.TheVariants.Dynamic index value) = to_decoder.InsertWithEntryName index value.items
+
+abbrev pub literal_insertion : InsertWithoutNameRef → EncoderInstruction
+literal_insertion i = to_decoder.InsertLiteral i.name.items i.value.items
+
+abbrev pub duplication : Duplicate → EncoderInstruction
+duplication i = to_decoder.Duplicate i.0
+
+abbrev pub capacity_setting : DynamicTableSizeUpdate → EncoderInstruction
+capacity_setting i = to_decoder.SetCapacity i.0
+
+abbrev pub count_increment : InsertCountIncrement → DecoderInstruction
+count_increment i = to_encoder.Increment i.0
+
+abbrev pub section_acknowledgment : HeaderAck → DecoderInstruction
+section_acknowledgment i = to_encoder.Acknowledge i.0
+
+abbrev pub stream_cancellation : StreamCancel → DecoderInstruction
+stream_cancellation i = to_encoder.CancelStream i.0
+
+-- indexes, capacities, streams, counts and lengths that a writer takes
+abbrev pub IsSendable : EncoderInstruction → Type 0
+IsSendable (to_decoder.SetCapacity capacity) = capacity < 2 ^ 62
+IsSendable (to_decoder.InsertWithStaticName index value) = (index < 2 ^ 62) × (length value < 2 ^ 62)
+IsSendable (to_decoder.InsertWithEntryName index value) = (index < 2 ^ 62) × (length value < 2 ^ 62)
+IsSendable (to_decoder.InsertLiteral name value) = (length name < 2 ^ 62) × (length value < 2 ^ 62)
+IsSendable (to_decoder.Duplicate index) = index < 2 ^ 62
+
+abbrev pub IsReply : DecoderInstruction → Type 0
+IsReply (to_encoder.Acknowledge stream) = stream < 2 ^ 62
+IsReply (to_encoder.CancelStream stream) = stream < 2 ^ 62
+IsReply (to_encoder.Increment count) = count < 2 ^ 62
+
+-- The instruction, and what stands behind it is left. One that is not whole, or is refused, is left unread.
+abbrev pub AnswersInstruction : {I : Type 0} → (I → EncoderInstruction) → Reading InstructionForm → List ℕ → List ℕ → Result (Option I) ParseError → Type 0
+AnswersInstruction says (Whole form rest) old new (Ok (Some i)) = Says form (says i) × (new ≡ rest)
+AnswersInstruction says (Whole form rest) old new (Ok None) = ⊥
+AnswersInstruction says (Whole form rest) old new (Err e) = IsRefused ((i : EncoderInstruction) → Says form i → ⊥) e × (new ≡ old)
+AnswersInstruction says Unfinished old new result = (result ≡ Ok None) × (new ≡ old)
+AnswersInstruction says Bad old new result = (result ≡ Err (Integer Overflow)) × (new ≡ old)
+
+abbrev pub AnswersReply : {I : Type 0} → (I → DecoderInstruction) → Reading DecoderInstruction → List ℕ → List ℕ → Result (Option I) ParseError → Type 0
+AnswersReply says (Whole i rest) old new (Ok (Some found)) = (says found ≡ i) × (new ≡ rest)
+AnswersReply says (Whole i rest) old new (Ok None) = ⊥
+AnswersReply says (Whole i rest) old new (Err e) = ⊥
+AnswersReply says Unfinished old new result = (result ≡ Ok None) × (new ≡ old)
+AnswersReply says Bad old new result = (result ≡ Err (Integer Overflow)) × (new ≡ old)
+
+-- which instruction a first byte begins
+abbrev pub IsEncoderKind : ℕ → encoder_kind.EncoderInstruction → Type 0
+IsEncoderKind first encoder_kind.TheVariants.InsertWithNameRef = 128 ≤ first
+IsEncoderKind first encoder_kind.TheVariants.InsertWithoutNameRef = (64 ≤ first) × (first < 128)
+IsEncoderKind first encoder_kind.TheVariants.DynamicTableSizeUpdate = (32 ≤ first) × (first < 64)
+IsEncoderKind first encoder_kind.TheVariants.Duplicate = first < 32
+IsEncoderKind first encoder_kind.TheVariants.Unknown = ⊥
+
+abbrev pub IsDecoderKind : ℕ → decoder_kind.DecoderInstruction → Type 0
+IsDecoderKind first decoder_kind.TheVariants.HeaderAck = 128 ≤ first
+IsDecoderKind first decoder_kind.TheVariants.StreamCancel = (64 ≤ first) × (first < 128)
+IsDecoderKind first decoder_kind.TheVariants.InsertCountIncrement = first < 64
+IsDecoderKind first decoder_kind.TheVariants.Unknown = ⊥
