@@ -44,10 +44,10 @@ impl VarInt {
     pub const MAX_SIZE: usize = 8;
 
     /// Every `u32` is one.
-    pub fn from_u32(x: u32) -> Self
+    pub const fn from_u32(x: u32) -> Self
         ensures { result ≡ x }
     {
-        VarInt(u64::from(x))
+        VarInt(x as u64)
     }
 
     /// Refuses a number of 2^62 or more.
@@ -63,7 +63,7 @@ impl VarInt {
     }
 
     /// A number that is known to be below 2^62.
-    pub fn from_u64_unchecked(x: u64) -> Self
+    pub const fn from_u64_unchecked(x: u64) -> Self
         requires { x < 2 ^ 62 }
         ensures { result ≡ x }
     {
@@ -71,7 +71,7 @@ impl VarInt {
     }
 
     /// The number, below 2^62.
-    pub fn into_inner(self) -> u64
+    pub const fn into_inner(self) -> u64
         ensures value { result ≡ self }
         ensures bound { result < 2 ^ 62 }
     {
@@ -293,6 +293,8 @@ impl Default for VarInt {
 }
 
 impl fmt::Debug for VarInt {
+    ghost debug_output = { λ v. Some (decimal v) };
+
     fn fmt<W: fmt::Write>(&self, f: &mut fmt::Formatter<W>) -> fmt::Result {
         fmt::Debug::fmt(&self.0, f)
     }

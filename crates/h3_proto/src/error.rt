@@ -83,7 +83,7 @@ impl Code {
     pub const QPACK_DECODER_STREAM_ERROR: Code = Code(0x202);
 
     /// The number.
-    pub fn value(&self) -> u64
+    pub const fn value(&self) -> u64
         ensures { result ≡ self.now }
     {
         self.0
