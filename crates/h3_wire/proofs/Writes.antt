@@ -1,9 +1,6 @@
 -- What several writes, one behind another, append.
 use Rattle.std.proofs.Common.{◌≡◌, ℕ, ◌<◌, ◌≤◌, ◌^◌, List, [], ◌++◌, length, arith, refl, sym, ◌∙◌, ap, append_assoc, length-append, Result, Ok, Err, OnErr}
-use Rattle.h3_coding.specs.Encodings.{IsEncoding, one, two, four, eight, encoding}
-use Rattle.h3_coding.specs.EncodingLaws.{encoding_is_valid}
 use Rattle.h3_coding.specs.Writing.{AppendsFront}
-use Rattle.h3_wire.specs.Encoded.{head_encoding}
 
 -- what holds whatever the result is
 pub on_err : {T E : Type 0} {P : Type 0} (r : Result T E) → P → OnErr r P
@@ -31,17 +28,3 @@ begins_behind {old = old} a e at p = record {
   parts = e ∙ ap (λ l. a ++ l) p.parts ∙ sym (append_assoc a p.front p.rest);
   appended = p.appended ∙ ap (λ l. l ++ p.front) at ∙ append_assoc old a p.front;
 }
-
-of_any : (v : ℕ) (bytes : List ℕ) → IsEncoding v bytes → length bytes ≤ 8
-of_any v bytes (one f) = omega (arith, f.count)
-of_any v bytes (two f) = omega (arith, f.count)
-of_any v bytes (four f) = omega (arith, f.count)
-of_any v bytes (eight f) = omega (arith, f.count)
-
--- no number has more than 8 bytes
-pub length-encoding : (v : ℕ) → v < 2 ^ 62 → length (encoding v) ≤ 8
-length-encoding v h = of_any v (encoding v) (encoding_is_valid v h)
-
--- a type and a number
-pub length-head : (kind number : ℕ) → kind < 2 ^ 62 → number < 2 ^ 62 → length (head_encoding kind number) ≤ 16
-length-head kind number h k = omega (arith, length-append (encoding kind) (encoding number), length-encoding kind h, length-encoding number k)

@@ -1,6 +1,7 @@
 -- Frames as they are written (RFC 9114, section 7.1).
-use Rattle.std.specs.Prelude.{ℕ, ◌+◌, ◌<◌, ◌^◌, List, [], ◌++◌, length, codes}
+use Rattle.std.specs.Prelude.{◌≡◌, ℕ, ◌<◌, ◌^◌, List, [], ◌++◌, length, codes}
 use Rattle.h3_coding.specs.Encodings.{encoding}
+use Rattle.h3_proto.specs.Ids.{reserved}
 use Rattle.h3_proto.specs.Pairs.{payload_of}
 use Rattle.h3_wire.specs.Promise.{Promise}
 use Rattle.h3_wire.specs.declared.proto.frame.Frame.{Frame}
@@ -55,9 +56,25 @@ module _ {B : Type 0} (unread : B → List ℕ) where
   written_of (frame.Headers section) = head_encoding 1 (length section)
   written_of f = encoding_of f
 
-  -- the length of the payload has an encoding
+  -- The length of the payload has an encoding.
   abbrev pub HasLength : Frame B → Type 0
   HasLength (frame.Data b) = length (unread b) < 2 ^ 62
   HasLength (frame.Headers section) = length section < 2 ^ 62
   HasLength (frame.PushPromise p) = length (promise_payload p) < 2 ^ 62
   HasLength _ = Unit {0}
+
+-- each number of a frame has an encoding
+abbrev pub HasNumbers : {B : Type 0} → Frame B → Type 0
+HasNumbers (frame.CancelPush id) = id < 2 ^ 62
+HasNumbers (frame.Settings pairs) = length (payload_of pairs) < 2 ^ 62
+HasNumbers (frame.PushPromise p) = p.id < 2 ^ 62
+HasNumbers (frame.Goaway id) = id < 2 ^ 62
+HasNumbers (frame.MaxPushId id) = id < 2 ^ 62
+HasNumbers (frame.WebTransportStream id) = id < 2 ^ 62
+HasNumbers (frame.Grease kind) = kind < 2 ^ 62
+HasNumbers _ = Unit {0}
+
+-- a type without a meaning is one of the reserved ones
+abbrev pub IsReserved : {B : Type 0} → Frame B → Type 0
+IsReserved (frame.Grease kind) = (n : ℕ) × (kind ≡ reserved n)
+IsReserved _ = Unit {0}

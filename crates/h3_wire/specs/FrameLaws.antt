@@ -226,22 +226,6 @@ frame_at-shorter bytes = elim (cases_number bytes) [
 pub frame_at-nil : frame_at [] ≡ Unfinished 1
 frame_at-nil = at_no_kind [] none_at_end
 
--- A frame as it is written: its head reads back, whatever follows.
-pub written_head : (kind number : ℕ) (behind : List ℕ) → kind < 2 ^ 62 → number < 2 ^ 62
-    → frame_at (encoding kind ++ (encoding number ++ behind)) ≡ with_head (length (encoding kind ++ (encoding number ++ behind))) kind number behind
-written_head kind number behind h k =
-    at_head kind number (encoding kind ++ (encoding number ++ behind)) (encoding number ++ behind) behind (reads_shortest kind (encoding number ++ behind) h) (reads_shortest number behind k)
-
-pub written_data : (number : ℕ) (behind : List ℕ) → number < 2 ^ 62 → frame_at (encoding 0 ++ (encoding number ++ behind)) ≡ Whole (frame.Data (record { 0 = number })) behind
-written_data number behind h = written_head 0 number behind (lit< tt) h
-
-pub written_headers : (section rest : List ℕ) → length section < 2 ^ 62 → frame_at (encoding 1 ++ (encoding (length section) ++ (section ++ rest))) ≡ Whole (frame.Headers section) rest
-unfolding frame_of
-written_headers section rest h =
-    let all : length section ≤ length (section ++ rest) = omega (arith, length-append section rest) in
-    written_head 1 (length section) (section ++ rest) (lit< tt) h
-    ∙ rw (le-ltb (length (section ++ rest)) (length section) all, take_at section rest (length section) refl, drop_at section rest (length section) refl) refl
-
 -- worked by hand
 pub row_unknown : frame_at (22 ∷ 4 ∷ 0 ∷ 255 ∷ 128 ∷ 0 ∷ 3 ∷ 1 ∷ 2 ∷ []) ≡ Unknown 22 (3 ∷ 1 ∷ 2 ∷ [])
 unfolding frame_at frame_of varint_at

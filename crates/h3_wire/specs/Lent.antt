@@ -4,6 +4,8 @@ use Rattle.h3_wire.specs.declared.proto.frame.Frame.{Frame}
 use Rattle.h3_wire.specs.declared.proto.frame.Frame.TheVariants as frame
 use Rattle.h3_wire.specs.declared.proto.frame.payload.Payload.{Payload}
 use Rattle.h3_wire.specs.declared.proto.frame.payload.Payload.TheVariants as payload
+use Rattle.h3_wire.specs.declared.proto.frame.payload.PayloadMut.{PayloadMut}
+use Rattle.h3_wire.specs.declared.proto.frame.payload.PayloadMut.TheVariants as payload_mut
 
 -- the frame has a part that it lends
 abbrev pub lends : {B : Type 0} → Frame B → Type 0
@@ -16,3 +18,7 @@ lends _ = ⊥
 abbrev pub payload_left : {B : Type 0} → (B → List ℕ) → Payload B → List ℕ
 payload_left unread (payload.Data b) = unread b.now
 payload_left unread (payload.Bytes bytes) = bytes.now
+
+abbrev pub payload_mut_left : {B : Type 0} → (B → List ℕ) → PayloadMut B → List ℕ
+payload_mut_left unread (payload_mut.Data b) = unread b.now
+payload_mut_left unread (payload_mut.Bytes bytes) = bytes.now

@@ -14,3 +14,4 @@ pub mod Encoded
 pub mod StreamHeaders
 pub mod Outgoing
 pub mod Lent
+pub mod EncodedLaws

@@ -2,7 +2,6 @@
 use Rattle.std.proofs.Common.{◌≡◌, ◌⊎◌, Bool, true, false, ℕ, zero, suc, ◌+◌, ◌-◌, ◌<◌, ◌≤◌, ◌^◌, List, [], ◌∷◌, ◌++◌, length, arith, lit<, sym, ◌∙◌, ap, ap₂, subst, refl, inl, inr, append_assoc, length-append}
 use Rattle.std.proofs.lemmas.List.{nil_from_length}
 use Rattle.std.proofs.lemmas.Bool.{lt-ltb}
-use Rattle.h3_coding.specs.Encodings.{encoding}
 use Rattle.h3_wire.specs.declared.proto.frame.PayloadLen.{PayloadLen}
 use Rattle.h3_wire.specs.declared.proto.frame.Frame.{Frame}
 use Rattle.h3_wire.specs.declared.proto.frame.Frame.TheVariants as frame
@@ -10,7 +9,9 @@ use Rattle.h3_wire.specs.declared.proto.frame.FrameError.{FrameError}
 use Rattle.h3_wire.specs.declared.frame.payload_left.PayloadLeft.{PayloadLeft}
 use Rattle.h3_wire.specs.declared.frame.payload_left.PayloadLeft.TheVariants as payload
 use Rattle.h3_wire.specs.Frames.{Front, Whole, Unknown, Refused, Unfinished, frame_at}
-use Rattle.h3_wire.specs.FrameLaws.{IsFinished, IsShorter, with_more, frame_at-more, frame_at-shorter, frame_at-nil, written_data, written_headers}
+use Rattle.h3_wire.specs.FrameLaws.{IsFinished, IsShorter, with_more, frame_at-more, frame_at-shorter, frame_at-nil}
+use Rattle.h3_wire.specs.Encoded.{frame_encoding}
+use Rattle.h3_wire.specs.EncodedLaws.{written_data, written_headers}
 use Rattle.h3_wire.specs.Known.{known}
 use Rattle.h3_wire.specs.KnownLaws.{IsKnown, cases_front, known-unknown, known-other, unknown_shorter}
 use Rattle.h3_wire.specs.Streams.{payload_behind, is_open, TakesPayload}
@@ -127,13 +128,13 @@ pub reads-more : (p : PayloadLeft) (bytes more : List ℕ) → reads p (bytes ++
 reads-more p bytes more = reads_more_within (length bytes) p bytes more (omega arith)
 
 -- a HEADERS frame as it is written
-pub reads_headers : (section rest : List ℕ) → length section < 2 ^ 62 → reads (payload.Bytes 0) (encoding 1 ++ (encoding (length section) ++ (section ++ rest))) ≡ Framed (frame.Headers section) (reads (payload.Bytes 0) rest)
+pub reads_headers : (section rest : List ℕ) → length section < 2 ^ 62 → reads (payload.Bytes 0) (frame_encoding 1 section ++ rest) ≡ Framed (frame.Headers section) (reads (payload.Bytes 0) rest)
 reads_headers section rest h = reads-whole _ _ rest (written_headers section rest h)
 
 -- a DATA frame as it is written
-pub reads_data : (bytes rest : List ℕ) → length bytes < 2 ^ 62 → reads (payload.Bytes 0) (encoding 0 ++ (encoding (length bytes) ++ (bytes ++ rest))) ≡ Framed (frame.Data (record { 0 = length bytes })) (bytes_then bytes (reads (payload.Bytes 0) rest))
+pub reads_data : (bytes rest : List ℕ) → length bytes < 2 ^ 62 → reads (payload.Bytes 0) (frame_encoding 0 bytes ++ rest) ≡ Framed (frame.Data (record { 0 = length bytes })) (bytes_then bytes (reads (payload.Bytes 0) rest))
 reads_data bytes rest h =
-    reads-whole _ _ (bytes ++ rest) (written_data (length bytes) (bytes ++ rest) h)
+    reads-whole _ _ (bytes ++ rest) (written_data bytes rest h)
     ∙ ap (Framed (frame.Data (record { 0 = length bytes }))) (reads-bytes bytes (payload.Bytes (length bytes)) (payload.Bytes 0) rest (omega arith, ap payload.Bytes (omega arith)))
 
 -- no payload is under way

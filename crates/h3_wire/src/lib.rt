@@ -3,6 +3,7 @@
 
 pub mod buf;
 pub mod frame;
+pub mod laws;
 pub mod proto;
 pub mod quic;
 pub mod stream;

@@ -3,7 +3,7 @@ ghost use Rattle.std.specs.Prelude.{◌≡◌, ◌+◌, ◌<◌, ◌≤◌, ◌^
 ghost use Rattle.h3_coding.specs.Encodings.{encoding};
 ghost use Rattle.h3_coding.specs.Writing.{AppendsFront, UsesRoom};
 ghost use Rattle.h3_proto.specs.Pairs.{payload_of};
-ghost use Rattle.h3_wire.specs.Encoded.{head_encoding, frame_encoding, promise_payload, promise_front, front_of, written_of, HasLength};
+ghost use Rattle.h3_wire.specs.Encoded.{head_encoding, frame_encoding, promise_payload, promise_front, front_of, written_of, HasLength, HasNumbers};
 
 use super::{Frame, FrameType, PushPromise, Settings};
 use bytes::{Buf, BufMut};
@@ -23,6 +23,36 @@ impl<B: Buf> Frame<B> {
         match self {
             Frame::PushPromise(promise) => write_promise(promise, out),
             other => other.encode_front(out),
+        }
+    }
+
+    /// Each number of the frame has an encoding.
+    pub(crate) fn known(&self)
+        ensures { HasNumbers self.now }
+    {
+        match self {
+            Frame::CancelPush(id) => {
+                let _id = VarInt::from(*id);
+            }
+            Frame::Settings(settings) => {
+                let _len = settings.payload_len();
+            }
+            Frame::PushPromise(promise) => {
+                let _id = VarInt::from(promise.id);
+            }
+            Frame::Goaway(id) => {
+                let _id = id.into_inner();
+            }
+            Frame::MaxPushId(id) => {
+                let _id = VarInt::from(*id);
+            }
+            Frame::WebTransportStream(id) => {
+                let _id = id.into_inner();
+            }
+            Frame::Grease(kind) => {
+                let _number = kind.0;
+            }
+            _ => {}
         }
     }
 

@@ -3,7 +3,7 @@
 ghost use Rattle.std.specs.Prelude.{◌≡◌, ◌≤◌, length, drop, IfSome, IsSome, ◌↔◌};
 ghost use Rattle.bytes.specs.Unread.{IsChunkOf};
 ghost use Rattle.h3_wire.specs.Encoded.{lent_of};
-ghost use Rattle.h3_wire.specs.Lent.{lends, payload_left};
+ghost use Rattle.h3_wire.specs.Lent.{lends, payload_left, payload_mut_left};
 
 use super::Frame;
 use crate::buf::Piece;
@@ -35,6 +35,19 @@ impl<B: Buf> Frame<B> {
             Frame::Data(payload) => Some(Payload::Data(payload)),
             Frame::Headers(section) => Some(Payload::Bytes(section.as_slice())),
             Frame::PushPromise(promise) => Some(Payload::Bytes(promise.encoded.as_slice())),
+            _ => None,
+        }
+    }
+
+    /// The same bytes, to be taken from the frame.
+    pub fn payload_mut(&mut self) -> Option<PayloadMut<'_, B>>
+        ensures value { IfSome result (λ p. payload_mut_left B.unread p ≡ lent_of B.unread self.old) }
+        ensures some { IsSome result ↔ lends self.old }
+    {
+        match self {
+            Frame::Data(payload) => Some(PayloadMut::Data(payload)),
+            Frame::Headers(section) => Some(PayloadMut::Bytes(section)),
+            Frame::PushPromise(promise) => Some(PayloadMut::Bytes(&mut promise.encoded)),
             _ => None,
         }
     }
@@ -99,5 +112,30 @@ impl<B: Piece> Buf for Payload<'_, B> {
             Payload::Data(payload) => Payload::Bytes(&payload.bytes()[cnt..]),
             Payload::Bytes(bytes) => Payload::Bytes(&bytes[cnt..]),
         };
+    }
+}
+
+impl<B: Buf> Buf for PayloadMut<'_, B> {
+    ghost unread = { payload_mut_left B.unread };
+
+    fn remaining(&self) -> usize {
+        match self {
+            PayloadMut::Data(payload) => payload.remaining(),
+            PayloadMut::Bytes(bytes) => bytes.len(),
+        }
+    }
+
+    fn chunk(&self) -> &[u8] {
+        match self {
+            PayloadMut::Data(payload) => payload.chunk(),
+            PayloadMut::Bytes(bytes) => bytes.chunk(),
+        }
+    }
+
+    fn advance(&mut self, cnt: usize) {
+        match self {
+            PayloadMut::Data(payload) => payload.advance(cnt),
+            PayloadMut::Bytes(bytes) => bytes.advance(cnt),
+        }
     }
 }

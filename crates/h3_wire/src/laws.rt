@@ -1,0 +1,26 @@
+//! What holds of every frame. These functions do nothing: their contracts are the laws.
+ghost use Rattle.std.specs.Prelude.{◌≡◌, ℕ, List, ◌++◌};
+ghost use Rattle.h3_wire.specs.Encoded.{encoding_of, HasLength, IsReserved};
+ghost use Rattle.h3_wire.specs.EncodedLaws.{read_back};
+ghost use Rattle.h3_wire.specs.Frames.{frame_at};
+ghost use Rattle.h3_wire.specs.Reads.{reads, then_more};
+ghost use Rattle.h3_wire.specs.declared.frame.payload_left.PayloadLeft.{PayloadLeft};
+
+use crate::proto::frame::Frame;
+use bytes::Buf;
+
+/// A frame that was written is read as it was, whatever follows it: of DATA the head, with the
+/// payload behind it. A frame without a meaning is skipped where its type is a reserved one.
+pub fn written_is_read<B: Buf>(frame: &Frame<B>)
+    requires length { HasLength B.unread frame.now }
+    requires reserved { IsReserved frame.now }
+    ensures { (rest : List ℕ) → frame_at (encoding_of B.unread frame.now ++ rest) ≡ read_back B.unread frame.now rest }
+{
+    frame.known();
+}
+
+/// However bytes are cut, they read alike: what a front of them reads as is settled, but for its
+/// rest, which more bytes only continue.
+pub fn cuts_do_not_matter()
+    ensures { (payload : PayloadLeft) (bytes more : List ℕ) → reads payload (bytes ++ more) ≡ then_more (reads payload bytes) more }
+{}
