@@ -1,2 +1,1 @@
 pub mod Received
-pub mod Taken

@@ -7,4 +7,3 @@ pub mod PayloadLaws
 pub mod Payloads
 pub mod Settings
 pub mod StreamIds
-pub mod Taking

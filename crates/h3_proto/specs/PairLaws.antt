@@ -57,11 +57,11 @@ cases_pair_of (Some q) e = inr (q.0, q.1, e)
 pub cases_pair : (bytes : List ℕ) → (pair_at bytes ≡ None) ⊎ ((p : ℕ × ℕ) × (rest : List ℕ) × (pair_at bytes ≡ Some (p, rest)))
 cases_pair bytes = cases_pair_of (pair_at bytes) refl
 
-within_none : (n : ℕ) (bytes : List ℕ) → pair_at bytes ≡ None → split_within n bytes ≡ record { pairs = []; rest = bytes }
+within_none : (n : ℕ) (bytes : List ℕ) → pair_at bytes ≡ None → split_within n bytes ≡ record { each = []; rest = bytes }
 within_none zero bytes e = refl
 within_none (suc n) bytes e = ap (λ o. behind bytes o (split_within n)) e
 
-within_pair : (n : ℕ) (p : ℕ × ℕ) (bytes rest : List ℕ) → pair_at bytes ≡ Some (p, rest) → split_within (suc n) bytes ≡ record { pairs = p ∷ (split_within n rest).pairs; rest = (split_within n rest).rest }
+within_pair : (n : ℕ) (p : ℕ × ℕ) (bytes rest : List ℕ) → pair_at bytes ≡ Some (p, rest) → split_within (suc n) bytes ≡ record { each = (p, rest) ∷ (split_within n rest).each; rest = (split_within n rest).rest }
 within_pair n p bytes rest e = ap (λ o. behind bytes o (split_within n)) e
 
 -- as many steps as there are bytes are enough
@@ -79,17 +79,17 @@ within_same (suc n) (suc m) bytes h k = elim (cases_pair bytes) [
   | inr some ↦
       let less = pair_shorter some.0 bytes some.1 some.2 in
       let same = within_same n m some.1 (omega arith) (omega arith) in
-      let grown : Split → Split = λ s. record { pairs = some.0 ∷ s.pairs; rest = s.rest } in
+      let grown : Split → Split = λ s. record { each = (some.0, some.1) ∷ s.each; rest = s.rest } in
       within_pair n some.0 bytes some.1 some.2 ∙ ap grown same ∙ sym (within_pair m some.0 bytes some.1 some.2)
 ]
 
-pub split_none : (bytes : List ℕ) → pair_at bytes ≡ None → split_of bytes ≡ record { pairs = []; rest = bytes }
+pub split_none : (bytes : List ℕ) → pair_at bytes ≡ None → split_of bytes ≡ record { each = []; rest = bytes }
 unfolding split_of
 split_none bytes e = within_none (length bytes) bytes e
 
-pub split_pair : (p : ℕ × ℕ) (bytes rest : List ℕ) → pair_at bytes ≡ Some (p, rest) → split_of bytes ≡ record { pairs = p ∷ (split_of rest).pairs; rest = (split_of rest).rest }
+pub split_pair : (p : ℕ × ℕ) (bytes rest : List ℕ) → pair_at bytes ≡ Some (p, rest) → split_of bytes ≡ record { each = (p, rest) ∷ (split_of rest).each; rest = (split_of rest).rest }
 unfolding split_of
 split_pair p bytes rest e =
     let less = pair_shorter p bytes rest e in
     within_same (length bytes) (suc (length bytes)) bytes (omega arith) (omega arith) ∙ within_pair (length bytes) p bytes rest e
-    ∙ ap (λ (s : Split). record { pairs = p ∷ s.pairs; rest = s.rest }) (within_same (length bytes) (length rest) rest (omega arith) (omega arith))
+    ∙ ap (λ (s : Split). record { each = (p, rest) ∷ s.each; rest = s.rest }) (within_same (length bytes) (length rest) rest (omega arith) (omega arith))

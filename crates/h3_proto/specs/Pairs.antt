@@ -1,5 +1,5 @@
 -- The payload of a SETTINGS frame as bytes: pairs of two variable-length integers (RFC 9114, section 7.2.4).
-use Rattle.std.specs.Prelude.{ℕ, zero, suc, ◌^◌, ◌<◌, Bool, ◌==◌, ◌&&◌, List, [], ◌∷◌, ◌++◌, length, Option, Some, None}
+use Rattle.std.specs.Prelude.{ℕ, zero, suc, ◌^◌, ◌<◌, Bool, ◌==◌, ◌&&◌, List, [], ◌∷◌, ◌++◌, length, map, Option, Some, None}
 use Rattle.std.specs.List.{flat_map}
 use Rattle.h3_coding.specs.Encodings.{encoding}
 use Rattle.h3_coding.specs.Varint.{varint_at}
@@ -32,17 +32,20 @@ with_value (Some p) = with_id p.0 (varint_at p.1)
 abbrev pub pair_at : List ℕ → Option ((ℕ × ℕ) × List ℕ)
 pair_at bytes = with_value (varint_at bytes)
 
--- Pairs, one behind another, and the bytes behind them.
+-- Pairs, one behind another, each with the bytes behind it, and the bytes behind the last.
 pub record Split : Type 0 where
-  pub pairs : List (ℕ × ℕ)
+  pub each : List ((ℕ × ℕ) × List ℕ)
   pub rest : List ℕ
 
+abbrev pub pairs_in : Split → List (ℕ × ℕ)
+pairs_in split = map (λ q. q.0) split.each
+
 abbrev pub behind : List ℕ → Option ((ℕ × ℕ) × List ℕ) → (List ℕ → Split) → Split
-behind bytes None go = record { pairs = []; rest = bytes }
-behind bytes (Some p) go = record { pairs = p.0 ∷ (go p.1).pairs; rest = (go p.1).rest }
+behind bytes None go = record { each = []; rest = bytes }
+behind bytes (Some p) go = record { each = p ∷ (go p.1).each; rest = (go p.1).rest }
 
 abbrev pub split_within : ℕ → List ℕ → Split
-split_within zero bytes = record { pairs = []; rest = bytes }
+split_within zero bytes = record { each = []; rest = bytes }
 split_within (suc n) bytes = behind bytes (pair_at bytes) (split_within n)
 
 -- all pairs at the front of a payload, which has fewer pairs than bytes, and the rest, which begins no pair

@@ -1,9 +1,10 @@
 -- Which settings are kept, and what a payload stands for (RFC 9114, sections 7.2.4 and 7.2.4.1).
-use Rattle.std.specs.Prelude.{ℕ, ◌^◌, Bool, ◌==◌, nat_le, find, List, [], ◌∷◌, ◌++◌, length, Option, Result, Ok, Err, codes, false, if◌then◌else◌}
+use Rattle.std.specs.Prelude.{ℕ, ◌^◌, Bool, ◌==◌, nat_le, find, List, [], ◌∷◌, ◌++◌, length, Option, Some, None, Result, Ok, Err, codes, false, if◌then◌else◌}
 use Rattle.std.specs.Fmt.{digits, decimal}
 use Rattle.std.specs.List.{list_any}
 use Rattle.std.specs.Option.{option_map}
-use Rattle.h3_proto.specs.Pairs.{Split, split_of}
+use Rattle.h3_proto.specs.Pairs.{Split, pairs_in, split_of}
+use Rattle.h3_coding.specs.Varint.{varint_at}
 use Rattle.h3_proto.specs.declared.frame.SettingsError.{SettingsError}
 use Rattle.h3_proto.specs.declared.frame.SettingsError.TheVariants.{Exceeded, Malformed, Repeated, InvalidSettingId, InvalidSettingValue}
 
@@ -61,8 +62,33 @@ at_rest [] kept = Ok kept
 at_rest (byte ∷ bytes) kept = Err Malformed
 
 abbrev pub settings_behind : List (ℕ × ℕ) → Split → Result (List (ℕ × ℕ)) SettingsError
-settings_behind kept split = received_then (at_rest split.rest) (received_all kept split.pairs)
+settings_behind kept split = received_then (at_rest split.rest) (received_all kept (pairs_in split))
 
 -- the settings that a payload stands for, or its refusal
 abbrev pub settings_of : List ℕ → Result (List (ℕ × ℕ)) SettingsError
 settings_of payload = settings_behind [] (split_of payload)
+
+-- what follows the pair where it is refused
+abbrev pub left_if : Result (List (ℕ × ℕ)) SettingsError → List ℕ → (List (ℕ × ℕ) → List ℕ) → List ℕ
+left_if (Ok kept) rest go = go kept
+left_if (Err e) rest go = rest
+
+abbrev pub left_in : List (ℕ × ℕ) → List ((ℕ × ℕ) × List ℕ) → List ℕ → List ℕ
+left_in kept [] last = last
+left_in kept (q ∷ each) last = left_if (received kept q.0) q.1 (λ k. left_in k each last)
+
+-- bytes that begin no pair, without their first number where one is whole
+abbrev pub behind_id : List ℕ → Option (ℕ × List ℕ) → List ℕ
+behind_id bytes None = bytes
+behind_id bytes (Some id) = id.1
+
+abbrev pub left_of_pair : List ℕ → List ℕ
+left_of_pair bytes = behind_id bytes (varint_at bytes)
+
+abbrev pub left_behind : List (ℕ × ℕ) → Split → List ℕ
+left_behind kept split = left_in kept split.each (left_of_pair split.rest)
+
+-- what a read leaves of a payload: of a whole one nothing, of a refused one what follows the refused pair, or
+-- what follows the identifier where the value is not whole
+abbrev pub left_of : List ℕ → List ℕ
+left_of payload = left_behind [] (split_of payload)

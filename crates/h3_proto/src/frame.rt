@@ -5,8 +5,7 @@ ghost use Rattle.h3_coding.specs.Writing.{AppendsFront, UsesRoom};
 ghost use Rattle.h3_proto.specs.Ids.{reserved};
 ghost use Rattle.h3_proto.specs.PairLaws.{same_pairs};
 ghost use Rattle.h3_proto.specs.Pairs.{IsPair, same_pair, pair_encoding, payload_of, pair_at};
-ghost use Rattle.h3_proto.specs.Settings.{error_text, is_forbidden, is_known, has_id, value_of, inserted, received, settings_of};
-ghost use Rattle.h3_proto.specs.Taking.{TakesFront};
+ghost use Rattle.h3_proto.specs.Settings.{error_text, is_forbidden, is_known, has_id, value_of, inserted, received, settings_of, left_of, left_of_pair};
 
 use bytes::{Buf, BufMut};
 use h3_coding::coding::{BufExt, BufMutExt, WriteRefused};
@@ -226,24 +225,26 @@ impl Settings {
         Ok(())
     }
 
-    /// Reads a payload, to the end of the buffer. An `Err` leaves a part of it taken.
+    /// Reads a payload, to the end of the buffer: the settings of known ids in order; others are left
+    /// out. Refuses, whichever comes first, a pair whose numbers are not whole (`Malformed`), an id that
+    /// is reserved as one of HTTP/2's, and a known id that came before. An `Err` leaves what follows the
+    /// refused pair, or what follows the id where its value is not whole (RFC 9114, section 7.2.4).
     pub fn read_payload<B: Buf>(buf: &mut B) -> Result<Self, SettingsError>
         ensures value { result ≡ settings_of (B.unread buf.old) }
-        ensures rest { OnOk result (B.unread buf.new ≡ []) }
-        ensures err { OnErr result (TakesFront (length (B.unread buf.old)) (B.unread buf.old) (B.unread buf.new)) }
+        ensures ok { OnOk result (B.unread buf.new ≡ []) }
+        ensures rest { B.unread buf.new ≡ left_of (B.unread buf.old) }
         ensures kept { B.kept buf.new ≡ B.kept buf.old }
     {
         let len = buf.remaining();
         Settings::read_front(buf, len)
     }
 
-    /// Reads a payload of `len` bytes, and leaves what follows it. An `Err` leaves a part of the
-    /// bytes taken.
+    /// Reads a payload of `len` bytes as `read_payload` does, and leaves what follows it.
     pub fn read_front<B: Buf>(buf: &mut B, len: usize) -> Result<Self, SettingsError>
         requires { len ≤ length (B.unread buf.old) }
         ensures value { result ≡ settings_of (take len (B.unread buf.old)) }
-        ensures rest { OnOk result (B.unread buf.new ≡ drop len (B.unread buf.old)) }
-        ensures err { OnErr result (TakesFront len (B.unread buf.old) (B.unread buf.new)) }
+        ensures ok { OnOk result (B.unread buf.new ≡ drop len (B.unread buf.old)) }
+        ensures rest { B.unread buf.new ≡ left_of (take len (B.unread buf.old)) ++ drop len (B.unread buf.old) }
         ensures kept { B.kept buf.new ≡ B.kept buf.old }
     {
         let mut settings = Settings::default();
@@ -281,7 +282,7 @@ fn get_pair<B: Buf>(buf: &mut B, len: usize) -> Option<(u64, u64, usize)>
         × (drop len (B.unread buf.old) ≡ drop p.2 (B.unread buf.new))) }
     ensures inside { IfSome result (λ p. (p.2 ≤ length (B.unread buf.new)) × (p.2 < len)) }
     ensures none { IsNone result → pair_at (take len (B.unread buf.old)) ≡ None }
-    ensures taken { TakesFront len (B.unread buf.old) (B.unread buf.new) }
+    ensures left { IsNone result → B.unread buf.new ≡ left_of_pair (take len (B.unread buf.old)) ++ drop len (B.unread buf.old) }
     ensures kept { B.kept buf.new ≡ B.kept buf.old }
 {
     let (id, behind) = buf.get_var_within(len)?;

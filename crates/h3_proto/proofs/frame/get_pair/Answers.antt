@@ -1,14 +1,17 @@
-use Rattle.std.proofs.Common.{rules}
-use Rattle.h3_proto.proofs.Taken.{number, then, takes}
+use Rattle.std.proofs.Common.{rules, ap, ap₂, sym, ◌∙◌, ◌++◌, take, drop}
+use Rattle.std.proofs.lemmas.List.{take-append-drop}
+use Rattle.h3_proto.specs.Settings.{behind_id}
 use Rattle.h3_proto.proofs.frame.get_pair.Goals as goal
 
-pub returns-in_err-value-clause-taken : goal.returns-in_err-value-clause-taken
-returns-in_err-value-clause-taken g c =
-    let id = number c.in_ok-id.id _ _ _ _ c.in_ok-id.ensures.some.0 c.in_ok-id.ensures.some.1 c.requires c.in_ok-id.ensures.inside.0 in
-    rw (c.in_err-value.ensures.same (search rules)) (takes _ _ _ _ id)
+pub returns-in_err-id-clause-left : goal.returns-in_err-id-clause-left
+returns-in_err-id-clause-left g c = λ _.
+    let old = g.B.Buf.unread c.args.buf.now in
+    c.in_err-id.ensures.same (search rules) ∙ sym (take-append-drop c.args.len old)
+    ∙ ap (λ o. behind_id (take c.args.len old) o ++ drop c.args.len old) (sym (c.in_err-id.ensures.none (search rules)))
 
-pub returns-clause-taken : goal.returns-clause-taken
-returns-clause-taken g c =
-    let id = number c.in_ok-id.id _ _ _ _ c.in_ok-id.ensures.some.0 c.in_ok-id.ensures.some.1 c.requires c.in_ok-id.ensures.inside.0 in
-    let value = number c.in_ok-value.value _ _ _ _ c.in_ok-value.ensures.some.0 c.in_ok-value.ensures.some.1 c.in_ok-id.ensures.inside.0 c.in_ok-value.ensures.inside.0 in
-    takes _ _ _ _ (then _ _ _ _ _ _ id value)
+pub returns-in_err-value-clause-left : goal.returns-in_err-value-clause-left
+returns-in_err-value-clause-left g c = λ _.
+    let old = g.B.Buf.unread c.args.buf.now in
+    let some = c.in_ok-id.ensures.some in
+    c.in_err-value.ensures.same (search rules) ∙ sym (take-append-drop c.in_ok-id.behind (g.B.Buf.unread c.get_var_within.new.self))
+    ∙ ap₂ (λ o l. behind_id (take c.args.len old) o ++ l) (sym some.0) (sym some.1)
