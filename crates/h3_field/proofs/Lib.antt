@@ -5,3 +5,5 @@ pub mod Prefixes
 pub mod Sections
 pub mod Standing
 pub mod SectionWriting
+pub mod ReadBack
+pub mod SectionReadBack

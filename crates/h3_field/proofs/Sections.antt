@@ -45,7 +45,7 @@ says_one (Named false index p) l k a b = rw (a.2, b.2, stands_one p a.0 b.0 a.1 
 says_one (PostBaseNamed index p) l k a b = rw (a.2, b.2, stands_one p a.0 b.0 a.1 b.1) refl
 says_one (LiteralField p q) l k a b = rw (a.4, b.4, stands_one p a.0 b.0 a.2 b.2, stands_one q a.1 b.1 a.3 b.3) refl
 
-whole_same : {A : Type 0} (v w : A) (r s : List ℕ) → Whole v r ≡ Whole w s → (v ≡ w) × (r ≡ s)
+pub whole_same : {A : Type 0} (v w : A) (r s : List ℕ) → Whole v r ≡ Whole w s → (v ≡ w) × (r ≡ s)
 whole_same v w r s e = (cc, cc)
 
 -- bytes begin with one line

@@ -83,7 +83,7 @@ pub record HasField (f : Field) : Type 0 where
   pub value : value_of (slot_of_field field_slot f) ≡ f.value
   pub some : 0 < length f.name
 
-two_ways : (b : Bool) → (b ≡ true) ⊎ (b ≡ false)
+pub two_ways : (b : Bool) → (b ≡ true) ⊎ (b ≡ false)
 two_ways true = inl refl
 two_ways false = inr refl
 
@@ -105,7 +105,7 @@ look_up (entry ∷ rows) name h some =
 field_parts : (name other value more : List ℕ) → name ≡ other → value ≡ more → ◌≡◌ {A = Field} (record { name = name; value = value }) (record { name = other; value = more })
 field_parts name other value more e f = rw (e, f) refl
 
-same_field : (e f : Field) → field_eq e f ≡ true → e ≡ f
+pub same_field : (e f : Field) → field_eq e f ≡ true → e ≡ f
 same_field e f h =
     let parts = and_parts (bytes_eq e.name f.name) (bytes_eq e.value f.value) h in
     field_parts e.name f.name e.value f.value (bytes_same e.name f.name parts.0) (bytes_same e.value f.value parts.1)

@@ -31,3 +31,4 @@ pub mod PrefixWriting
 pub mod PrefixAnswer
 pub mod SectionAnswer
 pub mod InstructionAnswer
+pub mod ReadBack

@@ -1,6 +1,8 @@
 //! Field sections that name no dynamic entry, encoded (RFC 9204, section 4.5).
 ghost use Rattle.std.specs.Prelude.{◌≡◌, ◌<◌, ◌≤◌, ◌^◌, ◌++◌, length, take, OnOk, OnErr, IfOk};
 ghost use Rattle.std.specs.Result.{IsOkUnless};
+ghost use Rattle.std.specs.List.{AllByRecursion};
+ghost use Rattle.h3_field.specs.ReadBack.{IsFieldOfBytes};
 ghost use Rattle.h3_field.specs.Field.{field_size, section_size};
 ghost use Rattle.h3_field.specs.Line.{line_bytes};
 ghost use Rattle.h3_field.specs.Section.{static_line, static_lines, section_bytes};
@@ -36,12 +38,15 @@ fn put_section(block: &mut Vec<u8>, fields: &[HeaderField]) -> Result<u64, Encod
     ensures memory { IsOkUnless result OutOfMemory }
     ensures ok { OnOk result (block.new.items ≡ block.old.items ++ section_bytes fields.now) }
     ensures size { IfOk result (λ size. size ≡ section_size fields.now) }
+    ensures bytes { OnOk result (AllByRecursion IsFieldOfBytes fields.now) }
+    ensures fits { OnOk result (length (section_bytes fields.now) < 2 ^ 63) }
     ensures err { OnErr result (take (length block.old.items) block.new.items ≡ block.old.items) }
 {
     HeaderPrefix::new(0, 0, 0, 0).encode(block)?;
     let mut size: u64 = 0;
     'fields: for field in fields {
         put_field(field, block)?;
+        field.are_bytes();
         size += field.mem_size() as u64;
     }
     Ok(size)
@@ -54,6 +59,8 @@ pub fn encode_stateless(block: &mut Vec<u8>, fields: &[HeaderField]) -> Result<u
     ensures memory { IsOkUnless result OutOfMemory }
     ensures ok { OnOk result (block.new.items ≡ block.old.items ++ section_bytes fields.now) }
     ensures size { IfOk result (λ size. size ≡ section_size fields.now) }
+    ensures bytes { OnOk result (AllByRecursion IsFieldOfBytes fields.now) }
+    ensures fits { OnOk result (length (section_bytes fields.now) < 2 ^ 63) }
     ensures err { OnErr result (block.new.items ≡ block.old.items) }
 {
     let start = block.len();

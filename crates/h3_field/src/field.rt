@@ -2,6 +2,7 @@
 ghost use Rattle.std.specs.Prelude.{◌≡◌, ◌++◌, ◌∷◌, [], codes, string_bytes, IfOk, Some, encode_utf8_all, nat_eq, min, ◌^◌, ◌-◌};
 ghost use Rattle.std.specs.Cow.{cow_slice_items};
 ghost use Rattle.h3_field.specs.Field.{field_size};
+ghost use Rattle.h3_field.specs.ReadBack.{IsFieldOfBytes};
 ghost use Rattle.std.specs.Hash as fed;
 ghost use Rattle.std.specs.Cmp.Lexicographic.{pointwise};
 ghost use Rattle.std.specs.Ordering.{on, eq_of_both};
@@ -9,6 +10,7 @@ ghost use Rattle.std.specs.Cmp.Rules.{comparing, hashing};
 ghost use Rattle.std.proofs.Common.{rules};
 ghost use Rattle.bstr.specs.Utf8.{lossy_chars};
 
+use crate::octets::are_bytes;
 use bstr::{BStr, ByteVec};
 use std::alloc::{AllocError, Global};
 use std::borrow::CowSlice;
@@ -72,6 +74,14 @@ impl HeaderField {
             .len()
             .saturating_add(self.value().len())
             .saturating_add(ESTIMATED_OVERHEAD_BYTES)
+    }
+
+    /// Each item of name and value is a byte. It does nothing: a proof that needs the fact calls it.
+    pub fn are_bytes(&self)
+        ensures { IsFieldOfBytes self.now }
+    {
+        are_bytes(self.name());
+        are_bytes(self.value());
     }
 
     /// Name, tab, value, with U+FFFD for what is no character.

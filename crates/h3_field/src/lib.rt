@@ -12,6 +12,7 @@ mod encoder_error;
 mod error;
 pub mod examples;
 pub mod field;
+pub mod laws;
 mod octets;
 pub mod parse_error;
 pub mod prefix_int;
