@@ -31,8 +31,10 @@ pub trait Encode {
     /// leaves the bytes that were there and a beginning of the encoding.
     fn encode<B: BufMut>(&self, buf: &mut B) -> std::result::Result<(), WriteRefused>
         ensures ok { OnOk result (B.written buf.new ≡ B.written buf.old ++ encoding self.now) }
-        ensures err { OnErr result (AppendsFront (encoding self.now) (B.written buf.old) (B.written buf.new)) }
-        ensures room { UsesRoom result (B.spare buf.old) (B.spare buf.new) (length (encoding self.now)) };
+        ensures err { OnErr result
+            (AppendsFront (encoding self.now) (B.written buf.old) (B.written buf.new)) }
+        ensures room { UsesRoom result (B.spare buf.old)
+            (B.spare buf.new) (length (encoding self.now)) };
 }
 
 /// A value that can be read. No encoding of one value begins an encoding of another.
@@ -45,15 +47,18 @@ pub trait Decode: Sized {
 
     /// Takes an encoding from the front, and leaves what follows it.
     fn decode<B: Buf>(buf: &mut B) -> Result<Self>
-        ensures ok { IfOk result (λ v. Takes (is_encoding v) (B.unread buf.old) (B.unread buf.new)) }
+        ensures ok { IfOk result
+            (λ v. Takes (is_encoding v) (B.unread buf.old) (B.unread buf.new)) }
         ensures err { IfErr result (λ e. is_unfinished (B.unread buf.old) e.0 (B.unread buf.new)) }
         ensures kept { B.kept buf.new ≡ B.kept buf.old };
 
     // No encoding of a value begins an encoding of another.
-    ghost one_encoding: { (v w : Self) (t u r s : List ℕ) → is_encoding v t → is_encoding w u → t ++ r ≡ u ++ s → (v ≡ w) × (t ≡ u) };
+    ghost one_encoding: { (v w : Self) (t u r s : List ℕ) → is_encoding v t → is_encoding w u
+        → t ++ r ≡ u ++ s → (v ≡ w) × (t ≡ u) };
 
     // What begins with an encoding is not unfinished.
-    ghost finished: { (v : Self) (t r left : List ℕ) (count : ℕ) → is_encoding v t → is_unfinished (t ++ r) count left → ⊥ };
+    ghost finished: { (v : Self) (t r left : List ℕ) (count : ℕ) → is_encoding v t
+        → is_unfinished (t ++ r) count left → ⊥ };
 }
 
 /// A value that is read back from what is written of it.
@@ -108,13 +113,16 @@ impl Decode for u8 {
 pub trait BufExt: Buf + Sized {
     /// Takes an encoding of a value from the front.
     final fn get<T: Decode>(&mut self) -> Result<T>
-        ensures ok { IfOk result (λ v. Takes (T.is_encoding v) (Self.unread self.old) (Self.unread self.new)) }
-        ensures err { IfErr result (λ e. T.is_unfinished (Self.unread self.old) e.0 (Self.unread self.new)) }
+        ensures ok { IfOk result
+            (λ v. Takes (T.is_encoding v) (Self.unread self.old) (Self.unread self.new)) }
+        ensures err { IfErr result
+            (λ e. T.is_unfinished (Self.unread self.old) e.0 (Self.unread self.new)) }
         ensures kept { Self.kept self.new ≡ Self.kept self.old }
 
         // Each encoding is read as its value, whatever follows it.
         ensures whole { (v : T) (octets rest : List ℕ) → T.is_encoding v octets
-            → Self.unread self.old ≡ octets ++ rest → (result ≡ Ok v) × (Self.unread self.new ≡ rest) }
+            → Self.unread self.old ≡ octets ++ rest
+            → (result ≡ Ok v) × (Self.unread self.new ≡ rest) }
     {
         T::decode(self)
     }
@@ -123,14 +131,17 @@ pub trait BufExt: Buf + Sized {
     final fn get_var(&mut self) -> Result<u64>
         ensures reads { ReadsVarint result (Self.unread self.old) (Self.unread self.new) }
         ensures few { OnErr result (length (Self.unread self.old) < 8) }
-        ensures ok { IfOk result (λ n. Takes (IsEncoding n) (Self.unread self.old) (Self.unread self.new)) }
+        ensures ok { IfOk result
+            (λ n. Takes (IsEncoding n) (Self.unread self.old) (Self.unread self.new)) }
         ensures below { IfOk result (λ n. n < 2 ^ 62) }
-        ensures err { IfErr result (λ e. IsUnfinished (Self.unread self.old) e.0 (Self.unread self.new)) }
+        ensures err { IfErr result
+            (λ e. IsUnfinished (Self.unread self.old) e.0 (Self.unread self.new)) }
         ensures kept { Self.kept self.new ≡ Self.kept self.old }
 
         // Each encoding is read as its number, whatever follows it.
         ensures whole { (n : ℕ) (octets rest : List ℕ) → IsEncoding n octets
-            → Self.unread self.old ≡ octets ++ rest → (result ≡ Ok n) × (Self.unread self.new ≡ rest) }
+            → Self.unread self.old ≡ octets ++ rest
+            → (result ≡ Ok n) × (Self.unread self.new ≡ rest) }
     {
         match VarInt::decode(self) {
             Ok(v) => Ok(v.into_inner()),
@@ -142,7 +153,8 @@ pub trait BufExt: Buf + Sized {
     /// bytes follow it. Takes nothing where no number lies within them.
     final fn get_var_within(&mut self, len: usize) -> Option<(u64, usize)>
         requires { len ≤ length (Self.unread self.old) }
-        ensures some { IfSome result (λ p. (varint_at (take len (Self.unread self.old)) ≡ Some (p.0, take p.1 (Self.unread self.new)))
+        ensures some { IfSome result (λ p. (varint_at (take len (Self.unread self.old))
+            ≡ Some (p.0, take p.1 (Self.unread self.new)))
             × (drop len (Self.unread self.old) ≡ drop p.1 (Self.unread self.new))) }
         ensures inside { IfSome result (λ p. (p.1 ≤ length (Self.unread self.new)) × (p.1 < len)) }
         ensures below { IfSome result (λ p. p.0 < 2 ^ 62) }
@@ -171,8 +183,10 @@ pub trait BufMutExt: BufMut + Sized {
     /// Appends the encoding of a value. An `Err` leaves a beginning of it.
     final fn write<T: Encode + Drop>(&mut self, x: T) -> std::result::Result<(), WriteRefused>
         ensures ok { OnOk result (Self.written self.new ≡ Self.written self.old ++ T.encoding x) }
-        ensures err { OnErr result (AppendsFront (T.encoding x) (Self.written self.old) (Self.written self.new)) }
-        ensures room { UsesRoom result (Self.spare self.old) (Self.spare self.new) (length (T.encoding x)) }
+        ensures err { OnErr result
+            (AppendsFront (T.encoding x) (Self.written self.old) (Self.written self.new)) }
+        ensures room { UsesRoom result (Self.spare self.old)
+            (Self.spare self.new) (length (T.encoding x)) }
     {
         x.encode(self)
     }
@@ -182,7 +196,8 @@ pub trait BufMutExt: BufMut + Sized {
         requires { x < 2 ^ 62 }
         ensures ok { OnOk result (Self.written self.new ≡ Self.written self.old ++ encoding x) }
         ensures err { OnErr result (Self.written self.new ≡ Self.written self.old) }
-        ensures room { UsesRoom result (Self.spare self.old) (Self.spare self.new) (length (encoding x)) }
+        ensures room { UsesRoom result (Self.spare self.old)
+            (Self.spare self.new) (length (encoding x)) }
     {
         VarInt::from_u64_unchecked(x).encode(self)
     }

@@ -17,7 +17,8 @@ pub fn encoding_is_shortest()
 
 /// No encoding of a number begins an encoding of another, so an encoding is read as its number, whatever follows.
 pub fn one_encoding()
-    ensures { (v w : ℕ) (t u r s : List ℕ) → IsEncoding v t → IsEncoding w u → t ++ r ≡ u ++ s → (v ≡ w) × (t ≡ u) }
+    ensures { (v w : ℕ) (t u r s : List ℕ) → IsEncoding v t → IsEncoding w u → t ++ r ≡ u ++ s
+        → (v ≡ w) × (t ≡ u) }
 {}
 
 /// Order, equality and hash of a `VarInt` are those of its number.
@@ -47,7 +48,8 @@ pub fn write_both<B: BufMut, T: Encode + Drop, U: Encode + Drop>(
     first: T,
     second: U,
 ) -> Result<(), WriteRefused>
-    ensures ok { OnOk result (B.written buf.new ≡ B.written buf.old ++ T.encoding first ++ U.encoding second) }
+    ensures ok { OnOk result (B.written buf.new
+        ≡ B.written buf.old ++ T.encoding first ++ U.encoding second) }
 {
     buf.write(first)?;
     buf.write(second)
@@ -58,7 +60,8 @@ pub fn read_both<B: Buf, T: Codec + Drop, U: Codec + Drop>(
     buf: &mut B,
 ) -> Result<(T, U), UnexpectedEnd>
     ensures whole { (a : T) (b : U) (rest : List ℕ) → T.is_value a → U.is_value b
-        → B.unread buf.old ≡ T.encoding a ++ U.encoding b ++ rest → (result ≡ Ok (a, b)) × (B.unread buf.new ≡ rest) }
+        → B.unread buf.old ≡ T.encoding a ++ U.encoding b ++ rest
+        → (result ≡ Ok (a, b)) × (B.unread buf.new ≡ rest) }
 {
     let first = buf.get::<T>()?;
     let second = buf.get::<U>()?;

@@ -123,7 +123,8 @@ impl VarInt {
     // whole in them.
     #[inline(always)]
     fn at_front(bytes: &[u8]) -> Option<(Self, usize)>
-        ensures some { IfSome result (λ p. IsEncoding p.0 (take p.1 bytes.now) × (p.1 ≤ length bytes.now)) }
+        ensures some { IfSome result (λ p. IsEncoding p.0 (take p.1 bytes.now)
+            × (p.1 ≤ length bytes.now)) }
         ensures none { IsNone result → varint_at bytes.now ≡ None }
     {
         let len = bytes.len();
@@ -182,7 +183,8 @@ impl VarInt {
     pub fn encode<B: BufMut>(&self, buf: &mut B) -> Result<(), WriteRefused>
         ensures ok { OnOk result (B.written buf.new ≡ B.written buf.old ++ encoding self.now) }
         ensures err { OnErr result (B.written buf.new ≡ B.written buf.old) }
-        ensures room { UsesRoom result (B.spare buf.old) (B.spare buf.new) (length (encoding self.now)) }
+        ensures room { UsesRoom result (B.spare buf.old)
+            (B.spare buf.new) (length (encoding self.now)) }
     {
         put_encoding(buf, self.0).map_err(|_| WriteRefused)
     }

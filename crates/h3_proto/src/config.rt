@@ -106,7 +106,9 @@ impl Config {
     /// The greatest size of a field section that is accepted. 2^62 or more is refused by
     /// `into_settings`.
     pub fn with_max_field_section_size(mut self, size: u64) -> Self
-        ensures { result ≡ record self { settings = record self.settings { max_field_section_size = size } } }
+        ensures { result ≡ record self {
+          settings = record self.settings { max_field_section_size = size };
+        } }
     {
         self.settings.max_field_section_size = size;
         self
@@ -114,7 +116,9 @@ impl Config {
 
     /// Whether WebTransport may be used.
     pub fn with_webtransport(mut self, enable: bool) -> Self
-        ensures { result ≡ record self { settings = record self.settings { enable_webtransport = enable } } }
+        ensures { result ≡ record self {
+          settings = record self.settings { enable_webtransport = enable };
+        } }
     {
         self.settings.enable_webtransport = enable;
         self
@@ -122,7 +126,9 @@ impl Config {
 
     /// Whether extended CONNECT may be used.
     pub fn with_extended_connect(mut self, enable: bool) -> Self
-        ensures { result ≡ record self { settings = record self.settings { enable_extended_connect = enable } } }
+        ensures { result ≡ record self {
+          settings = record self.settings { enable_extended_connect = enable };
+        } }
     {
         self.settings.enable_extended_connect = enable;
         self
@@ -130,7 +136,9 @@ impl Config {
 
     /// Whether datagrams may be used.
     pub fn with_datagram(mut self, enable: bool) -> Self
-        ensures { result ≡ record self { settings = record self.settings { enable_datagram = enable } } }
+        ensures { result ≡ record self {
+          settings = record self.settings { enable_datagram = enable };
+        } }
     {
         self.settings.enable_datagram = enable;
         self
@@ -138,7 +146,9 @@ impl Config {
 
     /// The most WebTransport sessions. 2^62 or more is refused by `into_settings`.
     pub fn with_max_webtransport_sessions(mut self, sessions: u64) -> Self
-        ensures { result ≡ record self { settings = record self.settings { max_webtransport_sessions = sessions } } }
+        ensures { result ≡ record self {
+          settings = record self.settings { max_webtransport_sessions = sessions };
+        } }
     {
         self.settings.max_webtransport_sessions = sessions;
         self

@@ -129,7 +129,8 @@ impl Model for Settings {
 
     ghost view = { λ s. take s.len s.entries };
 
-    ghost invariant = { λ s. (s.len ≤ 8) × (length s.entries ≡ 8) × All IsPair (take s.len s.entries) };
+    ghost invariant = { λ s. (s.len ≤ 8) × (length s.entries ≡ 8)
+        × All IsPair (take s.len s.entries) };
 }
 
 impl PartialEq for Settings {
@@ -215,8 +216,10 @@ impl Settings {
     /// Appends the payload. An `Err` leaves a beginning of it.
     pub fn write_payload<B: BufMut>(&self, buf: &mut B) -> Result<(), WriteRefused>
         ensures ok { OnOk result (B.written buf.new ≡ B.written buf.old ++ payload_of self.now) }
-        ensures err { OnErr result (AppendsFront (payload_of self.now) (B.written buf.old) (B.written buf.new)) }
-        ensures room { UsesRoom result (B.spare buf.old) (B.spare buf.new) (length (payload_of self.now)) }
+        ensures err { OnErr result
+            (AppendsFront (payload_of self.now) (B.written buf.old) (B.written buf.new)) }
+        ensures room { UsesRoom result (B.spare buf.old)
+            (B.spare buf.new) (length (payload_of self.now)) }
     {
         let pairs = &self.entries[..self.len];
         for pair in pairs {
@@ -244,7 +247,8 @@ impl Settings {
         requires { len ≤ length (B.unread buf.old) }
         ensures value { result ≡ settings_of (take len (B.unread buf.old)) }
         ensures ok { OnOk result (B.unread buf.new ≡ drop len (B.unread buf.old)) }
-        ensures rest { B.unread buf.new ≡ left_of (take len (B.unread buf.old)) ++ drop len (B.unread buf.old) }
+        ensures rest { B.unread buf.new
+            ≡ left_of (take len (B.unread buf.old)) ++ drop len (B.unread buf.old) }
         ensures kept { B.kept buf.new ≡ B.kept buf.old }
     {
         let mut settings = Settings::default();
@@ -278,11 +282,14 @@ impl Settings {
 // follow it.
 fn get_pair<B: Buf>(buf: &mut B, len: usize) -> Option<(u64, u64, usize)>
     requires { len ≤ length (B.unread buf.old) }
-    ensures some { IfSome result (λ p. (pair_at (take len (B.unread buf.old)) ≡ Some ((p.0, p.1), take p.2 (B.unread buf.new)))
+    ensures some { IfSome result (λ p. (pair_at (take len (B.unread buf.old))
+        ≡ Some ((p.0, p.1), take p.2 (B.unread buf.new)))
         × (drop len (B.unread buf.old) ≡ drop p.2 (B.unread buf.new))) }
     ensures inside { IfSome result (λ p. (p.2 ≤ length (B.unread buf.new)) × (p.2 < len)) }
     ensures none { IsNone result → pair_at (take len (B.unread buf.old)) ≡ None }
-    ensures left { IsNone result → B.unread buf.new ≡ left_of_pair (take len (B.unread buf.old)) ++ drop len (B.unread buf.old) }
+    ensures left { IsNone result
+        → B.unread buf.new ≡ left_of_pair (take len (B.unread buf.old))
+        ++ drop len (B.unread buf.old) }
     ensures kept { B.kept buf.new ≡ B.kept buf.old }
 {
     let (id, behind) = buf.get_var_within(len)?;
@@ -303,8 +310,10 @@ fn pair_len(id: u64, value: u64) -> usize
 fn put_pair<B: BufMut>(buf: &mut B, id: u64, value: u64) -> Result<(), WriteRefused>
     requires { IsPair (id, value) }
     ensures ok { OnOk result (B.written buf.new ≡ B.written buf.old ++ pair_encoding (id, value)) }
-    ensures err { OnErr result (AppendsFront (pair_encoding (id, value)) (B.written buf.old) (B.written buf.new)) }
-    ensures room { UsesRoom result (B.spare buf.old) (B.spare buf.new) (length (pair_encoding (id, value))) }
+    ensures err { OnErr result
+        (AppendsFront (pair_encoding (id, value)) (B.written buf.old) (B.written buf.new)) }
+    ensures room { UsesRoom result (B.spare buf.old)
+        (B.spare buf.new) (length (pair_encoding (id, value))) }
 {
     buf.write_var(id)?;
     buf.write_var(value)
