@@ -81,6 +81,13 @@ error_keeps answers incoming.Unknown old new h = h.1
 error_keeps answers (incoming.ConnectionErrorIncoming code) old new h = h.1
 error_keeps answers (incoming.StreamTerminated code) old new h = h.1
 
+-- and none adds a byte
+pub error_adds : {S : Type 0} (answers : S → Answer → S → Type 0) (e : StreamErrorIncoming) (old new : Buffered S) → ReadsMore answers (Ready (Err e)) old new → new.buffered ≡ old.buffered
+error_adds answers incoming.OutOfMemory old new h = h.0
+error_adds answers incoming.Unknown old new h = h.0
+error_adds answers (incoming.ConnectionErrorIncoming code) old new h = h.0
+error_adds answers (incoming.StreamTerminated code) old new h = h.0
+
 same_error : (e d : StreamErrorIncoming) (a b : Answer) → a ≡ Ready (Err e) → b ≡ Ready (Err d) → a ≡ b → e ≡ d
 same_error e d a b p q r = cc
 

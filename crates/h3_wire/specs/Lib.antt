@@ -15,3 +15,7 @@ pub mod StreamHeaders
 pub mod Outgoing
 pub mod Lent
 pub mod EncodedLaws
+pub mod Accepting
+pub mod Accepted
+pub mod AcceptingLaws
+pub mod Buffering

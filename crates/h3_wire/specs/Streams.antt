@@ -67,6 +67,11 @@ Tells rest answers (Err stream.UnexpectedEnd) old new = ⊥
 Tells rest answers (Err (stream.Proto e)) old new = ⊥
 Tells rest answers (Ok received.Nothing) old new = Answered answers Pending new.source
 
+-- only where bytes came are there more
+abbrev pub Adds : Result Received FrameStreamError → List ℕ → List ℕ → Type 0
+Adds (Ok received.More) old new = Unit {0}
+Adds _ old new = new ≡ old
+
 -- the next known frame of all bytes that are left is taken, and what follows it is left; else bytes that are no
 -- unknown frame stay
 abbrev pub PollsFrame : {S : Type 0} → (S → List ℕ) → (S → Answer → S → Type 0) → Poll (Result (Option (Frame PayloadLen)) FrameStreamError) → Framing S → Framing S → Type 0

@@ -3,8 +3,10 @@ ghost use Rattle.std.specs.Prelude.{◌≡◌, ◌<◌, ◌+◌, ◌^◌, ◌++�
 ghost use Rattle.h3_wire.specs.Source.{Asked, coming};
 ghost use Rattle.std.specs.Borrow.{Lends, sem};
 ghost use Rattle.h3_wire.specs.contracts.stream.BufRecvStream.{the_row};
+ghost use Rattle.h3_wire.specs.Accepting.{TakesNumber};
+ghost use Rattle.h3_wire.specs.Buffering.{left_behind, AnswersFrom, polls_behind, same_behind};
 ghost use Rattle.h3_wire.specs.Known.{Gives, Expects};
-ghost use Rattle.h3_wire.specs.Streams.{ReadsMore, Tells, EndIsTold, AsksFirst, stream_error, error_of};
+ghost use Rattle.h3_wire.specs.Streams.{ReadsMore, Tells, Adds, EndIsTold, AsksFirst, stream_error, error_of};
 
 use crate::buf::BufList;
 use crate::frame::{FrameDecoder, FrameStreamError};
@@ -12,13 +14,17 @@ use crate::proto::frame::{Frame, PayloadLen};
 use crate::proto::stream::StreamId;
 use crate::quic::{Poll, RecvStream, StreamErrorIncoming};
 use bytes::{Buf, Bytes};
+use h3_coding::coding::BufExt;
 use std::alloc::{AllocError, Global};
+use std::fmt;
 use std::marker::Model;
 
+mod accept;
 mod head;
 mod headers;
 mod write_buf;
 
+pub use accept::{AcceptRecvStream, AcceptedRecvStream, PollTypeError};
 pub use headers::{BidiStreamHeader, UniStreamHeader};
 pub use write_buf::WriteBuf;
 
@@ -66,6 +72,13 @@ impl<S> BufRecvStream<S> {
         self.buf.remaining()
     }
 
+    /// Whether bytes were read and not yet taken.
+    pub fn has_remaining(&self) -> bool
+        ensures { IsTrue result ↔ (0 < length self.now.buffered) }
+    {
+        self.buf.has_remaining()
+    }
+
     /// Takes the first piece's first bytes, `max` or all of it.
     pub fn take_chunk(&mut self, max: usize) -> Result<Option<Bytes>, AllocError>
         ensures some { IfOk result (λ o. MatchOption o ((self.old.buffered ≡ []) × (self.new.buffered ≡ []))
@@ -75,6 +88,25 @@ impl<S> BufRecvStream<S> {
         ensures is_eos { self.new.is_eos ≡ self.old.is_eos }
     {
         self.buf.take_chunk(max)
+    }
+
+    // Takes the number at the front of what was read, where it is whole.
+    fn take_number(&mut self) -> Option<u64>
+        ensures takes { TakesNumber result self.old.buffered self.new.buffered }
+        ensures below { IfSome result (λ n. n < 2 ^ 62) }
+        ensures source { self.new.source ≡ self.old.source }
+        ensures is_eos { self.new.is_eos ≡ self.old.is_eos }
+    {
+        let mut cursor = self.buf.cursor();
+        let number = cursor.get_var();
+        let position = cursor.position();
+        match number {
+            Ok(number) => {
+                self.buf.advance(position);
+                Some(number)
+            }
+            Err(_) => None,
+        }
     }
 
     // Whether all that was read lies in one piece.
@@ -99,13 +131,6 @@ pub(crate) enum Received {
 }
 
 impl<S: RecvStream> BufRecvStream<S> {
-    /// The id of the stream.
-    pub(crate) fn recv_id(&self) -> StreamId
-        ensures { result ≡ S.id self.now.source }
-    {
-        self.stream.recv_id()
-    }
-
     /// Reads a piece into the buffer, and answers whether the end came. Room is taken before the source is asked.
     pub fn poll_read(&mut self) -> Poll<Result<bool, StreamErrorIncoming>>
         requires { length self.old.buffered + length (S.rest self.old.source) < 2 ^ 62 }
@@ -133,6 +158,7 @@ impl<S: RecvStream> BufRecvStream<S> {
         requires { length (self.old.buffered ++ coming self.old.is_eos (S.rest self.old.source)) < 2 ^ 62 }
         ensures all { self.new.buffered ++ coming self.new.is_eos (S.rest self.new.source) ≡ self.old.buffered ++ coming self.old.is_eos (S.rest self.old.source) }
         ensures grows { (more : List ℕ) × (self.new.buffered ≡ self.old.buffered ++ more) }
+        ensures adds { Adds result self.old.buffered self.new.buffered }
         ensures tells { Tells S.rest S.answers result self.old self.new }
         ensures asked { Asked S.answers self.old.source self.new.source }
         ensures ended { EndIsTold S.answers self.new.source self.old.is_eos self.new.is_eos }
@@ -173,5 +199,44 @@ fn as_stream_error(e: StreamErrorIncoming) -> FrameStreamError
     match e {
         StreamErrorIncoming::OutOfMemory => FrameStreamError::OutOfMemory,
         e => FrameStreamError::Quic(e),
+    }
+}
+
+/// What was read comes first, a piece a call. After the end that was told nothing comes.
+impl<S: RecvStream> RecvStream for BufRecvStream<S> {
+    ghost rest = { left_behind S.rest };
+
+    ghost answers = { AnswersFrom S.answers };
+
+    ghost id = { λ s. S.id s.source };
+
+    ghost polls = { polls_behind S.rest S.answers S.polls };
+
+    ghost same = { same_behind S.answers S.id S.same };
+
+    fn poll_data(&mut self) -> Poll<Result<Option<Bytes>, StreamErrorIncoming>> {
+        if let Some(piece) = self.buf.take_first_chunk() {
+            return Poll::Ready(Ok(Some(piece)));
+        }
+        if self.eos {
+            return Poll::Ready(Ok(None));
+        }
+        let answer = self.stream.poll_data();
+        self.eos = matches!(&answer, Poll::Ready(Ok(None)));
+        answer
+    }
+
+    fn recv_id(&self) -> StreamId {
+        self.stream.recv_id()
+    }
+}
+
+impl<S> fmt::Debug for BufRecvStream<S> {
+    fn fmt<W: fmt::Write>(&self, f: &mut fmt::Formatter<W>) -> fmt::Result {
+        f.debug_struct("BufRecvStream")
+            .field("buf", &self.buf)
+            .field("eos", &self.eos)
+            .field("stream", &"...")
+            .finish()
     }
 }

@@ -2,7 +2,7 @@ use Rattle.std.proofs.Common.{refl, sym, ap, ◌∙◌, ◌≡◌, false, inl, i
 use Rattle.h3_wire.specs.Source.{done}
 use Rattle.h3_wire.specs.Streams.{Buffered, stream_error}
 use Rattle.h3_wire.specs.declared.quic.Poll.TheVariants.{Ready}
-use Rattle.h3_wire.proofs.Reading.{Reading, reading, error_keeps, asks_first, tells_error, read_error}
+use Rattle.h3_wire.proofs.Reading.{Reading, reading, error_keeps, error_adds, asks_first, tells_error, read_error}
 use Rattle.h3_wire.specs.ReadLaws.{apart}
 use Rattle.h3_wire.proofs.stream.BufRecvStream.receive.Goals as goal
 
@@ -44,6 +44,7 @@ returns-in-Ready-Err g c =
     record {
       all = r.all;
       grows = r.grows;
+      adds = error_adds g.S.RecvStream.answers c.in-Ready-Err.e c.args.self.now c.poll_read.new.self here;
       tells = rw c.as_stream_error.ensures (tells_error g.S.RecvStream.rest g.S.RecvStream.answers c.in-Ready-Err.e c.args.self.now c.poll_read.new.self here);
       asked = r.asked;
       ended = inl (error_keeps g.S.RecvStream.answers c.in-Ready-Err.e c.args.self.now c.poll_read.new.self here);
