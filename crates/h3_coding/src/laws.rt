@@ -1,12 +1,11 @@
 //! What holds of every encoding. These functions do nothing: their contracts are the laws.
-ghost use Rattle.std.specs.Prelude.{◌≡◌, ℕ, ◌-◌, ◌^◌, ◌<◌, ◌==◌, List, ◌++◌, OnOk};
+ghost use Rattle.std.specs.Prelude.{◌≡◌, ℕ, ◌-◌, ◌^◌, ◌<◌, ◌==◌, List, ◌++◌};
 ghost use Rattle.std.specs.Ordering.{nat_cmp};
 ghost use Rattle.std.specs.Hash as fed;
 ghost use Rattle.h3_coding.specs.Encodings.{IsEncoding, IsShortest, encoding};
 
-use crate::coding::{BufExt, BufMutExt, Codec, Encode, UnexpectedEnd, WriteRefused};
+use crate::coding::Codec;
 use crate::varint::VarInt;
-use bytes::{Buf, BufMut};
 use std::hash::Hash;
 
 /// The encoding of a number is its one shortest encoding.
@@ -15,7 +14,8 @@ pub fn encoding_is_shortest()
     ensures { (v : ℕ) → v < 2 ^ 62 → IsShortest v (encoding v) }
 {}
 
-/// No encoding of a number begins an encoding of another, so an encoding is read as its number, whatever follows.
+/// No encoding of a number begins an encoding of another, so an encoding is read as its number,
+/// whatever follows.
 pub fn one_encoding()
     ensures { (v w : ℕ) (t u r s : List ℕ) → IsEncoding v t → IsEncoding w u → t ++ r ≡ u ++ s
         → (v ≡ w) × (t ≡ u) }
@@ -40,30 +40,4 @@ pub fn encoding_of_value<T: Codec>(value: &T)
     ensures { T.is_encoding value.now (T.encoding value.now) }
 {
     value.known();
-}
-
-/// Two values, one after another.
-pub fn write_both<B: BufMut, T: Encode + Drop, U: Encode + Drop>(
-    buf: &mut B,
-    first: T,
-    second: U,
-) -> Result<(), WriteRefused>
-    ensures ok { OnOk result (B.written buf.new
-        ≡ B.written buf.old ++ T.encoding first ++ U.encoding second) }
-{
-    buf.write(first)?;
-    buf.write(second)
-}
-
-/// Two values, one after another.
-pub fn read_both<B: Buf, T: Codec + Drop, U: Codec + Drop>(
-    buf: &mut B,
-) -> Result<(T, U), UnexpectedEnd>
-    ensures whole { (a : T) (b : U) (rest : List ℕ) → T.is_value a → U.is_value b
-        → B.unread buf.old ≡ T.encoding a ++ U.encoding b ++ rest
-        → (result ≡ Ok (a, b)) × (B.unread buf.new ≡ rest) }
-{
-    let first = buf.get::<T>()?;
-    let second = buf.get::<U>()?;
-    Ok((first, second))
 }
