@@ -9,6 +9,7 @@ use Rattle.std.proofs.lemmas.Nat.{pow_pos, pow-add}
 use Rattle.h3_huffman.specs.Huffman.{bits, octets, huffman, code_word}
 use Rattle.h3_huffman.specs.Payload.{IsByte}
 use Rattle.h3_huffman.specs.Tables.{is_word, IsWord}
+use Rattle.h3_huffman.specs.Writing.{Written}
 use Rattle.h3_huffman.specs.declared.tables.TheConstants.{WORDS, WORD_LENGTHS}
 use Rattle.h3_huffman.proofs.Computed.{bytes_hold}
 use Rattle.h3_huffman.proofs.Words.{all_from_at, bytes_same}
@@ -57,20 +58,14 @@ pub length-payload_bytes : (xs : List ℕ) → length (flat_map (bits 8) xs) ≡
 length-payload_bytes [] = refl
 length-payload_bytes (x ∷ xs) = rw (length-append (bits 8 x) (flat_map (bits 8) xs), length-bits 8 x, length-payload_bytes xs) (omega arith)
 
--- What was written are whole bytes of the words so far, and the rest is pending.
-pub record Written (plain out : List ℕ) (index acc count written : ℕ) : Type 0 where
-  pub parts : flat_map (bits 8) (take written out) ++ bits count acc ≡ flat_map code_word (take index plain)
-  pub within : written ≤ length out
-  pub room : length out ≡ length (huffman plain)
-  pub bytes : AllByRecursion IsByte (take written out)
-
-pub sum_of : (plain out : List ℕ) (index acc count written : ℕ) → Written plain out index acc count written → (8 * written + count ≡ length (flat_map code_word (take index plain))) × (8 * written + count ≤ 8 * length out)
+pub sum_of : (plain out : List ℕ) (index acc count written : ℕ) → Written plain out index acc count written → (8 * written + count ≡ length (flat_map code_word (take index plain))) × (8 * written + count ≤ 8 * length (huffman plain)) × (8 * written + count ≤ 8 * length out)
 sum_of plain out index acc count written w =
     let len : 8 * written + count ≡ length (flat_map code_word (take index plain)) =
     omega (arith, length-append (flat_map (bits 8) (take written out)) (bits count acc), length-bits count acc, length-payload_bytes (take written out), length-take-le written out w.within, ap (λ x. length x) w.parts) in
-    (len, omega (arith, len, words_within plain index, length-huffman plain, w.room))
+    let within : 8 * written + count ≤ 8 * length (huffman plain) = omega (arith, len, words_within plain index, length-huffman plain) in
+    (len, within, omega (arith, within, w.room))
 
-pub begin : (plain out : List ℕ) → length out ≡ length (huffman plain) → Written plain out 0 0 0 0
+pub begin : (plain out : List ℕ) → length (huffman plain) ≤ length out → Written plain out 0 0 0 0
 unfolding bits
 begin plain out h = record { parts = refl; within = omega arith; room = h; bytes = tt }
 
@@ -104,7 +99,7 @@ move_out plain out new bytes index acc count left written place w put split fits
     record {
       parts = ap (λ x. x ++ bits left acc) all ∙ append_assoc done (flat_map (bits 8) bytes) (bits left acc) ∙ ap (λ x. done ++ x) (sym split) ∙ w.parts;
       within = fits;
-      room = same ∙ w.room;
+      room = omega (arith, same, w.room);
       bytes = rw put (All-append IsByte (take written out) bytes w.bytes small);
     }
 
@@ -192,25 +187,25 @@ last_byte acc count some few =
     let one : octets (bits 8 (n % 256) ++ []) ≡ n % 256 ∷ [] = octets_byte (n % 256) [] (omega arith) ∙ ap (λ x. n % 256 ∷ x) octets_nil in
     sym pad ∙ ap (λ x. octets x) (sym whole ∙ sym (append-nil (bits 8 (n % 256)))) ∙ one
 
-pub finished : (plain out : List ℕ) (acc written byte : ℕ) (count : ℕ) → Written plain out (length plain) acc count written → 0 < count → count < 8 → byte ≡ bit_or (acc * 2 ^ (8 - count) % 2 ^ 64) (255 / 2 ^ count) % 256 →
+pub finished : (plain out : List ℕ) (acc written byte : ℕ) (count : ℕ) → Written plain out (length plain) acc count written → length out ≡ length (huffman plain) → 0 < count → count < 8 → byte ≡ bit_or (acc * 2 ^ (8 - count) % 2 ^ 64) (255 / 2 ^ count) % 256 →
     (written < length out) × (set out written byte ≡ huffman plain)
 unfolding huffman
-finished plain out acc written byte count w some few is =
+finished plain out acc written byte count w exact some few is =
     let sums = sum_of plain out (length plain) acc count written w in
     let whole : take (length plain) plain ≡ plain = take_all (length plain) plain (omega arith) in
-    let sizes : length out ≡ written + 1 = omega (arith, sums.0, w.room, length-huffman plain, ap (λ x. length (flat_map code_word x)) whole) in
+    let sizes : length out ≡ written + 1 = omega (arith, sums.0, exact, length-huffman plain, ap (λ x. length (flat_map code_word x)) whole) in
     let made : octets (flat_map code_word plain) ≡ take written out ++ byte ∷ [] =
     ap (λ x. octets (flat_map code_word x)) (sym whole) ∙ ap (λ x. octets x) (sym w.parts) ∙ octets_bytes (take written out) (bits count acc) w.bytes ∙ ap (λ x. take written out ++ x) (last_byte acc count some few ∙ ap (λ x. x ∷ []) (sym is)) in
     let room : written < length out = omega (arith, sizes) in
     let set_all : take (written + 1) (set out written byte) ≡ set out written byte = take_all (written + 1) (set out written byte) (omega (arith, sizes, length-set out written byte)) in
     (room, sym set_all ∙ take_more_set out written byte room ∙ sym made)
 
-pub finished_whole : (plain out : List ℕ) (acc written : ℕ) → Written plain out (length plain) acc 0 written → out ≡ huffman plain
+pub finished_whole : (plain out : List ℕ) (acc written : ℕ) → Written plain out (length plain) acc 0 written → length out ≡ length (huffman plain) → out ≡ huffman plain
 unfolding huffman bits
-finished_whole plain out acc written w =
+finished_whole plain out acc written w exact =
     let sums = sum_of plain out (length plain) acc 0 written w in
     let whole : take (length plain) plain ≡ plain = take_all (length plain) plain (omega arith) in
-    let sizes : length out ≡ written = omega (arith, sums.0, w.room, length-huffman plain, ap (λ x. length (flat_map code_word x)) whole) in
+    let sizes : length out ≡ written = omega (arith, sums.0, exact, length-huffman plain, ap (λ x. length (flat_map code_word x)) whole) in
     let made : octets (flat_map code_word plain) ≡ take written out =
     ap (λ x. octets (flat_map code_word x)) (sym whole) ∙ ap (λ x. octets x) (sym w.parts) ∙ octets_bytes (take written out) (bits 0 acc) w.bytes ∙ ap (λ x. take written out ++ x) octets_nil ∙ append-nil (take written out) in
     let all : take written out ≡ out = take_all written out (omega (arith, sizes)) in

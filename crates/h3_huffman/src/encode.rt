@@ -2,6 +2,7 @@
 ghost use Rattle.std.specs.Prelude.{◌≡◌, ℕ, ◌+◌, ◌*◌, ◌^◌, ◌<◌, ◌≤◌, List, ◌++◌, take, length, flat_map};
 ghost use Rattle.std.specs.Int.{w32, to_be_bytes};
 ghost use Rattle.h3_huffman.specs.Huffman.{huffman, bits, code_word};
+ghost use Rattle.h3_huffman.specs.Writing.{Written};
 
 use crate::tables::{WORD_LENGTHS, WORDS};
 
@@ -71,10 +72,20 @@ pub fn payload_len(plain: &[u8]) -> usize
     }
 }
 
-/// Writes the Huffman encoding of a string.
-pub fn encode_into(plain: &[u8], out: &mut [u8])
-    requires { length out.old ≡ length (huffman plain.now) }
-    ensures { out.new ≡ huffman plain.now }
+/// What is not yet written: the low `count` bits of `acc`, which go to `out[written]` on.
+struct Pending {
+    acc: u64,
+    count: u64,
+    written: usize,
+}
+
+/// Writes the words of a string, save for the last bits of fewer than four bytes.
+#[inline(always)]
+fn put_words(plain: &[u8], out: &mut [u8]) -> Pending
+    requires { length (huffman plain.now) ≤ length out.old }
+    ensures standing { Written plain.now out.new (length plain.now) result.acc result.count result.written }
+    ensures few { result.count < 32 }
+    ensures same { length out.new ≡ length out.old }
 {
     let mut acc: u64 = 0;
     let mut count: u64 = 0;
@@ -89,6 +100,23 @@ pub fn encode_into(plain: &[u8], out: &mut [u8])
             written += 4;
         }
     }
+    Pending {
+        acc,
+        count,
+        written,
+    }
+}
+
+/// Writes the Huffman encoding of a string.
+pub fn encode_into(plain: &[u8], out: &mut [u8])
+    requires { length out.old ≡ length (huffman plain.now) }
+    ensures { out.new ≡ huffman plain.now }
+{
+    let Pending {
+        acc,
+        mut count,
+        mut written,
+    } = put_words(plain, out);
     'last: while count >= 8 {
         count -= 8;
         out[written] = ((acc >> count) % 256) as u8;
@@ -97,4 +125,24 @@ pub fn encode_into(plain: &[u8], out: &mut [u8])
     if count > 0 {
         out[written] = ((acc << (8 - count) | 255 >> count) % 256) as u8;
     }
+}
+
+/// Writes the Huffman encoding of a string to the front of `out`, and answers its length. It needs no length before
+/// and has no loop over the last bytes, so it is the faster one for short strings; it writes up to four bytes behind the
+/// encoding.
+pub fn encode_front(plain: &[u8], out: &mut [u8]) -> usize
+    requires { 4 * length plain.now + 4 ≤ length out.old }
+    ensures payload { take result out.new ≡ huffman plain.now }
+    ensures value { result ≡ length (huffman plain.now) }
+    ensures most { result ≤ 4 * length plain.now }
+    ensures same { length out.new ≡ length out.old }
+{
+    let Pending {
+        acc,
+        count,
+        written,
+    } = put_words(plain, out);
+    let last = acc << (32 - count) | 0xffff_ffff >> count;
+    put_word(out, written, (last % (1 << 32)) as u32);
+    written + ((count + 7) / 8) as usize
 }
