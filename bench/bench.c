@@ -25,6 +25,11 @@ int main(int argc, char **argv) {
   print_head();
   varint_rows();
   huffman_rows((const field_lists *const[]){&requests, &responses}, 2);
+  field_lists static_only = load_lists(dir, "static_only"), literal_only = load_lists(dir, "literal_only");
+  section_rows(&requests);
+  section_rows(&responses);
+  section_rows(&static_only);
+  section_rows(&literal_only);
   printf("%d rows below their target\n", rows_below());
   return 0;
 }

@@ -23,4 +23,12 @@ uint32_t h3_bench_huffman_encode(uint64_t rounds, const uint8_t *bytes, size_t l
                                  h3_report *report);
 uint32_t h3_bench_huffman_decode(uint64_t rounds, const uint8_t *bytes, size_t len, uint8_t *out, size_t room,
                                  h3_report *report);
+
+/* `bytes` are lists: a count, and for each list the count of its fields, and each name and value behind its length.
+ * `out` gets their encoded field sections, as strings. No entry of a dynamic table is named. */
+uint32_t h3_bench_section_encode(uint64_t rounds, const uint8_t *bytes, size_t len, uint8_t *out, size_t room,
+                                 h3_report *report);
+/* `bytes` are encoded field sections, as strings; `out` gets their lists. */
+uint32_t h3_bench_section_decode(uint64_t rounds, const uint8_t *bytes, size_t len, uint8_t *out, size_t room,
+                                 h3_report *report);
 #endif

@@ -9,6 +9,11 @@ _Noreturn void stop(const char *what, long number) {
   exit(1);
 }
 
+void free_pack(pack *of) {
+  free(of->bytes);
+  *of = (pack){0};
+}
+
 void put_bytes(pack *to, const void *bytes, size_t len) {
   if (to->len + len > to->room) {
     to->room = 2 * (to->len + len) + 64;
@@ -22,6 +27,10 @@ void put_bytes(pack *to, const void *bytes, size_t len) {
 void put_number(pack *to, size_t number) {
   uint8_t bytes[4] = {(uint8_t)number, (uint8_t)(number >> 8), (uint8_t)(number >> 16), (uint8_t)(number >> 24)};
   put_bytes(to, bytes, sizeof bytes);
+}
+
+size_t number_at(const uint8_t *bytes) {
+  return (size_t)bytes[0] | (size_t)bytes[1] << 8 | (size_t)bytes[2] << 16 | (size_t)bytes[3] << 24;
 }
 
 void put_string(pack *to, const uint8_t *bytes, size_t len) {

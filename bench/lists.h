@@ -27,8 +27,11 @@ typedef struct {
 /* Lines `name TAB value`, and an empty line between lists. Ends the program where there is no such file. */
 field_lists load_lists(const char *dir, const char *name);
 
+void free_pack(pack *of);
 void put_bytes(pack *to, const void *bytes, size_t len);
 void put_number(pack *to, size_t number);
+/* The number that stands there. */
+size_t number_at(const uint8_t *bytes);
 /* A string behind its length. */
 void put_string(pack *to, const uint8_t *bytes, size_t len);
 /* The count of lists; for each the count of its fields; for each of these its name and its value. */

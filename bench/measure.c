@@ -116,4 +116,9 @@ void print_row(const row_kind *kind, const figures *found) {
   below += short_of;
 }
 
+void print_allocations(const figures *found, double count) {
+  printf("%-28s %-13s %12.2f %12.2f %12s %-8s\n", "  allocations", "", found->allocations[OURS] / count,
+         found->allocations[PEER] / count, "-", "a list");
+}
+
 int rows_below(void) { return below; }

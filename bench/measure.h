@@ -38,6 +38,8 @@ typedef struct {
 
 void print_head(void);
 void print_row(const row_kind *kind, const figures *found);
+/* Allocations of one of `count` units. */
+void print_allocations(const figures *found, double count);
 /* How many rows missed a target. */
 int rows_below(void);
 #endif

@@ -6,6 +6,7 @@
 
 void varint_rows(void);
 void huffman_rows(const field_lists *const *sets, size_t count);
+void section_rows(const field_lists *lists);
 
 /* Ends the program where the static library gave a work up. */
 void done(const char *what, uint32_t status);

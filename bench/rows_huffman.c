@@ -23,10 +23,6 @@ typedef struct {
   size_t room;
 } huffman_work;
 
-static size_t number_at(const uint8_t *bytes) {
-  return (size_t)bytes[0] | (size_t)bytes[1] << 8 | (size_t)bytes[2] << 16 | (size_t)bytes[3] << 24;
-}
-
 static strings unpacked(pack packed) {
   strings all = {.count = number_at(packed.bytes), .packed = packed};
   all.items = malloc(all.count * sizeof *all.items);

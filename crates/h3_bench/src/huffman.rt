@@ -3,7 +3,7 @@
 use crate::input;
 use crate::report::{Failure, Report, answer};
 use h3_huffman::decode::decode_into;
-use h3_huffman::encode::{encode_into, payload_len};
+use h3_huffman::encode::encode_front;
 use std::alloc::Global;
 
 /// Writes the payload of each string behind the one before it.
@@ -11,14 +11,11 @@ fn encode_all(strings: &[&[u8]], out: &mut [u8]) -> Result<usize, Failure> {
     let mut written = 0;
     for string in strings {
         let string: &[u8] = *string;
-        if string.len() >= 1 << 58 {
-            return Err(Failure::Input);
-        }
-        let len = payload_len(string);
-        if len > out.len() - written {
+        // a code word has at most thirty bits, and the encoder writes four bytes at a time
+        if string.len() >= (out.len() - written) / 4 {
             return Err(Failure::Room);
         }
-        encode_into(string, &mut out[written..written + len]);
+        let len = encode_front(string, &mut out[written..]);
         written += len;
     }
     Ok(written)

@@ -1,9 +1,14 @@
-//! How strings are handed in: a count, and then each string behind its length. Numbers have four bytes, the low
-//! one first.
+//! How strings and lists are handed in. Numbers have four bytes, the low one first. Strings are a count, and then each
+//! string behind its length. Lists are a count, and for each list the count of its fields, and the name and the value
+//! of each field as strings.
+ghost use Rattle.std.specs.Prelude.{◌≡◌, ◌<◌, ◌^◌};
+ghost use Rattle.h3_field.specs.Field.{section_size};
 
 use crate::report::Failure;
-use h3_field::cursor::SliceCursor;
+use h3_field::{HeaderField, SliceCursor};
 use std::alloc::Global;
+use std::borrow::CowSlice;
+use std::marker::Model;
 
 fn take_number(input: &mut SliceCursor<'_>) -> Result<usize, Failure> {
     let bytes = input.chunk();
@@ -37,4 +42,75 @@ pub(crate) fn strings<'a>(alloc: Global, bytes: &'a [u8]) -> Result<Vec<&'a [u8]
         }
     }
     Ok(strings)
+}
+
+/// Fields that an encoder takes: their sizes are in range.
+#[derive(Drop)]
+pub(crate) struct FieldList {
+    fields: Vec<HeaderField>,
+}
+
+impl Model for FieldList {
+    ghost use Rattle.std.specs.Prelude.{List, ◌<◌, ◌^◌};
+    ghost use Rattle.h3_field.specs.Field.{Field, section_size};
+
+    ghost Value = { List Field };
+
+    ghost view = { λ l. l.fields.items };
+
+    ghost invariant = { λ l. section_size l.fields.items < 2 ^ 62 };
+}
+
+impl FieldList {
+    pub(crate) fn fields(&self) -> &[HeaderField]
+        ensures value { result.now ≡ self.now }
+        ensures size { section_size result.now < 2 ^ 62 }
+    {
+        self.fields.as_slice()
+    }
+}
+
+fn take_owned(
+    alloc: Global,
+    input: &mut SliceCursor<'_>,
+) -> Result<CowSlice<'static, u8>, Failure> {
+    let string = take_string(input)?;
+    match Vec::from_slice(alloc, string) {
+        Ok(bytes) => Ok(CowSlice::Owned(bytes)),
+        Err(_) => Err(Failure::Memory),
+    }
+}
+
+fn take_list(alloc: Global, input: &mut SliceCursor<'_>) -> Result<FieldList, Failure> {
+    let count = take_number(input)?;
+    let mut fields = Vec::new(alloc);
+    let mut size: u64 = 0;
+    for _ in 0..count {
+        let name = take_owned(alloc, input)?;
+        let value = take_owned(alloc, input)?;
+        let field = HeaderField::new(name, value);
+        let own_size = field.mem_size() as u64;
+        if own_size >= (1 << 62) - size {
+            return Err(Failure::Input);
+        }
+        size += own_size;
+        if fields.push(field).is_err() {
+            return Err(Failure::Memory);
+        }
+    }
+    Ok(FieldList { fields })
+}
+
+/// All lists.
+pub(crate) fn field_lists(alloc: Global, bytes: &[u8]) -> Result<Vec<FieldList>, Failure> {
+    let mut input = SliceCursor::new(bytes);
+    let count = take_number(&mut input)?;
+    let mut lists = Vec::new(alloc);
+    for _ in 0..count {
+        let list = take_list(alloc, &mut input)?;
+        if lists.push(list).is_err() {
+            return Err(Failure::Memory);
+        }
+    }
+    Ok(lists)
 }

@@ -6,5 +6,7 @@
 
 mod huffman;
 mod input;
+mod output;
 mod report;
+mod section;
 mod varint;

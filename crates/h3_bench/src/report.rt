@@ -25,6 +25,22 @@ pub struct Report {
     pub checksum: u64,
 }
 
+impl Report {
+    /// Nothing done.
+    pub(crate) fn new() -> Report {
+        Report {
+            items: 0,
+            bytes: 0,
+            checksum: 0,
+        }
+    }
+
+    pub(crate) fn add(&mut self, items: usize, bytes: usize) {
+        self.items = self.items.wrapping_add(items as u64);
+        self.bytes = self.bytes.wrapping_add(bytes as u64);
+    }
+}
+
 /// Hands a report out. 0 says that it is there; other numbers say why there is none.
 pub(crate) fn answer(done: Result<Report, Failure>, report: &mut Report) -> u32 {
     match done {

@@ -1,0 +1,109 @@
+//! Field sections that name no dynamic entry.
+
+use crate::input::{self, FieldList};
+use crate::output;
+use crate::report::{Failure, Report, answer};
+use h3_field::{Decoded, HeaderField, SliceCursor, decode_stateless, encode_stateless};
+use std::alloc::Global;
+
+/// Encodes a list in place of what stands in `section`.
+fn encode_list(list: &FieldList, section: &mut Vec<u8>) -> Result<(), Failure> {
+    section.clear();
+    match encode_stateless(section, list.fields()) {
+        Ok(_) => Ok(()),
+        Err(_) => Err(Failure::Memory),
+    }
+}
+
+/// Encodes each list into the same buffer.
+fn encode_all(lists: &[FieldList], section: &mut Vec<u8>) -> Result<Report, Failure> {
+    let mut report = Report::new();
+    for list in lists {
+        encode_list(list, section)?;
+        report.add(list.fields().len(), section.len());
+    }
+    Ok(report)
+}
+
+fn decode_section(alloc: Global, section: &[u8]) -> Result<Decoded, Failure> {
+    match decode_stateless(alloc, &mut SliceCursor::new(section), u64::MAX) {
+        Ok(decoded) => Ok(decoded),
+        Err(_) => Err(Failure::Refused),
+    }
+}
+
+fn count_fields(fields: &[HeaderField], report: &mut Report) {
+    for field in fields {
+        report.add(1, field.name().len());
+        report.add(0, field.value().len());
+    }
+}
+
+/// Decodes each section, and lets its fields go.
+fn decode_all(alloc: Global, sections: &[&[u8]]) -> Result<Report, Failure> {
+    let mut report = Report::new();
+    for section in sections {
+        let decoded = decode_section(alloc, *section)?;
+        count_fields(&decoded.fields, &mut report);
+    }
+    Ok(report)
+}
+
+fn encode(alloc: Global, rounds: u64, bytes: &[u8], out: &mut [u8]) -> Result<Report, Failure> {
+    let lists = input::field_lists(alloc, bytes)?;
+    let mut section = Vec::new(alloc);
+    let mut report = Report::new();
+    for _ in 0..rounds {
+        report = encode_all(&lists, &mut section)?;
+    }
+    let mut packed = Vec::new(alloc);
+    output::put_number(&mut packed, lists.len())?;
+    for list in &lists {
+        encode_list(list, &mut section)?;
+        output::put_string(&mut packed, &section)?;
+    }
+    output::hand_out(&packed, out)?;
+    Ok(report)
+}
+
+fn decode(alloc: Global, rounds: u64, bytes: &[u8], out: &mut [u8]) -> Result<Report, Failure> {
+    let sections = input::strings(alloc, bytes)?;
+    let mut report = Report::new();
+    for _ in 0..rounds {
+        report = decode_all(alloc, &sections)?;
+    }
+    let mut packed = Vec::new(alloc);
+    output::put_number(&mut packed, sections.len())?;
+    for section in &sections {
+        let decoded = decode_section(alloc, *section)?;
+        output::put_fields(&mut packed, &decoded.fields)?;
+    }
+    output::hand_out(&packed, out)?;
+    Ok(report)
+}
+
+/// Encodes the lists `rounds` times, and once more to hand their sections out as strings.
+#[unsafe(no_mangle)]
+pub extern "C" fn h3_bench_section_encode(
+    alloc: Global,
+    rounds: u64,
+    bytes: &[u8],
+    out: &mut [u8],
+    report: &mut Report,
+) -> u32 {
+    let done = encode(alloc, rounds, bytes, out);
+    answer(done, report)
+}
+
+/// Decodes the sections `rounds` times, and once more to hand their lists out.
+#[unsafe(no_mangle)]
+pub extern "C" fn h3_bench_section_decode(
+    alloc: Global,
+    rounds: u64,
+    bytes: &[u8],
+    out: &mut [u8],
+    report: &mut Report,
+) -> u32 {
+    let done = decode(alloc, rounds, bytes, out);
+    answer(done, report)
+}
