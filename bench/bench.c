@@ -17,6 +17,7 @@ void same(const char *what, const void *ours, size_t our_len, const void *theirs
 int main(int argc, char **argv) {
   const char *dir = argc > 1 ? argv[1] : "data";
   if (argc > 2) measure_seconds = atof(argv[2]);
+  if (argc > 3) measure_only = argv[3];
   plain_build();
   field_lists requests = load_lists(dir, "requests"), responses = load_lists(dir, "responses");
   printf("nghttp3 %s; requests: %zu lists, %zu fields, %zu bytes; responses: %zu, %zu, %zu\n",

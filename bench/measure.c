@@ -2,11 +2,18 @@
 #include "measure.h"
 #include <stdio.h>
 #include <stdlib.h>
+#include <string.h>
 #include <time.h>
 
 double measure_seconds = 1.0;
+const char *measure_only;
 volatile uint64_t measure_sink;
 static int below;
+
+typedef struct {
+  double seconds[CONTENDERS];     /* of one round: the best of all runs; 0 where there is no such contender */
+  double allocations[CONTENDERS]; /* of one round: calls of malloc, calloc and realloc */
+} figures;
 
 /* The linker sends each call of these through here (-Wl,--wrap). */
 static uint64_t allocations;
@@ -47,18 +54,26 @@ static double allocations_of(const contender *c, uint64_t rounds) {
   return (double)(allocations - before);
 }
 
-/* Rounds that take about three milliseconds: short enough to fall between other work of the machine. */
-static uint64_t rounds_of(const contender *c) {
-  uint64_t rounds = 1;
-  while (rounds < 1u << 20) {
-    double taken = time_of(c, rounds) - time_of(c, 0);
-    if (taken > 0.003) break;
-    rounds *= 2;
+static double best_time(const contender *c, uint64_t rounds, int tries) {
+  double best = 1e9;
+  for (; tries; tries--) {
+    double taken = time_of(c, rounds);
+    if (taken < best) best = taken;
   }
+  return best;
+}
+
+/* Rounds that take at least three milliseconds, and ten times what a call of no rounds takes: short enough to fall
+ * between other work of the machine, and long enough for what is taken off to count little. */
+static uint64_t rounds_of(const contender *c) {
+  enum { TRIES = 5 };
+  double idle = best_time(c, 0, TRIES), least = 0.003 > 10 * idle ? 0.003 : 10 * idle;
+  uint64_t rounds = 1;
+  while (rounds < 1u << 20 && best_time(c, rounds, TRIES) - idle < least) rounds *= 2;
   return rounds;
 }
 
-figures measure(const contender contenders[CONTENDERS]) {
+static figures measure(const contender contenders[CONTENDERS]) {
   figures found = {0};
   uint64_t rounds[CONTENDERS];
   double best[CONTENDERS], none[CONTENDERS];
@@ -105,7 +120,7 @@ static int print_ratio(double ours, double other, double target) {
   return short_of;
 }
 
-void print_row(const row_kind *kind, const figures *found) {
+static void print_row(const row_kind *kind, const figures *found) {
   printf("%-28s %-13s", kind->row, kind->set);
   for (int k = 0; k < CONTENDERS; k++) print_figure(kind, found->seconds[k]);
   printf(" %-8s", kind->unit);
@@ -116,9 +131,18 @@ void print_row(const row_kind *kind, const figures *found) {
   below += short_of;
 }
 
-void print_allocations(const figures *found, double count) {
+static void print_allocations(const figures *found, double count) {
   printf("%-28s %-13s %12.2f %12.2f %12s %-8s\n", "  allocations", "", found->allocations[OURS] / count,
          found->allocations[PEER] / count, "-", "a list");
+}
+
+void measure_row(const row_kind *kind, const contender contenders[CONTENDERS], double lists) {
+  char name[128];
+  snprintf(name, sizeof name, "%s %s", kind->row, kind->set);
+  if (measure_only && !strstr(name, measure_only)) return;
+  figures found = measure(contenders);
+  print_row(kind, &found);
+  if (lists > 0) print_allocations(&found, lists);
 }
 
 int rows_below(void) { return below; }

@@ -13,19 +13,11 @@ typedef struct {
 
 enum { OURS, PEER, PLAIN, CONTENDERS };
 
-typedef struct {
-  double seconds[CONTENDERS];     /* of one round: the best of all runs; 0 where there is no such contender */
-  double allocations[CONTENDERS]; /* of one round: calls of malloc, calloc and realloc */
-} figures;
-
 /* How long each row is measured. */
 extern double measure_seconds;
 
 /* Keeps the compiler from dropping work. */
 extern volatile uint64_t measure_sink;
-
-/* `work` may be NULL for a contender that the row does not have. */
-figures measure(const contender contenders[CONTENDERS]);
 
 /* How a row shows its figures: `count` units a round, in `unit`, divided by `scale`; or, where `each` is set, the
  * nanoseconds of one unit. */
@@ -37,9 +29,14 @@ typedef struct {
 } row_kind;
 
 void print_head(void);
-void print_row(const row_kind *kind, const figures *found);
-/* Allocations of one of `count` units. */
-void print_allocations(const figures *found, double count);
+
+/* Only rows whose name and set, with a blank between them, have this in them are measured; NULL: all. */
+extern const char *measure_only;
+
+/* Measures the contenders and prints their row; `lists`, where it is above 0, also the allocations of one list.
+ * `work` is NULL for a contender that the row does not have. */
+void measure_row(const row_kind *kind, const contender contenders[CONTENDERS], double lists);
+
 /* How many rows missed a target. */
 int rows_below(void);
 #endif

@@ -147,10 +147,8 @@ void huffman_rows(const field_lists *const *sets, size_t count) {
   check_out(&w, encode, &w.encoded);
   check_out(&w, decode, &w.plain);
   double bytes = (double)w.plain_bytes;
-  figures found = measure(encode);
-  print_row(&(row_kind){"huffman encode", "all strings", "MB/s", bytes, 1e6, 0, 1.5, 1.0}, &found);
-  found = measure(decode);
-  print_row(&(row_kind){"huffman decode", "all strings", "MB/s", bytes, 1e6, 0, 1.5, 1.0}, &found);
+  measure_row(&(row_kind){"huffman encode", "all strings", "MB/s", bytes, 1e6, 0, 1.5, 1.0}, encode, 0);
+  measure_row(&(row_kind){"huffman decode", "all strings", "MB/s", bytes, 1e6, 0, 1.5, 1.0}, decode, 0);
   free(w.plain.items);
   free(w.plain.packed.bytes);
   free(w.encoded.items);

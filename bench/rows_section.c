@@ -71,12 +71,8 @@ void section_rows(const field_lists *lists) {
   const contender encode[CONTENDERS] = {{our_encode, &w}, {peer_encode, &w}, {0}};
   const contender decode[CONTENDERS] = {{our_decode, &w}, {peer_decode, &w}, {0}};
   double count = (double)lists->count;
-  figures found = measure(encode);
-  print_row(&(row_kind){"encode, capacity 0", lists->name, "klists/s", count, 1e3, 0, 1.0, 0}, &found);
-  print_allocations(&found, count);
-  found = measure(decode);
-  print_row(&(row_kind){"decode, capacity 0", lists->name, "klists/s", count, 1e3, 0, 1.0, 0}, &found);
-  print_allocations(&found, count);
+  measure_row(&(row_kind){"encode, capacity 0", lists->name, "klists/s", count, 1e3, 0, 1.0, 0}, encode, count);
+  measure_row(&(row_kind){"decode, capacity 0", lists->name, "klists/s", count, 1e3, 0, 1.0, 0}, decode, count);
   free_pack(&w.packed);
   free_pack(&w.our_sections);
   free(w.out);

@@ -107,10 +107,8 @@ void varint_rows(void) {
     check_bytes(&v);
     const contender encode[CONTENDERS] = {{our_encode, &v}, {peer_encode, &v}, {plain_encode, &v}};
     const contender decode[CONTENDERS] = {{our_decode, &v}, {peer_decode, &v}, {plain_decode, &v}};
-    figures found = measure(encode);
-    print_row(&(row_kind){"varint encode", names[mixed], "ns", NUMBERS, 1, 1, 1.0, 0}, &found);
-    found = measure(decode);
-    print_row(&(row_kind){"varint decode", names[mixed], "ns", NUMBERS, 1, 1, 1.0, 0}, &found);
+    measure_row(&(row_kind){"varint encode", names[mixed], "ns", NUMBERS, 1, 1, 1.0, 0}, encode, 0);
+    measure_row(&(row_kind){"varint decode", names[mixed], "ns", NUMBERS, 1, 1, 1.0, 0}, decode, 0);
     free(v.numbers);
     free(v.bytes);
     free(v.out);

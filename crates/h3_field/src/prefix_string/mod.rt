@@ -87,16 +87,35 @@ pub fn decode(alloc: Global, size: u8, buf: &mut SliceCursor<'_>) -> Result<Vec<
     }
 }
 
-/// Appends the length and the Huffman encoding of a string. A refusal may leave a part of them.
-fn put(size: u8, flags: u8, value: &[u8], len: usize, buf: &mut Vec<u8>) -> Result<(), AllocError>
+/// The longest string that is encoded in one pass, into an array of its own.
+const SHORT: usize = 63;
+
+/// Appends the length and the Huffman encoding of a short string. A refusal may leave a part of them.
+fn put_short(size: u8, flags: u8, value: &[u8], buf: &mut Vec<u8>) -> Result<(), AllocError>
     requires least { 2 ≤ size }
     requires most { size ≤ 8 }
     requires flags { flags < 2 ^ (8 - size) }
-    requires len { len ≡ length (huffman value.now) }
-    requires room { len < 2 ^ 63 }
+    requires short { length value.now ≤ 63 }
     ensures ok { OnOk result (buf.new.items ≡ buf.old.items ++ string_literal size flags value.now) }
     ensures err { OnErr result (take (length buf.old.items) buf.new.items ≡ buf.old.items) }
 {
+    let mut encoding = [0u8; 4 * SHORT + 4];
+    let len = h3_huffman::encode::encode_front(value, &mut encoding);
+    prefix_int::encode(size - 1, 2 * flags + 1, len as u64, buf)?;
+    buf.extend_from_slice(&encoding[..len])
+}
+
+/// Appends the length and the Huffman encoding of a string. A refusal may leave a part of them.
+fn put_long(size: u8, flags: u8, value: &[u8], buf: &mut Vec<u8>) -> Result<(), AllocError>
+    requires least { 2 ≤ size }
+    requires most { size ≤ 8 }
+    requires flags { flags < 2 ^ (8 - size) }
+    requires value { length value.now < 2 ^ 62 }
+    ensures ok { OnOk result (buf.new.items ≡ buf.old.items ++ string_literal size flags value.now) }
+    ensures err { OnErr result (take (length buf.old.items) buf.new.items ≡ buf.old.items) }
+{
+    let len = h3_huffman::encode::payload_len(value);
+    buf.reserve(len)?;
     prefix_int::encode(size - 1, 2 * flags + 1, len as u64, buf)?;
     let start = buf.len();
     buf.resize(start + len, 0)?;
@@ -114,10 +133,13 @@ pub fn encode(size: u8, flags: u8, value: &[u8], buf: &mut Vec<u8>) -> Result<()
     ensures ok { OnOk result (buf.new.items ≡ buf.old.items ++ string_literal size flags value.now) }
     ensures err { OnErr result (buf.new.items ≡ buf.old.items) }
 {
-    let len = h3_huffman::encode::payload_len(value);
-    buf.reserve(len)?;
     let start = buf.len();
-    if put(size, flags, value, len, buf).is_err() {
+    let appended = if value.len() <= SHORT {
+        put_short(size, flags, value, buf)
+    } else {
+        put_long(size, flags, value, buf)
+    };
+    if appended.is_err() {
         buf.truncate(start);
         return Err(Error::OutOfMemory);
     }
