@@ -44,6 +44,29 @@ impl HeaderField {
         HeaderField { name, value }
     }
 
+    /// The field with another value. A name that is not static is copied.
+    pub fn with_value(
+        &self,
+        alloc: Global,
+        value: CowSlice<'static, u8>,
+    ) -> Result<HeaderField, AllocError>
+        ensures { IfOk result (λ f. f ≡ record { name = self.now.name; value = cow_slice_items value.entry }) }
+    {
+        let name = match &self.name {
+            CowSlice::Borrowed(name) => CowSlice::Borrowed(*name),
+            CowSlice::Owned(name) => CowSlice::Owned(Vec::from_slice(alloc, name.as_slice())?),
+        };
+        Ok(HeaderField { name, value })
+    }
+
+    /// The name and the value.
+    pub fn into_inner(self) -> (CowSlice<'static, u8>, CowSlice<'static, u8>)
+        ensures name { cow_slice_items result.0 ≡ self.name }
+        ensures value { cow_slice_items result.1 ≡ self.value }
+    {
+        (self.name, self.value)
+    }
+
     /// A static name and an owned value.
     pub fn with_static_name(name: &'static [u8], value: Vec<u8>) -> HeaderField
         ensures { result ≡ record { name = name.now; value = value.items } }

@@ -8,10 +8,15 @@ ghost use Rattle.h3_field.specs.StringReading.{string};
 ghost use Rattle.h3_field.specs.StringAnswer.{AnswersString, of_integer};
 ghost use Rattle.h3_field.specs.declared.prefix_string.Error.TheVariants as error;
 
+mod bitwin;
 mod payload;
+pub mod string_encode;
 
 use crate::cursor::SliceCursor;
 use crate::prefix_int;
+pub use bitwin::BitWindow;
+pub use string_encode::HpackStringEncode;
+
 pub(crate) use payload::{Payload, take_payload};
 use std::alloc::{AllocError, Global};
 use std::fmt;
@@ -62,6 +67,14 @@ impl From<AllocError> for Error {
     ghost from_gives = { λ _ e. e ≡ error.OutOfMemory };
 
     fn from(_e: AllocError) -> Error {
+        Error::OutOfMemory
+    }
+}
+
+impl From<string_encode::Error> for Error {
+    ghost from_gives = { λ _ e. e ≡ error.OutOfMemory };
+
+    fn from(_e: string_encode::Error) -> Error {
         Error::OutOfMemory
     }
 }
