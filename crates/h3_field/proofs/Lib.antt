@@ -7,3 +7,4 @@ pub mod Standing
 pub mod SectionWriting
 pub mod ReadBack
 pub mod SectionReadBack
+pub mod Decodings

@@ -32,3 +32,4 @@ pub mod PrefixAnswer
 pub mod SectionAnswer
 pub mod InstructionAnswer
 pub mod ReadBack
+pub mod Decoding

@@ -10,11 +10,13 @@ ghost use Rattle.h3_field.specs.declared.prefix_string.Error.TheVariants as erro
 
 mod bitwin;
 mod payload;
+pub mod string_decode;
 pub mod string_encode;
 
 use crate::cursor::SliceCursor;
 use crate::prefix_int;
 pub use bitwin::BitWindow;
+pub use string_decode::{DecodeIter, HpackStringDecode};
 pub use string_encode::HpackStringEncode;
 
 pub(crate) use payload::{Payload, take_payload};
@@ -68,6 +70,14 @@ impl From<AllocError> for Error {
 
     fn from(_e: AllocError) -> Error {
         Error::OutOfMemory
+    }
+}
+
+impl From<string_decode::Error> for Error {
+    ghost from_gives = { λ _ e. e ≡ error.HuffmanDecoding };
+
+    fn from(_e: string_decode::Error) -> Error {
+        Error::HuffmanDecoding
     }
 }
 

@@ -1,5 +1,5 @@
 //! The bytes of a string, before they are decoded.
-ghost use Rattle.std.specs.Prelude.{◌≡◌, ◌-◌, ◌≤◌, ℕ, List, length};
+ghost use Rattle.std.specs.Prelude.{◌≡◌, ◌-◌, ◌≤◌, ℕ, List, length, true};
 ghost use Rattle.h3_field.specs.StringReading.{string};
 ghost use Rattle.h3_field.specs.StringAnswer.{AnswersPayload, AnswersBytes};
 
@@ -68,15 +68,22 @@ impl<'a> Payload<'a> {
             };
             return Ok(bytes);
         }
-        // a code word has at least five bits, and the decoder writes two symbols at a time
-        let room = encoded.len() / 5 * 8 + 12;
-        let Ok(mut bytes) = vec![in alloc; 0u8; room] else {
-            return Err(Error::OutOfMemory);
-        };
-        let Some(len) = h3_huffman::decode::decode_into(encoded, &mut bytes) else {
-            return Err(Error::HuffmanDecoding);
-        };
-        bytes.truncate(len);
-        Ok(bytes)
+        decode_payload(alloc, encoded)
     }
+}
+
+/// The string of a Huffman encoding.
+pub(crate) fn decode_payload(alloc: Global, encoded: &[u8]) -> Result<Vec<u8>, Error>
+    ensures { AnswersBytes (record { is_huffman = true; bytes = encoded.now }) result }
+{
+    // a code word has at least five bits, and the decoder writes two symbols at a time
+    let room = encoded.len() / 5 * 8 + 12;
+    let Ok(mut bytes) = vec![in alloc; 0u8; room] else {
+        return Err(Error::OutOfMemory);
+    };
+    let Some(len) = h3_huffman::decode::decode_into(encoded, &mut bytes) else {
+        return Err(Error::HuffmanDecoding);
+    };
+    bytes.truncate(len);
+    Ok(bytes)
 }
