@@ -8,3 +8,4 @@ pub mod SectionWriting
 pub mod ReadBack
 pub mod SectionReadBack
 pub mod Decodings
+pub mod PrefixReadBack

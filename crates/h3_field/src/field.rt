@@ -119,6 +119,23 @@ impl HeaderField {
     }
 }
 
+impl AsRef<HeaderField> for HeaderField {
+    fn as_ref(&self) -> &HeaderField
+        ensures { result.now ≡ self.now }
+    {
+        self
+    }
+}
+
+impl From<(CowSlice<'static, u8>, CowSlice<'static, u8>)> for HeaderField {
+    ghost from_gives = { λ parts f. f ≡ record { name = cow_slice_items parts.0; value = cow_slice_items parts.1 } };
+
+    fn from(parts: (CowSlice<'static, u8>, CowSlice<'static, u8>)) -> HeaderField {
+        let (name, value) = parts;
+        HeaderField { name, value }
+    }
+}
+
 impl PartialEq for HeaderField {
     ghost eq = { eq_of_both (on (λ f. f.name) (pointwise nat_eq)) (on (λ f. f.value) (pointwise nat_eq)) };
 

@@ -1,15 +1,27 @@
 //! What holds of the encodings. These functions do nothing: their contracts are the laws.
-ghost use Rattle.std.specs.Prelude.{◌≡◌, ◌<◌, ◌≤◌, ◌^◌, ℕ, List, [], ◌++◌, length};
+ghost use Rattle.std.specs.Prelude.{◌≡◌, ◌+◌, ◌<◌, ◌≤◌, ◌-◌, ◌^◌, ℕ, true, List, [], ◌++◌, length};
 ghost use Rattle.h3_field.specs.Line.{FieldLine, line_bytes};
 ghost use Rattle.h3_field.specs.LineAnswer.{IsWritable};
 ghost use Rattle.std.specs.List.{AllByRecursion};
-ghost use Rattle.h3_field.specs.Field.{Field, section_size};
+ghost use Rattle.h3_huffman.specs.Huffman.{huffman};
+ghost use Rattle.h3_field.specs.Integer.{prefixed};
+ghost use Rattle.h3_field.specs.IntegerReading.{integer, integer_limit, IsInteger};
+ghost use Rattle.h3_field.specs.IntegerLaws.{Encoded};
+ghost use Rattle.h3_field.specs.Prefix.{most_entries, prefix_bytes};
+ghost use Rattle.h3_field.specs.PrefixReading.{EncodedPrefix, prefix, IsPrefix};
+ghost use Rattle.h3_field.specs.PrefixWriting.{written_prefix, encoded_bytes};
+ghost use Rattle.h3_field.specs.StringLiteral.{string_literal};
+ghost use Rattle.h3_field.specs.StringReading.{Payload, StandsFor, string};
+ghost use Rattle.h3_field.specs.Field.{Field, field_eq, section_size};
 ghost use Rattle.h3_field.specs.Section.{HasLine, Answer, Fields, AnswersSection, section_bytes};
 ghost use Rattle.h3_field.specs.Reading.{Whole};
 ghost use Rattle.h3_field.specs.ReadBack.{IsFieldOfBytes, IsLineOfBytes, IsInstructionOfBytes, HasInstruction, answer_from};
 ghost use Rattle.h3_field.specs.Instruction.{EncoderInstruction, DecoderInstruction, encoder_bytes, decoder_bytes};
 ghost use Rattle.h3_field.specs.InstructionReading.{decoder_instruction};
 ghost use Rattle.h3_field.specs.InstructionAnswer.{IsSendable, IsReply};
+
+use crate::field::HeaderField;
+use std::hash::Hash;
 
 /// A written field line is read back, whatever follows.
 #[tactic(auto, using(crate::proofs::ReadBack::line_reads_back))]
@@ -44,4 +56,31 @@ pub fn one_instruction()
 pub fn section_reads_back()
     ensures answer { (limit : ℕ) (fields : List Field) (answer : Answer) → AllByRecursion IsFieldOfBytes fields → section_size fields < 2 ^ 62 → length (section_bytes fields) < 2 ^ 63 → AnswersSection limit (section_bytes fields) answer → answer ≡ answer_from limit 0 [] fields }
     ensures within { (limit : ℕ) (fields : List Field) → section_size fields < 2 ^ 62 → section_size fields ≤ limit → answer_from limit 0 [] fields ≡ Fields fields (section_size fields) }
+{}
+
+/// A prefixed integer in range is read back, whatever follows, in each of its encodings; and nothing else is read.
+pub fn integer_reads_back()
+    ensures written { (size flags n : ℕ) (rest : List ℕ) → n < integer_limit size → integer size (prefixed size flags n ++ rest) ≡ Whole (flags, n) rest }
+    ensures longer { (size flags n : ℕ) (octets rest : List ℕ) → IsInteger size flags n octets → n < integer_limit size → integer size (octets ++ rest) ≡ Whole (flags, n) rest }
+    ensures nothing_else { (size flags n : ℕ) (bytes rest : List ℕ) → integer size bytes ≡ Whole (flags, n) rest → Encoded size flags n bytes rest }
+{}
+
+/// A written section prefix is read back, whatever follows, and a reader within the window takes the count and the base
+/// that were written.
+pub fn prefix_reads_back()
+    ensures written { (capacity count base : ℕ) → prefix_bytes capacity count base ≡ encoded_bytes (written_prefix capacity count base) }
+    ensures bytes { (p : EncodedPrefix) (rest : List ℕ) → p.encoded < integer_limit 8 → p.delta < integer_limit 7 → prefix (encoded_bytes p ++ rest) ≡ Whole p rest }
+    ensures taken { (capacity inserted count base : ℕ) → 0 < capacity → (count ≡ 0 → base ≡ 0) → inserted < count + most_entries capacity → count ≤ inserted + most_entries capacity → IsPrefix capacity inserted (written_prefix capacity count base) count base }
+{}
+
+/// A written string is read back, whatever follows, and a payload is one string.
+pub fn string_reads_back()
+    ensures written { (size flags : ℕ) (s rest : List ℕ) → length (huffman s) < integer_limit (size - 1) → string size (string_literal size flags s ++ rest) ≡ Whole (flags, record { is_huffman = true; bytes = huffman s }) rest }
+    ensures one { (p : Payload) (s t : List ℕ) → StandsFor p s → StandsFor p t → s ≡ t }
+{}
+
+/// Equality of fields is that of their bytes, and equal fields hash alike, whether their parts are borrowed or owned.
+pub fn equal_fields_hash_alike()
+    ensures equality { (a b : Field) → ⟦<HeaderField as PartialEq>⟧.eq a b ≡ field_eq a b }
+    ensures hash { (a b : Field) → field_eq a b ≡ true → ⟦<HeaderField as Hash>⟧.hash_input a ≡ ⟦<HeaderField as Hash>⟧.hash_input b }
 {}

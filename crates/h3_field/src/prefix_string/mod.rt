@@ -16,12 +16,11 @@ pub mod string_encode;
 use crate::cursor::SliceCursor;
 use crate::prefix_int;
 pub use bitwin::BitWindow;
-pub use string_decode::{DecodeIter, HpackStringDecode};
-pub use string_encode::HpackStringEncode;
-
 pub(crate) use payload::{Payload, take_payload};
 use std::alloc::{AllocError, Global};
 use std::fmt;
+pub use string_decode::{DecodeIter, HpackStringDecode};
+pub use string_encode::HpackStringEncode;
 
 /// Why no string was read or written.
 #[derive(Copy, Clone, PartialEq, Eq, Debug)]

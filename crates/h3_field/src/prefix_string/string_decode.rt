@@ -3,9 +3,9 @@ ghost use Rattle.std.specs.Prelude.{◌≡◌, ℕ, List, IfOk};
 ghost use Rattle.std.specs.Iterator.{YieldsFirst, item_count};
 ghost use Rattle.h3_field.specs.Decoding.{DecodesTo};
 
+use crate::prefix_string;
 use crate::prefix_string::BitWindow;
 use crate::prefix_string::payload::decode_payload;
-use crate::prefix_string;
 use std::alloc::{AllocError, Global};
 use std::fmt;
 use std::iter::FusedIterator;
