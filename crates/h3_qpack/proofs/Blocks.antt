@@ -56,10 +56,10 @@ one_more inserted base (l ∷ lines) (g ∷ fields) line f h e = (h.0, one_more 
 one_more inserted base [] (g ∷ fields) line f h e = absurd h
 one_more inserted base (l ∷ lines) [] line f h e = absurd h
 
-same_bytes : (a b : List ℕ) → bytes_eq a b ≡ true → a ≡ b
+pub same_bytes : (a b : List ℕ) → bytes_eq a b ≡ true → a ≡ b
 same_bytes a b h = (bytes_eq-Decides a b).0 h
 
-same_field : (f g : Field) → field_eq f g ≡ true → f ≡ g
+pub same_field : (f g : Field) → field_eq f g ≡ true → f ≡ g
 same_field f g h =
     let e = both (bytes_eq f.name g.name) (bytes_eq f.value g.value) h in
     let n = same_bytes f.name g.name e.0 in
@@ -72,14 +72,14 @@ equal_at entries f i h =
     let p = position-Some (λ entry. field_eq entry f) entries i f h in
     slice_get-get_or entries i f p.0 ∙ ap Some (same_field (get_or entries i f) f p.1)
 
-name_at : (entries : List Field) (f : Field) (i : ℕ) → position (λ entry. bytes_eq entry.name f.name) entries ≡ Some i → with_value f.value (slice_get entries i) ≡ Some f
+pub name_at : (entries : List Field) (f : Field) (i : ℕ) → position (λ entry. bytes_eq entry.name f.name) entries ≡ Some i → with_value f.value (slice_get entries i) ≡ Some f
 name_at entries f i h =
     let p = position-Some (λ entry. bytes_eq entry.name f.name) entries i f h in
     let n = same_bytes (get_or entries i f).name f.name p.1 in
     ap (with_value f.value) (slice_get-get_or entries i f p.0) ∙ ap Some (λ i. record { name = n i; value = f.value })
 
 -- the entry that a search found stands at its number
-insertion_found : (test : ℕ → Field → Bool) (fs : List Field) (number : ℕ) (h : newest test fs ≡ Some number)
+pub insertion_found : (test : ℕ → Field → Bool) (fs : List Field) (number : ℕ) (h : newest test fs ≡ Some number)
     → insertion_at fs number ≡ Some (newest_from-passes test 1 fs number h).entry
 insertion_found test fs number h = at_number fs number (newest_from-passes test 1 fs number h).entry (newest_from-passes test 1 fs number h).above (newest_from-passes test 1 fs number h).place
   where

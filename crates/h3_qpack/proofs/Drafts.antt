@@ -77,7 +77,7 @@ le_true a b e = grind (arith, common_steps)
 lt_true : (a b : ℕ) → nat_lt a b ≡ true → a < b
 lt_true a b e = grind (arith, common_steps)
 
-may_insert : (s : Sender) (d : Draft) (f : Field) → is_insertable s d f ≡ true → MayInsert s d f
+pub may_insert : (s : Sender) (d : Draft) (f : Field) → is_insertable s d f ≡ true → MayInsert s d f
 may_insert s d f h =
     let a = both _ (list_all (λ number. nat_lt (dropped_by s d f) number) (referenced_entries s ++ d.references)) h in
     let b = both _ (nat_le (dropped_by s d f) (max s.known_received (dropped s.capacity d.inserted))) a.0 in

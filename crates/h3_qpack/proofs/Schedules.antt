@@ -3,6 +3,8 @@ use Rattle.std.proofs.Common.{ℕ, List, [], ◌∷◌, refl, sym, subst, arith}
 use Rattle.std.proofs.Common.{◌≡◌, ◌+◌, ◌<◌, ◌≤◌, ap, length}
 use Rattle.std.specs.List.{AllByRecursion}
 use Rattle.h3_field.specs.Field.{Field}
+use Rattle.h3_field.specs.Instruction.{EncoderInstruction}
+use Rattle.h3_qpack.specs.History.{IsReadAs}
 use Rattle.h3_qpack.specs.Table.{dropped}
 use Rattle.h3_qpack.specs.Sender.{referenced_entries}
 use Rattle.h3_qpack.specs.Session.{Session, IsSound}
@@ -16,6 +18,10 @@ nothing_dropped capacity inserted e = ap (dropped capacity) e
 moved : (a b : ℕ) (names : List ℕ) → b ≤ a → AllByRecursion (λ number. a < number) names → AllByRecursion (λ number. b < number) names
 moved a b [] le h = tt
 moved a b (x ∷ xs) le h = (omega (arith, le, h.0), moved a b xs le h.1)
+
+nothing_read : (capacity : ℕ) (instructions : List EncoderInstruction) (inserted : List Field) → inserted ≡ [] → length instructions ≡ length inserted → IsReadAs capacity capacity instructions inserted
+nothing_read capacity [] inserted none one_each = rw none (record { one_each = refl; tables = λ k le. let zero_is : k ≡ 0 = omega (arith, le) in rw zero_is refl })
+nothing_read capacity (i ∷ is) inserted none one_each = absurd (omega (arith, one_each, ap length none))
 
 -- a table comes into use
 table_used : (s : Session) (capacity limit : ℕ) → s.sender.inserted ≡ [] → s.sender.limit ≡ 0 → IsSound s → IsSound (with_table s capacity limit)
@@ -31,6 +37,7 @@ table_used s capacity limit none zero_limit h =
       written = h.written;
       cancels = h.cancels;
       within_limit = omega (arith, h.within_limit, zero_limit);
+      read = nothing_read capacity s.instructions s.sender.inserted none h.read.one_each;
       small = h.small;
     }
 
@@ -59,6 +66,7 @@ beginning_is_sound capacity limit =
       written = tt;
       cancels = tt;
       within_limit = omega arith;
+      read = nothing_read capacity [] [] refl refl;
       small = omega arith;
     }
 

@@ -12,7 +12,9 @@ use Rattle.h3_field.specs.Instruction.DecoderInstruction.{Acknowledge, CancelStr
 use Rattle.h3_qpack.specs.Table.{dropped}
 use Rattle.h3_qpack.specs.Sender.{Sender, Tracked, released, blocks_out}
 use Rattle.h3_qpack.specs.Written.{draft_of, required_insert_count}
+use Rattle.h3_qpack.proofs.Insertions.{section_read_as}
 use Rattle.h3_qpack.proofs.Drafts.{All-join, All-first, All-second, draft_is_draft, IsNamed}
+use Rattle.h3_qpack.specs.Schedule.{without_block}
 use Rattle.h3_qpack.specs.Session.{Session, UnderWay, encoded, inserted, decoded, after_cancellation, after_decoder_instruction, increments, acknowledgements, tracked_references, references_of, references_under_way, count_of, CancelsAreLast, is_canceled, oldest, without_oldest, IsWrittenOver, IsSound}
 
 increments-append : (xs ys : List DecoderInstruction) → increments (xs ++ ys) ≡ increments xs + increments ys
@@ -78,6 +80,7 @@ increment_read s count rest is h =
       written = h.written;
       cancels = subst (CancelsAreLast s.canceled) is h.cancels;
       within_limit = omega (arith, h.within_limit, fewer_out s.sender.required_insert_counts s.sender.known_received (min (s.sender.known_received + count) (2 ^ 64 - 1)) (omega (arith, exact)));
+      read = h.read;
       small = h.small;
     }
 
@@ -103,6 +106,7 @@ insertions_read s count fits h =
       written = h.written;
       cancels = cancels_more s.canceled s.decoder_instructions count h.cancels;
       within_limit = h.within_limit;
+      read = h.read;
       small = h.small;
     }
 
@@ -151,6 +155,7 @@ acknowledgement_read s stream rest is h =
       written = h.written;
       cancels = subst (CancelsAreLast s.canceled) is h.cancels;
       within_limit = h.within_limit;
+      read = h.read;
       small = h.small;
     }
 
@@ -178,6 +183,7 @@ cancellation_read s stream rest is h =
       written = h.written;
       cancels = last.2;
       within_limit = h.within_limit;
+      read = h.read;
       small = h.small;
     }
 
@@ -287,6 +293,7 @@ block_written s stream fields h =
           (record { more = []; begins = sym (append-nil draft.inserted) }, tt);
       cancels = h.cancels;
       within_limit = one_more_out s.sender (required_insert_count draft) h.within_limit (may_wait s.sender draft.inserted draft.references 0 (omega arith) d.references);
+      read = section_read_as s.sender.capacity s.sender s.instructions fields h.read;
       small = d.small h.small;
     }
 
@@ -372,6 +379,7 @@ plain_decoded s b none is h =
       written = without_written (IsWrittenOver s.sender.inserted) b.stream s.blocks h.written;
       cancels = rw same h.cancels;
       within_limit = h.within_limit;
+      read = h.read;
       small = h.small;
     }
 
@@ -407,6 +415,7 @@ acknowledged_decoded s b some is alive h =
       written = without_written (IsWrittenOver s.sender.inserted) b.stream s.blocks h.written;
       cancels = cancels_without s.canceled s.decoder_instructions b.stream alive h.cancels;
       within_limit = h.within_limit;
+      read = h.read;
       small = h.small;
     }
 
@@ -466,6 +475,7 @@ stream_abandoned s stream h =
       written = kept_written (IsWrittenOver s.sender.inserted) _ s.blocks h.written;
       cancels = cancels_last s.canceled s.decoder_instructions stream h.cancels;
       within_limit = h.within_limit;
+      read = h.read;
       small = h.small;
     }
   where
@@ -473,7 +483,7 @@ stream_abandoned s stream h =
     same_no e = cc
 
 -- what was inserted for a block that doesn't go out
-pub insertions_kept : (s : Session) (fields : List Field) → IsSound s → IsSound (record s { sender = record s.sender { inserted = (draft_of s.sender fields).inserted } })
+pub insertions_kept : (s : Session) (fields : List Field) → IsSound s → IsSound (without_block s fields)
 insertions_kept s fields h =
     let d = draft_is_draft s.sender fields h.references_held in
     let draft = draft_of s.sender fields in
@@ -487,5 +497,6 @@ insertions_kept s fields h =
       written = longer_written s.sender.inserted draft.inserted d.more d.begins s.blocks h.written;
       cancels = h.cancels;
       within_limit = h.within_limit;
+      read = section_read_as s.sender.capacity s.sender s.instructions fields h.read;
       small = d.small h.small;
     }

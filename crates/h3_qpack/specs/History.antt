@@ -1,6 +1,6 @@
 -- A table by the plain list of all insertions: its entries are an end of that list, and what is gone does not come back
 -- (RFC 9204, sections 3.2.2 and 3.2.3).
-use Rattle.std.specs.Prelude.{ℕ, ◌+◌, ◌-◌, ◌^◌, ◌≤◌, ◌&&◌, List, [], ◌∷◌, ◌++◌, length, drop, max, slice_get, nat_lt, nat_le, if◌then◌else◌, Option, Some, None}
+use Rattle.std.specs.Prelude.{◌≡◌, take, ℕ, ◌+◌, ◌-◌, ◌^◌, ◌≤◌, ◌&&◌, List, [], ◌∷◌, ◌++◌, length, drop, max, slice_get, nat_lt, nat_le, if◌then◌else◌, Option, Some, None}
 use Rattle.h3_field.specs.Field.{Field, field_size}
 use Rattle.h3_field.specs.Section.{with_value}
 use Rattle.h3_field.specs.StaticTable.{static_table}
@@ -50,3 +50,13 @@ abbrev pub further_all : ℕ → Option History → List EncoderInstruction → 
 further_all greatest h [] = h
 further_all greatest None (instruction ∷ rest) = None
 further_all greatest (Some h) (instruction ∷ rest) = further_all greatest (further greatest h instruction) rest
+
+-- the table of a capacity that was set before the first of these insertions
+abbrev pub table_of : ℕ → List Field → History
+table_of capacity inserted = record { capacity = capacity; inserted = inserted; gone = dropped capacity inserted }
+
+-- Each instruction is one insertion, and after the first of them the table is that of the first insertions.
+pub record IsReadAs (greatest capacity : ℕ) (instructions : List EncoderInstruction) (inserted : List Field) : Type 0 where
+  pub one_each : length instructions ≡ length inserted
+  pub tables : (k : ℕ) → k ≤ length instructions →
+      further_all greatest (Some (table_of capacity [])) (take k instructions) ≡ Some (table_of capacity (take k inserted))

@@ -1,9 +1,9 @@
 -- Every schedule of one encoder and one decoder.
-use Rattle.std.specs.Prelude.{◌≡◌, ℕ, ◌+◌, ◌<◌, ◌≤◌, false, List, [], ◌∷◌, length, Some}
+use Rattle.std.specs.Prelude.{◌≡◌, ℕ, ◌+◌, ◌++◌, ◌<◌, ◌≤◌, false, List, [], ◌∷◌, length, Some}
 use Rattle.h3_field.specs.Field.{Field}
 use Rattle.h3_field.specs.Instruction.{DecoderInstruction}
 use Rattle.h3_qpack.specs.Sender.{no_table}
-use Rattle.h3_qpack.specs.Written.{draft_of}
+use Rattle.h3_qpack.specs.Written.{draft_of, instructions_for}
 use Rattle.h3_qpack.specs.Session.{Session, UnderWay, encoded, inserted, oldest, is_canceled, count_of, decoded, after_cancellation, after_decoder_instruction}
 
 pub data SessionEvent : Type 0 where
@@ -22,7 +22,11 @@ abbrev pub with_table : Session → ℕ → ℕ → Session
 with_table s capacity limit = record s { sender = record s.sender { capacity = capacity; limit = limit } }
 
 abbrev pub without_block : Session → List Field → Session
-without_block s fields = record s { sender = record s.sender { inserted = (draft_of s.sender fields).inserted } }
+without_block s fields =
+    record s {
+      sender = record s.sender { inserted = (draft_of s.sender fields).inserted };
+      instructions = s.instructions ++ instructions_for s.sender fields;
+    }
 
 abbrev pub SessionStep : Session → SessionEvent → Session → Type 0
 SessionStep s (UseTable capacity limit) new = (s.sender.inserted ≡ []) × (s.sender.limit ≡ 0) × (new ≡ with_table s capacity limit)
@@ -41,4 +45,4 @@ SessionRun s (event ∷ events) new = (mid : Session) × SessionStep s event mid
 -- an encoder with this capacity and limit, and a decoder, before anything
 abbrev pub beginning : ℕ → ℕ → Session
 beginning capacity limit =
-    record { sender = record no_table { capacity = capacity; limit = limit }; received = 0; blocks = []; decoder_instructions = []; canceled = [] }
+    record { sender = record no_table { capacity = capacity; limit = limit }; instructions = []; received = 0; blocks = []; decoder_instructions = []; canceled = [] }

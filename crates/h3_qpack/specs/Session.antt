@@ -2,12 +2,13 @@
 use Rattle.std.specs.Prelude.{◌≡◌, ℕ, ◌+◌, ◌^◌, ◌≤◌, ◌<◌, Bool, true, false, List, [], ◌∷◌, ◌++◌, length, filter, drop, take, ◌&&◌, nat_lt, ◌==◌, not, if◌then◌else◌, Option, Some, None}
 use Rattle.std.specs.List.{AllByRecursion, list_any}
 use Rattle.h3_field.specs.Field.{Field}
-use Rattle.h3_field.specs.Instruction.{DecoderInstruction}
+use Rattle.h3_field.specs.Instruction.{EncoderInstruction, DecoderInstruction}
 use Rattle.h3_field.specs.Instruction.DecoderInstruction.{Acknowledge, CancelStream, Increment}
 use Rattle.h3_qpack.specs.Block.{StandFor}
 use Rattle.h3_qpack.specs.Table.{dropped}
 use Rattle.h3_qpack.specs.Sender.{Sender, Tracked, told, blocks_out, referenced_entries}
-use Rattle.h3_qpack.specs.Written.{draft_of, required_insert_count, sent_section}
+use Rattle.h3_qpack.specs.Written.{draft_of, instructions_for, required_insert_count, sent_section}
+use Rattle.h3_qpack.specs.History.{IsReadAs}
 
 -- a block that is written and not yet decoded
 pub record UnderWay : Type 0 where
@@ -18,6 +19,8 @@ pub record UnderWay : Type 0 where
 
 pub record Session : Type 0 where
   pub sender : Sender
+  -- all that the encoder wrote on its stream behind the capacity, in order
+  pub instructions : List EncoderInstruction
   -- how many insertions the decoder has read
   pub received : ℕ
   pub blocks : List UnderWay
@@ -41,6 +44,7 @@ abbrev pub encoded : Session → ℕ → List Field → Session
 encoded s stream fields =
     record s {
       sender = sent_section s.sender stream fields;
+      instructions = s.instructions ++ instructions_for s.sender fields;
       blocks = s.blocks ++ record { stream = stream; fields = fields; sender = s.sender } ∷ [];
     }
 
@@ -133,6 +137,8 @@ pub record IsSound (s : Session) : Type 0 where
   pub cancels : CancelsAreLast s.canceled s.decoder_instructions
   -- so many blocks may still wait
   pub within_limit : blocks_out s.sender ≤ s.sender.limit
+  -- what the encoder wrote is read as what it inserted
+  pub read : IsReadAs s.sender.capacity s.sender.capacity s.instructions s.sender.inserted
   -- numbers of entries stay below 2 ^ 62
   pub small : length s.sender.inserted < 2 ^ 62
 
