@@ -12,5 +12,7 @@ pub mod Session
 pub mod Schedule
 pub mod Meaning
 pub mod Instructions
+pub mod Tracking
+pub mod TrackingInside
 pub mod Stored
 pub mod Worked

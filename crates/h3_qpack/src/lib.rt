@@ -2,5 +2,6 @@
 #![tactic(auto)]
 
 mod entries;
+mod tracking;
 pub mod examples;
 pub mod laws;

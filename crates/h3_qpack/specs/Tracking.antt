@@ -1,0 +1,36 @@
+-- Which sections hold which entries (RFC 9204, section 2.1.1).
+use Rattle.std.specs.Prelude.{ℕ, zero, suc, ◌+◌, Bool, List, [], ◌∷◌, count_by, nat_lt, if◌then◌else◌, ◌==◌}
+use Rattle.std.specs.List.{list_all}
+use Rattle.h3_qpack.specs.Sender.{without_newest}
+use Rattle.h3_qpack.specs.declared.tracking.TrackedSection.{TrackedSection}
+
+-- Sections over the entries from one number up to another, each with the oldest entry that it names.
+pub record Holds : Type 0 where
+  pub gone : ℕ
+  pub made : ℕ
+  pub sections : List TrackedSection
+
+abbrev pub is_of : ℕ → TrackedSection → Bool
+is_of stream t = t.stream == stream
+
+-- the sections without the oldest one of the stream
+abbrev pub without_oldest_of : ℕ → List TrackedSection → List TrackedSection
+without_oldest_of stream [] = []
+without_oldest_of stream (t ∷ ts) = if t.stream == stream then ts else t ∷ without_oldest_of stream ts
+
+-- the sections without the newest one of the stream
+abbrev pub without_newest_of : ℕ → List TrackedSection → List TrackedSection
+without_newest_of stream ts = without_newest (is_of stream) ts
+
+-- how many sections have this entry as their oldest
+abbrev pub held_by : ℕ → List TrackedSection → ℕ
+held_by number ts = count_by (λ t. t.oldest == number) ts
+
+-- no section names an entry up to that number
+abbrev pub is_free_to : ℕ → List TrackedSection → Bool
+is_free_to number ts = list_all (λ t. nat_lt number t.oldest) ts
+
+-- the same of so many entries, the first of that number
+abbrev pub held_from : ℕ → ℕ → List TrackedSection → List ℕ
+held_from number zero ts = []
+held_from number (suc count) ts = held_by number ts ∷ held_from (number + 1) count ts

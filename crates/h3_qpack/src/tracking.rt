@@ -1,0 +1,111 @@
+//! Sections that are sent and neither acknowledged nor canceled (RFC 9204, sections 2.1.1 and 2.1.2), and how many of
+//! them hold each entry.
+ghost use Rattle.std.specs.Prelude.{◌≡◌, ℕ, ◌+◌, ◌-◌, ◌^◌, ◌<◌, ◌≤◌, List, [], ◌∷◌, ◌++◌, true, drop, IfOk, OnErr, OnOk};
+ghost use Rattle.std.specs.List.{list_any};
+ghost use Rattle.h3_qpack.specs.Tracking.{Holds, is_of, is_free_to, without_oldest_of, without_newest_of};
+
+use std::alloc::{AllocError, Global};
+use std::collections::VecDeque;
+use std::marker::Model;
+
+/// A section that names entries, and the oldest of them.
+#[derive(Clone, Copy, Debug)]
+pub struct TrackedSection {
+    pub stream: u64,
+    pub oldest: usize,
+}
+
+/// The tracked sections in the order of sending, over the entries that are there.
+#[derive(Drop)]
+pub(crate) struct Tracking {
+    // of each entry, how many sections have it as their oldest
+    references: VecDeque<usize>,
+    gone: usize,
+    sections: VecDeque<TrackedSection>,
+}
+
+impl Model for Tracking {
+    ghost use Rattle.h3_qpack.specs.Tracking.{Holds};
+
+    ghost Value = { Holds };
+
+    ghost use Rattle.h3_qpack.specs.TrackingInside.{holds_inside, IsTracking};
+
+    ghost view = { holds_inside };
+
+    ghost invariant = { IsTracking };
+}
+
+/// Drops so many items from the front.
+fn drop_front(items: &mut VecDeque<usize>, count: usize)
+    ensures { items.new.items ≡ drop count items.old.items }
+{
+    for _done in 0..count {
+        items.pop_front();
+    }
+}
+
+impl Tracking {
+    pub(crate) fn new(alloc: Global) -> Tracking
+        ensures { result ≡ record { gone = 0; made = 0; sections = [] } }
+    {
+        Tracking {
+            references: VecDeque::new(alloc),
+            gone: 0,
+            sections: VecDeque::new(alloc),
+        }
+    }
+
+    /// Whether no section names an entry up to that number.
+    pub(crate) fn is_free_to(&self, number: usize) -> bool
+        requires from { self.now.gone ≤ number }
+        requires to { number ≤ self.now.made }
+        ensures { result ≡ is_free_to number self.now.sections }
+    {
+        let count = number - self.gone;
+        let mut place = 0;
+        while place < count {
+            if self.references[place] != 0 {
+                return false;
+            }
+            place += 1;
+        }
+        true
+    }
+
+    /// One entry more is there, which no section names.
+    pub(crate) fn add_entry(&mut self) -> Result<(), AllocError>
+        requires { self.old.made + 1 < 2 ^ 62 }
+        ensures ok { OnOk result (self.new ≡ record self.old { made = self.old.made + 1 }) }
+        ensures err { OnErr result (self.new ≡ self.old) }
+    {
+        self.references.reserve(1)?;
+        self.references.push_back_reserved(0);
+        Ok(())
+    }
+
+    /// The entries up to that number, which no section names, are no longer there.
+    pub(crate) fn drop_to(&mut self, number: usize)
+        requires from { self.old.gone ≤ number }
+        requires to { number ≤ self.old.made }
+        requires free { is_free_to number self.old.sections ≡ true }
+        ensures { self.new ≡ record self.old { gone = number } }
+    {
+        drop_front(&mut self.references, number - self.gone);
+        self.gone = number;
+    }
+
+    /// Tracks a section whose oldest entry is there.
+    pub(crate) fn track(&mut self, section: TrackedSection) -> Result<(), AllocError>
+        requires from { self.old.gone < section.oldest }
+        requires to { section.oldest ≤ self.old.made }
+        ensures ok { OnOk result (self.new ≡ record self.old { sections = self.old.sections ++ section ∷ [] }) }
+        ensures err { OnErr result (self.new ≡ self.old) }
+    {
+        self.sections.reserve(1)?;
+        self.sections.push_back_reserved(section);
+        let place = section.oldest - self.gone - 1;
+        self.references[place] += 1;
+        Ok(())
+    }
+}
