@@ -123,3 +123,10 @@ above_free gone made last [] free h = tt
 above_free gone made last (t ∷ ts) free h =
     let e = both (nat_lt last t.oldest) (is_free_to last ts) free in
     ((grind (arith, common_steps), h.0.1), above_free gone made last ts e.1 h.1)
+
+-- the count of an entry that is there
+pub held_count : (gone : ℕ) (refs : List ℕ) (ts : List TrackedSection) (number v : ℕ) → refs ≡ held_from (gone + 1) (length refs) ts → gone < number → number ≤ gone + length refs
+    → v ≡ get_or refs (number - gone - 1) v → v ≡ held_by number ts
+held_count gone refs ts number v counts low high is =
+    let same : gone + 1 + (number - gone - 1) ≡ number = omega (arith, low) in
+    is ∙ ap (λ ns. get_or ns (number - gone - 1) v) counts ∙ held_at (gone + 1) (length refs) ts (number - gone - 1) v (omega (arith, low, high)) ∙ ap (λ n. held_by n ts) same

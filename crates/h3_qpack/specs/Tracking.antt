@@ -1,6 +1,6 @@
 -- Which sections hold which entries (RFC 9204, section 2.1.1).
-use Rattle.std.specs.Prelude.{ℕ, zero, suc, ◌+◌, Bool, List, [], ◌∷◌, count_by, nat_lt, if◌then◌else◌, ◌==◌}
-use Rattle.std.specs.List.{list_all}
+use Rattle.std.specs.Prelude.{◌≡◌, ◌<◌, ℕ, zero, suc, ◌+◌, Bool, true, false, length, take, drop, slice_index_or, List, [], ◌∷◌, count_by, nat_lt, if◌then◌else◌, ◌==◌}
+use Rattle.std.specs.List.{list_all, list_any}
 use Rattle.h3_qpack.specs.Sender.{without_newest}
 use Rattle.h3_qpack.specs.declared.tracking.TrackedSection.{TrackedSection}
 
@@ -34,3 +34,15 @@ is_free_to number ts = list_all (λ t. nat_lt number t.oldest) ts
 abbrev pub held_from : ℕ → ℕ → List TrackedSection → List ℕ
 held_from number zero ts = []
 held_from number (suc count) ts = held_by number ts ∷ held_from (number + 1) count ts
+
+-- The section at the place is the first of its stream.
+pub record IsFirstOf (stream : ℕ) (ts : List TrackedSection) (place : ℕ) : Type 0 where
+  pub inside : place < length ts
+  pub before : list_any (is_of stream) (take place ts) ≡ false
+  pub here : (t : TrackedSection) → t ≡ slice_index_or ts place t → is_of stream t ≡ true
+
+-- It is the last of its stream.
+pub record IsLastOf (stream : ℕ) (ts : List TrackedSection) (place : ℕ) : Type 0 where
+  pub inside : place < length ts
+  pub behind : list_any (is_of stream) (drop (place + 1) ts) ≡ false
+  pub here : (t : TrackedSection) → t ≡ slice_index_or ts place t → is_of stream t ≡ true

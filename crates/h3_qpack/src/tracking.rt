@@ -1,8 +1,8 @@
 //! Sections that are sent and neither acknowledged nor canceled (RFC 9204, sections 2.1.1 and 2.1.2), and how many of
 //! them hold each entry.
-ghost use Rattle.std.specs.Prelude.{◌≡◌, ℕ, ◌+◌, ◌-◌, ◌^◌, ◌<◌, ◌≤◌, List, [], ◌∷◌, ◌++◌, true, drop, IfOk, OnErr, OnOk};
-ghost use Rattle.std.specs.List.{list_any};
-ghost use Rattle.h3_qpack.specs.Tracking.{Holds, is_of, is_free_to, without_oldest_of, without_newest_of};
+ghost use Rattle.std.specs.Prelude.{◌≡◌, ℕ, ◌+◌, ◌-◌, ◌^◌, ◌<◌, ◌≤◌, List, [], ◌∷◌, ◌++◌, length, true, false, drop, IfSome, IfNone, OnErr, OnOk};
+ghost use Rattle.std.specs.List.{list_any, remove};
+ghost use Rattle.h3_qpack.specs.Tracking.{Holds, is_of, is_free_to, without_oldest_of, without_newest_of, IsFirstOf, IsLastOf};
 
 use std::alloc::{AllocError, Global};
 use std::collections::VecDeque;
@@ -43,6 +43,34 @@ fn drop_front(items: &mut VecDeque<usize>, count: usize)
     for _done in 0..count {
         items.pop_front();
     }
+}
+
+/// The place of the oldest section of a stream.
+fn first_of(sections: &VecDeque<TrackedSection>, stream: u64) -> Option<usize>
+    ensures some { IfSome result (IsFirstOf stream sections.now.items) }
+    ensures none { IfNone result (list_any (is_of stream) sections.now.items ≡ false) }
+{
+    for place in 0..sections.len() {
+        if sections[place].stream == stream {
+            return Some(place);
+        }
+    }
+    None
+}
+
+/// The place of the newest section of a stream.
+fn last_of(sections: &VecDeque<TrackedSection>, stream: u64) -> Option<usize>
+    ensures some { IfSome result (IsLastOf stream sections.now.items) }
+    ensures none { IfNone result (list_any (is_of stream) sections.now.items ≡ false) }
+{
+    let mut left = sections.len();
+    while left > 0 {
+        left -= 1;
+        if sections[left].stream == stream {
+            return Some(left);
+        }
+    }
+    None
 }
 
 impl Tracking {
@@ -107,5 +135,39 @@ impl Tracking {
         let place = section.oldest - self.gone - 1;
         self.references[place] += 1;
         Ok(())
+    }
+
+    /// Takes the section at a place away.
+    fn forget(&mut self, place: usize)
+        requires { place < length self.old.sections }
+        ensures { self.new ≡ record self.old { sections = remove self.old.sections place } }
+    {
+        let Some(section) = self.sections.remove(place) else {
+            return;
+        };
+        let at = section.oldest - self.gone - 1;
+        self.references[at] -= 1;
+    }
+
+    /// Releases the oldest section of a stream, and tells whether there was one.
+    pub(crate) fn release(&mut self, stream: u64) -> bool
+        ensures found { result ≡ list_any (is_of stream) self.old.sections }
+        ensures after { self.new ≡ record self.old { sections = without_oldest_of stream self.old.sections } }
+    {
+        let Some(place) = first_of(&self.sections, stream) else {
+            return false;
+        };
+        self.forget(place);
+        true
+    }
+
+    /// Releases the newest section of a stream, if there is one.
+    pub(crate) fn release_newest(&mut self, stream: u64)
+        ensures { self.new ≡ record self.old { sections = without_newest_of stream self.old.sections } }
+    {
+        let Some(place) = last_of(&self.sections, stream) else {
+            return;
+        };
+        self.forget(place);
     }
 }

@@ -6,15 +6,8 @@ use Rattle.std.specs.List.{AllByRecursion}
 use Rattle.h3_qpack.specs.declared.tracking.TrackedSection.{TrackedSection}
 use Rattle.h3_qpack.specs.Tracking.{held_from, held_by}
 use Rattle.h3_qpack.proofs.Drafts.{All-join}
-use Rattle.h3_qpack.proofs.Holding.{held_set, held_at, held_by-append, one_holds, held_by-length}
+use Rattle.h3_qpack.proofs.Holding.{held_set, held_at, held_by-append, one_holds, held_by-length, held_count}
 use Rattle.h3_qpack.proofs.tracking.Tracking.track.Goals as goal
-
--- the count of an entry that is there
-count_is : (gone : ℕ) (refs : List ℕ) (ts : List TrackedSection) (number v : ℕ) → refs ≡ held_from (gone + 1) (length refs) ts → gone < number → number ≤ gone + length refs
-    → v ≡ get_or refs (number - gone - 1) v → v ≡ held_by number ts
-count_is gone refs ts number v counts low high is =
-    let same : gone + 1 + (number - gone - 1) ≡ number = omega (arith, low) in
-    is ∙ ap (λ ns. get_or ns (number - gone - 1) v) counts ∙ held_at (gone + 1) (length refs) ts (number - gone - 1) v (omega (arith, low, high)) ∙ ap (λ n. held_by n ts) same
 
 one_more : (number n : ℕ) (ts : List TrackedSection) (t : TrackedSection) → t.oldest ≡ number → held_by number (ts ++ t ∷ []) ≡ held_by number ts + 1
 one_more number n ts t is = omega (arith, held_by-append number ts (t ∷ []), yes (t.oldest == number) refl)
@@ -44,7 +37,7 @@ overflow_add-index_mut c =
     let i = c.self.invariant in
     let gone_is = ap (λ h. h.gone) c.self.view_is in
     let made_is = ap (λ h. h.made) c.self.view_is in
-    let is = count_is c.self.inside.gone c.self.inside.references.items c.self.inside.sections.items c.args.section.oldest c.index_mut.result.now i.counts (omega (arith, gone_is, c.requires.from)) (omega (arith, made_is, c.requires.to)) c.index_mut.ensures.value in
+    let is = held_count c.self.inside.gone c.self.inside.references.items c.self.inside.sections.items c.args.section.oldest c.index_mut.result.now i.counts (omega (arith, gone_is, c.requires.from)) (omega (arith, made_is, c.requires.to)) c.index_mut.ensures.value in
     omega (arith, is, held_by-length c.args.section.oldest c.self.inside.sections.items, c.self.inside.sections.ok.0, c.self.inside.sections.small)
 
 pub invariant_of-self-2 : goal.invariant_of-self-2
@@ -54,7 +47,7 @@ invariant_of-self-2 c =
     let made_is = ap (λ h. h.made) c.self.view_is in
     let low : c.self.inside.gone < c.args.section.oldest = omega (arith, gone_is, c.requires.from) in
     let high : c.args.section.oldest ≤ c.self.inside.gone + length c.self.inside.references.items = omega (arith, made_is, c.requires.to) in
-    let is = count_is c.self.inside.gone c.self.inside.references.items c.self.inside.sections.items c.args.section.oldest c.index_mut.result.now i.counts low high c.index_mut.ensures.value in
+    let is = held_count c.self.inside.gone c.self.inside.references.items c.self.inside.sections.items c.args.section.oldest c.index_mut.result.now i.counts low high c.index_mut.ensures.value in
     let sections = c.push_back_reserved.ensures.items ∙ ap (λ ts. ts ++ c.args.section ∷ []) c.in_ok-reserve.ensures.items in
     let same = length-set c.self.inside.references.items (c.args.section.oldest - c.self.inside.gone - 1) (c.index_mut.result.now + 1) in
     record {

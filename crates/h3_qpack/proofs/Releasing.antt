@@ -1,0 +1,79 @@
+-- A section is taken away.
+use Rattle.std.proofs.Common.{◌≡◌, ◌≢◌, ℕ, zero, suc, ◌+◌, ◌-◌, ◌<◌, ◌≤◌, Bool, true, false, ◌||◌, List, [], ◌∷◌, ◌++◌, length, take, drop, refl, sym, ◌∙◌, ap, subst, arith, if◌then◌else◌, get_or, add-one}
+use Rattle.std.specs.Prelude.{◌==◌}
+use Rattle.std.specs.List.{AllByRecursion, list_any, remove}
+use Rattle.std.proofs.lemmas.Grind.{common_steps}
+use Rattle.std.proofs.lemmas.List.Sums.{sum_by-cons}
+use Rattle.h3_qpack.specs.declared.tracking.TrackedSection.{TrackedSection}
+use Rattle.h3_qpack.specs.Sender.{without_newest}
+use Rattle.h3_qpack.specs.Tracking.{held_by, is_of, without_oldest_of, without_newest_of, IsFirstOf, IsLastOf}
+
+pub All-remove : (P : TrackedSection → Type 0) (ts : List TrackedSection) (place : ℕ) → AllByRecursion P ts → AllByRecursion P (remove ts place)
+All-remove P [] zero h = tt
+All-remove P [] (suc place) h = tt
+All-remove P (t ∷ ts) zero h = h.1
+All-remove P (t ∷ ts) (suc place) h = (h.0, All-remove P ts place h.1)
+
+-- what holds of each holds of the one at a place
+pub All-at : (P : TrackedSection → Type 0) (ts : List TrackedSection) (place : ℕ) (t : TrackedSection) → place < length ts → t ≡ get_or ts place t → AllByRecursion P ts → P t
+All-at P [] place t lt is h = absurd (omega (arith, lt))
+All-at P (u ∷ ts) zero t lt is h = subst P (sym is) h.0
+All-at P (u ∷ ts) (suc place) t lt is h = All-at P ts place t (omega (arith, lt)) is h.1
+
+pub held_by-remove : (n : ℕ) (ts : List TrackedSection) (place : ℕ) (t : TrackedSection) → place < length ts → t ≡ get_or ts place t
+    → held_by n ts ≡ held_by n (remove ts place) + (if t.oldest == n then 1 else 0)
+held_by-remove n [] place t lt is = absurd (omega (arith, lt))
+held_by-remove n (u ∷ ts) zero t lt is = rw is (omega (arith, sum_by-cons (λ (t : TrackedSection). if t.oldest == n then 1 else 0) u ts))
+held_by-remove n (u ∷ ts) (suc place) t lt is =
+    omega (arith, held_by-remove n ts place t (omega (arith, lt)) is, sum_by-cons (λ (t : TrackedSection). if t.oldest == n then 1 else 0) u ts, sum_by-cons (λ (t : TrackedSection). if t.oldest == n then 1 else 0) u (remove ts place))
+
+neither : (a b : Bool) → (a || b) ≡ false → (a ≡ false) × (b ≡ false)
+neither true b h = cc
+neither false b h = (refl, h)
+
+pub first_removed : (stream : ℕ) (ts : List TrackedSection) (place : ℕ) → IsFirstOf stream ts place → remove ts place ≡ without_oldest_of stream ts
+first_removed stream [] place h = absurd (omega (arith, h.inside))
+first_removed stream (t ∷ ts) zero h = let yes = h.here t refl in rw yes refl
+first_removed stream (t ∷ ts) (suc place) h =
+    let e = neither (is_of stream t) (list_any (is_of stream) (take place ts)) h.before in
+    rw (e.0, first_removed stream ts place (record { inside = omega (arith, h.inside); before = e.1; here = h.here })) refl
+
+pub first_there : (stream : ℕ) (ts : List TrackedSection) (place : ℕ) → IsFirstOf stream ts place → list_any (is_of stream) ts ≡ true
+first_there stream [] place h = absurd (omega (arith, h.inside))
+first_there stream (t ∷ ts) zero h = let yes = h.here t refl in rw yes refl
+first_there stream (t ∷ ts) (suc place) h =
+    let e = neither (is_of stream t) (list_any (is_of stream) (take place ts)) h.before in
+    rw (e.0, first_there stream ts place (record { inside = omega (arith, h.inside); before = e.1; here = h.here })) refl
+
+pub none_removed : (stream : ℕ) (ts : List TrackedSection) → list_any (is_of stream) ts ≡ false → without_oldest_of stream ts ≡ ts
+none_removed stream [] h = refl
+none_removed stream (t ∷ ts) h = let e = neither (is_of stream t) (list_any (is_of stream) ts) h in rw (e.0, none_removed stream ts e.1) refl
+
+later : (stream : ℕ) (t : TrackedSection) (ts : List TrackedSection) (place : ℕ) → IsLastOf stream (t ∷ ts) (suc place) → IsLastOf stream ts place
+later stream t ts place h =
+    let same : suc place + 1 ≡ suc (place + 1) = omega arith in
+    let behind = rw same at h.behind in
+    record { inside = omega (arith, h.inside); behind = behind; here = h.here }
+
+last_there : (stream : ℕ) (ts : List TrackedSection) (place : ℕ) → IsLastOf stream ts place → list_any (is_of stream) ts ≡ true
+last_there stream [] place h = absurd (omega (arith, h.inside))
+last_there stream (t ∷ ts) zero h = let yes = h.here t refl in rw yes refl
+last_there stream (t ∷ ts) (suc place) h = or_right (is_of stream t) (last_there stream ts place (later stream t ts place h))
+  where
+    or_right : (a : Bool) {b : Bool} → b ≡ true → (a || b) ≡ true
+    or_right true e = refl
+    or_right false e = e
+
+pub last_removed : (stream : ℕ) (ts : List TrackedSection) (place : ℕ) → IsLastOf stream ts place → remove ts place ≡ without_newest_of stream ts
+last_removed stream [] place h = absurd (omega (arith, h.inside))
+last_removed stream (t ∷ ts) zero h =
+    let yes = h.here t refl in
+    let behind : list_any (is_of stream) ts ≡ false = h.behind in
+    rw (behind, yes) refl
+last_removed stream (t ∷ ts) (suc place) h =
+    let l = later stream t ts place h in
+    rw (last_there stream ts place l, last_removed stream ts place l) refl
+
+pub none_newest : (stream : ℕ) (ts : List TrackedSection) → list_any (is_of stream) ts ≡ false → without_newest_of stream ts ≡ ts
+none_newest stream [] h = refl
+none_newest stream (t ∷ ts) h = let e = neither (is_of stream t) (list_any (is_of stream) ts) h in rw (e.1, e.0) refl
