@@ -1,5 +1,7 @@
 -- How the counts of sections go with the sections.
-use Rattle.std.proofs.Common.{◌≡◌, ◌≢◌, ℕ, zero, suc, ◌+◌, ◌-◌, ◌<◌, ◌≤◌, Bool, true, false, ◌&&◌, List, [], ◌∷◌, ◌++◌, length, drop, refl, sym, ◌∙◌, ap, subst, arith, length-append, nat_lt, if◌then◌else◌, get_or, set, add-one}
+use Rattle.std.proofs.Math.Seq.{take-length}
+use Rattle.std.proofs.lemmas.List.{take-append-le}
+use Rattle.std.proofs.Common.{take, ◌≡◌, ◌≢◌, ℕ, zero, suc, ◌+◌, ◌-◌, ◌<◌, ◌≤◌, Bool, true, false, ◌&&◌, List, [], ◌∷◌, ◌++◌, length, drop, refl, sym, ◌∙◌, ap, subst, arith, length-append, nat_lt, if◌then◌else◌, get_or, set, add-one}
 use Rattle.std.specs.Prelude.{◌==◌}
 use Rattle.std.specs.List.{AllByRecursion, list_all, count_by}
 use Rattle.std.proofs.lemmas.Grind.{common_steps}
@@ -130,3 +132,29 @@ pub held_count : (gone : ℕ) (refs : List ℕ) (ts : List TrackedSection) (numb
 held_count gone refs ts number v counts low high is =
     let same : gone + 1 + (number - gone - 1) ≡ number = omega (arith, low) in
     is ∙ ap (λ ns. get_or ns (number - gone - 1) v) counts ∙ held_at (gone + 1) (length refs) ts (number - gone - 1) v (omega (arith, low, high)) ∙ ap (λ n. held_by n ts) same
+
+-- the last entry, which none holds, is taken away
+pub held_from-front : (first count : ℕ) (ts : List TrackedSection) → 0 < count → take (count - 1) (held_from first count ts) ≡ held_from first (count - 1) ts
+held_from-front first count ts above =
+    let back : count ≡ count - 1 + 1 = omega (arith, above) in
+    ap (λ n. take (count - 1) (held_from first n ts)) back
+    ∙ ap (take (count - 1)) (held_from-last first (count - 1) ts)
+    ∙ take-append-le (count - 1) (held_from first (count - 1) ts) _ (omega (arith, length-held_from first (count - 1) ts))
+    ∙ take-all (count - 1) (held_from first (count - 1) ts) (sym (length-held_from first (count - 1) ts))
+  where
+    take-all : (n : ℕ) (xs : List ℕ) → n ≡ length xs → take n xs ≡ xs
+    take-all n xs e = rw e (take-length xs)
+
+pub there_before : (gone made : ℕ) (ts : List TrackedSection) → 0 < made → held_by made ts ≡ 0 → AllByRecursion (λ s. (gone < s.oldest) × (s.oldest ≤ made)) ts
+    → AllByRecursion (λ s. (gone < s.oldest) × (s.oldest ≤ made - 1)) ts
+there_before gone made [] above none h = tt
+there_before gone made (t ∷ ts) above none h =
+    let sum = sum_by-cons (λ (t : TrackedSection). if t.oldest == made then 1 else 0) t ts in
+    ((h.0.0, other (t.oldest == made) refl sum), there_before gone made ts above (omega (arith, none, sum)) h.1)
+  where
+    other : (b : Bool) → (t.oldest == made) ≡ b → held_by made (t ∷ ts) ≡ (if t.oldest == made then 1 else 0) + held_by made ts → t.oldest ≤ made - 1
+    other true e sum = absurd (one (if t.oldest == made then 1 else 0) (rw e refl) (omega (arith, none, sum)))
+      where
+        one : (n : ℕ) → n ≡ 1 → n ≡ 0 → ⊥
+        one n a b = omega (arith, a, b)
+    other false e sum = grind (arith, common_steps, h.0.1)

@@ -15,4 +15,5 @@ pub mod Instructions
 pub mod Tracking
 pub mod TrackingInside
 pub mod Stored
+pub mod TableInside
 pub mod Worked

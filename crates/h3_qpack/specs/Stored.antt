@@ -1,10 +1,12 @@
 -- What an encoder keeps of its history.
-use Rattle.std.specs.Prelude.{ℕ, ◌+◌, ◌-◌, ◌^◌, Bool, min, List, [], ◌∷◌, ◌++◌, length, map, filter, fold, nat_lt, if◌then◌else◌, ◌==◌}
-use Rattle.std.specs.List.{list_any}
-use Rattle.h3_field.specs.Field.{Field}
+use Rattle.std.specs.Prelude.{◌≡◌, ◌<◌, ◌≤◌, ℕ, ◌+◌, ◌-◌, ◌^◌, true, min, max, List, [], ◌∷◌, ◌++◌, length, map, filter, fold, nat_lt, if◌then◌else◌}
+use Rattle.h3_field.specs.Instruction.{DecoderInstruction}
+use Rattle.h3_field.specs.Instruction.DecoderInstruction.{Acknowledge, CancelStream, Increment}
+use Rattle.h3_qpack.specs.Tracking.{is_free_to, without_oldest_of}
+use Rattle.h3_field.specs.Field.{Field, field_size}
 use Rattle.h3_qpack.specs.Table.{table}
-use Rattle.h3_qpack.specs.Held.{Held}
-use Rattle.h3_qpack.specs.Sender.{Sender, Tracked, without_newest}
+use Rattle.h3_qpack.specs.Held.{Held, gone, with_entry}
+use Rattle.h3_qpack.specs.Sender.{Sender, Tracked}
 use Rattle.h3_qpack.specs.declared.tracking.TrackedSection.{TrackedSection}
 
 pub record StoredSender : Type 0 where
@@ -33,19 +35,31 @@ stored s =
       tracked = map stored_section s.tracked;
     }
 
--- the sections without the oldest one of the stream
-abbrev pub without_oldest_of : ℕ → List TrackedSection → List TrackedSection
-without_oldest_of stream [] = []
-without_oldest_of stream (t ∷ ts) = if t.stream == stream then ts else t ∷ without_oldest_of stream ts
-
-abbrev pub without_newest_of : ℕ → List TrackedSection → List TrackedSection
-without_newest_of stream ts = without_newest (λ t. t.stream == stream) ts
-
-abbrev pub is_of : ℕ → TrackedSection → Bool
-is_of stream t = t.stream == stream
-
 -- what is known to be received, after a further increment
 abbrev pub raised : StoredSender → ℕ → StoredSender
 raised s count =
     let known = min (s.known_received + count) (2 ^ 64 - 1) in
     record s { known_received = known; waiting = filter (λ c. nat_lt known c) s.waiting }
+
+-- what is stored, after an instruction of the receiver
+abbrev pub stored_told : StoredSender → DecoderInstruction → StoredSender
+stored_told s (Acknowledge stream) = record s { tracked = without_oldest_of stream s.tracked }
+stored_told s (CancelStream stream) = record s { tracked = without_oldest_of stream (without_oldest_of stream s.tracked) }
+stored_told s (Increment count) = raised s count
+
+-- The field may be inserted: it fits, and the entries in its way are known to be received, named by no section that is
+-- tracked, and below the oldest entry that is otherwise named.
+pub record MayInsertInto (s : StoredSender) (f : Field) (oldest : ℕ) : Type 0 where
+  pub few : s.table.inserted + 1 < 2 ^ 62
+  pub fits : field_size f ≤ s.table.capacity
+  pub known : gone (with_entry s.table f) ≤ max s.known_received (gone s.table)
+  pub free : is_free_to (gone (with_entry s.table f)) s.tracked ≡ true
+  pub own : gone (with_entry s.table f) < oldest
+
+-- what is stored, after a section was written that names entries
+abbrev pub stored_sent : StoredSender → ℕ → ℕ → ℕ → StoredSender
+stored_sent s stream count oldest =
+    record s {
+      waiting = if nat_lt s.known_received count then s.waiting ++ count ∷ [] else s.waiting;
+      tracked = s.tracked ++ record { stream = stream; oldest = oldest } ∷ [];
+    }

@@ -161,6 +161,7 @@ impl Entries {
         requires fits { field_size field.now ≤ self.now.capacity }
         requires may { gone self.now ≤ most }
         ensures some { IfSome result (λ n. (n ≡ gone (with_entry self.now field.now)) × (n ≤ most)) }
+        ensures made { IfSome result (λ n. (gone self.now ≤ n) × (n ≤ self.now.inserted)) }
         ensures none { IfNone result (most < gone (with_entry self.now field.now)) }
     {
         let gone = self.inserted - self.fields.len();

@@ -2,7 +2,7 @@
 //! them hold each entry.
 ghost use Rattle.std.specs.Prelude.{◌≡◌, ℕ, ◌+◌, ◌-◌, ◌^◌, ◌<◌, ◌≤◌, List, [], ◌∷◌, ◌++◌, length, true, false, drop, IfSome, IfNone, OnErr, OnOk};
 ghost use Rattle.std.specs.List.{list_any, remove};
-ghost use Rattle.h3_qpack.specs.Tracking.{Holds, is_of, is_free_to, without_oldest_of, without_newest_of, IsFirstOf, IsLastOf};
+ghost use Rattle.h3_qpack.specs.Tracking.{Holds, is_of, held_by, is_free_to, without_oldest_of, without_newest_of, IsFirstOf, IsLastOf};
 
 use std::alloc::{AllocError, Global};
 use std::collections::VecDeque;
@@ -105,11 +105,21 @@ impl Tracking {
     pub(crate) fn add_entry(&mut self) -> Result<(), AllocError>
         requires { self.old.made + 1 < 2 ^ 62 }
         ensures ok { OnOk result (self.new ≡ record self.old { made = self.old.made + 1 }) }
+        ensures unnamed { OnOk result (held_by (self.old.made + 1) self.old.sections ≡ 0) }
         ensures err { OnErr result (self.new ≡ self.old) }
     {
         self.references.reserve(1)?;
         self.references.push_back_reserved(0);
         Ok(())
+    }
+
+    /// The newest entry, which no section names, is not there after all.
+    pub(crate) fn remove_entry(&mut self)
+        requires some { self.old.gone < self.old.made }
+        requires unnamed { held_by self.old.made self.old.sections ≡ 0 }
+        ensures { self.new ≡ record self.old { made = self.old.made - 1 } }
+    {
+        self.references.pop_back();
     }
 
     /// The entries up to that number, which no section names, are no longer there.

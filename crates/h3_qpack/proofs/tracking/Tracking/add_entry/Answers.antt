@@ -28,3 +28,9 @@ invariant_of-self-2 c =
       there = there_later c.self.inside.gone _ _ c.self.inside.sections.items (omega (arith, more)) i.there;
       few = omega (arith, more, c.requires, ap (λ h. h.made) c.self.view_is);
     }
+
+pub returns-clause-unnamed : goal.returns-clause-unnamed
+returns-clause-unnamed c =
+    let i = c.self.invariant in
+    let next : c.self.inside.gone + 1 + length c.self.inside.references.items ≡ c.self.inside.gone + length c.self.inside.references.items + 1 = omega arith in
+    rw (← c.self.view_is) (ap (λ n. held_by n c.self.inside.sections.items) (sym next) ∙ none_holds _ c.self.inside.sections.items (below _ _ _ i.there))

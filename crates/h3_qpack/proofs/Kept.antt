@@ -1,0 +1,99 @@
+-- What an encoder keeps serves for the list of all insertions.
+use Rattle.std.proofs.Common.{◌≡◌, ℕ, zero, suc, ◌+◌, ◌-◌, ◌^◌, ◌<◌, ◌≤◌, Bool, true, false, ◌&&◌, ◌||◌, List, [], ◌∷◌, ◌++◌, length, take, drop, min, max, refl, sym, ◌∙◌, ap, subst, arith, length-append, Option, Some, None, nat_le, nat_lt, bytes_eq, if◌then◌else◌, map, fold, append_assoc}
+use Rattle.std.specs.List.{AllByRecursion, list_all, flat_map}
+use Rattle.std.proofs.lemmas.Grind.{common_steps}
+use Rattle.std.proofs.lemmas.List.{take-append-drop, length-take-le}
+use Rattle.std.proofs.lemmas.List.Sums.{sum_by-append}
+use Rattle.h3_field.specs.Field.{Field, field_eq, field_size, section_size}
+use Rattle.h3_qpack.specs.Table.{table, dropped, newest, newest_from, or_else}
+use Rattle.h3_qpack.specs.Held.{Held, gone, in_range, newest_in, with_entry}
+use Rattle.h3_qpack.specs.Sender.{Sender, Tracked, blocks_out, referenced_entries}
+use Rattle.h3_qpack.specs.Written.{Draft, is_usable, found, found_name, remaining, dropped_by, is_insertable}
+use Rattle.h3_qpack.specs.Tracking.{is_free_to}
+use Rattle.h3_qpack.specs.Stored.{StoredSender, stored_section, least, MayInsertInto}
+use Rattle.h3_qpack.specs.declared.tracking.TrackedSection.{TrackedSection}
+use Rattle.h3_qpack.proofs.Tables.{length-table, table-one, table-whole}
+use Rattle.h3_qpack.proofs.Newest.{newest_from-none}
+
+-- the table of all these insertions, as it is held
+abbrev pub held_of : ℕ → List Field → Held
+held_of capacity inserted = record { capacity = capacity; entries = table capacity inserted; inserted = length inserted }
+
+-- what is there is an end of the insertions
+pub table-end : (capacity : ℕ) (fs : List Field) → table capacity fs ≡ drop (dropped capacity fs) fs
+table-end capacity [] = refl
+table-end capacity (f ∷ fs) = by_test (nat_le (section_size (f ∷ fs)) capacity) refl (table-end capacity fs)
+  where
+    by_test : (b : Bool) → nat_le (section_size (f ∷ fs)) capacity ≡ b → table capacity fs ≡ drop (dropped capacity fs) fs
+        → (if b then f ∷ fs else table capacity fs) ≡ drop (length (f ∷ fs) - length (if b then f ∷ fs else table capacity fs)) (f ∷ fs)
+    by_test true e h = let none : length (f ∷ fs) - length (f ∷ fs) ≡ 0 = omega arith in rw none refl
+    by_test false e h =
+        let one : length (f ∷ fs) - length (table capacity fs) ≡ suc (dropped capacity fs) = omega (arith, length-table capacity fs) in
+        rw one h
+
+-- a smaller table of a table is a table of all
+pub table-table : (small large : ℕ) (fs : List Field) → small ≤ large → table small (table large fs) ≡ table small fs
+table-table small large [] le = refl
+table-table small large (f ∷ fs) le = by_test (nat_le (section_size (f ∷ fs)) large) refl (table-table small large fs le)
+  where
+    by_test : (b : Bool) → nat_le (section_size (f ∷ fs)) large ≡ b → table small (table large fs) ≡ table small fs
+        → table small (if b then f ∷ fs else table large fs) ≡ table small (f ∷ fs)
+    by_test true e h = refl
+    by_test false e h = let far : nat_le (section_size (f ∷ fs)) small ≡ false = grind (arith, common_steps) in rw far h
+
+-- a further insertion, held
+pub with_entry-held : (capacity : ℕ) (fs : List Field) (f : Field) → field_size f ≤ capacity → with_entry (held_of capacity fs) f ≡ held_of capacity (fs ++ f ∷ [])
+with_entry-held capacity fs f fits =
+    let entries : table capacity (table capacity fs ++ f ∷ []) ≡ table capacity (fs ++ f ∷ []) =
+    table-one capacity (table capacity fs) f fits
+    ∙ ap (λ es. es ++ f ∷ []) (table-table (capacity - field_size f) capacity fs (omega arith))
+    ∙ sym (table-one capacity fs f fits) in
+    let count : length fs + 1 ≡ length (fs ++ f ∷ []) = omega (arith, length-append fs (f ∷ [])) in
+    rw (entries, count) refl
+
+-- a search in two parts
+newest_from-append : (test : ℕ → Field → Bool) (first : ℕ) (fs gs : List Field) → newest_from test first (fs ++ gs) ≡ or_else (newest_from test (first + length fs) gs) (newest_from test first fs)
+newest_from-append test first [] gs = let same : first + 0 ≡ first = omega arith in rw same (last (newest_from test first gs))
+  where
+    last : (o : Option ℕ) → o ≡ or_else o None
+    last None = refl
+    last (Some n) = refl
+newest_from-append test first (f ∷ fs) gs =
+    let same : first + 1 + length fs ≡ first + suc (length fs) = omega arith in
+    ap (λ o. or_else o (if test first f then Some first else None)) (newest_from-append test (first + 1) fs gs)
+    ∙ ap (λ n. or_else (or_else (newest_from test n gs) (newest_from test (first + 1) fs)) (if test first f then Some first else None)) same
+    ∙ choice (newest_from test (first + suc (length fs)) gs) (newest_from test (first + 1) fs) (if test first f then Some first else None)
+  where
+    choice : (a b c : Option ℕ) → or_else (or_else a b) c ≡ or_else a (or_else b c)
+    choice None b c = refl
+    choice (Some x) b c = refl
+
+-- two tests that agree on the numbers of the list
+newest_from-same : (test other : ℕ → Field → Bool) (first : ℕ) (fs : List Field) → ((n : ℕ) (e : Field) → first ≤ n → n < first + length fs → test n e ≡ other n e)
+    → newest_from test first fs ≡ newest_from other first fs
+newest_from-same test other first [] same = refl
+newest_from-same test other first (f ∷ fs) same =
+    rw (newest_from-same test other (first + 1) fs (λ n e low high. same n e (omega (arith, low)) (omega (arith, high))), same first f (omega arith) (omega arith)) refl
+
+-- A search of what is held finds what a search of all insertions finds, where it wants an entry that is there.
+pub search_held : (capacity : ℕ) (fs : List Field) (test : Field → Bool) (above most : ℕ) (whole : ℕ → Field → Bool)
+    → ((n : ℕ) (e : Field) → n ≤ dropped capacity fs → whole n e ≡ false)
+    → ((n : ℕ) (e : Field) → dropped capacity fs < n → n ≤ length fs → in_range test above most n e ≡ whole n e)
+    → newest_in (held_of capacity fs) test above most ≡ newest whole fs
+search_held capacity fs test above most whole gone_none same =
+    let g = dropped capacity fs in
+    let len : length (table capacity fs) ≡ length fs - g = omega (arith, length-table capacity fs) in
+    let front : length (take g fs) ≡ g = length-take-le g fs (omega arith) in
+    let split : newest whole fs ≡ or_else (newest_from whole (1 + length (take g fs)) (drop g fs)) (newest_from whole 1 (take g fs)) =
+    ap (newest whole) (sym (take-append-drop g fs)) ∙ newest_from-append whole 1 (take g fs) (drop g fs) in
+    let none : newest_from whole 1 (take g fs) ≡ None = newest_from-none whole 1 (take g fs) (λ n e lt. gone_none n e (omega (arith, lt, front))) in
+    let first : 1 + length (take g fs) ≡ g + 1 = omega (arith, front) in
+    newest_from-same (in_range test above most) whole (g + 1) (table capacity fs) (λ n e low high. same n e (omega (arith, low)) (omega (arith, high, len, length-table capacity fs)))
+    ∙ ap (newest_from whole (g + 1)) (table-end capacity fs)
+    ∙ sym (split ∙ ap (λ o. or_else (newest_from whole (1 + length (take g fs)) (drop g fs)) o) none
+      ∙ or_none (newest_from whole (1 + length (take g fs)) (drop g fs))
+      ∙ ap (λ n. newest_from whole n (drop g fs)) first)
+  where
+    or_none : (o : Option ℕ) → or_else o None ≡ o
+    or_none None = refl
+    or_none (Some n) = refl

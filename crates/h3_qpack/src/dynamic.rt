@@ -1,0 +1,181 @@
+//! The dynamic table with what its sender goes by (RFC 9204, sections 2.1 and 3.2).
+ghost use Rattle.std.specs.Prelude.{◌≡◌, ℕ, ◌+◌, ◌-◌, ◌^◌, ◌<◌, ◌≤◌, List, [], ◌∷◌, ◌++◌, length, min, max, true, false, filter, nat_lt, IfSome, IfNone, IfOk, OnErr, OnOk};
+ghost use Rattle.std.specs.List.{list_any};
+ghost use Rattle.h3_field.specs.Field.{Field, field_size};
+ghost use Rattle.h3_qpack.specs.Held.{Held, no_entries, gone, newest_in, with_entry, with_capacity};
+ghost use Rattle.h3_qpack.specs.Matches.{matches};
+ghost use Rattle.h3_qpack.specs.Tracking.{is_of, is_free_to, without_oldest_of, without_newest_of};
+ghost use Rattle.h3_qpack.specs.Stored.{StoredSender, MayInsertInto, raised, stored_sent};
+
+use crate::entries::{Entries, Match, size_of};
+use crate::tracking::{TrackedSection, Tracking};
+use h3_field::HeaderField;
+use std::alloc::{AllocError, Global};
+use std::marker::Model;
+
+/// The entries of a table, and what a sender knows of its receiver: the greatest number of insertions known to be
+/// received, the sections that may wait there, and those that hold entries.
+#[derive(Drop)]
+pub struct DynamicTable {
+    entries: Entries,
+    tracking: Tracking,
+    // how many sections may wait at the receiver
+    limit: usize,
+    known_received: usize,
+    // the required insert counts above the known received count
+    waiting: Vec<usize>,
+}
+
+impl Model for DynamicTable {
+    ghost use Rattle.h3_qpack.specs.Stored.{StoredSender};
+
+    ghost Value = { StoredSender };
+
+    ghost use Rattle.h3_qpack.specs.TableInside.{stored_inside, IsTable};
+
+    ghost view = { stored_inside };
+
+    ghost invariant = { IsTable };
+}
+
+impl DynamicTable {
+    /// A table of capacity 0, whose sections may not wait.
+    pub fn new(alloc: Global) -> DynamicTable
+        ensures { result ≡ record { table = no_entries; limit = 0; known_received = 0; waiting = []; tracked = [] } }
+    {
+        DynamicTable {
+            entries: Entries::new(alloc),
+            tracking: Tracking::new(alloc),
+            limit: 0,
+            known_received: 0,
+            waiting: Vec::new(alloc),
+        }
+    }
+
+    pub(crate) fn into_entries(self) -> Entries
+        ensures { result ≡ self.table }
+    {
+        self.entries
+    }
+
+    pub(crate) fn capacity(&self) -> usize
+        ensures value { result ≡ self.now.table.capacity }
+        ensures small { result < 2 ^ 30 }
+    {
+        self.entries.capacity()
+    }
+
+    pub(crate) fn inserted(&self) -> usize
+        ensures value { result ≡ self.now.table.inserted }
+        ensures small { result < 2 ^ 62 }
+    {
+        self.entries.inserted()
+    }
+
+    pub(crate) fn gone(&self) -> usize
+        ensures value { result ≡ gone self.now.table }
+        ensures small { result ≤ self.now.table.inserted }
+    {
+        self.entries.gone()
+    }
+
+    /// How many insertions are known to be received.
+    pub(crate) fn known_received(&self) -> usize
+        ensures { result ≡ self.now.known_received }
+    {
+        self.known_received
+    }
+
+    /// How many sections may wait at the receiver.
+    pub(crate) fn blocks_out(&self) -> usize
+        ensures { result ≡ length self.now.waiting }
+    {
+        self.waiting.len()
+    }
+
+    pub(crate) fn limit(&self) -> usize
+        ensures { result ≡ self.now.limit }
+    {
+        self.limit
+    }
+
+    pub(crate) fn newest(&self, what: Match, field: &HeaderField, above: usize, most: usize) -> Option<usize>
+        requires { gone self.now.table ≤ above }
+        ensures { result ≡ newest_in self.now.table (matches what field.now) above most }
+    {
+        self.entries.newest(what, field, above, most)
+    }
+
+    /// How many entries are gone once the field is inserted, where it may be: the entries in the way are known to be
+    /// received, no tracked section names them, and they are below `oldest`.
+    pub(crate) fn room_for(&self, field: &HeaderField, oldest: usize) -> Option<usize>
+        ensures some { IfSome result (λ n. MayInsertInto self.now field.now oldest × (n ≡ gone (with_entry self.now.table field.now)) × (gone self.now.table ≤ n)) }
+        ensures none { IfNone result (MayInsertInto self.now field.now oldest → ⊥) }
+    {
+        if self.entries.inserted() + 1 >= MOST_INSERTIONS || size_of(field) > self.entries.capacity() {
+            return None;
+        }
+        let gone = self.entries.gone();
+        let most = self.known_received.max(gone);
+        let after = self.entries.gone_after(field, most)?;
+        if after >= oldest || !self.tracking.is_free_to(after) {
+            return None;
+        }
+        Some(after)
+    }
+
+    /// The sum of increments grows, and stops at the greatest number. Sections whose insertions are known to be received
+    /// wait no more.
+    pub fn update_largest_received(&mut self, increment: usize)
+        ensures { self.new ≡ raised self.old increment }
+    {
+        let known = self.known_received.saturating_add(increment);
+        self.known_received = known;
+        self.waiting.retain(|count| *count > known);
+    }
+
+    /// Inserts a field that may be: the oldest entries, up to `after`, give way. Where memory is refused nothing changes.
+    pub(crate) fn insert(&mut self, field: HeaderField, after: usize) -> Result<(), AllocError>
+        requires after { after ≡ gone (with_entry self.old.table field) }
+        requires from { gone self.old.table ≤ after }
+        requires few { self.old.table.inserted + 1 < 2 ^ 62 }
+        requires fits { field_size field ≤ self.old.table.capacity }
+        requires free { is_free_to (gone (with_entry self.old.table field)) self.old.tracked ≡ true }
+        ensures ok { OnOk result (self.new ≡ record self.old { table = with_entry self.old.table field }) }
+        ensures err { OnErr result (self.new ≡ self.old) }
+    {
+        self.tracking.add_entry()?;
+        if self.entries.insert(field).is_err() {
+            self.tracking.remove_entry();
+            return Err(AllocError);
+        }
+        self.tracking.drop_to(after);
+        Ok(())
+    }
+
+    /// Counts a section that was written, and tracks it where it names entries. Where memory is refused nothing changes.
+    pub(crate) fn track(&mut self, stream: u64, count: usize, oldest: usize) -> Result<(), AllocError>
+        requires from { gone self.old.table < oldest }
+        requires to { oldest ≤ self.old.table.inserted }
+        ensures ok { OnOk result (self.new ≡ stored_sent self.old stream count oldest) }
+        ensures err { OnErr result (self.new ≡ self.old) }
+    {
+        self.waiting.reserve(1)?;
+        self.tracking.track(TrackedSection { stream, oldest })?;
+        if count > self.known_received {
+            self.waiting.push_reserved(count);
+        }
+        Ok(())
+    }
+
+    /// Releases the oldest tracked section of a stream, and tells whether there was one.
+    pub(crate) fn release(&mut self, stream: u64) -> bool
+        ensures found { result ≡ list_any (is_of stream) self.old.tracked }
+        ensures after { self.new ≡ record self.old { tracked = without_oldest_of stream self.old.tracked } }
+    {
+        self.tracking.release(stream)
+    }
+}
+
+/// Numbers of entries stay below this one.
+const MOST_INSERTIONS: usize = 4611686018427387904;
