@@ -16,4 +16,5 @@ pub mod Tracking
 pub mod TrackingInside
 pub mod Stored
 pub mod TableInside
+pub mod SectionAnswers
 pub mod Worked

@@ -7,7 +7,7 @@ ghost use Rattle.h3_qpack.specs.Matches.{matches};
 ghost use Rattle.h3_qpack.specs.Tracking.{is_of, is_free_to, without_oldest_of, without_newest_of};
 ghost use Rattle.h3_qpack.specs.Stored.{StoredSender, MayInsertInto, raised, stored_sent};
 
-use crate::entries::{Entries, Match, size_of};
+use crate::entries::{Entries, MOST_INSERTIONS, Match, size_of};
 use crate::tracking::{TrackedSection, Tracking};
 use h3_field::HeaderField;
 use std::alloc::{AllocError, Global};
@@ -176,6 +176,3 @@ impl DynamicTable {
         self.tracking.release(stream)
     }
 }
-
-/// Numbers of entries stay below this one.
-const MOST_INSERTIONS: usize = 4611686018427387904;

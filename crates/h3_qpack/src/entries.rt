@@ -12,6 +12,9 @@ use std::alloc::{AllocError, Global};
 use std::collections::VecDeque;
 use std::marker::Model;
 
+/// Numbers of entries stay below this one.
+pub(crate) const MOST_INSERTIONS: usize = 4611686018427387904;
+
 /// The greatest capacity of a table, in bytes.
 pub(crate) const MAX_CAPACITY: usize = 1073741823;
 
@@ -126,7 +129,8 @@ impl Entries {
 
     /// The entry of that number, where it is there.
     pub(crate) fn get(&self, number: usize) -> Option<&HeaderField>
-        ensures { option_copied result ≡ entry_at self.now number }
+        ensures value { option_copied result ≡ entry_at self.now number }
+        ensures beyond { (n : ℕ) → 2 ^ 62 ≤ n → entry_at self.now n ≡ None }
     {
         let gone = self.inserted - self.fields.len();
         if number <= gone {

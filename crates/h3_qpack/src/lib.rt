@@ -1,6 +1,7 @@
 //! QPACK's dynamic table (RFC 9204): what an encoder writes, what a decoder reads, and the law of their sessions.
 #![tactic(auto)]
 
+mod decoder;
 mod dynamic;
 mod entries;
 mod tracking;

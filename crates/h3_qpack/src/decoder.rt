@@ -1,0 +1,271 @@
+//! A decoder with its dynamic table (RFC 9204, sections 2.2 and 4).
+ghost use Rattle.std.specs.Prelude.{◌≡◌, ◌≤◌, ◌<◌, ◌^◌, ℕ, ◌+◌, ◌-◌, [], true, false, length, min, nat_lt, Some, None, MatchResult, IfOk, IfErr};
+ghost use Rattle.h3_field.specs.Field.{Field, section_size};
+ghost use Rattle.h3_field.specs.Shapes.{begins};
+ghost use Rattle.h3_field.specs.declared.decoder_error.DecoderError.TheVariants.{InvalidIndex};
+ghost use Rattle.h3_field.specs.declared.vas.Error.TheVariants.{RelativeIndex, PostbaseIndex};
+ghost use Rattle.h3_qpack.specs.Held.{Held, entry_at};
+ghost use Rattle.h3_qpack.specs.Receiver.{Receiver, announcing, count_capacity};
+ghost use Rattle.h3_qpack.specs.Meaning.{MeansFields};
+ghost use Rattle.h3_qpack.specs.SectionAnswers.{AnswersLineAt, IsRefusal};
+
+use crate::dynamic::DynamicTable;
+use crate::entries::{Entries, MOST_INSERTIONS};
+use h3_field::block::{
+    HeaderBlockField, HeaderPrefix, Indexed, IndexedWithPostBase, Literal, LiteralWithNameRef,
+    LiteralWithPostBaseNameRef,
+};
+use h3_field::static_::StaticTable;
+use h3_field::vas;
+use h3_field::{Decoded, DecoderError, HeaderField, SliceCursor};
+use std::alloc::{AllocError, Global};
+use std::borrow::CowSlice;
+use std::marker::Model;
+
+/// Reads encoded field sections and an encoder's instructions against one dynamic table.
+#[derive(Drop)]
+pub struct Decoder {
+    alloc: Global,
+    entries: Entries,
+    // the greatest capacity that was announced; none where the table came with a capacity of its own
+    announced: Option<usize>,
+}
+
+impl Model for Decoder {
+    ghost use Rattle.h3_qpack.specs.Receiver.{Receiver};
+
+    ghost Value = { Receiver };
+
+    ghost view = { λ d. record { announced = d.announced; table = d.entries } };
+}
+
+/// A field with copies of the bytes of another.
+fn copy_of(alloc: Global, field: &HeaderField) -> Result<HeaderField, AllocError>
+    ensures { IfOk result (λ f. f ≡ field.now) }
+{
+    let name = Vec::from_slice(alloc, field.name())?;
+    let value = Vec::from_slice(alloc, field.value())?;
+    Ok(HeaderField::new(CowSlice::Owned(name), CowSlice::Owned(value)))
+}
+
+/// A field with a copy of the name of another.
+fn named_as(alloc: Global, field: &HeaderField, value: Vec<u8>) -> Result<HeaderField, AllocError>
+    ensures { IfOk result (λ f. f ≡ record { name = field.now.name; value = value.items }) }
+{
+    let name = Vec::from_slice(alloc, field.name())?;
+    Ok(HeaderField::new(CowSlice::Owned(name), CowSlice::Owned(value)))
+}
+
+/// The entry at a distance below the base.
+fn relative(entries: &Entries, base: usize, index: usize) -> Result<&HeaderField, DecoderError>
+    ensures { MatchResult result (λ f. entry_at entries.now (base - index) ≡ Some f.now) (λ e. (entry_at entries.now (base - index) ≡ None) × (e ≡ InvalidIndex (RelativeIndex index))) }
+{
+    match entries.get(base.saturating_sub(index)) {
+        Some(entry) => Ok(entry),
+        None => Err(DecoderError::InvalidIndex(vas::Error::RelativeIndex(index))),
+    }
+}
+
+/// The entry at a distance from the base on.
+fn post_base(entries: &Entries, base: usize, index: usize) -> Result<&HeaderField, DecoderError>
+    ensures { MatchResult result (λ f. entry_at entries.now (base + index + 1) ≡ Some f.now) (λ e. (entry_at entries.now (base + index + 1) ≡ None) × (e ≡ InvalidIndex (PostbaseIndex index))) }
+{
+    // beyond all numbers of entries, where the sum might not fit
+    let number = if base < MOST_INSERTIONS && index < MOST_INSERTIONS {
+        base + index + 1
+    } else {
+        MOST_INSERTIONS
+    };
+    match entries.get(number) {
+        Some(entry) => Ok(entry),
+        None => Err(DecoderError::InvalidIndex(vas::Error::PostbaseIndex(index))),
+    }
+}
+
+impl Decoder {
+    /// A decoder that announced this capacity. Its table has capacity 0 until an instruction sets it.
+    pub fn announced(alloc: Global, capacity: usize) -> Decoder
+        requires { capacity < 2 ^ 30 }
+        ensures { result ≡ announcing capacity }
+    {
+        Decoder {
+            alloc,
+            entries: Entries::new(alloc),
+            announced: Some(capacity),
+        }
+    }
+
+    /// A decoder with this table, whose capacity may be set to any.
+    pub fn from(alloc: Global, table: DynamicTable) -> Decoder
+        ensures { result ≡ record { announced = None; table = table.table } }
+    {
+        Decoder {
+            alloc,
+            entries: table.into_entries(),
+            announced: None,
+        }
+    }
+
+    /// How many insertions were read.
+    pub fn inserted(&self) -> usize
+        ensures value { result ≡ self.now.table.inserted }
+        ensures small { result < 2 ^ 62 }
+    {
+        self.entries.inserted()
+    }
+
+    /// The field of an indexed line.
+    fn take_indexed(&self, base: usize, buf: &mut SliceCursor<'_>) -> Result<HeaderField, DecoderError>
+        requires some { 0 < length buf.old }
+        requires own { begins 128 255 buf.old ≡ true }
+        ensures { AnswersLineAt self.now.table base buf.old buf.new result }
+    {
+        match Indexed::decode(buf) {
+            Ok(Indexed::Static(index)) => match StaticTable::get(index) {
+                Ok(field) => Ok(field),
+                Err(e) => Err(DecoderError::InvalidStaticIndex(e)),
+            },
+            Ok(Indexed::Dynamic(index)) => match relative(&self.entries, base, index) {
+                Ok(entry) => match copy_of(self.alloc, entry) {
+                    Ok(field) => Ok(field),
+                    Err(_) => Err(DecoderError::OutOfMemory),
+                },
+                Err(e) => Err(e),
+            },
+            Err(e) => Err(DecoderError::from(e)),
+        }
+    }
+
+    /// The field of a line that is an entry, by its distance from the base on.
+    fn take_post_base(&self, base: usize, buf: &mut SliceCursor<'_>) -> Result<HeaderField, DecoderError>
+        requires some { 0 < length buf.old }
+        requires own { begins 16 31 buf.old ≡ true }
+        ensures { AnswersLineAt self.now.table base buf.old buf.new result }
+    {
+        match IndexedWithPostBase::decode(buf) {
+            Ok(IndexedWithPostBase(index)) => match post_base(&self.entries, base, index) {
+                Ok(entry) => match copy_of(self.alloc, entry) {
+                    Ok(field) => Ok(field),
+                    Err(_) => Err(DecoderError::OutOfMemory),
+                },
+                Err(e) => Err(e),
+            },
+            Err(e) => Err(DecoderError::from(e)),
+        }
+    }
+
+    /// The field of a line with a literal value and the name of an entry.
+    fn take_named(&self, base: usize, buf: &mut SliceCursor<'_>) -> Result<HeaderField, DecoderError>
+        requires some { 0 < length buf.old }
+        requires own { begins 64 127 buf.old ≡ true }
+        ensures { AnswersLineAt self.now.table base buf.old buf.new result }
+    {
+        match LiteralWithNameRef::decode(self.alloc, buf) {
+            Ok(LiteralWithNameRef::Static { index, value }) => match StaticTable::get_name(index) {
+                Ok(name) => Ok(HeaderField::with_static_name(name, value)),
+                Err(e) => Err(DecoderError::InvalidStaticIndex(e)),
+            },
+            Ok(LiteralWithNameRef::Dynamic { index, value }) => {
+                match relative(&self.entries, base, index) {
+                    Ok(entry) => match named_as(self.alloc, entry, value) {
+                        Ok(field) => Ok(field),
+                        Err(_) => Err(DecoderError::OutOfMemory),
+                    },
+                    Err(e) => Err(e),
+                }
+            }
+            Err(e) => Err(DecoderError::from(e)),
+        }
+    }
+
+    /// The field of a line with a literal value and the name of an entry, by its distance from the base on.
+    fn take_post_base_named(&self, base: usize, buf: &mut SliceCursor<'_>) -> Result<HeaderField, DecoderError>
+        requires some { 0 < length buf.old }
+        requires own { begins 0 15 buf.old ≡ true }
+        ensures { AnswersLineAt self.now.table base buf.old buf.new result }
+    {
+        match LiteralWithPostBaseNameRef::decode(self.alloc, buf) {
+            Ok(LiteralWithPostBaseNameRef { index, value }) => {
+                match post_base(&self.entries, base, index) {
+                    Ok(entry) => match named_as(self.alloc, entry, value) {
+                        Ok(field) => Ok(field),
+                        Err(_) => Err(DecoderError::OutOfMemory),
+                    },
+                    Err(e) => Err(e),
+                }
+            }
+            Err(e) => Err(DecoderError::from(e)),
+        }
+    }
+
+    /// The field of a line with a literal name and value.
+    fn take_literal(&self, base: usize, buf: &mut SliceCursor<'_>) -> Result<HeaderField, DecoderError>
+        requires some { 0 < length buf.old }
+        requires own { begins 32 63 buf.old ≡ true }
+        ensures { AnswersLineAt self.now.table base buf.old buf.new result }
+    {
+        match Literal::decode(self.alloc, buf) {
+            Ok(Literal { name, value }) => Ok(HeaderField::new(
+                CowSlice::Owned(name),
+                CowSlice::Owned(value),
+            )),
+            Err(e) => Err(DecoderError::from(e)),
+        }
+    }
+
+    /// The field of the line at the front.
+    fn take_field(&self, base: usize, buf: &mut SliceCursor<'_>) -> Result<HeaderField, DecoderError>
+        requires { 0 < length buf.old }
+        ensures { AnswersLineAt self.now.table base buf.old buf.new result }
+    {
+        match HeaderBlockField::decode(buf.chunk()[0]) {
+            HeaderBlockField::Indexed => self.take_indexed(base, buf),
+            HeaderBlockField::LiteralWithNameRef => self.take_named(base, buf),
+            HeaderBlockField::Literal => self.take_literal(base, buf),
+            HeaderBlockField::IndexedWithPostBase => self.take_post_base(base, buf),
+            HeaderBlockField::LiteralWithPostBaseNameRef => self.take_post_base_named(base, buf),
+            HeaderBlockField::Unknown => Err(DecoderError::UnexpectedEnd),
+        }
+    }
+
+    /// Decodes an encoded field section, to the end of `buf`. Where it needs insertions that were not read, no line is
+    /// read. A refused read takes nothing.
+    pub fn decode_header(&self, buf: &mut SliceCursor<'_>) -> Result<Decoded, DecoderError>
+        ensures ok { IfOk result (λ d. (count : ℕ) × MeansFields self.now buf.old count d.fields.items × (d.dyn_ref ≡ nat_lt 0 count)
+            × (d.mem_size ≡ min (2 ^ 64 - 1) (section_size d.fields.items)) × (buf.new ≡ [])) }
+        ensures err { IfErr result (λ e. IsRefusal self.now buf.old e × (buf.new ≡ buf.old)) }
+    {
+        let mut ahead = SliceCursor::new(buf.chunk());
+        let prefix = match HeaderPrefix::decode(&mut ahead) {
+            Ok(prefix) => prefix,
+            Err(e) => return Err(DecoderError::from(e)),
+        };
+        let inserted = self.entries.inserted();
+        let capacity = self.announced.unwrap_or(self.entries.capacity());
+        let (count, base) = match prefix.get(inserted, capacity) {
+            Ok(found) => found,
+            Err(e) => return Err(DecoderError::from(e)),
+        };
+        if count > inserted {
+            return Err(DecoderError::MissingRefs(count));
+        }
+        let mut fields = Vec::new(self.alloc);
+        let mut mem_size: u64 = 0;
+        'lines: while ahead.remaining() > 0 {
+            let field = match self.take_field(base, &mut ahead) {
+                Ok(field) => field,
+                Err(e) => return Err(e),
+            };
+            mem_size = mem_size.saturating_add(field.mem_size() as u64);
+            let Ok(()) = fields.push(field) else {
+                return Err(DecoderError::OutOfMemory);
+            };
+        }
+        *buf = ahead;
+        Ok(Decoded {
+            fields,
+            dyn_ref: count > 0,
+            mem_size,
+        })
+    }
+}
