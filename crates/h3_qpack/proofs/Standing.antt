@@ -1,5 +1,5 @@
 -- An encoded field section in the midst of its reading.
-use Rattle.std.proofs.Common.{◌≡◌, ◌⊎◌, ℕ, ◌+◌, ◌-◌, ◌^◌, ◌<◌, ◌≤◌, min, List, [], ◌∷◌, ◌++◌, length, Option, Some, None, Result, Ok, Err, refl, ap, sym, ◌∙◌, arith, subst}
+use Rattle.std.proofs.Common.{◌≡◌, ◌⊎◌, ℕ, ◌+◌, ◌-◌, ◌^◌, ◌<◌, ◌≤◌, min, List, [], ◌∷◌, ◌++◌, length, Option, Some, None, Result, Ok, Err, refl, ap, sym, ◌∙◌, arith, subst, append_assoc, append-nil}
 use Rattle.h3_field.specs.Field.{Field, field_size, section_size}
 use Rattle.h3_field.specs.Line.{FieldLine}
 use Rattle.h3_field.specs.Section.{HasLine, AreLines, NoLine, NextLine}
@@ -27,3 +27,33 @@ tail_of h base bytes rest l (k ∷ ks) (f ∷ fs) here (NextLine bytes' rest' l'
     (ks, fs, rw one.1 others, named.1)
 tail_of h base bytes rest l (k ∷ ks) [] here are named above = absurd named
 tail_of h base bytes rest l [] (f ∷ fs) here are named above = absurd named
+
+pub stand_next : (h : Held) (base : ℕ) (bytes : List ℕ) (fields items : List Field) (f : Field) (rest new : List ℕ) → Standing h base bytes fields rest → 0 < length rest → BeginsWith h base rest f new
+    → items ≡ fields ++ f ∷ [] → Standing h base bytes items new
+stand_next h base bytes fields items f rest new s above b is =
+    record {
+      front = λ lines more are named.
+          let all = s.front (b.line ∷ lines) (f ∷ more) (NextLine rest new b.line lines b.here are) (b.names, named) in
+          (all.0, all.1, rw (is, append_assoc fields (f ∷ []) more) all.2);
+      back = λ lines all are named.
+          let left = s.back lines all are named in
+          tail_of h base rest new b.line left.0 left.1 b.here left.2 left.3 above;
+    }
+
+-- nothing is left
+pub stand_end : (h : Held) (base : ℕ) (bytes : List ℕ) (fields : List Field) (rest : List ℕ) → Standing h base bytes fields rest → length rest ≤ 0
+    → ((lines : List FieldLine) × AreLines bytes lines × HaveFields h base lines fields) × ([] ≡ rest)
+stand_end h base bytes fields [] s none = let all = s.front [] [] NoLine tt in ((all.0, all.1, rw (← append-nil fields) all.2), refl)
+stand_end h base bytes fields (x ∷ rest) s none = absurd (omega arith)
+
+head_of : (h : Held) (base : ℕ) (bytes : List ℕ) (lines : List FieldLine) (fields : List Field) → AreLines bytes lines → HaveFields h base lines fields → 0 < length bytes → BeginsWithNone h base bytes → ⊥
+head_of h base bytes lines fields (NoLine) named above none = omega (arith, above)
+head_of h base bytes lines [] (NextLine b rest l ls here are) named above none = named
+head_of h base bytes lines (f ∷ fs) (NextLine b rest l ls here are) named above none = none rest l f here named.0
+
+-- no line of a field stands next
+pub stand_bad : (h : Held) (base : ℕ) (bytes : List ℕ) (fields : List Field) (rest : List ℕ) → Standing h base bytes fields rest → 0 < length rest → BeginsWithNone h base rest
+    → (lines : List FieldLine) (all : List Field) → AreLines bytes lines → HaveFields h base lines all → ⊥
+stand_bad h base bytes fields rest s above none lines all are named =
+    let left = s.back lines all are named in
+    head_of h base rest left.0 left.1 left.2 left.3 above none

@@ -1,0 +1,152 @@
+-- The prefix of a section stands for one required insert count and one base.
+use Rattle.std.proofs.Common.{◌≡◌, ◌⊎◌, ⊎_elim, inl, inr, ℕ, ◌+◌, ◌<◌, ◌≤◌, Bool, true, false, List, [], length, Option, Some, None, unwrap_or, Result, Ok, Err, refl, ap, sym, ◌∙◌, arith, subst}
+use Rattle.h3_field.specs.Field.{Field}
+use Rattle.h3_field.specs.Line.{FieldLine}
+use Rattle.h3_field.specs.Section.{AreLines}
+use Rattle.h3_field.specs.Reading.{Reading, Whole, Unfinished, Bad}
+use Rattle.h3_field.specs.Prefix.{IsRequiredCount}
+use Rattle.h3_field.specs.PrefixReading.{EncodedPrefix, prefix, IsPrefix, IsCount, IsBase, HasNoCount}
+use Rattle.h3_field.specs.PrefixAnswer.{AnswersPrefix, HasNoPrefix}
+use Rattle.h3_field.specs.Errors.{decoder_parse}
+use Rattle.h3_field.specs.declared.parse_error.ParseError.{ParseError}
+use Rattle.h3_field.specs.declared.parse_error.ParseError.TheVariants.{Integer, String, InvalidPrefix, InvalidBase, OutOfMemory}
+use Rattle.h3_field.specs.declared.decoder_error.DecoderError.{DecoderError}
+use Rattle.h3_field.specs.declared.decoder_error.DecoderError.TheVariants as error
+use Rattle.h3_qpack.specs.Receiver.{Receiver, count_capacity}
+use Rattle.h3_qpack.specs.Meaning.{HasPrefix, HaveFields, MeansFields, IsMissing, IsBadSection}
+use Rattle.h3_qpack.specs.SectionAnswers.{BeginsWithNone, IsReason, IsRefusal}
+use Rattle.h3_qpack.proofs.Counts.{one_count}
+use Rattle.h3_qpack.proofs.Standing.{Standing, stand_bad}
+
+-- the prefix that a decoder read, and what it goes by
+pub record Begun (r : Receiver) (bytes new : List ℕ) (p : EncodedPrefix) (inserted capacity : ℕ) : Type 0 where
+  pub whole : prefix bytes ≡ Whole p new
+  pub inserted_is : inserted ≡ r.table.inserted
+  pub capacity_is : capacity ≡ count_capacity r
+
+pub prefix_read : (bytes new : List ℕ) (p : EncodedPrefix) → AnswersPrefix (prefix bytes) bytes new (Ok p) → prefix bytes ≡ Whole p new
+prefix_read bytes new p h = from (prefix bytes) refl h
+  where
+    from : (r : Reading EncodedPrefix) → prefix bytes ≡ r → AnswersPrefix r bytes new (Ok p) → prefix bytes ≡ Whole p new
+    from (Whole q rest) e (is, left) = let same : p ≡ q = cc in e ∙ rw (same, left) refl
+    from Unfinished e h = absurd (cc)
+    from Bad e h = absurd (cc)
+
+count_is_one : (capacity inserted encoded a b : ℕ) → IsCount capacity inserted encoded a → IsCount capacity inserted encoded b → a ≡ b
+count_is_one capacity inserted encoded a b (inl x) (inl y) = x.1 ∙ sym y.1
+count_is_one capacity inserted encoded a b (inl x) (inr y) = absurd (omega (arith, x.0, y.0))
+count_is_one capacity inserted encoded a b (inr x) (inl y) = absurd (omega (arith, x.0, y.0))
+count_is_one capacity inserted encoded a b (inr x) (inr y) = one_count capacity inserted encoded a b x.1 y.1
+
+base_is_one : (below : Bool) (delta count a b : ℕ) → IsBase below delta count a → IsBase below delta count b → a ≡ b
+base_is_one true delta count a b x y = omega (arith, x, y)
+base_is_one false delta count a b x y = omega (arith, x, y)
+
+pub prefix_is_one : (capacity inserted : ℕ) (p : EncodedPrefix) (count base other_count other_base : ℕ) → IsPrefix capacity inserted p count base → IsPrefix capacity inserted p other_count other_base
+    → (count ≡ other_count) × (base ≡ other_base)
+prefix_is_one capacity inserted p count base other_count other_base (inl x) (inl y) = (x.1 ∙ sym y.1, x.2 ∙ sym y.2)
+prefix_is_one capacity inserted p count base other_count other_base (inl x) (inr y) = absurd (omega (arith, x.0, y.0))
+prefix_is_one capacity inserted p count base other_count other_base (inr x) (inl y) = absurd (omega (arith, x.0, y.0))
+prefix_is_one capacity inserted p count base other_count other_base (inr x) (inr y) =
+    let one = count_is_one capacity inserted p.encoded count other_count x.1 y.1 in
+    let same : IsBase p.is_negative p.delta other_count base = subst (λ c. IsBase p.is_negative p.delta c base) one x.2 in
+    (one, base_is_one p.is_negative p.delta other_count base other_base same y.2)
+
+pub record SamePrefix (rest other_rest : List ℕ) (count other_count base other_base : ℕ) : Type 0 where
+  pub rest_is : rest ≡ other_rest
+  pub count_is : count ≡ other_count
+  pub base_is : base ≡ other_base
+
+both_parts : {A : Type 0} (v w : A) (r s : List ℕ) → Whole v r ≡ Whole w s → (v ≡ w) × (r ≡ s)
+both_parts v w r s e = (cc, cc)
+
+-- a section begins in one way
+pub begins_once : (r : Receiver) (bytes new rest : List ℕ) (p : EncodedPrefix) (inserted capacity count base other_count other_base : ℕ) → Begun r bytes new p inserted capacity
+    → IsPrefix capacity inserted p count base → HasPrefix r bytes rest other_count other_base → SamePrefix new rest count other_count base other_base
+begins_once r bytes new rest p inserted capacity count base other_count other_base b is h =
+    let same = both_parts p h.encoded new rest (sym b.whole ∙ h.whole) in
+    let mine : IsPrefix (count_capacity r) r.table.inserted p count base = rw (b.inserted_is, b.capacity_is) at is in
+    let other : IsPrefix (count_capacity r) r.table.inserted p other_count other_base = subst (λ q. IsPrefix (count_capacity r) r.table.inserted q other_count other_base) (sym same.0) h.is in
+    let one = prefix_is_one (count_capacity r) r.table.inserted p count base other_count other_base mine other in
+    record { rest_is = same.1; count_is = one.0; base_is = one.1 }
+
+pub has_prefix : (r : Receiver) (bytes new : List ℕ) (p : EncodedPrefix) (inserted capacity count base : ℕ) → Begun r bytes new p inserted capacity
+    → IsPrefix capacity inserted p count base → HasPrefix r bytes new count base
+has_prefix r bytes new p inserted capacity count base b is = record { encoded = p; whole = b.whole; is = rw (b.inserted_is, b.capacity_is) at is }
+
+begins_nowhere : (r : Receiver) (bytes : List ℕ) → ((rest : List ℕ) (count base : ℕ) → HasPrefix r bytes rest count base → ⊥) → IsBadSection r bytes
+begins_nowhere r bytes none = record { no_fields = λ count fields m. none m.rest count m.base m.begins; none_missing = λ count m. none m.rest count m.base m.begins }
+
+-- a prefix that stands for no count and base
+pub no_prefix : (r : Receiver) (bytes new : List ℕ) (p : EncodedPrefix) (inserted capacity : ℕ) (e : ParseError) → Begun r bytes new p inserted capacity
+    → HasNoPrefix capacity inserted p e → IsRefusal r bytes (decoder_parse e)
+no_prefix r bytes new p inserted capacity (InvalidPrefix encoded) b h = begins_nowhere r bytes (λ rest count base k. none rest count base k)
+  where
+    of_count : (count : ℕ) → IsCount capacity inserted p.encoded count → ⊥
+    of_count count (inl x) = omega (arith, x.0, h.2)
+    of_count count (inr x) = h.3 count x.1
+
+    of_prefix : (count base : ℕ) → IsPrefix capacity inserted p count base → ⊥
+    of_prefix count base (inl x) = omega (arith, x.0, h.0)
+    of_prefix count base (inr x) = of_count count x.1
+
+    none : (rest : List ℕ) (count base : ℕ) → HasPrefix r bytes rest count base → ⊥
+    none rest count base k =
+        let same = both_parts p k.encoded new rest (sym b.whole ∙ k.whole) in
+        let is = subst (λ q. IsPrefix (count_capacity r) r.table.inserted q count base) (sym same.0) k.is in
+        of_prefix count base (rw (← b.inserted_is, ← b.capacity_is) at is)
+no_prefix r bytes new p inserted capacity InvalidBase b h = begins_nowhere r bytes (λ rest count base k. none rest count base k)
+  where
+    of_base : (below : Bool) (count other base : ℕ) → below ≡ true → count ≤ p.delta → other ≡ count → IsBase below p.delta other base → ⊥
+    of_base true count other base e le is k = omega (arith, le, is, k)
+    of_base false count other base e le is k = absurd (cc)
+
+    of_prefix : (count base : ℕ) → IsPrefix capacity inserted p count base → ⊥
+    of_prefix count base (inl x) = omega (arith, x.0, h.0)
+    of_prefix count base (inr x) = of_base p.is_negative h.2.0 count base h.1 h.2.2 (count_is_one capacity inserted p.encoded count h.2.0 x.1 h.2.1) x.2
+
+    none : (rest : List ℕ) (count base : ℕ) → HasPrefix r bytes rest count base → ⊥
+    none rest count base k =
+        let same = both_parts p k.encoded new rest (sym b.whole ∙ k.whole) in
+        let is = subst (λ q. IsPrefix (count_capacity r) r.table.inserted q count base) (sym same.0) k.is in
+        of_prefix count base (rw (← b.inserted_is, ← b.capacity_is) at is)
+no_prefix r bytes new p inserted capacity (Integer e) b h = absurd h
+no_prefix r bytes new p inserted capacity (String e) b h = absurd h
+no_prefix r bytes new p inserted capacity OutOfMemory b h = absurd h
+
+-- a section whose insertions came, and a line of which is of no field
+bad_line : (r : Receiver) (bytes new rest : List ℕ) (p : EncodedPrefix) (inserted capacity count base : ℕ) (fields : List Field) → Begun r bytes new p inserted capacity
+    → IsPrefix capacity inserted p count base → count ≤ inserted → Standing r.table base new fields rest → 0 < length rest → BeginsWithNone r.table base rest → IsBadSection r bytes
+bad_line r bytes new rest p inserted capacity count base fields b is came s above none =
+    record {
+      no_fields = λ other all m.
+          let one = begins_once r bytes new m.rest p inserted capacity count base other m.base b is m.begins in
+          let split = subst (λ x. AreLines x m.lines) (sym one.rest_is) m.split in
+          let named = subst (λ x. HaveFields r.table x m.lines all) (sym one.base_is) m.named in
+          stand_bad r.table base new fields rest s above none m.lines all split named;
+      none_missing = λ other m.
+          let one = begins_once r bytes new m.rest p inserted capacity count base other m.base b is m.begins in
+          omega (arith, m.missing, one.count_is, came, b.inserted_is);
+    }
+
+pub refused_line : (r : Receiver) (bytes new rest : List ℕ) (p : EncodedPrefix) (inserted capacity count base : ℕ) (fields : List Field) (e : DecoderError) → Begun r bytes new p inserted capacity
+    → IsPrefix capacity inserted p count base → count ≤ inserted → Standing r.table base new fields rest → 0 < length rest
+    → IsReason (BeginsWithNone r.table base rest) (λ count. ⊥) e → IsRefusal r bytes e
+refused_line r bytes new rest p inserted capacity count base fields e b is came s above n = from e n
+  where
+    bad : BeginsWithNone r.table base rest → IsBadSection r bytes
+    bad none = bad_line r bytes new rest p inserted capacity count base fields b is came s above none
+
+    from : (e : DecoderError) → IsReason (BeginsWithNone r.table base rest) (λ count. ⊥) e → IsRefusal r bytes e
+    from error.OutOfMemory n = tt
+    from (error.HeaderTooLong sum) n = absurd n
+    from (error.InvalidInteger x) n = bad n
+    from (error.InvalidString x) n = bad n
+    from (error.InvalidIndex x) n = bad n
+    from (error.DynamicTable x) n = bad n
+    from (error.InvalidStaticIndex x) n = bad n
+    from (error.UnknownPrefix x) n = bad n
+    from (error.MissingRefs x) n = absurd n
+    from error.BadBaseIndex n = bad n
+    from error.UnexpectedEnd n = bad n
+    from error.BufSize n = bad n
