@@ -1,6 +1,7 @@
 pub mod Codes
 pub mod Config
 pub mod Ids
+pub mod KeptLaws
 pub mod PairLaws
 pub mod Pairs
 pub mod PayloadLaws

@@ -13,8 +13,11 @@ abbrev pub is_forbidden : ℕ → Bool
 is_forbidden id = list_any (λ x. x == id) (0 ∷ 2 ∷ 3 ∷ 4 ∷ 5 ∷ [])
 
 -- the identifier has a meaning; those of all other settings that were read are left out
+abbrev pub known_ids : List ℕ
+known_ids = 1 ∷ 6 ∷ 7 ∷ 8 ∷ 0x33 ∷ 0x2b603742 ∷ 0x2b603743 ∷ []
+
 abbrev pub is_known : ℕ → Bool
-is_known id = list_any (λ x. x == id) (1 ∷ 6 ∷ 7 ∷ 8 ∷ 0x33 ∷ 0x2b603742 ∷ 0x2b603743 ∷ [])
+is_known id = list_any (λ x. x == id) known_ids
 
 -- some pair has the identifier
 abbrev pub has_id : ℕ → List (ℕ × ℕ) → Bool
