@@ -1,10 +1,10 @@
 -- The number at the front of bytes that lie together.
-use Rattle.std.proofs.Common.{◌≡◌, ℕ, ◌-◌, ◌/◌, ◌^◌, ◌<◌, ◌≤◌, List, [], ◌∷◌, ◌++◌, ◌∙◌, length, take, arith, ap, refl, None}
+use Rattle.std.proofs.Common.{◌≡◌, ℕ, zero, suc, ◌*◌, ◌-◌, ◌/◌, ◌%◌, ◌^◌, ◌<◌, ◌≤◌, List, [], ◌∷◌, ◌++◌, ◌∙◌, length, take, arith, ap, refl, None}
 use Rattle.std.specs.Prelude.{slice_index, bit_and}
 use Rattle.std.specs.Int.{w32, w64, from_be_bytes}
 use Rattle.std.proofs.lemmas.Nat.{and_mask}
 use Rattle.std.proofs.lemmas.List.{take_more}
-use Rattle.h3_coding.specs.Encodings.{IsEncoding, four, eight}
+use Rattle.h3_coding.specs.Encodings.{IsEncoding, one, two, four, eight}
 use Rattle.h3_coding.specs.Varint.{varint_at}
 use Rattle.h3_coding.specs.VarintLaws.{none_at_end, fewer}
 
@@ -27,13 +27,44 @@ four_at v n (x ∷ []) some l h b c d sum e = absurd (omega arith)
 four_at v n (x ∷ y ∷ []) some l h b c d sum e = absurd (omega arith)
 four_at v n (x ∷ y ∷ z ∷ []) some l h b c d sum e = absurd (omega arith)
 
--- eight bytes, of which the first tells eight
-module _ (x n a b c d e f g h : ℕ) where
-  pub eight_at : 192 ≤ a → a < 256 → b < 256 → c < 256 → d < 256 → e < 256 → f < 256 → g < 256 → h < 256
-      → x ≡ from_be_bytes w64 (a ∷ b ∷ c ∷ d ∷ e ∷ f ∷ g ∷ h ∷ []) → n ≡ bit_and x (2 ^ 62 - 1) → IsEncoding n (a ∷ b ∷ c ∷ d ∷ e ∷ f ∷ g ∷ h ∷ [])
-  eight_at l ka kb kc kd ke kf kg kh sum is =
+-- the size that the two highest bits tell
+pub wide_size : (form size : ℕ) → form < 4 → size ≡ 1 * 2 ^ form % 2 ^ 64 → (size ≡ 2 ^ form) × (size ≤ 8)
+wide_size zero size h e = (e, omega (arith, e))
+wide_size (suc zero) size h e = (e, omega (arith, e))
+wide_size (suc (suc zero)) size h e = (e, omega (arith, e))
+wide_size (suc (suc (suc zero))) size h e = (e, omega (arith, e))
+wide_size (suc (suc (suc (suc k)))) size h e = absurd (omega arith)
+
+pub word_form : (x : ℕ) (bytes : List ℕ) → ((i : ℕ) → slice_index bytes i < 256)
+    → x ≡ from_be_bytes w64 (slice_index bytes 0 ∷ slice_index bytes 1 ∷ slice_index bytes 2 ∷ slice_index bytes 3 ∷ slice_index bytes 4 ∷ slice_index bytes 5 ∷ slice_index bytes 6 ∷ slice_index bytes 7 ∷ []) → x / 2 ^ 62 < 4
+word_form x bytes byte e = omega (arith, e, byte 0, byte 1, byte 2, byte 3, byte 4, byte 5, byte 6, byte 7)
+
+-- Eight bytes as a number: its two highest bits tell how many of them the encoding has, and the others what it is worth.
+module _ (x a b c d e f g h : ℕ) (rest : List ℕ) where
+  pub wide_at : a < 256 → b < 256 → c < 256 → d < 256 → e < 256 → f < 256 → g < 256 → h < 256
+      → x ≡ from_be_bytes w64 (a ∷ b ∷ c ∷ d ∷ e ∷ f ∷ g ∷ h ∷ []) → (form size n : ℕ) → form ≡ x / 2 ^ 62 → size ≡ 2 ^ form → n ≡ bit_and x (2 ^ 62 - 1) / 2 ^ (64 - 8 * size)
+      → IsEncoding n (take size (a ∷ b ∷ c ∷ d ∷ e ∷ f ∷ g ∷ h ∷ rest))
+  wide_at ka kb kc kd ke kf kg kh sum zero size n form is worth =
       let masked = and_mask x 62 in
-      eight (record { count = refl; each = (ka, (kb, (kc, (kd, (ke, (kf, (kg, (kh, tt)))))))); below = omega (arith, is, masked); worth = omega (arith, is, masked, sum) })
+      let one_byte : size ≡ 1 = is in
+      let worth' : n ≡ bit_and x (2 ^ 62 - 1) / 2 ^ 56 = rw one_byte at worth in
+      rw one_byte (one (record { count = refl; each = (ka, tt); below = omega (arith, worth', masked); worth = omega (arith, worth', masked, sum, form) }))
+  wide_at ka kb kc kd ke kf kg kh sum (suc zero) size n form is worth =
+      let masked = and_mask x 62 in
+      let two_bytes : size ≡ 2 = is in
+      let worth' : n ≡ bit_and x (2 ^ 62 - 1) / 2 ^ 48 = rw two_bytes at worth in
+      rw two_bytes (two (record { count = refl; each = (ka, (kb, tt)); below = omega (arith, worth', masked); worth = omega (arith, worth', masked, sum, form) }))
+  wide_at ka kb kc kd ke kf kg kh sum (suc (suc zero)) size n form is worth =
+      let masked = and_mask x 62 in
+      let four_bytes : size ≡ 4 = is in
+      let worth' : n ≡ bit_and x (2 ^ 62 - 1) / 2 ^ 32 = rw four_bytes at worth in
+      rw four_bytes (four (record { count = refl; each = (ka, (kb, (kc, (kd, tt)))); below = omega (arith, worth', masked); worth = omega (arith, worth', masked, sum, form) }))
+  wide_at ka kb kc kd ke kf kg kh sum (suc (suc (suc zero))) size n form is worth =
+      let masked = and_mask x 62 in
+      let eight_bytes : size ≡ 8 = is in
+      let worth' : n ≡ bit_and x (2 ^ 62 - 1) / 2 ^ 0 = rw eight_bytes at worth in
+      rw eight_bytes (eight (record { count = refl; each = (ka, (kb, (kc, (kd, (ke, (kf, (kg, (kh, tt)))))))); below = omega (arith, worth', masked); worth = omega (arith, worth', masked, sum, form) }))
+  wide_at ka kb kc kd ke kf kg kh sum (suc (suc (suc (suc k)))) size n form is worth = absurd (omega (arith, sum, form))
 
 pub take_eight : (bytes : List ℕ) → 8 ≤ length bytes → take 8 bytes ≡ slice_index bytes 0 ∷ slice_index bytes 1 ∷ slice_index bytes 2 ∷ slice_index bytes 3 ∷ slice_index bytes 4 ∷ slice_index bytes 5 ∷ slice_index bytes 6 ∷ slice_index bytes 7 ∷ []
 take_eight bytes k = take_more bytes 7 0 k ∙ ap (λ l. l ++ slice_index bytes 7 ∷ []) (take_more bytes 6 0 (omega arith)
