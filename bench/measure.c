@@ -36,16 +36,19 @@ void *__wrap_realloc(void *block, size_t size) {
   return __real_realloc(block, size);
 }
 
-static double now(void) {
+static double read_clock(clockid_t clock) {
   struct timespec time;
-  clock_gettime(CLOCK_MONOTONIC, &time);
+  clock_gettime(clock, &time);
   return (double)time.tv_sec + (double)time.tv_nsec * 1e-9;
 }
 
+static double now(void) { return read_clock(CLOCK_MONOTONIC); }
+
+/* The processor's time: what other processes took of the core in between does not count. */
 static double time_of(const contender *c, uint64_t rounds) {
-  double start = now();
+  double start = read_clock(CLOCK_THREAD_CPUTIME_ID);
   c->work(c->data, rounds);
-  return now() - start;
+  return read_clock(CLOCK_THREAD_CPUTIME_ID) - start;
 }
 
 static double allocations_of(const contender *c, uint64_t rounds) {
@@ -63,11 +66,11 @@ static double best_time(const contender *c, uint64_t rounds, int tries) {
   return best;
 }
 
-/* Rounds that take at least three milliseconds, and ten times what a call of no rounds takes: short enough to fall
- * between other work of the machine, and long enough for what is taken off to count little. */
+/* Rounds that take at least a millisecond, and five times what a call of no rounds takes: short enough to fall between
+ * other work of the machine, and long enough for what is taken off to count little. */
 static uint64_t rounds_of(const contender *c) {
   enum { TRIES = 5 };
-  double idle = best_time(c, 0, TRIES), least = 0.003 > 10 * idle ? 0.003 : 10 * idle;
+  double idle = best_time(c, 0, TRIES), least = 0.001 > 5 * idle ? 0.001 : 5 * idle;
   uint64_t rounds = 1;
   while (rounds < 1u << 20 && best_time(c, rounds, TRIES) - idle < least) rounds *= 2;
   return rounds;
