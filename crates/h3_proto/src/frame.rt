@@ -112,8 +112,8 @@ impl fmt::Display for SettingsError {
 
 impl Error for SettingsError {}
 
-/// At most eight settings, in order, no two of one id. A contract sees them as pairs of an id and
-/// a value.
+/// At most eight settings, in the order of their insertion. A contract sees them as pairs of an id
+/// and a value.
 #[derive(Debug, Drop)]
 pub struct Settings {
     entries: [(u64, u64); 8],
