@@ -17,4 +17,6 @@ pub mod TrackingInside
 pub mod Stored
 pub mod TableInside
 pub mod SectionAnswers
+pub mod InstructionAnswers
+pub mod Increments
 pub mod Worked

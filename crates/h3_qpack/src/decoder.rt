@@ -1,5 +1,10 @@
 //! A decoder with its dynamic table (RFC 9204, sections 2.2 and 4).
-ghost use Rattle.std.specs.Prelude.{◌≡◌, ◌≤◌, ◌<◌, ◌^◌, ℕ, ◌+◌, ◌-◌, [], true, false, length, min, nat_lt, Some, None, MatchResult, IfOk, IfErr};
+ghost use Rattle.std.specs.Prelude.{◌≡◌, ◌≤◌, ◌<◌, ◌^◌, ℕ, ◌+◌, ◌-◌, [], true, false, length, min, nat_lt, Some, None, MatchResult, unwrap_or, IfOk, IfErr, OnOk, OnErr, ◌++◌};
+ghost use Rattle.h3_field.specs.Instruction.{decoder_bytes};
+ghost use Rattle.h3_field.specs.Instruction.DecoderInstruction.{Acknowledge, CancelStream};
+ghost use Rattle.h3_field.specs.Reading.{Unfinished};
+ghost use Rattle.h3_field.specs.InstructionReading.{instruction};
+ghost use Rattle.h3_qpack.specs.Increments.{increment_for};
 ghost use Rattle.h3_field.specs.Field.{Field, section_size};
 ghost use Rattle.h3_field.specs.Shapes.{begins};
 ghost use Rattle.h3_field.specs.declared.decoder_error.DecoderError.TheVariants.{InvalidIndex};
@@ -7,15 +12,23 @@ ghost use Rattle.h3_field.specs.declared.vas.Error.TheVariants.{RelativeIndex, P
 ghost use Rattle.h3_qpack.specs.Held.{Held, entry_at};
 ghost use Rattle.h3_qpack.specs.Receiver.{Receiver, announcing, count_capacity};
 ghost use Rattle.h3_qpack.specs.Meaning.{MeansFields};
-ghost use Rattle.h3_qpack.specs.SectionAnswers.{AnswersLineAt, IsRefusal};
+ghost use Rattle.h3_qpack.specs.SectionAnswers.{AnswersLineAt, IsRefusal, IsReason};
+ghost use Rattle.h3_qpack.specs.InstructionAnswers.{AnswersInsertion, AnswersOne};
+ghost use Rattle.h3_qpack.specs.Instructions.{HasRead, BeginsBad};
 
 use crate::dynamic::DynamicTable;
-use crate::entries::{Entries, MOST_INSERTIONS};
+use crate::entries::{Entries, MAX_CAPACITY, MOST_INSERTIONS, size_of};
+use crate::increment::{INCREMENT_LEN, put_increment};
+use h3_field::dynamic::Error;
 use h3_field::block::{
     HeaderBlockField, HeaderPrefix, Indexed, IndexedWithPostBase, Literal, LiteralWithNameRef,
     LiteralWithPostBaseNameRef,
 };
 use h3_field::static_::StaticTable;
+use h3_field::stream::{
+    Duplicate, DynamicTableSizeUpdate, EncoderInstruction, HeaderAck, InsertWithNameRef,
+    InsertWithoutNameRef, StreamCancel,
+};
 use h3_field::vas;
 use h3_field::{Decoded, DecoderError, HeaderField, SliceCursor};
 use std::alloc::{AllocError, Global};
@@ -36,7 +49,11 @@ impl Model for Decoder {
 
     ghost Value = { Receiver };
 
+    ghost use Rattle.std.specs.Prelude.{◌<◌, ◌-◌, ◌^◌, unwrap_or};
+
     ghost view = { λ d. record { announced = d.announced; table = d.entries } };
+
+    ghost invariant = { λ d. unwrap_or d.announced (2 ^ 30 - 1) < 2 ^ 30 };
 }
 
 /// A field with copies of the bytes of another.
@@ -268,4 +285,203 @@ impl Decoder {
             mem_size,
         })
     }
+
+    /// The field of an insertion with the name of an entry.
+    fn read_named(&self, buf: &mut SliceCursor<'_>) -> Result<Option<HeaderField>, DecoderError>
+        requires some { 0 < length buf.old }
+        requires own { begins 128 255 buf.old ≡ true }
+        ensures { AnswersInsertion self.now.table buf.old buf.new result }
+    {
+        match InsertWithNameRef::decode(self.alloc, buf) {
+            Ok(Some(InsertWithNameRef::Static { index, value })) => match StaticTable::get_name(index) {
+                Ok(name) => Ok(Some(HeaderField::with_static_name(name, value))),
+                Err(e) => Err(DecoderError::InvalidStaticIndex(e)),
+            },
+            Ok(Some(InsertWithNameRef::Dynamic { index, value })) => {
+                match relative(&self.entries, self.entries.inserted(), index) {
+                    Ok(entry) => match named_as(self.alloc, entry, value) {
+                        Ok(field) => Ok(Some(field)),
+                        Err(_) => Err(DecoderError::OutOfMemory),
+                    },
+                    Err(e) => Err(e),
+                }
+            }
+            Ok(None) => Ok(None),
+            Err(e) => Err(DecoderError::from(e)),
+        }
+    }
+
+    /// The field of an insertion with a literal name.
+    fn read_literal(&self, buf: &mut SliceCursor<'_>) -> Result<Option<HeaderField>, DecoderError>
+        requires some { 0 < length buf.old }
+        requires own { begins 64 127 buf.old ≡ true }
+        ensures { AnswersInsertion self.now.table buf.old buf.new result }
+    {
+        match InsertWithoutNameRef::decode(self.alloc, buf) {
+            Ok(Some(InsertWithoutNameRef { name, value })) => Ok(Some(HeaderField::new(
+                CowSlice::Owned(name),
+                CowSlice::Owned(value),
+            ))),
+            Ok(None) => Ok(None),
+            Err(e) => Err(DecoderError::from(e)),
+        }
+    }
+
+    /// The field of a duplicate of an entry.
+    fn read_duplicate(&self, buf: &mut SliceCursor<'_>) -> Result<Option<HeaderField>, DecoderError>
+        requires some { 0 < length buf.old }
+        requires own { begins 0 31 buf.old ≡ true }
+        ensures { AnswersInsertion self.now.table buf.old buf.new result }
+    {
+        match Duplicate::decode(buf) {
+            Ok(Some(Duplicate(index))) => {
+                match relative(&self.entries, self.entries.inserted(), index) {
+                    Ok(entry) => match copy_of(self.alloc, entry) {
+                        Ok(field) => Ok(Some(field)),
+                        Err(_) => Err(DecoderError::OutOfMemory),
+                    },
+                    Err(e) => Err(e),
+                }
+            }
+            Ok(None) => Ok(None),
+            Err(e) => Err(DecoderError::from(e)),
+        }
+    }
+
+    /// The field of the insertion at the front, which does not begin a capacity.
+    fn read_insertion(&self, buf: &mut SliceCursor<'_>) -> Result<Option<HeaderField>, DecoderError>
+        requires some { 0 < length buf.old }
+        requires own { begins 32 63 buf.old ≡ false }
+        ensures { AnswersInsertion self.now.table buf.old buf.new result }
+    {
+        match EncoderInstruction::decode(buf.chunk()[0]) {
+            EncoderInstruction::InsertWithNameRef => self.read_named(buf),
+            EncoderInstruction::InsertWithoutNameRef => self.read_literal(buf),
+            EncoderInstruction::Duplicate => self.read_duplicate(buf),
+            _ => Err(DecoderError::UnexpectedEnd),
+        }
+    }
+
+    /// Reads a capacity at the front, and sets it. What is refused is left unread.
+    fn take_capacity(&mut self, buf: &mut SliceCursor<'_>) -> Result<bool, DecoderError>
+        requires some { 0 < length buf.old }
+        requires own { begins 32 63 buf.old ≡ true }
+        ensures { AnswersOne self.old self.new buf.old buf.new result }
+    {
+        let mut ahead = SliceCursor::new(buf.chunk());
+        match DynamicTableSizeUpdate::decode(&mut ahead) {
+            Ok(Some(DynamicTableSizeUpdate(capacity))) => {
+                if capacity > self.announced.unwrap_or(MAX_CAPACITY) {
+                    return Err(DecoderError::DynamicTable(Error::MaximumTableSizeTooLarge));
+                }
+                self.entries.set_capacity(capacity);
+                *buf = ahead;
+                Ok(true)
+            }
+            Ok(None) => Ok(false),
+            Err(e) => Err(DecoderError::from(e)),
+        }
+    }
+
+    /// Reads the insertion at the front, and inserts its field. What is refused is left unread.
+    fn take_insertion(&mut self, buf: &mut SliceCursor<'_>) -> Result<bool, DecoderError>
+        requires some { 0 < length buf.old }
+        requires own { begins 32 63 buf.old ≡ false }
+        ensures { AnswersOne self.old self.new buf.old buf.new result }
+    {
+        let mut ahead = SliceCursor::new(buf.chunk());
+        match self.read_insertion(&mut ahead) {
+            Ok(Some(field)) => {
+                if self.entries.inserted() + 1 >= MOST_INSERTIONS {
+                    return Err(DecoderError::DynamicTable(Error::MaxTableSizeReached));
+                }
+                if size_of(&field) > self.entries.capacity() {
+                    return Err(DecoderError::DynamicTable(Error::MaxTableSizeReached));
+                }
+                if self.entries.insert(field).is_err() {
+                    return Err(DecoderError::OutOfMemory);
+                }
+                *buf = ahead;
+                Ok(true)
+            }
+            Ok(None) => Ok(false),
+            Err(e) => Err(e),
+        }
+    }
+
+    /// Reads the instruction at the front, and does as it says. What is refused is left unread.
+    fn take_instruction(&mut self, buf: &mut SliceCursor<'_>) -> Result<bool, DecoderError>
+        requires { 0 < length buf.old }
+        ensures { AnswersOne self.old self.new buf.old buf.new result }
+    {
+        let first = buf.chunk()[0];
+        if first >= 32 && first < 64 {
+            return self.take_capacity(buf);
+        }
+        self.take_insertion(buf)
+    }
+
+    /// Reads the whole instructions at the front up to the first that is refused.
+    fn take_instructions(&mut self, buf: &mut SliceCursor<'_>) -> Result<(), DecoderError>
+        ensures read { HasRead self.old self.new buf.old buf.new }
+        ensures grows { self.old.table.inserted ≤ self.new.table.inserted }
+        ensures ok { OnOk result (instruction buf.new ≡ Unfinished) }
+        ensures err { IfErr result (IsReason (BeginsBad self.new buf.new) (λ count. ⊥)) }
+    {
+        while buf.remaining() > 0 {
+            let is_read = match self.take_instruction(buf) {
+                Ok(is_read) => is_read,
+                Err(e) => return Err(e),
+            };
+            if !is_read {
+                return Ok(());
+            }
+        }
+        Ok(())
+    }
+
+    /// Reads an encoder's instructions, and writes one increment where some of them inserted. It answers the insertions
+    /// so far. An instruction that is not whole, or is refused, is left unread; those before it stand, and the increment
+    /// counts them.
+    pub fn on_encoder_recv(
+        &mut self,
+        read: &mut SliceCursor<'_>,
+        write: &mut Vec<u8>,
+    ) -> Result<usize, DecoderError>
+        ensures read { HasRead self.old self.new read.old read.new }
+        ensures ok { IfOk result (λ n. (n ≡ self.new.table.inserted) × (instruction read.new ≡ Unfinished)) }
+        ensures err { IfErr result (IsReason (BeginsBad self.new read.new) (λ count. ⊥)) }
+        ensures increment { write.new.items ≡ write.old.items ++ increment_for (self.new.table.inserted - self.old.table.inserted) }
+    {
+        if write.reserve(INCREMENT_LEN).is_err() {
+            return Err(DecoderError::OutOfMemory);
+        }
+        let before = self.entries.inserted();
+        let outcome = self.take_instructions(read);
+        let count = self.entries.inserted() - before;
+        put_increment(count, write);
+        match outcome {
+            Ok(()) => Ok(self.entries.inserted()),
+            Err(e) => Err(e),
+        }
+    }
+}
+
+/// Appends the acknowledgment of a stream's oldest section that is not yet acknowledged (RFC 9204, section 4.4.1). A
+/// refusal appends nothing.
+pub fn ack_header(stream: u64, out: &mut Vec<u8>) -> Result<(), AllocError>
+    requires { stream < 2 ^ 62 }
+    ensures ok { OnOk result (out.new.items ≡ out.old.items ++ decoder_bytes (Acknowledge stream)) }
+    ensures err { OnErr result (out.new.items ≡ out.old.items) }
+{
+    HeaderAck(stream).encode(out)
+}
+
+/// Appends the cancellation of a stream (RFC 9204, section 4.4.2). A refusal appends nothing.
+pub fn stream_canceled(stream: u64, out: &mut Vec<u8>) -> Result<(), AllocError>
+    requires { stream < 2 ^ 62 }
+    ensures ok { OnOk result (out.new.items ≡ out.old.items ++ decoder_bytes (CancelStream stream)) }
+    ensures err { OnErr result (out.new.items ≡ out.old.items) }
+{
+    StreamCancel(stream).encode(out)
 }

@@ -1,0 +1,166 @@
+-- An instruction at the front of some bytes, and the field that it inserts.
+use Rattle.std.proofs.Common.{◌≡◌, ◌⊎◌, inl, inr, ℕ, ◌+◌, ◌-◌, ◌<◌, ◌≤◌, nat_le, Bool, true, false, List, [], ◌∷◌, length, Option, Some, None, Result, Ok, Err, refl, ap, sym, ◌∙◌, subst, arith}
+use Rattle.std.proofs.lemmas.Bool.{and_parts, leb-true, lt-leb}
+use Rattle.h3_field.specs.Field.{Field}
+use Rattle.h3_field.specs.Reading.{Reading, Whole, Unfinished, Bad}
+use Rattle.h3_field.specs.Instruction.{EncoderInstruction}
+use Rattle.h3_field.specs.InstructionReading.{InstructionForm, Capacity, NameReference, LiteralName, Repeat, Says, instruction, name_reference, literal_name, capacity, repeat}
+use Rattle.h3_field.specs.InstructionAnswer.{AnswersInstruction}
+use Rattle.h3_field.specs.ShapeAnswer.{IsRefused}
+use Rattle.h3_field.specs.Shapes.{begins}
+use Rattle.h3_field.specs.StringReading.{StandsFor}
+use Rattle.h3_field.proofs.Sections.{stands_one}
+use Rattle.h3_field.specs.Errors.{decoder_parse}
+use Rattle.h3_field.specs.declared.prefix_int.Error.TheVariants.{Overflow, UnexpectedEnd}
+use Rattle.h3_field.specs.declared.prefix_string.Error as string
+use Rattle.h3_field.specs.declared.parse_error.ParseError.{ParseError}
+use Rattle.h3_field.specs.declared.parse_error.ParseError.TheVariants.{Integer, String, InvalidPrefix, InvalidBase, OutOfMemory}
+use Rattle.std.proofs.lemmas.Grind.{common_steps}
+use Rattle.h3_field.specs.Instruction.EncoderInstruction.{SetCapacity, InsertWithStaticName, InsertWithEntryName, InsertLiteral, Duplicate}
+use Rattle.h3_field.specs.declared.decoder_error.DecoderError.{DecoderError}
+use Rattle.h3_field.specs.declared.decoder_error.DecoderError.TheVariants as error
+use Rattle.h3_qpack.specs.Held.{Held, has_room, with_entry, with_capacity}
+use Rattle.h3_qpack.specs.Receiver.{Receiver, insertion_of, inserting, having_read, greatest_capacity}
+use Rattle.h3_qpack.specs.WholeInstructions.{is_insertion}
+use Rattle.h3_qpack.specs.Instructions.{HasInstruction, BeginsBad}
+use Rattle.h3_qpack.specs.SectionAnswers.{IsReason}
+use Rattle.h3_qpack.specs.InstructionAnswers.{BeginsInsertion, BeginsNoInsertion, HasReadOne}
+
+-- a form says one instruction
+pub says_one : (form : InstructionForm) (i j : EncoderInstruction) → Says form i → Says form j → i ≡ j
+says_one (Capacity n) i j a b = a ∙ sym b
+says_one (NameReference true index p) i j a b = rw (a.2, b.2, stands_one p a.0 b.0 a.1 b.1) refl
+says_one (NameReference false index p) i j a b = rw (a.2, b.2, stands_one p a.0 b.0 a.1 b.1) refl
+says_one (LiteralName p q) i j a b = rw (a.4, b.4, stands_one p a.0 b.0 a.2 b.2, stands_one q a.1 b.1 a.3 b.3) refl
+says_one (Repeat index) i j a b = a ∙ sym b
+
+pub has_instruction : {I : Type 0} (says : I → EncoderInstruction) (r : Reading InstructionForm) (old new : List ℕ) (o : Option I) (i : I) → instruction old ≡ r → o ≡ Some i
+    → AnswersInstruction says r old new (Ok o) → HasInstruction old (says i) new
+has_instruction {I} says r old new o i e is answer = from r e (subst (λ (x : Option I). AnswersInstruction says r old new (Ok x)) is answer)
+  where
+    from : (r : Reading InstructionForm) → instruction old ≡ r → AnswersInstruction says r old new (Ok (Some i)) → HasInstruction old (says i) new
+    from (Whole form rest) e h = record { form = form; whole = rw h.1 e; says = h.0 }
+    from Unfinished e h = absurd (cc)
+    from Bad e h = absurd (cc)
+
+-- the field of an insertion that was read
+pub begins_insertion : {I : Type 0} (h : Held) (says : I → EncoderInstruction) (read : List ℕ → Reading InstructionForm) (old new : List ℕ) (o : Option I) (i : I) (f : Field)
+    → ((bytes rest : List ℕ) (form : InstructionForm) → read bytes ≡ Whole form rest → length rest < length bytes) → instruction old ≡ read old
+    → o ≡ Some i → AnswersInstruction says (read old) old new (Ok o) → is_insertion (says i) ≡ true → insertion_of h (says i) ≡ Some f → BeginsInsertion h old f new
+begins_insertion h says read old new o i f shorter e is answer inserts names =
+    let here = has_instruction says (read old) old new o i e is answer in
+    record { i = says i; here = here; inserts = inserts; names = names; less = shorter old new here.form (sym e ∙ here.whole) }
+
+-- an insertion that was read and names no field
+pub begins_no_insertion : {I : Type 0} (h : Held) (says : I → EncoderInstruction) (read : Reading InstructionForm) (old new : List ℕ) (o : Option I) (i : I) → instruction old ≡ read
+    → o ≡ Some i → AnswersInstruction says read old new (Ok o) → is_insertion (says i) ≡ true → insertion_of h (says i) ≡ None → BeginsNoInsertion h old
+begins_no_insertion h says read old new o i e is answer inserts none =
+    let here = has_instruction says read old new o i e is answer in
+    inr (here.form, new, here.whole, λ j s. let same = says_one here.form (says i) j here.says s in (rw (← same) inserts, rw (← same) none))
+
+pub not_whole : {I : Type 0} (says : I → EncoderInstruction) (r : Reading InstructionForm) (old new : List ℕ) → instruction old ≡ r → AnswersInstruction says r old new (Ok None) → instruction old ≡ Unfinished
+not_whole says (Whole form rest) old new e h = absurd h
+not_whole says Unfinished old new e h = e
+not_whole says Bad old new e h = absurd (cc)
+
+not_said : (h : Held) (old rest : List ℕ) (form : InstructionForm) → instruction old ≡ Whole form rest → ((i : EncoderInstruction) → Says form i → ⊥) → BeginsNoInsertion h old
+not_said h old rest form e none = inr (form, rest, e, λ i s. absurd (none i s))
+
+-- a refused instruction
+pub refused : {I : Type 0} (h : Held) (says : I → EncoderInstruction) (r : Reading InstructionForm) (old new : List ℕ) (e : ParseError) → instruction old ≡ r
+    → AnswersInstruction says r old new (Err e) → IsReason (BeginsNoInsertion h old) (λ count. ⊥) (decoder_parse e)
+refused h says (Whole form rest) old new (String string.TheVariants.HuffmanDecoding) is k = not_said h old rest form is k.0
+refused h says (Whole form rest) old new OutOfMemory is k = tt
+refused h says (Whole form rest) old new (String string.TheVariants.OutOfMemory) is k = tt
+refused h says (Whole form rest) old new (String string.TheVariants.UnexpectedEnd) is k = absurd k.0
+refused h says (Whole form rest) old new (String (string.TheVariants.Integer e)) is k = absurd k.0
+refused h says (Whole form rest) old new (String string.TheVariants.HuffmanEncoding) is k = absurd k.0
+refused h says (Whole form rest) old new (String string.TheVariants.BufSize) is k = absurd k.0
+refused h says (Whole form rest) old new (Integer e) is k = absurd k.0
+refused h says (Whole form rest) old new (InvalidPrefix first) is k = absurd k.0
+refused h says (Whole form rest) old new InvalidBase is k = absurd k.0
+refused h says Unfinished old new e is k = absurd (cc)
+refused h says Bad old new e is k =
+    let same : e ≡ Integer Overflow = cc in
+    rw same (inl is)
+
+-- which instruction the first byte begins
+pub is_named : (bytes : List ℕ) → 0 < length bytes → begins 128 255 bytes ≡ true → instruction bytes ≡ name_reference bytes
+is_named [] some h = absurd (omega arith)
+is_named (first ∷ rest) some h =
+    let parts = and_parts (nat_le 128 first) (nat_le first 255) h in
+    rw parts.0 refl
+
+pub is_literal : (bytes : List ℕ) → 0 < length bytes → begins 64 127 bytes ≡ true → instruction bytes ≡ literal_name bytes
+is_literal [] some h = absurd (omega arith)
+is_literal (first ∷ rest) some h =
+    let parts = and_parts (nat_le 64 first) (nat_le first 127) h in
+    rw (lt-leb 128 first (omega (arith, leb-true first 127 parts.1)), parts.0) refl
+
+pub is_capacity : (bytes : List ℕ) → 0 < length bytes → begins 32 63 bytes ≡ true → instruction bytes ≡ capacity bytes
+is_capacity [] some h = absurd (omega arith)
+is_capacity (first ∷ rest) some h =
+    let parts = and_parts (nat_le 32 first) (nat_le first 63) h in
+    let most = leb-true first 63 parts.1 in
+    rw (lt-leb 128 first (omega (arith, most)), lt-leb 64 first (omega (arith, most)), parts.0) refl
+
+pub is_repeat : (bytes : List ℕ) → 0 < length bytes → begins 0 31 bytes ≡ true → instruction bytes ≡ repeat bytes
+is_repeat [] some h = absurd (omega arith)
+is_repeat (first ∷ rest) some h =
+    let parts = and_parts (nat_le 0 first) (nat_le first 31) h in
+    let most = leb-true first 31 parts.1 in
+    rw (lt-leb 128 first (omega (arith, most)), lt-leb 64 first (omega (arith, most)), lt-leb 32 first (omega (arith, most))) refl
+
+-- an insertion is no change of the capacity
+pub insertion_reads : (r : Receiver) (i : EncoderInstruction) → is_insertion i ≡ true → having_read r i ≡ inserting r (insertion_of r.table i)
+insertion_reads r (SetCapacity n) e = absurd (cc)
+insertion_reads r (InsertWithStaticName index value) e = refl
+insertion_reads r (InsertWithEntryName index value) e = refl
+insertion_reads r (InsertLiteral name value) e = refl
+insertion_reads r (Duplicate index) e = refl
+
+pub no_insertion_bad : (r : Receiver) (bytes : List ℕ) → BeginsNoInsertion r.table bytes → BeginsBad r bytes
+no_insertion_bad r bytes (inl bad) = inl bad
+no_insertion_bad r bytes (inr h) = inr (h.0, h.1, h.2, λ i s. let k = h.3 i s in insertion_reads r i k.0 ∙ ap (inserting r) k.1)
+
+-- a field for which there is no room
+pub no_room_bad : (r : Receiver) (bytes rest : List ℕ) (f : Field) → BeginsInsertion r.table bytes f rest → has_room r.table f ≡ false → BeginsBad r bytes
+no_room_bad r bytes rest f b none = inr (b.here.form, rest, b.here.whole, λ i s.
+    let same = says_one b.here.form i b.i s b.here.says in
+    ap (having_read r) same ∙ insertion_reads r b.i b.inserts ∙ ap (inserting r) b.names ∙ rw none refl)
+
+pub room_reads : (r : Receiver) (bytes rest : List ℕ) (f : Field) → BeginsInsertion r.table bytes f rest → has_room r.table f ≡ true
+    → HasReadOne r (record r { table = with_entry r.table f }) bytes rest
+room_reads r bytes rest f b room =
+    record {
+      i = b.i;
+      here = b.here;
+      table = insertion_reads r b.i b.inserts ∙ ap (inserting r) b.names ∙ rw room refl;
+      less = b.less;
+      grows = omega arith;
+    }
+
+pub reason_map : (a b : Type 0) (e : DecoderError) → (a → b) → IsReason a (λ count. ⊥) e → IsReason b (λ count. ⊥) e
+reason_map a b error.OutOfMemory f n = tt
+reason_map a b (error.HeaderTooLong sum) f n = absurd n
+reason_map a b (error.InvalidInteger x) f n = f n
+reason_map a b (error.InvalidString x) f n = f n
+reason_map a b (error.InvalidIndex x) f n = f n
+reason_map a b (error.DynamicTable x) f n = f n
+reason_map a b (error.InvalidStaticIndex x) f n = f n
+reason_map a b (error.UnknownPrefix x) f n = f n
+reason_map a b (error.MissingRefs x) f n = absurd n
+reason_map a b error.BadBaseIndex f n = f n
+reason_map a b error.UnexpectedEnd f n = f n
+reason_map a b error.BufSize f n = f n
+
+-- a capacity that is set, one that is too large, and one that is refused
+pub capacity_reads : (r : Receiver) (bytes rest : List ℕ) (n : ℕ) → HasInstruction bytes (SetCapacity n) rest → length rest < length bytes → n ≤ greatest_capacity r
+    → HasReadOne r (record r { table = with_capacity r.table n }) bytes rest
+capacity_reads r bytes rest n here less le =
+    record { i = SetCapacity n; here = here; table = (let yes : nat_le n (greatest_capacity r) ≡ true = grind (arith, common_steps) in rw yes refl); less = less; grows = omega arith }
+
+pub capacity_bad : (r : Receiver) (bytes rest : List ℕ) (n : ℕ) → HasInstruction bytes (SetCapacity n) rest → greatest_capacity r < n → BeginsBad r bytes
+capacity_bad r bytes rest n here above = inr (here.form, rest, here.whole, λ i s.
+    let same = says_one here.form i (SetCapacity n) s here.says in
+    ap (having_read r) same ∙ (let no : nat_le n (greatest_capacity r) ≡ false = grind (arith, common_steps) in rw no refl))
