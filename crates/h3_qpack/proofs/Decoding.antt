@@ -79,7 +79,7 @@ inserted_counted s d f longer h =
 le_is : (a b : ℕ) → nat_le a b ≡ true → a ≤ b
 le_is a b e = grind (arith, common_steps)
 
-found_back : (s : Sender) (d : Draft) (f : Field) (number : ℕ) → found s d f ≡ Some number → (length s.inserted - (length s.inserted - number) ≡ number) × (0 < number) × (number ≤ length d.inserted)
+pub found_back : (s : Sender) (d : Draft) (f : Field) (number : ℕ) → found s d f ≡ Some number → (length s.inserted - (length s.inserted - number) ≡ number) × (0 < number) × (number ≤ length d.inserted)
 found_back s d f number h =
     let p = newest_from-passes _ 1 d.inserted number h in
     let a = both _ _ p.test_is in
@@ -87,7 +87,7 @@ found_back s d f number h =
     let le = le_is number (length s.inserted) b.1 in
     (omega (arith, le), omega (arith, p.above), omega (arith, p.below))
 
-name_back : (base number : ℕ) (value : List ℕ) (b : Bool) → nat_le number base ≡ b → 0 < number
+pub name_back : (base number : ℕ) (value : List ℕ) (b : Bool) → nat_le number base ≡ b → 0 < number
     → entry_number base (if b then RelativeName (base - number) value else PostBaseName (number - base - 1) value) ≡ number
 name_back base number value true e above = grind (arith, common_steps)
 name_back base number value false e above = grind (arith, common_steps)

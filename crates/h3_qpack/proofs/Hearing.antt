@@ -1,8 +1,9 @@
 -- Instructions that are read one behind the other.
 use Rattle.std.proofs.Common.{◌≡◌, ℕ, List, [], ◌∷◌, ◌++◌, Option, Some, None, refl, sym, ◌∙◌, ap}
 use Rattle.h3_field.specs.Instruction.{EncoderInstruction}
+use Rattle.h3_field.specs.ReadBack.{HasInstruction}
 use Rattle.h3_qpack.specs.Receiver.{Receiver, having_read, having_read_all}
-use Rattle.h3_qpack.specs.Instructions.{HasInstruction, AreInstructions, NoInstruction, NextInstruction, HasRead}
+use Rattle.h3_qpack.specs.Instructions.{AreInstructions, NoInstruction, NextInstruction, HasRead}
 use Rattle.h3_qpack.specs.InstructionAnswers.{HasReadOne}
 
 one_further : (bytes left rest : List ℕ) (is : List EncoderInstruction) (i : EncoderInstruction) → AreInstructions bytes is left → HasInstruction left i rest → AreInstructions bytes (is ++ i ∷ []) rest

@@ -4,6 +4,7 @@ use Rattle.std.proofs.lemmas.Bool.{and_parts, leb-true, lt-leb}
 use Rattle.h3_field.specs.Field.{Field}
 use Rattle.h3_field.specs.Reading.{Reading, Whole, Unfinished, Bad}
 use Rattle.h3_field.specs.Instruction.{EncoderInstruction}
+use Rattle.h3_field.specs.ReadBack.{HasInstruction}
 use Rattle.h3_field.specs.InstructionReading.{InstructionForm, Capacity, NameReference, LiteralName, Repeat, Says, instruction, name_reference, literal_name, capacity, repeat}
 use Rattle.h3_field.specs.InstructionAnswer.{AnswersInstruction}
 use Rattle.h3_field.specs.ShapeAnswer.{IsRefused}
@@ -22,7 +23,7 @@ use Rattle.h3_field.specs.declared.decoder_error.DecoderError.TheVariants as err
 use Rattle.h3_qpack.specs.Held.{Held, has_room, with_entry, with_capacity}
 use Rattle.h3_qpack.specs.Receiver.{Receiver, insertion_of, inserting, having_read, greatest_capacity}
 use Rattle.h3_qpack.specs.WholeInstructions.{is_insertion}
-use Rattle.h3_qpack.specs.Instructions.{HasInstruction, BeginsBad}
+use Rattle.h3_qpack.specs.Instructions.{BeginsBad}
 use Rattle.h3_qpack.specs.SectionAnswers.{IsReason}
 use Rattle.h3_qpack.specs.InstructionAnswers.{BeginsInsertion, BeginsNoInsertion, HasReadOne}
 

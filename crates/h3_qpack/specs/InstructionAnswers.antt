@@ -3,12 +3,13 @@ use Rattle.std.specs.Prelude.{◌≡◌, ◌⊎◌, ◌<◌, ◌≤◌, ℕ, Boo
 use Rattle.h3_field.specs.Field.{Field}
 use Rattle.h3_field.specs.Reading.{Whole, Unfinished, Bad}
 use Rattle.h3_field.specs.Instruction.{EncoderInstruction}
+use Rattle.h3_field.specs.ReadBack.{HasInstruction}
 use Rattle.h3_field.specs.InstructionReading.{InstructionForm, Says, instruction}
 use Rattle.h3_field.specs.declared.decoder_error.DecoderError.{DecoderError}
 use Rattle.h3_qpack.specs.Held.{Held}
 use Rattle.h3_qpack.specs.Receiver.{Receiver, insertion_of, having_read}
 use Rattle.h3_qpack.specs.WholeInstructions.{is_insertion}
-use Rattle.h3_qpack.specs.Instructions.{HasInstruction, BeginsBad}
+use Rattle.h3_qpack.specs.Instructions.{BeginsBad}
 use Rattle.h3_qpack.specs.SectionAnswers.{IsReason}
 
 -- The bytes begin with an insertion of this field, and end with the rest.

@@ -3,14 +3,9 @@ use Rattle.std.specs.Prelude.{◌≡◌, ◌⊎◌, ℕ, List, [], ◌∷◌, tr
 use Rattle.h3_field.specs.Reading.{Whole, Unfinished, Bad}
 use Rattle.h3_field.specs.Instruction.{EncoderInstruction, DecoderInstruction}
 use Rattle.h3_field.specs.InstructionReading.{InstructionForm, Says, instruction, decoder_instruction}
+use Rattle.h3_field.specs.ReadBack.{HasInstruction}
 use Rattle.h3_qpack.specs.Sender.{Sender, told, is_refused}
 use Rattle.h3_qpack.specs.Receiver.{Receiver, having_read, having_read_all}
-
--- The bytes begin with this encoder instruction.
-pub record HasInstruction (bytes : List ℕ) (i : EncoderInstruction) (rest : List ℕ) : Type 0 where
-  pub form : InstructionForm
-  pub whole : instruction bytes ≡ Whole form rest
-  pub says : Says form i
 
 -- The bytes are these encoder instructions, and the bytes left.
 pub data AreInstructions : List ℕ → List EncoderInstruction → List ℕ → Type 0 where

@@ -19,4 +19,5 @@ pub mod TableInside
 pub mod SectionAnswers
 pub mod InstructionAnswers
 pub mod Increments
+pub mod Encodings
 pub mod Worked

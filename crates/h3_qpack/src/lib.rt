@@ -1,10 +1,19 @@
-//! QPACK's dynamic table (RFC 9204): what an encoder writes, what a decoder reads, and the law of their sessions.
+//! QPACK's dynamic table (RFC 9204): what a decoder reads, what an encoder writes, and the law of their sessions.
 #![tactic(auto)]
 
 pub mod decoder;
 pub mod dynamic;
 mod entries;
-mod increment;
-mod tracking;
 pub mod examples;
+mod increment;
 pub mod laws;
+#[cfg(test)]
+mod tests;
+mod tracking;
+
+pub use decoder::{Decoder, ack_header, stream_canceled};
+pub use dynamic::DynamicTable;
+pub use h3_field::{
+    Decoded, DecoderError, EncoderError, Error, HeaderField, SliceCursor, decode_stateless,
+    encode_stateless,
+};
