@@ -23,7 +23,7 @@ only_memory_at at h f OutOfMemory ok why = refl
 -- a list that can be read is refused for memory alone
 pub only_memory : (h : Head) (fields : List Field) (e : HeaderError) → AcceptsAll h fields → RefusesOne h fields e → e ≡ OutOfMemory
 unfolding AcceptsAll RefusesOne
-only_memory h [] e ok why = why
+only_memory h [] e ok why = absurd why
 only_memory h (f ∷ fields) e ok (inl here) = only_memory_at (kind_of f.name) h f e ok.0 here
 only_memory h (f ∷ fields) e ok (inr later) = only_memory (with_field h f) fields e ok.1 later.1
 

@@ -1,5 +1,5 @@
 -- Which field lists are read as a head, and why the others are refused.
-use Rattle.std.specs.Prelude.{◌≡◌, ℕ, ◌+◌, ◌-◌, ◌*◌, ◌⊎◌, ⊤, List, [], ◌∷◌, codes, fold, bytes_eq, slice_index, Some, if◌then◌else◌}
+use Rattle.std.specs.Prelude.{◌≡◌, ℕ, ◌+◌, ◌-◌, ◌*◌, ◌⊎◌, ⊤, ◌≤◌, List, [], ◌∷◌, length, codes, fold, bytes_eq, slice_index, Some, if◌then◌else◌}
 use Rattle.http_header.specs.Token.{IsToken}
 use Rattle.http_header.specs.FieldName.{IsHeaderName}
 use Rattle.http_header.specs.FieldValue.{FieldValue, plain_value, IsFieldValue}
@@ -40,6 +40,10 @@ IsValueAt Status value = IsCodeText value
 IsValueAt Protocol value = IsProtocolText value
 IsValueAt Regular value = IsFieldValue value
 
+-- a method that is kept in place, with no memory of its own
+abbrev pub IsShortMethod : List ℕ → Type 0
+IsShortMethod value = IsToken value × (length value ≤ 15)
+
 -- the number of three digits
 abbrev pub status_number : List ℕ → ℕ
 status_number text = (slice_index text 0 - 48) * 100 + (slice_index text 1 - 48) * 10 + (slice_index text 2 - 48)
@@ -65,6 +69,13 @@ pub record AcceptsAt (at : FieldKind) (h : Head) (f : Field) : Type 0 where
   pub value : IsValueAt at f.value
   pub room : HasRoomAt at h f
 
+-- reading the field may ask for memory: to keep its bytes, or for the text of its refusal
+abbrev pub MayAskMemory : FieldKind → Field → Type 0
+MayAskMemory Method f = ¬ (IsShortMethod f.value)
+MayAskMemory Status f = ¬ (IsCodeText f.value)
+MayAskMemory Protocol f = ¬ (IsProtocolText f.value)
+MayAskMemory _ f = ⊤
+
 -- why it may not. A name is judged before its value, and room comes last
 abbrev pub RefusesAt : FieldKind → Head → Field → HeaderError → Type 0
 RefusesAt at h f (InvalidHeaderName _) = ¬ (IsNameAt at f.name)
@@ -75,7 +86,7 @@ RefusesAt at h f MissingMethod = ⊥
 RefusesAt at h f MissingStatus = ⊥
 RefusesAt at h f MissingAuthority = ⊥
 RefusesAt at h f ContradictedAuthority = ⊥
-RefusesAt at h f OutOfMemory = ⊤
+RefusesAt at h f OutOfMemory = MayAskMemory at f
 
 -- the refusal of a name that should be valid
 abbrev pub RefusesName : Type 0 → HeaderError → Type 0
@@ -83,11 +94,11 @@ RefusesName Valid (InvalidHeaderName _) = ¬ Valid
 RefusesName Valid OutOfMemory = ⊤
 RefusesName Valid _ = ⊥
 
--- the refusal of a value that should be valid
-abbrev pub RefusesValue : Type 0 → HeaderError → Type 0
-RefusesValue Valid (InvalidHeaderValue _) = ¬ Valid
-RefusesValue Valid OutOfMemory = ⊤
-RefusesValue Valid _ = ⊥
+-- the refusal of a value that should be valid. The second fact is why memory may be asked for
+abbrev pub RefusesValue : Type 0 → Type 0 → HeaderError → Type 0
+RefusesValue Valid Asks (InvalidHeaderValue _) = ¬ Valid
+RefusesValue Valid Asks OutOfMemory = Asks
+RefusesValue Valid Asks _ = ⊥
 
 -- the refusal of a regular field
 abbrev pub RefusesRegular : Entries FieldValue → List ℕ → List ℕ → HeaderError → Type 0
@@ -117,7 +128,7 @@ AcceptsAll h (f ∷ fields) = Accepts h f × AcceptsAll (with_field h f) fields
 
 -- some field is refused, and those before it are not
 unfoldable pub RefusesOne : Head → List Field → HeaderError → Type 0
-RefusesOne h [] e = e ≡ OutOfMemory
+RefusesOne h [] e = ⊥
 RefusesOne h (f ∷ fields) e = Refuses h f e ⊎ (Accepts h f × RefusesOne (with_field h f) fields e)
 
 -- the list is that of a head, and this is the head

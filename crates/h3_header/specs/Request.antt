@@ -44,14 +44,15 @@ request_parts h =
 abbrev pub CanBeUri : Head → Type 0
 CanBeUri h = IfSome (request_parts h).authority IsAuthority × PartsFit (request_parts h)
 
--- why a head gives no request, in the order of judging
+-- why a head gives no request, in the order of judging. Memory is asked for only where `host` stands for the authority
 abbrev pub RefusesRequest : Head → HeaderError → Type 0
 RefusesRequest h MissingAuthority = authority_refusal h.authority (host_of h.regular) ≡ Some MissingAuthority
 RefusesRequest h ContradictedAuthority = authority_refusal h.authority (host_of h.regular) ≡ Some ContradictedAuthority
 RefusesRequest h MissingMethod = (authority_refusal h.authority (host_of h.regular) ≡ None) × (h.method ≡ None)
 RefusesRequest h InvalidRequest =
     (authority_refusal h.authority (host_of h.regular) ≡ None) × IsSome h.method × ¬ (CanBeUri h)
-RefusesRequest h OutOfMemory = ⊤
+RefusesRequest h OutOfMemory =
+    (authority_refusal h.authority (host_of h.regular) ≡ None) × IsSome h.method × (h.authority ≡ None)
 RefusesRequest h (InvalidHeaderName _) = ⊥
 RefusesRequest h (InvalidHeaderValue _) = ⊥
 RefusesRequest h MissingStatus = ⊥
@@ -64,6 +65,7 @@ pub record IsRequestOf (h : Head) (method : List ℕ) (u : Target) : Type 0 wher
   pub can : CanBeUri h
   pub uri : IsUriOfParts (request_parts h) u
 
--- why an authority can't be had: it is there and no authority, or memory ran out
-abbrev pub IsHostError : Option (List ℕ) → HeaderError → Type 0
-IsHostError authority e = ((e ≡ InvalidRequest) × ¬ (IfSome authority IsAuthority)) ⊎ (e ≡ OutOfMemory)
+-- why an authority can't be had: it is there and no authority, or `host` stands for it and memory ran out
+abbrev pub IsHostError : Option (List ℕ) → Option (List ℕ) → HeaderError → Type 0
+IsHostError own host e =
+    ((e ≡ InvalidRequest) × ¬ (IfSome (option_or own host) IsAuthority)) ⊎ ((e ≡ OutOfMemory) × (own ≡ None))

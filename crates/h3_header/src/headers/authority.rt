@@ -50,7 +50,7 @@ pub(crate) fn find_refusal(authority: Option<&str>, map: &HeaderMap) -> Option<H
     }
 }
 
-// The authority, or else the first `host`.
+/// The authority, or else the first `host`.
 pub(crate) fn or_host(
     alloc: Global,
     authority: Option<Authority>,
@@ -58,9 +58,10 @@ pub(crate) fn or_host(
 ) -> Result<Option<Authority>, HeaderError>
     ensures ok { IfOk result (λ a. a ≡ option_or authority (host_of map.now)) }
     ensures valid { OnOk result (IfSome (option_or authority (host_of map.now)) IsAuthority) }
-    ensures err { IfErr result (IsHostError (option_or authority (host_of map.now))) }
+    ensures err { IfErr result (IsHostError authority (host_of map.now)) }
 {
     if let Some(authority) = authority {
+        // `as_str` tells that the authority is valid.
         let _text = authority.as_str();
         return Ok(Some(authority));
     }

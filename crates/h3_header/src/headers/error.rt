@@ -1,5 +1,5 @@
 //! Why a field list is no header, or a header gives no request or response.
-ghost use Rattle.std.specs.Prelude.{Some};
+ghost use Rattle.std.specs.Prelude.{Some, ⊤};
 ghost use Rattle.h3_header.specs.ErrorText.{error_text};
 ghost use Rattle.h3_header.specs.Reads.{RefusesName, RefusesValue};
 
@@ -48,7 +48,7 @@ impl HeaderError {
 
     /// The refusal of a value.
     pub(crate) fn invalid_value(alloc: Global, name: &[u8], value: &[u8]) -> HeaderError
-        ensures { RefusesValue ⊥ result }
+        ensures { RefusesValue ⊥ ⊤ result }
     {
         let name = str::from_utf8(name).unwrap_or("");
         match format!(in alloc; "{name:?} {value:?}") {

@@ -1,5 +1,5 @@
 //! The parts of a header, read from the bytes of a field's name and value.
-ghost use Rattle.std.specs.Prelude.{◌≡◌, IfOk, OnOk, IfErr, OnErr};
+ghost use Rattle.std.specs.Prelude.{◌≡◌, ⊤, IfOk, OnOk, IfErr, OnErr};
 ghost use Rattle.http_header.specs.Token.{IsToken};
 ghost use Rattle.http_header.specs.FieldName.{IsHeaderName};
 ghost use Rattle.http_header.specs.FieldValue.{plain_value, IsFieldValue};
@@ -7,7 +7,7 @@ ghost use Rattle.http_header.specs.HeaderMap.{append, RefusesAppend};
 ghost use Rattle.http.specs.StatusCode.{IsCodeText};
 ghost use Rattle.http_uri.specs.Grammar.{IsScheme, IsAuthority, IsPathInput, without_fragment};
 ghost use Rattle.h3_header.specs.ProtocolText.{IsProtocolText};
-ghost use Rattle.h3_header.specs.Reads.{status_number, RefusesName, RefusesValue, RefusesRegular, Accepts, Refuses, with_field};
+ghost use Rattle.h3_header.specs.Reads.{IsShortMethod, status_number, RefusesName, RefusesValue, RefusesRegular, Accepts, Refuses, with_field};
 ghost use Rattle.h3_header.specs.Parts.{head_of_parts};
 
 use super::error::HeaderError;
@@ -25,7 +25,7 @@ use std::alloc::Global;
 
 fn read_method(alloc: Global, value: &[u8]) -> Result<Method, HeaderError>
     ensures ok { IfOk result (λ m. IsToken value.now × (m ≡ value.now)) }
-    ensures err { IfErr result (RefusesValue (IsToken value.now)) }
+    ensures err { IfErr result (RefusesValue (IsToken value.now) (¬ (IsShortMethod value.now))) }
 {
     match Method::from_bytes(alloc, value) {
         Ok(method) => Ok(method),
@@ -36,7 +36,7 @@ fn read_method(alloc: Global, value: &[u8]) -> Result<Method, HeaderError>
 
 fn read_scheme(alloc: Global, value: &[u8]) -> Result<Scheme, HeaderError>
     ensures ok { IfOk result (λ m. IsScheme value.now × (m ≡ value.now)) }
-    ensures err { IfErr result (RefusesValue (IsScheme value.now)) }
+    ensures err { IfErr result (RefusesValue (IsScheme value.now) ⊤) }
 {
     match Scheme::from_bytes(alloc, value) {
         Ok(scheme) => Ok(scheme),
@@ -47,7 +47,7 @@ fn read_scheme(alloc: Global, value: &[u8]) -> Result<Scheme, HeaderError>
 
 fn read_authority(alloc: Global, value: &[u8]) -> Result<Authority, HeaderError>
     ensures ok { IfOk result (λ m. IsAuthority value.now × (m ≡ value.now)) }
-    ensures err { IfErr result (RefusesValue (IsAuthority value.now)) }
+    ensures err { IfErr result (RefusesValue (IsAuthority value.now) ⊤) }
 {
     match Authority::from_bytes(alloc, value) {
         Ok(authority) => Ok(authority),
@@ -58,7 +58,7 @@ fn read_authority(alloc: Global, value: &[u8]) -> Result<Authority, HeaderError>
 
 fn read_path(alloc: Global, value: &[u8]) -> Result<PathAndQuery, HeaderError>
     ensures ok { IfOk result (λ m. IsPathInput value.now × (m ≡ without_fragment value.now)) }
-    ensures err { IfErr result (RefusesValue (IsPathInput value.now)) }
+    ensures err { IfErr result (RefusesValue (IsPathInput value.now) ⊤) }
 {
     match PathAndQuery::from_bytes(alloc, value) {
         Ok(path) => Ok(path),
@@ -69,7 +69,7 @@ fn read_path(alloc: Global, value: &[u8]) -> Result<PathAndQuery, HeaderError>
 
 fn read_status(alloc: Global, value: &[u8]) -> Result<StatusCode, HeaderError>
     ensures ok { IfOk result (λ m. IsCodeText value.now × (m ≡ status_number value.now)) }
-    ensures err { IfErr result (RefusesValue (IsCodeText value.now)) }
+    ensures err { IfErr result (RefusesValue (IsCodeText value.now) (¬ (IsCodeText value.now))) }
 {
     match StatusCode::from_bytes(value) {
         Ok(status) => Ok(status),
@@ -79,7 +79,7 @@ fn read_status(alloc: Global, value: &[u8]) -> Result<StatusCode, HeaderError>
 
 fn read_protocol(alloc: Global, value: &[u8]) -> Result<Protocol, HeaderError>
     ensures ok { IfOk result (λ m. IsProtocolText value.now × (m ≡ value.now)) }
-    ensures err { IfErr result (RefusesValue (IsProtocolText value.now)) }
+    ensures err { IfErr result (RefusesValue (IsProtocolText value.now) (¬ (IsProtocolText value.now))) }
 {
     match Protocol::from_bytes(value) {
         Ok(protocol) => Ok(protocol),
@@ -100,7 +100,7 @@ fn read_name(alloc: Global, name: &[u8]) -> Result<HeaderName, HeaderError>
 
 fn read_value(alloc: Global, name: &[u8], value: &[u8]) -> Result<HeaderValue, HeaderError>
     ensures ok { IfOk result (λ v. IsFieldValue value.now × (v ≡ plain_value value.now)) }
-    ensures err { IfErr result (RefusesValue (IsFieldValue value.now)) }
+    ensures err { IfErr result (RefusesValue (IsFieldValue value.now) ⊤) }
 {
     match HeaderValue::from_bytes(alloc, value) {
         Ok(value) => Ok(value),
