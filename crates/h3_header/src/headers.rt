@@ -8,12 +8,12 @@ ghost use Rattle.h3_header.specs.Reads.{RefusesOne, IsHeadOf};
 ghost use Rattle.h3_header.specs.ReadsBack.{ReadsBack};
 
 use crate::ext::Protocol;
-use authority::{authority_text, find_refusal, or_host, root};
+use authority::{authority_text, find_refusal, https, or_host, root};
 pub use error::HeaderError;
 use h3_field::HeaderField;
 use http::{Method, StatusCode};
 use http_header::HeaderMap;
-use http_uri::{Parts, Scheme, Uri};
+use http_uri::{Parts, Uri};
 pub use iter::HeaderIter;
 use iter::RegularIter;
 use pseudo::Pseudo;
@@ -78,7 +78,7 @@ impl Header {
         } = uri.into_parts();
         let scheme = match scheme {
             Some(scheme) => scheme,
-            None => Scheme::HTTPS,
+            None => https(),
         };
         let path = match path_and_query {
             Some(path) => path,

@@ -1,17 +1,30 @@
-//! The authority of a request: `:authority`, or the field `host` (RFC 9114, 4.3.1).
+//! What a request names or leaves out: its authority, or the field `host`, its scheme and its path
+//! (RFC 9114, 4.3.1).
 ghost use Rattle.std.specs.Prelude.{◌≡◌, codes, IfOk, OnOk, IfErr, IfSome, option_copied};
 ghost use Rattle.std.specs.Option.{option_or};
-ghost use Rattle.http_uri.specs.Grammar.{IsAuthority};
+ghost use Rattle.http_uri.specs.Grammar.{IsAuthority, IsScheme, IsPathInput};
 ghost use Rattle.h3_header.specs.Request.{host_of, authority_refusal, IsHostError};
 
 use super::error::HeaderError;
 use http_header::HeaderMap;
-use http_uri::{Authority, PathAndQuery, UriError};
+use http_uri::{Authority, PathAndQuery, Scheme, UriError};
 use std::alloc::Global;
 
-// The path of a request that names none.
+/// The scheme of a request that names none. It takes no memory.
+pub(crate) fn https() -> Scheme
+    ensures value { result ≡ codes "https" }
+    ensures valid { IsScheme (codes "https") }
+{
+    let scheme = Scheme::HTTPS;
+    // `as_str` tells that the scheme is valid.
+    let _text = scheme.as_str();
+    scheme
+}
+
+/// The path of a request that names none. It takes no memory.
 pub(crate) fn root() -> PathAndQuery
-    ensures { result ≡ codes "/" }
+    ensures value { result ≡ codes "/" }
+    ensures valid { IsPathInput (codes "/") }
 {
     PathAndQuery::from_static("/").unwrap()
 }

@@ -10,6 +10,7 @@ ghost use Rattle.h3_header.specs.ProtocolText.{IsProtocolText};
 ghost use Rattle.h3_header.specs.Reads.{IsShortMethod, status_number, RefusesName, RefusesValue, RefusesRegular, Accepts, Refuses, with_field};
 ghost use Rattle.h3_header.specs.Parts.{head_of_parts};
 
+use super::authority::{https, root};
 use super::error::HeaderError;
 use super::kind::FieldKind;
 use super::pseudo::Pseudo;
@@ -38,6 +39,9 @@ fn read_scheme(alloc: Global, value: &[u8]) -> Result<Scheme, HeaderError>
     ensures ok { IfOk result (λ m. IsScheme value.now × (m ≡ value.now)) }
     ensures err { IfErr result (RefusesValue (IsScheme value.now) ⊤) }
 {
+    if value == b"https".as_slice() {
+        return Ok(https());
+    }
     match Scheme::from_bytes(alloc, value) {
         Ok(scheme) => Ok(scheme),
         Err(UriError::Invalid(_)) => Err(HeaderError::invalid_value(alloc, b":scheme", value)),
@@ -60,6 +64,9 @@ fn read_path(alloc: Global, value: &[u8]) -> Result<PathAndQuery, HeaderError>
     ensures ok { IfOk result (λ m. IsPathInput value.now × (m ≡ without_fragment value.now)) }
     ensures err { IfErr result (RefusesValue (IsPathInput value.now) ⊤) }
 {
+    if value == b"/".as_slice() {
+        return Ok(root());
+    }
     match PathAndQuery::from_bytes(alloc, value) {
         Ok(path) => Ok(path),
         Err(UriError::Invalid(_)) => Err(HeaderError::invalid_value(alloc, b":path", value)),

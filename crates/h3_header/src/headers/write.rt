@@ -4,6 +4,7 @@ ghost use Rattle.h3_header.specs.Head.{optional_field, regular_fields};
 ghost use Rattle.h3_header.specs.ReadsBack.{IsValidMap};
 
 use h3_field::HeaderField;
+use h3_field::static_::StaticTable;
 use http_header::HeaderMap;
 use std::alloc::{AllocError, Global};
 use std::borrow::CowSlice;
@@ -39,7 +40,7 @@ pub(crate) fn pseudo_field(
         return Ok(static_field(name, value));
     }
     let value = Vec::from_slice(alloc, value.as_bytes())?;
-    Ok(HeaderField::new(CowSlice::Borrowed(name), CowSlice::Owned(value)))
+    Ok(HeaderField::with_static_name(name, value))
 }
 
 /// A pseudo-header field of static parts.
@@ -52,7 +53,18 @@ pub(crate) fn static_field(name: &'static [u8], value: &'static str) -> HeaderFi
     )
 }
 
-/// A regular field.
+/// The static copy of a name that the static table has (RFC 9204, appendix A).
+fn static_name(name: &[u8]) -> Option<&'static [u8]>
+    ensures { IfSome result (λ s. s.now ≡ name.now) }
+{
+    let index = StaticTable::find_name(name)?;
+    match StaticTable::get_name(index) {
+        Ok(name) => Some(name),
+        Err(_) => None,
+    }
+}
+
+/// A regular field. A name of the static table is not copied.
 pub(crate) fn regular_field(
     alloc: Global,
     name: &[u8],
@@ -60,8 +72,11 @@ pub(crate) fn regular_field(
 ) -> Result<HeaderField, AllocError>
     ensures { IfOk result (λ f. f ≡ record { name = name.now; value = value.now }) }
 {
-    let name = Vec::from_slice(alloc, name)?;
     let value = Vec::from_slice(alloc, value)?;
+    if let Some(name) = static_name(name) {
+        return Ok(HeaderField::with_static_name(name, value));
+    }
+    let name = Vec::from_slice(alloc, name)?;
     Ok(HeaderField::new(CowSlice::Owned(name), CowSlice::Owned(value)))
 }
 
