@@ -30,3 +30,67 @@ only_memory h (f ∷ fields) e ok (inr later) = only_memory (with_field h f) fie
 -- a head that was read from a list that reads back has that list
 pub list_of_read : (fields : List Field) (h : Head) → ReadsBack fields → IsHeadOf fields h → head_fields h ≡ fields
 list_of_read fields h back is = ap head_fields is.1 ∙ back.1
+
+-- both refuse for the same reason, or one of them for want of memory
+abbrev pub SameRefusal : HeaderError → HeaderError → Type 0
+SameRefusal OutOfMemory e = ⊤
+SameRefusal (InvalidHeaderName _) (InvalidHeaderName _) = ⊤
+SameRefusal (InvalidHeaderValue _) (InvalidHeaderValue _) = ⊤
+SameRefusal TooManyFields TooManyFields = ⊤
+SameRefusal e OutOfMemory = ⊤
+SameRefusal _ _ = ⊥
+
+memory_second : (e : HeaderError) → SameRefusal e OutOfMemory
+memory_second (InvalidHeaderName _) = tt
+memory_second (InvalidHeaderValue _) = tt
+memory_second InvalidRequest = tt
+memory_second MissingMethod = tt
+memory_second MissingStatus = tt
+memory_second MissingAuthority = tt
+memory_second ContradictedAuthority = tt
+memory_second TooManyFields = tt
+memory_second OutOfMemory = tt
+
+one_refusal_at : (at : FieldKind) (h : Head) (f : Field) (e e' : HeaderError) → RefusesAt at h f e → RefusesAt at h f e' → SameRefusal e e'
+one_refusal_at at h f (InvalidHeaderName _) (InvalidHeaderName _) why why' = tt
+one_refusal_at at h f (InvalidHeaderName _) (InvalidHeaderValue _) why why' = absurd (why why'.0)
+one_refusal_at at h f (InvalidHeaderName _) InvalidRequest why why' = absurd why'
+one_refusal_at at h f (InvalidHeaderName _) MissingMethod why why' = absurd why'
+one_refusal_at at h f (InvalidHeaderName _) MissingStatus why why' = absurd why'
+one_refusal_at at h f (InvalidHeaderName _) MissingAuthority why why' = absurd why'
+one_refusal_at at h f (InvalidHeaderName _) ContradictedAuthority why why' = absurd why'
+one_refusal_at at h f (InvalidHeaderName _) TooManyFields why why' = absurd (why why'.1)
+one_refusal_at at h f (InvalidHeaderName _) OutOfMemory why why' = tt
+one_refusal_at at h f (InvalidHeaderValue _) (InvalidHeaderName _) why why' = absurd (why' why.0)
+one_refusal_at at h f (InvalidHeaderValue _) (InvalidHeaderValue _) why why' = tt
+one_refusal_at at h f (InvalidHeaderValue _) InvalidRequest why why' = absurd why'
+one_refusal_at at h f (InvalidHeaderValue _) MissingMethod why why' = absurd why'
+one_refusal_at at h f (InvalidHeaderValue _) MissingStatus why why' = absurd why'
+one_refusal_at at h f (InvalidHeaderValue _) MissingAuthority why why' = absurd why'
+one_refusal_at at h f (InvalidHeaderValue _) ContradictedAuthority why why' = absurd why'
+one_refusal_at at h f (InvalidHeaderValue _) TooManyFields why why' = absurd (why.1 why'.2)
+one_refusal_at at h f (InvalidHeaderValue _) OutOfMemory why why' = tt
+one_refusal_at at h f InvalidRequest e' why why' = absurd why
+one_refusal_at at h f MissingMethod e' why why' = absurd why
+one_refusal_at at h f MissingStatus e' why why' = absurd why
+one_refusal_at at h f MissingAuthority e' why why' = absurd why
+one_refusal_at at h f ContradictedAuthority e' why why' = absurd why
+one_refusal_at at h f TooManyFields (InvalidHeaderName _) why why' = absurd (why' why.1)
+one_refusal_at at h f TooManyFields (InvalidHeaderValue _) why why' = absurd (why'.1 why.2)
+one_refusal_at at h f TooManyFields InvalidRequest why why' = absurd why'
+one_refusal_at at h f TooManyFields MissingMethod why why' = absurd why'
+one_refusal_at at h f TooManyFields MissingStatus why why' = absurd why'
+one_refusal_at at h f TooManyFields MissingAuthority why why' = absurd why'
+one_refusal_at at h f TooManyFields ContradictedAuthority why why' = absurd why'
+one_refusal_at at h f TooManyFields TooManyFields why why' = tt
+one_refusal_at at h f TooManyFields OutOfMemory why why' = tt
+one_refusal_at at h f OutOfMemory e' why why' = tt
+
+-- a list is refused for one reason, memory aside
+pub one_refusal : (h : Head) (fields : List Field) (e e' : HeaderError) → RefusesOne h fields e → RefusesOne h fields e' → SameRefusal e e'
+unfolding RefusesOne
+one_refusal h [] e e' why why' = absurd why
+one_refusal h (f ∷ fields) e e' (inl a) (inl b) = one_refusal_at (kind_of f.name) h f e e' a b
+one_refusal h (f ∷ fields) e e' (inl a) (inr b) = subst (λ x. SameRefusal x e') (sym (only_memory_at (kind_of f.name) h f e b.0 a)) tt
+one_refusal h (f ∷ fields) e e' (inr a) (inl b) = subst (SameRefusal e) (sym (only_memory_at (kind_of f.name) h f e' a.0 b)) (memory_second e)
+one_refusal h (f ∷ fields) e e' (inr a) (inr b) = one_refusal (with_field h f) fields e e' a.1 b.1
