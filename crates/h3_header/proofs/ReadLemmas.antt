@@ -3,7 +3,7 @@ use Rattle.std.proofs.Common.{◌≡◌, ℕ, ◌+◌, ◌<◌, ◌≤◌, List,
 use Rattle.std.proofs.lemmas.List.{drop_more, drop_all}
 use Rattle.h3_field.specs.Field.{Field}
 use Rattle.h3_header.specs.Head.{Head, trailer_head}
-use Rattle.h3_header.specs.Reads.{kind_of, HasRoomAt, AcceptsAt, RefusesAt, Accepts, Refuses, AcceptsAll, RefusesOne, with_field, head_of_fields, IsHeadOf}
+use Rattle.h3_header.specs.Reads.{RefusesName, Accepts, Refuses, AcceptsAll, RefusesOne, with_field, head_of_fields, IsHeadOf}
 use Rattle.h3_header.specs.declared.headers.error.HeaderError.{HeaderError}
 use Rattle.h3_header.specs.declared.headers.error.HeaderError.TheVariants.{InvalidHeaderName, InvalidHeaderValue, InvalidRequest, MissingMethod, MissingStatus, MissingAuthority, ContradictedAuthority, TooManyFields, OutOfMemory}
 use Rattle.h3_header.specs.declared.headers.kind.FieldKind.{FieldKind}
@@ -30,16 +30,23 @@ Rest-end : (all : List Field) (h : Head) → Rest all [] h → IsHeadOf all h
 unfolding AcceptsAll
 Rest-end all h r = (r.accepts tt, r.reads)
 
-pub Rest-at_end : (all xs : List Field) (i : ℕ) (h : Head) → length xs ≤ i → Rest all (drop i xs) h → IsHeadOf all h
-Rest-at_end all xs i h past r = Rest-end all h (subst (λ rest. Rest all rest h) (drop_all i xs past) r)
+pub Rest-done : (all : List Field) (rest : List Field) (h : Head) → rest ≡ [] → Rest all rest h → IsHeadOf all h
+Rest-done all rest h none r = Rest-end all h (subst (λ xs. Rest all xs h) none r)
 
-pub Rest-at : (all xs : List Field) (i : ℕ) (h h' : Head) (f : Field) → i < length xs → f ≡ get_or xs i f
-    → Accepts h f → h' ≡ with_field h f → Rest all (drop i xs) h → Rest all (drop (i + 1) xs) h'
-Rest-at all xs i h h' f inside is ok new r =
-    subst (Rest all (drop (i + 1) xs)) (sym new)
-    (Rest-more all _ f h ok (subst (λ rest. Rest all rest h) (drop_more xs i f inside ∙ ap (λ g. g ∷ drop (i + 1) xs) (sym is)) r))
+pub Rest-next : (all before rest : List Field) (f : Field) (h h' : Head) → before ≡ f ∷ rest → Accepts h f → h' ≡ with_field h f → Rest all before h → Rest all rest h'
+Rest-next all before rest f h h' step is new r = subst (Rest all rest) (sym new) (Rest-more all rest f h is (subst (λ xs. Rest all xs h) step r))
 
-pub Rest-refused_at : (all xs : List Field) (i : ℕ) (h : Head) (f : Field) (e : HeaderError) → i < length xs → f ≡ get_or xs i f
-    → Refuses h f e → Rest all (drop i xs) h → RefusesOne (trailer_head []) all e
-Rest-refused_at all xs i h f e inside is why r =
-    Rest-refused all _ f h e why (subst (λ rest. Rest all rest h) (drop_more xs i f inside ∙ ap (λ g. g ∷ drop (i + 1) xs) (sym is)) r)
+pub Rest-refuses : (all before rest : List Field) (f : Field) (h : Head) (e : HeaderError) → before ≡ f ∷ rest → Refuses h f e → Rest all before h → RefusesOne (trailer_head []) all e
+Rest-refuses all before rest f h e step why r = Rest-refused all rest f h e why (subst (λ xs. Rest all xs h) step r)
+
+-- a name is refused where it is not valid
+pub refuses_name : (Valid : Type 0) (e : HeaderError) → ¬ Valid → RefusesName ⊥ e → RefusesName Valid e
+refuses_name Valid (InvalidHeaderName _) not r = not
+refuses_name Valid (InvalidHeaderValue _) not r = r
+refuses_name Valid InvalidRequest not r = r
+refuses_name Valid MissingMethod not r = r
+refuses_name Valid MissingStatus not r = r
+refuses_name Valid MissingAuthority not r = r
+refuses_name Valid ContradictedAuthority not r = r
+refuses_name Valid TooManyFields not r = r
+refuses_name Valid OutOfMemory not r = tt

@@ -267,7 +267,7 @@ impl Header {
     {
         let mut pseudo = Pseudo::none();
         let mut map = HeaderMap::new(alloc);
-        for field in fields.iter() {
+        for field in fields {
             read::read_field(alloc, &mut pseudo, &mut map, field)?;
         }
         Ok(Header {

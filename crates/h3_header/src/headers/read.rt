@@ -1,5 +1,6 @@
 //! The parts of a header, read from the bytes of a field's name and value.
 ghost use Rattle.std.specs.Prelude.{◌≡◌, ⊤, IfOk, OnOk, IfErr, OnErr};
+ghost use Rattle.std.specs.Cow.{cow_slice_items};
 ghost use Rattle.http_header.specs.Token.{IsToken};
 ghost use Rattle.http_header.specs.FieldName.{IsHeaderName};
 ghost use Rattle.http_header.specs.FieldValue.{plain_value, IsFieldValue};
@@ -15,14 +16,39 @@ use super::error::HeaderError;
 use super::kind::FieldKind;
 use super::pseudo::Pseudo;
 use crate::ext::Protocol;
+use bytes::Bytes;
 use h3_field::HeaderField;
 use http::method::MethodError;
 use http::{Method, StatusCode};
-use http_header::{
-    HeaderMap, HeaderMapError, HeaderName, HeaderNameError, HeaderValue, HeaderValueError,
-};
+use http_header::{HeaderMap, HeaderMapError, HeaderName, HeaderNameError, HeaderValue};
 use http_uri::{Authority, PathAndQuery, Scheme, UriError};
 use std::alloc::Global;
+use std::borrow::CowSlice;
+
+/// The bytes, shared: static ones as they stand, owned ones in the buffer that they are in.
+fn share(bytes: CowSlice<'static, u8>) -> Result<Bytes, HeaderError>
+    ensures ok { IfOk result (λ b. b ≡ cow_slice_items bytes.entry) }
+    ensures err { IfErr result (λ e. e ≡ HeaderError.OutOfMemory) }
+{
+    match bytes {
+        CowSlice::Borrowed(bytes) => Ok(Bytes::from_static(bytes)),
+        CowSlice::Owned(bytes) => match Bytes::from_vec(bytes) {
+            Ok(bytes) => Ok(bytes),
+            Err(_) => Err(HeaderError::OutOfMemory),
+        },
+    }
+}
+
+/// Another owner of the same bytes.
+fn share_again(bytes: &Bytes) -> Result<Bytes, HeaderError>
+    ensures ok { IfOk result (λ b. b ≡ bytes.now) }
+    ensures err { IfErr result (λ e. e ≡ HeaderError.OutOfMemory) }
+{
+    match bytes.clone() {
+        Ok(bytes) => Ok(bytes),
+        Err(_) => Err(HeaderError::OutOfMemory),
+    }
+}
 
 fn read_method(alloc: Global, value: &[u8]) -> Result<Method, HeaderError>
     ensures ok { IfOk result (λ m. IsToken value.now × (m ≡ value.now)) }
@@ -49,28 +75,32 @@ fn read_scheme(alloc: Global, value: &[u8]) -> Result<Scheme, HeaderError>
     }
 }
 
-fn read_authority(alloc: Global, value: &[u8]) -> Result<Authority, HeaderError>
-    ensures ok { IfOk result (λ m. IsAuthority value.now × (m ≡ value.now)) }
-    ensures err { IfErr result (RefusesValue (IsAuthority value.now) ⊤) }
+fn read_authority(alloc: Global, value: CowSlice<'static, u8>) -> Result<Authority, HeaderError>
+    ensures ok { IfOk result (λ m. IsAuthority (cow_slice_items value.entry)
+        × (m ≡ cow_slice_items value.entry)) }
+    ensures err { IfErr result (RefusesValue (IsAuthority (cow_slice_items value.entry)) ⊤) }
 {
-    match Authority::from_bytes(alloc, value) {
+    let bytes = share(value)?;
+    let kept = share_again(&bytes)?;
+    match Authority::from_shared(bytes) {
         Ok(authority) => Ok(authority),
-        Err(UriError::Invalid(_)) => Err(HeaderError::invalid_value(alloc, b":authority", value)),
-        Err(UriError::OutOfMemory) => Err(HeaderError::OutOfMemory),
+        Err(_) => Err(HeaderError::invalid_value(alloc, b":authority", kept.as_slice())),
     }
 }
 
-fn read_path(alloc: Global, value: &[u8]) -> Result<PathAndQuery, HeaderError>
-    ensures ok { IfOk result (λ m. IsPathInput value.now × (m ≡ without_fragment value.now)) }
-    ensures err { IfErr result (RefusesValue (IsPathInput value.now) ⊤) }
+fn read_path(alloc: Global, value: CowSlice<'static, u8>) -> Result<PathAndQuery, HeaderError>
+    ensures ok { IfOk result (λ m. IsPathInput (cow_slice_items value.entry)
+        × (m ≡ without_fragment (cow_slice_items value.entry))) }
+    ensures err { IfErr result (RefusesValue (IsPathInput (cow_slice_items value.entry)) ⊤) }
 {
-    if value == b"/".as_slice() {
+    if value.as_slice() == b"/".as_slice() {
         return Ok(root());
     }
-    match PathAndQuery::from_bytes(alloc, value) {
+    let bytes = share(value)?;
+    let kept = share_again(&bytes)?;
+    match PathAndQuery::from_shared(bytes) {
         Ok(path) => Ok(path),
-        Err(UriError::Invalid(_)) => Err(HeaderError::invalid_value(alloc, b":path", value)),
-        Err(UriError::OutOfMemory) => Err(HeaderError::OutOfMemory),
+        Err(_) => Err(HeaderError::invalid_value(alloc, b":path", kept.as_slice())),
     }
 }
 
@@ -94,25 +124,47 @@ fn read_protocol(alloc: Global, value: &[u8]) -> Result<Protocol, HeaderError>
     }
 }
 
-fn read_name(alloc: Global, name: &[u8]) -> Result<HeaderName, HeaderError>
-    ensures ok { IfOk result (λ n. IsHeaderName name.now × (n ≡ name.now)) }
-    ensures err { IfErr result (RefusesName (IsHeaderName name.now)) }
+/// A header name, which is in lower case. A standard one takes no memory.
+fn read_name(alloc: Global, name: CowSlice<'static, u8>) -> Result<HeaderName, HeaderError>
+    ensures ok { IfOk result (λ n. IsHeaderName (cow_slice_items name.entry)
+        × (n ≡ cow_slice_items name.entry)) }
+    ensures err { IfErr result (RefusesName (IsHeaderName (cow_slice_items name.entry))) }
 {
-    match HeaderName::from_lowercase(alloc, name) {
-        Ok(name) => Ok(name),
-        Err(HeaderNameError::Invalid) => Err(HeaderError::invalid_name(alloc, name)),
+    if let Some(standard) = HeaderName::standard(name.as_slice()) {
+        if standard.as_bytes() == name.as_slice() {
+            return Ok(standard);
+        }
+        return Err(HeaderError::invalid_name(alloc, name.as_slice()));
+    }
+    let bytes = share(name)?;
+    let kept = share_again(&bytes)?;
+    match HeaderName::from_shared(alloc, bytes) {
+        Ok(name) => {
+            // `from_shared` takes letters of any case, and makes them lower case.
+            if name.as_bytes() == kept.as_slice() {
+                return Ok(name);
+            }
+            Err(HeaderError::invalid_name(alloc, kept.as_slice()))
+        }
+        Err(HeaderNameError::Invalid) => { Err(HeaderError::invalid_name(alloc, kept.as_slice())) }
         Err(HeaderNameError::OutOfMemory) => Err(HeaderError::OutOfMemory),
     }
 }
 
-fn read_value(alloc: Global, name: &[u8], value: &[u8]) -> Result<HeaderValue, HeaderError>
-    ensures ok { IfOk result (λ v. IsFieldValue value.now × (v ≡ plain_value value.now)) }
-    ensures err { IfErr result (RefusesValue (IsFieldValue value.now) ⊤) }
+fn read_value(
+    alloc: Global,
+    name: &HeaderName,
+    value: CowSlice<'static, u8>,
+) -> Result<HeaderValue, HeaderError>
+    ensures ok { IfOk result (λ v. IsFieldValue (cow_slice_items value.entry)
+        × (v ≡ plain_value (cow_slice_items value.entry))) }
+    ensures err { IfErr result (RefusesValue (IsFieldValue (cow_slice_items value.entry)) ⊤) }
 {
-    match HeaderValue::from_bytes(alloc, value) {
+    let bytes = share(value)?;
+    let kept = share_again(&bytes)?;
+    match HeaderValue::from_shared(bytes) {
         Ok(value) => Ok(value),
-        Err(HeaderValueError::Invalid) => Err(HeaderError::invalid_value(alloc, name, value)),
-        Err(HeaderValueError::OutOfMemory) => Err(HeaderError::OutOfMemory),
+        Err(_) => Err(HeaderError::invalid_value(alloc, name.as_bytes(), kept.as_slice())),
     }
 }
 
@@ -120,44 +172,47 @@ fn read_value(alloc: Global, name: &[u8], value: &[u8]) -> Result<HeaderValue, H
 fn append_field(
     alloc: Global,
     map: &mut HeaderMap,
-    name: &[u8],
-    value: &[u8],
+    name: CowSlice<'static, u8>,
+    value: CowSlice<'static, u8>,
 ) -> Result<(), HeaderError>
-    ensures ok { OnOk result (IsHeaderName name.now × IsFieldValue value.now
-        × ¬ (RefusesAppend map.old name.now)
-        × (map.new ≡ append map.old name.now (plain_value value.now))) }
-    ensures err { IfErr result (RefusesRegular map.old name.now value.now) }
+    ensures ok { OnOk result (IsHeaderName (cow_slice_items name.entry)
+        × IsFieldValue (cow_slice_items value.entry)
+        × ¬ (RefusesAppend map.old (cow_slice_items name.entry))
+        × (map.new ≡ append map.old (cow_slice_items name.entry)
+        (plain_value (cow_slice_items value.entry)))) }
+    ensures err { IfErr result (RefusesRegular map.old (cow_slice_items name.entry)
+        (cow_slice_items value.entry)) }
     ensures kept { OnErr result (map.new ≡ map.old) }
 {
-    let key = read_name(alloc, name)?;
-    let value = read_value(alloc, name, value)?;
-    match map.append(key, value) {
+    let name = read_name(alloc, name)?;
+    let value = read_value(alloc, &name, value)?;
+    match map.append(name, value) {
         Ok(_) => Ok(()),
         Err(HeaderMapError::MaxSizeReached) => Err(HeaderError::TooManyFields),
         Err(HeaderMapError::OutOfMemory) => Err(HeaderError::OutOfMemory),
     }
 }
 
-/// Reads one field into the parts of a header.
+/// Reads one field into the parts of a header, and keeps the bytes that the field owns.
 pub(crate) fn read_field(
     alloc: Global,
     pseudo: &mut Pseudo,
     map: &mut HeaderMap,
-    field: &HeaderField,
+    field: HeaderField,
 ) -> Result<(), HeaderError>
-    ensures ok { OnOk result (Accepts (head_of_parts pseudo.old map.old) field.now
-        × (head_of_parts pseudo.new map.new ≡ with_field (head_of_parts pseudo.old map.old) field.now)) }
-    ensures err { IfErr result (Refuses (head_of_parts pseudo.old map.old) field.now) }
+    ensures ok { OnOk result (Accepts (head_of_parts pseudo.old map.old) field
+        × (head_of_parts pseudo.new map.new ≡ with_field (head_of_parts pseudo.old map.old) field)) }
+    ensures err { IfErr result (Refuses (head_of_parts pseudo.old map.old) field) }
 {
-    let name = field.name();
-    let value = field.value();
-    match FieldKind::of(name) {
+    let kind = FieldKind::of(field.name());
+    let (name, value) = field.into_inner();
+    match kind {
         FieldKind::Method => {
-            pseudo.method = Some(read_method(alloc, value)?);
+            pseudo.method = Some(read_method(alloc, value.as_slice())?);
             Ok(())
         }
         FieldKind::Scheme => {
-            pseudo.scheme = Some(read_scheme(alloc, value)?);
+            pseudo.scheme = Some(read_scheme(alloc, value.as_slice())?);
             Ok(())
         }
         FieldKind::Authority => {
@@ -169,11 +224,11 @@ pub(crate) fn read_field(
             Ok(())
         }
         FieldKind::Status => {
-            pseudo.status = Some(read_status(alloc, value)?);
+            pseudo.status = Some(read_status(alloc, value.as_slice())?);
             Ok(())
         }
         FieldKind::Protocol => {
-            pseudo.protocol = Some(read_protocol(alloc, value)?);
+            pseudo.protocol = Some(read_protocol(alloc, value.as_slice())?);
             Ok(())
         }
         FieldKind::Regular => {
