@@ -9,10 +9,10 @@ use Rattle.http_header.specs.HeaderMap.{Entries}
 use Rattle.h3_header.specs.Parts.{head_of_parts}
 use Rattle.h3_header.specs.declared.headers.pseudo.Pseudo.{Pseudo}
 use Rattle.h3_header.specs.Head.{Head, trailer_head, optional_field, head_fields}
-use Rattle.h3_header.specs.Reads.{kind_of, status_number}
-use Rattle.h3_header.specs.ReadsBack.{IsValidPseudo, IsValidMap, ReadsBack}
+use Rattle.h3_header.specs.Reads.{kind_of, status_number, head_of_fields}
+use Rattle.h3_header.specs.ReadsBack.{IsValidPseudo, IsValidMap, ReadsBack, as_read}
 use Rattle.h3_header.proofs.PathLemmas.{IsPathAndQuery-or_slash, IsPathInput-or_slash, without_fragment_of, or_slash-or_slash}
-use Rattle.h3_header.proofs.MapLemmas.{Reading, Reading-none, Reading-one, Reading-append, unmarked, regular_fields-unmarked, Reading-map}
+use Rattle.h3_header.proofs.MapLemmas.{Reading, Reading-none, Reading-one, Reading-append, regular_fields-unmarked, Reading-map}
 
 -- a head by its parts, with no regular field yet
 abbrev parts : Option (List ℕ) → Option (List ℕ) → Option (List ℕ) → Option (List ℕ) → Option ℕ → Option (List ℕ) → Head
@@ -65,13 +65,8 @@ same_path : (p : Option (List ℕ)) → option_map or_slash (option_map or_slash
 same_path None = refl
 same_path (Some t) = ap Some (or_slash-or_slash t)
 
--- the head as it is read back: an empty path is `/`, and no value is sensitive
-back : Head → Head
-back h = record h { path = option_map or_slash h.path; regular = unmarked h.regular }
-
 Reading-back : (q : Pseudo) (m : Entries FieldValue) → IsValidPseudo q → IsValidMap m
-    → Reading (trailer_head []) (head_fields (head_of_parts q m)) (back (head_of_parts q m))
-unfolding back
+    → Reading (trailer_head []) (head_fields (head_of_parts q m)) (as_read (head_of_parts q m))
 Reading-back q m valid map =
     Reading-append _ _ _ _ _
     (Reading-append _ _ _ _ _
@@ -85,8 +80,7 @@ Reading-back q m valid map =
     (read_protocol q.method q.scheme q.authority (option_map or_slash q.path) q.status q.protocol valid.protocol))
     (Reading-map (parts q.method q.scheme q.authority (option_map or_slash q.path) q.status q.protocol) m map.map map.fields)
 
-same_fields : (h : Head) → head_fields (back h) ≡ head_fields h
-unfolding back
+same_fields : (h : Head) → head_fields (as_read h) ≡ head_fields h
 same_fields h =
     ap₂ (λ p q. optional_field (codes ":method") h.method ++ optional_field (codes ":scheme") h.scheme
     ++ optional_field (codes ":authority") h.authority ++ optional_field (codes ":path") p
@@ -96,3 +90,8 @@ same_fields h =
 -- the field list of valid parts reads back to a head with that list
 pub reads_back : (q : Pseudo) (m : Entries FieldValue) → IsValidPseudo q → IsValidMap m → ReadsBack (head_fields (head_of_parts q m))
 reads_back q m valid map = let r = Reading-back q m valid map in (r.accepts, ap head_fields r.makes ∙ same_fields (head_of_parts q m))
+
+-- and this is the head that the list makes
+pub reads_as : (q : Pseudo) (m : Entries FieldValue) → IsValidPseudo q → IsValidMap m
+    → head_of_fields (head_fields (head_of_parts q m)) ≡ as_read (head_of_parts q m)
+reads_as q m valid map = (Reading-back q m valid map).makes

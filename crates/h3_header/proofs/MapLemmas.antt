@@ -15,7 +15,7 @@ use Rattle.h3_field.specs.Field.{Field}
 use Rattle.h3_header.specs.Head.{Head, to_field, regular_fields}
 use Rattle.h3_header.specs.Left.{owned_fields}
 use Rattle.h3_header.specs.Reads.{kind_of, AcceptsAt, Accepts, AcceptsAll, with_kind, with_field}
-use Rattle.h3_header.specs.ReadsBack.{IsPair}
+use Rattle.h3_header.specs.ReadsBack.{IsPair, unmarked}
 use Rattle.h3_header.specs.declared.headers.kind.FieldKind.TheVariants.{Regular}
 
 -- the fields can be read into a, and make b
@@ -120,10 +120,6 @@ kind_of-regular name h =
 -- a value as it is read back
 abbrev unmark : FieldValue → FieldValue
 unmark v = plain_value v.bytes
-
--- the map as it is read back: no value is sensitive
-abbrev pub unmarked : Entries FieldValue → Entries FieldValue
-unmarked m = map (λ e. (e.0, map unmark e.1)) m
 
 -- the values of one name, as fields
 abbrev value_fields : List ℕ → List FieldValue → List Field

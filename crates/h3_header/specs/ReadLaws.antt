@@ -1,10 +1,11 @@
 -- What follows from the way in which a field list is read.
-use Rattle.std.specs.Prelude.{◌≡◌, ℕ, ⊤, List, [], ◌∷◌, refl}
+use Rattle.std.specs.Prelude.{◌≡◌, ℕ, ⊤, List, [], ◌∷◌, refl, Option, Some, None, option_map, is_some, ◌||◌}
 use Rattle.std.proofs.Common.{subst, inl, inr, sym, ap, ◌∙◌}
+use Rattle.http_uri.specs.Grammar.{or_slash}
 use Rattle.h3_field.specs.Field.{Field}
-use Rattle.h3_header.specs.Head.{Head, trailer_head, head_fields}
+use Rattle.h3_header.specs.Head.{Head, trailer_head, head_fields, is_request, is_response, has_pseudo}
 use Rattle.h3_header.specs.Reads.{kind_of, HasRoomAt, AcceptsAt, RefusesAt, Accepts, Refuses, AcceptsAll, RefusesOne, with_field, head_of_fields, IsHeadOf}
-use Rattle.h3_header.specs.ReadsBack.{ReadsBack}
+use Rattle.h3_header.specs.ReadsBack.{ReadsBack, as_read}
 use Rattle.h3_header.specs.declared.headers.error.HeaderError.{HeaderError}
 use Rattle.h3_header.specs.declared.headers.error.HeaderError.TheVariants.{InvalidHeaderName, InvalidHeaderValue, InvalidRequest, MissingMethod, MissingStatus, MissingAuthority, ContradictedAuthority, TooManyFields, OutOfMemory}
 use Rattle.h3_header.specs.declared.headers.kind.FieldKind.{FieldKind}
@@ -30,6 +31,10 @@ only_memory h (f ∷ fields) e ok (inr later) = only_memory (with_field h f) fie
 -- a head that was read from a list that reads back has that list
 pub list_of_read : (fields : List Field) (h : Head) → ReadsBack fields → IsHeadOf fields h → head_fields h ≡ fields
 list_of_read fields h back is = ap head_fields is.1 ∙ back.1
+
+is_some-mapped : {A B : Type 0} (f : A → B) (x : Option A) → is_some (option_map f x) ≡ is_some x
+is_some-mapped f None = refl
+is_some-mapped f (Some x) = refl
 
 -- both refuse for the same reason, or one of them for want of memory
 abbrev pub SameRefusal : HeaderError → HeaderError → Type 0
@@ -94,3 +99,13 @@ one_refusal h (f ∷ fields) e e' (inl a) (inl b) = one_refusal_at (kind_of f.na
 one_refusal h (f ∷ fields) e e' (inl a) (inr b) = subst (λ x. SameRefusal x e') (sym (only_memory_at (kind_of f.name) h f e b.0 a)) tt
 one_refusal h (f ∷ fields) e e' (inr a) (inl b) = subst (SameRefusal e) (sym (only_memory_at (kind_of f.name) h f e' a.0 b)) (memory_second e)
 one_refusal h (f ∷ fields) e e' (inr a) (inr b) = one_refusal (with_field h f) fields e e' a.1 b.1
+
+-- what a head is asked for is the same after its list was read
+pub same_request : (h : Head) → is_request (as_read h) ≡ is_request h
+same_request h = refl
+
+pub same_response : (h : Head) → is_response (as_read h) ≡ is_response h
+same_response h = refl
+
+pub same_has_pseudo : (h : Head) → has_pseudo (as_read h) ≡ has_pseudo h
+same_has_pseudo h = ap (λ b. is_some h.method || is_some h.scheme || is_some h.authority || b || is_some h.status || is_some h.protocol) (is_some-mapped or_slash h.path)

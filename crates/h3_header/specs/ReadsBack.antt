@@ -1,11 +1,11 @@
 -- The field list of a head is read as a head with that very list.
-use Rattle.std.specs.Prelude.{◌≡◌, ℕ, List, [], IfSome, All}
+use Rattle.std.specs.Prelude.{◌≡◌, ℕ, List, [], map, option_map, IfSome, All}
 use Rattle.http_header.specs.Token.{IsToken}
 use Rattle.http_header.specs.FieldName.{IsHeaderName}
-use Rattle.http_header.specs.FieldValue.{FieldValue, IsFieldValue}
+use Rattle.http_header.specs.FieldValue.{FieldValue, plain_value, IsFieldValue}
 use Rattle.http_header.specs.HeaderMap.{Entries, pairs, IsHeaderMap}
 use Rattle.http.specs.StatusCode.{IsStatusCode}
-use Rattle.http_uri.specs.Grammar.{IsScheme, IsAuthority, IsPathAndQuery}
+use Rattle.http_uri.specs.Grammar.{IsScheme, IsAuthority, IsPathAndQuery, or_slash}
 use Rattle.h3_header.specs.ProtocolText.{IsProtocolText}
 use Rattle.h3_field.specs.Field.{Field}
 use Rattle.h3_header.specs.declared.headers.pseudo.Pseudo.{Pseudo}
@@ -33,3 +33,11 @@ pub record IsValidMap (m : Entries FieldValue) : Type 0 where
 -- the list is that of a head, and this head has this list
 abbrev pub ReadsBack : List Field → Type 0
 ReadsBack fields = AcceptsAll (trailer_head []) fields × (head_fields (head_of_fields fields) ≡ fields)
+
+-- a map whose values are not marked sensitive
+abbrev pub unmarked : Entries FieldValue → Entries FieldValue
+unmarked m = map (λ e. (e.0, map (λ v. plain_value v.bytes) e.1)) m
+
+-- the head as its field list is read: an empty path is `/`, and no value is marked sensitive
+abbrev pub as_read : Head → Head
+as_read h = record h { path = option_map or_slash h.path; regular = unmarked h.regular }

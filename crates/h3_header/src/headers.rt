@@ -4,8 +4,8 @@ ghost use Rattle.std.specs.Prelude.{◌≡◌, ◌-◌, ◌^◌, [], length, min
 ghost use Rattle.http_uri.specs.Uri.{uri_authority};
 ghost use Rattle.h3_header.specs.Head.{trailer_head, response_head, head_fields, is_request, is_response, has_pseudo};
 ghost use Rattle.h3_header.specs.Request.{host_of, authority_refusal, request_head, RefusesRequest, IsRequestOf};
-ghost use Rattle.h3_header.specs.Reads.{RefusesOne, IsHeadOf};
-ghost use Rattle.h3_header.specs.ReadsBack.{ReadsBack};
+ghost use Rattle.h3_header.specs.Reads.{RefusesOne, IsHeadOf, head_of_fields};
+ghost use Rattle.h3_header.specs.ReadsBack.{ReadsBack, as_read};
 
 use crate::ext::Protocol;
 use authority::{authority_text, find_refusal, https, or_host, root};
@@ -226,6 +226,7 @@ impl Header {
     pub fn fields(&self, alloc: Global) -> Result<Vec<HeaderField>, AllocError>
         ensures value { IfOk result (λ v. v.items ≡ head_fields self.now) }
         ensures reads_back { IfOk result (λ v. ReadsBack v.items) }
+        ensures read_as { IfOk result (λ v. head_of_fields v.items ≡ as_read self.now) }
     {
         let mut list = Vec::new(alloc);
         self.pseudo.append_to(alloc, &mut list)?;
@@ -235,7 +236,8 @@ impl Header {
 
     // Reads each part, since the types of the parts tell by their calls what they hold.
     pub(crate) fn visit_parts(&self)
-        ensures { ReadsBack (head_fields self.now) }
+        ensures reads_back { ReadsBack (head_fields self.now) }
+        ensures read_as { head_of_fields (head_fields self.now) ≡ as_read self.now }
     {
         self.pseudo.visit();
         write::visit_regular(&self.fields);

@@ -1,14 +1,18 @@
 //! Laws on headers and their field lists, each the contract of a function.
 ghost use Rattle.std.specs.Prelude.{◌≡◌, IfOk, IfErr};
 ghost use Rattle.h3_header.specs.Head.{head_fields};
-ghost use Rattle.h3_header.specs.ReadsBack.{ReadsBack};
+ghost use Rattle.h3_header.specs.Reads.{head_of_fields};
+ghost use Rattle.h3_header.specs.ReadsBack.{ReadsBack, as_read};
 
 use crate::headers::{Header, HeaderError};
 use std::alloc::Global;
 
-/// The field list of every header is that of a header with this very list, with no premise.
+/// The field list of every header, however it was made, is accepted, and it makes a header with
+/// this very list: the same one but for an empty path, which is `/`, and for the marks of sensitive
+/// values.
 pub fn every_header_reads_back(header: &Header)
-    ensures { ReadsBack (head_fields header.now) }
+    ensures reads_back { ReadsBack (head_fields header.now) }
+    ensures read_as { head_of_fields (head_fields header.now) ≡ as_read header.now }
 {
     header.visit_parts();
 }

@@ -411,3 +411,80 @@ fn printed_for_programmers(rt: HostRuntime) -> Result<(), Fail> {
     );
     Ok(())
 }
+
+// Whether name and value are static parts.
+fn borrows(field: HeaderField) -> (bool, bool) {
+    let (name, value) = field.into_inner();
+    let name = match name {
+        CowSlice::Borrowed(_) => true,
+        CowSlice::Owned(_) => false,
+    };
+    let value = match value {
+        CowSlice::Borrowed(_) => true,
+        CowSlice::Owned(_) => false,
+    };
+    (name, value)
+}
+
+#[test]
+fn static_parts_are_not_copied(rt: HostRuntime) -> Result<(), Fail> {
+    let alloc = rt.alloc();
+    let header = read(
+        alloc,
+        &[
+            (b":method", b"GET"),
+            (b":scheme", b"https"),
+            (b":authority", b"a"),
+            (b":path", b"/"),
+            (b":status", b"200"),
+            (b":protocol", b"connect-udp"),
+            (b"accept-ranges", b"bytes"),
+            (b"x-a", b"1"),
+        ],
+    )?;
+    let mut fields = header.fields(alloc)?.into_iter();
+    let expected = [
+        (true, true),
+        (true, true),
+        (true, false),
+        (true, true),
+        (true, true),
+        (true, true),
+        (true, false),
+        (false, false),
+    ];
+    for parts in expected {
+        match fields.next() {
+            Some(field) => assert_eq!(rt; borrows(field), parts),
+            None => assert_eq!(rt; true, false),
+        }
+    }
+    Ok(())
+}
+
+// What a chain of calls gives is the whole text, or the error that memory is wanting, whichever
+// growth is refused.
+fn round(alloc: Global) -> Result<String, HeaderError> {
+    let Ok(uri) = Uri::from_str(alloc, "https://www.example.com/a") else {
+        return Err(HeaderError::OutOfMemory);
+    };
+    let header = Header::request(Method::GET, uri, HeaderMap::new(alloc), None)?;
+    let Ok(fields) = header.fields(alloc) else {
+        return Err(HeaderError::OutOfMemory);
+    };
+    let (_, uri, _, _) = Header::try_from(alloc, fields)?.into_request_parts(alloc)?;
+    match uri.to_string(alloc) {
+        Ok(text) => Ok(text),
+        Err(_) => Err(HeaderError::OutOfMemory),
+    }
+}
+
+#[test]
+fn whole_or_out_of_memory(rt: HostRuntime) -> Result<(), Fail> {
+    match round(rt.alloc()) {
+        Ok(text) => assert_eq!(rt; text.as_str(), "https://www.example.com/a"),
+        Err(HeaderError::OutOfMemory) => {}
+        Err(_) => assert_eq!(rt; true, false),
+    }
+    Ok(())
+}

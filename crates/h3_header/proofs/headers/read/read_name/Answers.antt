@@ -12,7 +12,7 @@ returns-in-Ok-clause-err c =
     (λ valid.
     let shared = c.in_ok-bytes.ensures.ok in
     let same : made ≡ kept =
-        c.as_bytes-in-Ok.ensures.value ∙ c.in-Ok.ensures.ok ∙ ap lowercase shared ∙ valid.1 ∙ sym shared ∙ sym c.in_ok-kept.ensures.ok ∙ sym c.as_slice-in-Ok.ensures in
+    c.as_bytes-in-Ok.ensures.value ∙ c.in-Ok.ensures.ok ∙ ap lowercase shared ∙ valid.1 ∙ sym shared ∙ sym c.in_ok-kept.ensures.ok ∙ sym c.as_slice-in-Ok.ensures in
     let test : c.eq-in-Ok.result ≡ bytes_eq made kept = search rules in
     let both : false ≡ true = sym c.if-eq-2.false ∙ test ∙ (bytes_eq-Decides made kept).1 same in
     cc)
