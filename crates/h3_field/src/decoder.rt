@@ -83,6 +83,9 @@ fn take_field(alloc: Global, buf: &mut SliceCursor<'_>) -> Result<HeaderField, D
     }
 }
 
+/// How many fields get room at first: most sections have no more, and the list of their fields need not grow.
+const FIRST_ROOM: usize = 16;
+
 /// Decodes a field section that names no dynamic entry, to the end of `buf`. It stops at the first field that makes the
 /// sum of the sizes pass `max_size`. A refused read takes nothing.
 pub fn decode_stateless(
@@ -99,6 +102,9 @@ pub fn decode_stateless(
         return Err(DecoderError::from(e));
     }
     let mut fields = Vec::new(alloc);
+    if fields.reserve(ahead.remaining().min(FIRST_ROOM)).is_err() {
+        return Err(DecoderError::OutOfMemory);
+    }
     let mut mem_size: u64 = 0;
     'lines: while ahead.remaining() > 0 {
         let field = match take_field(alloc, &mut ahead) {
