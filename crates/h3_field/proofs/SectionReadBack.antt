@@ -154,3 +154,25 @@ pub all_within : (limit : ℕ) (fields : List Field) → section_size fields < 2
 all_within limit fields h le =
     let e : 0 + section_size fields ≡ section_size fields = omega arith in
     within_from limit 0 [] fields (omega (arith, h)) (omega (arith, le)) ∙ ap (λ n. Fields fields n) e
+
+-- bytes have one answer
+lines_one : (limit size : ℕ) (before : List Field) (bytes : List ℕ) (a b : Answer) → Answers limit size before bytes a → Answers limit size before bytes b → a ≡ b
+lines_one limit size before bytes a b (End s f) r = sym (done limit size before [] b refl r)
+lines_one limit size before bytes a b (Next s f c rest l g x has says le next) r =
+    lines_one limit (add_size size g) (before ++ g ∷ []) rest a b next ((first_of limit size before bytes rest l g b has says r).within le)
+lines_one limit size before bytes a b (Passes s f c rest l g has says lt) r = sym ((first_of limit size before bytes rest l g b has says r).past lt)
+lines_one limit size before bytes a b (BadLine s f first c none) r = sym (refused_one limit size before (first ∷ c) b (λ rest l g. none rest l g) refl r)
+  where
+    refused_one : (limit size : ℕ) (before : List Field) (bytes : List ℕ) (b : Answer) → ((rest : List ℕ) (l : FieldLine) (f : Field) → HasLine bytes l rest → line_field l ≡ Some f → ⊥) → bytes ≡ first ∷ c → Answers limit size before bytes b → b ≡ Refused
+    refused_one limit size before bytes b nothing e (End s f) = absurd (cc)
+    refused_one limit size before bytes b nothing e (Next s f d rest l g x has says le next) = absurd (nothing rest l g has says)
+    refused_one limit size before bytes b nothing e (Passes s f d rest l g has says lt) = absurd (nothing rest l g has says)
+    refused_one limit size before bytes b nothing e (BadLine s f other d none) = refl
+
+pub one_answer : (limit : ℕ) (bytes : List ℕ) (a b : Answer) → AnswersSection limit bytes a → AnswersSection limit bytes b → a ≡ b
+one_answer limit bytes a b (Lines p rest x whole lines) (Lines q more y also others) =
+    let same = whole_same p q rest more (sym whole ∙ also) in
+    lines_one limit 0 [] rest a b lines (rw (← same.1) at others)
+one_answer limit bytes a b (Lines p rest x whole lines) (NoPrefix none) = absurd (none p rest whole)
+one_answer limit bytes a b (NoPrefix none) (Lines q more y also others) = absurd (none q more also)
+one_answer limit bytes a b (NoPrefix none) (NoPrefix nothing) = refl

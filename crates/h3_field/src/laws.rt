@@ -51,6 +51,11 @@ pub fn one_instruction()
     ensures { (bytes rest more : List ℕ) (i j : EncoderInstruction) → HasInstruction bytes i rest → HasInstruction bytes j more → (i ≡ j) × (rest ≡ more) }
 {}
 
+/// A section has one answer under a limit.
+pub fn one_answer()
+    ensures { (limit : ℕ) (bytes : List ℕ) (a b : Answer) → AnswersSection limit bytes a → AnswersSection limit bytes b → a ≡ b }
+{}
+
 /// What a reader answers to a written section: the fields and the sum of their sizes where that is within the limit, else
 /// the sum at the first field that passes it.
 pub fn section_reads_back()
