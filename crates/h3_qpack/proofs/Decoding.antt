@@ -117,7 +117,7 @@ fields_both : (s : Sender) (d : Draft) (fields : List Field) → Both s d → Bo
 fields_both s d [] h = h
 fields_both s d (f ∷ fields) h = fields_both s (add_field s d f) fields (field_both s d f h)
 
-block_counted : (s : Sender) (fields : List Field) → IsCounted s (draft_of s fields)
+pub block_counted : (s : Sender) (fields : List Field) → IsCounted s (draft_of s fields)
 block_counted s fields = (fields_both s (record { inserted = s.inserted; instructions = []; lines = []; references = [] }) fields (record { longer = omega arith; counted = record { lines = tt; positive = tt; made = tt } })).counted
 
 slice_get-take : {X : Type 0} (xs : List X) (n i : ℕ) (x : X) → i < n → slice_get xs i ≡ Some x → slice_get (take n xs) i ≡ Some x

@@ -1,5 +1,5 @@
 -- An encoded field section means its fields to the decoder that tries it.
-use Rattle.std.proofs.Common.{◌≡◌, ◌⊎◌, ⊎_elim, inl, inr, ℕ, zero, suc, ◌+◌, ◌-◌, ◌*◌, ◌%◌, ◌^◌, ◌<◌, ◌≤◌, Bool, true, false, List, [], ◌∷◌, ◌++◌, length, take, drop, refl, sym, ◌∙◌, ap, subst, arith, length-append, Option, Some, None, nat_le, nat_lt, if◌then◌else◌, fold, slice_get}
+use Rattle.std.proofs.Common.{◌≡◌, ◌⊎◌, ⊎_elim, inl, inr, ℕ, zero, suc, ◌+◌, ◌-◌, ◌*◌, ◌%◌, ◌^◌, ◌<◌, ◌≤◌, Bool, true, false, List, [], ◌∷◌, ◌++◌, length, take, drop, refl, sym, ◌∙◌, ap, subst, arith, length-append, length-drop, Option, Some, None, nat_le, nat_lt, if◌then◌else◌, fold, slice_get}
 use Rattle.std.specs.List.{AllByRecursion, flat_map}
 use Rattle.std.proofs.lemmas.Grind.{common_steps}
 use Rattle.h3_field.specs.Field.{Field}
@@ -20,7 +20,21 @@ use Rattle.h3_qpack.specs.Written.{Draft, found, found_name, is_insertable, add_
 use Rattle.h3_qpack.specs.Encodings.{IsWrittenLine}
 use Rattle.h3_qpack.proofs.Newest.{chosen, newest_from-passes}
 use Rattle.h3_qpack.proofs.Drafts.{either_way, both, All-join}
-use Rattle.h3_qpack.proofs.Decoding.{found_back, name_back}
+use Rattle.std.proofs.lemmas.List.{length-take-le}
+use Rattle.std.specs.Prelude.{◌==◌}
+use Rattle.h3_field.specs.Reading.{Whole}
+use Rattle.h3_field.specs.IntegerReading.{integer_limit}
+use Rattle.h3_field.specs.Prefix.{most_entries, prefix_bytes}
+use Rattle.h3_field.specs.PrefixReading.{EncodedPrefix, prefix, IsPrefix}
+use Rattle.h3_field.specs.PrefixWriting.{written_prefix}
+use Rattle.h3_field.specs.Section.{with_value}
+use Rattle.h3_field.proofs.PrefixReadBack.{prefix_is_written, prefix_reads_back, prefix_is_read}
+use Rattle.h3_qpack.specs.Meaning.{MeansFields}
+use Rattle.h3_qpack.specs.Written.{encoded_section}
+use Rattle.h3_qpack.specs.Encodings.{decoder_of, IsWritten}
+use Rattle.h3_qpack.specs.Session.{Session, UnderWay, oldest, is_canceled, count_of, IsSound, DecodesTo}
+use Rattle.h3_qpack.proofs.Blocks.{with_value-more}
+use Rattle.h3_qpack.proofs.Decoding.{found_back, name_back, block_counted, block_decodes, count_in_window}
 
 -- written lines are read one behind the other
 pub lines_read : (lines : List FieldLine) → AllByRecursion IsWrittenLine lines → AreLines (flat_map line_bytes lines) lines
@@ -97,3 +111,138 @@ still_held fs gone (suc n) f lt le h = let same : suc n - gone - 1 ≡ n - gone 
     at [] (suc g) n le h = absurd (cc)
     at (x ∷ xs) (suc g) zero le h = absurd (omega (arith, le))
     at (x ∷ xs) (suc g) (suc n) le h = let same : suc n - suc g ≡ n - g = omega arith in rw same (at xs g n (omega (arith, le)) h)
+
+-- the field of a line, where what it names is held
+held_field : (capacity : ℕ) (fs : List Field) (number : ℕ) (f : Field) → (number ≡ 0) ⊎ (dropped capacity fs < number) → insertion_at fs number ≡ Some f
+    → entry_at (held (table_of capacity fs)) number ≡ Some f
+held_field capacity fs number f (inl none) h = absurd (nothing number none h)
+  where
+    nothing : (n : ℕ) → n ≡ 0 → insertion_at fs n ≡ Some f → ⊥
+    nothing zero e h = cc
+    nothing (suc n) e h = omega (arith, e)
+held_field capacity fs number f (inr there) h =
+    let gone : length fs - length (drop (dropped capacity fs) fs) ≡ dropped capacity fs = omega (arith, length-drop (dropped capacity fs) fs) in
+    let yes : nat_lt (dropped capacity fs) number ≡ true = grind (arith, common_steps) in
+    rw (gone, yes) (still_held fs (dropped capacity fs) number f there (omega arith) h)
+
+line_held : (capacity : ℕ) (fs : List Field) (base : ℕ) (line : FieldLine) (f : Field) → Names (λ n. dropped capacity fs < n) base line → named_field fs base line ≡ Some f
+    → field_at (held (table_of capacity fs)) base line ≡ Some f
+line_held capacity fs base (StaticField index) f names h = h
+line_held capacity fs base (RelativeField index) f names h = held_field capacity fs (base - index) f names h
+line_held capacity fs base (PostBaseField index) f names h = held_field capacity fs (base + index + 1) f names h
+line_held capacity fs base (StaticName index value) f names h = h
+line_held capacity fs base (RelativeName index value) f names h = with_value-more value _ _ f (λ g e. held_field capacity fs (base - index) g names e) h
+line_held capacity fs base (PostBaseName index value) f names h = with_value-more value _ _ f (λ g e. held_field capacity fs (base + index + 1) g names e) h
+line_held capacity fs base (Literal name value) f names h = h
+
+lines_held : (capacity : ℕ) (fs : List Field) (base : ℕ) (lines : List FieldLine) (fields : List Field) → AllByRecursion (Names (λ n. dropped capacity fs < n) base) lines
+    → StandFor fs base lines fields → HaveFields (held (table_of capacity fs)) base lines fields
+lines_held capacity fs base [] [] names h = tt
+lines_held capacity fs base (l ∷ ls) (f ∷ fields) names h = (line_held capacity fs base l f names.0 h.0, lines_held capacity fs base ls fields names.1 h.1)
+lines_held capacity fs base [] (f ∷ fields) names h = h
+lines_held capacity fs base (l ∷ ls) [] names h = h
+
+-- lines that name no entry are of the same fields for every base and table
+nothing_at : (fs : List Field) (n : ℕ) (f : Field) → n ≡ 0 → insertion_at fs n ≡ Some f → ⊥
+nothing_at fs zero f e h = cc
+nothing_at fs (suc n) f e h = omega (arith, e)
+
+none_with : (value : List ℕ) (o : Option Field) (f : Field) → ((g : Field) → o ≡ Some g → ⊥) → with_value value o ≡ Some f → ⊥
+none_with value None f none h = cc
+none_with value (Some g) f none h = none g refl
+
+line_plain : (h : Held) (fs : List Field) (base : ℕ) (line : FieldLine) (f : Field) → entry_number base line ≤ 0 → named_field fs base line ≡ Some f → field_at h 0 line ≡ Some f
+line_plain h fs base (StaticField index) f none e = e
+line_plain h fs base (RelativeField index) f none e = absurd (nothing_at fs (base - index) f (omega (arith, none)) e)
+line_plain h fs base (PostBaseField index) f none e = absurd (omega (arith, none))
+line_plain h fs base (StaticName index value) f none e = e
+line_plain h fs base (RelativeName index value) f none e = absurd (none_with value (insertion_at fs (base - index)) f (λ g k. nothing_at fs (base - index) g (omega (arith, none)) k) e)
+line_plain h fs base (PostBaseName index value) f none e = absurd (omega (arith, none))
+line_plain h fs base (Literal name value) f none e = e
+
+lines_plain : (h : Held) (fs : List Field) (base : ℕ) (lines : List FieldLine) (fields : List Field) → AllByRecursion (λ line. entry_number base line ≤ 0) lines
+    → StandFor fs base lines fields → HaveFields h 0 lines fields
+lines_plain h fs base [] [] none e = tt
+lines_plain h fs base (l ∷ ls) (f ∷ fields) none e = (line_plain h fs base l f none.0 e.0, lines_plain h fs base ls fields none.1 e.1)
+lines_plain h fs base [] (f ∷ fields) none e = e
+lines_plain h fs base (l ∷ ls) [] none e = e
+
+-- the prefix that is written is read
+prefix_read : (capacity count base : ℕ) (rest : List ℕ) → count < 2 ^ 62 → base < 2 ^ 62 → prefix (prefix_bytes capacity count base ++ rest) ≡ Whole (written_prefix capacity count base) rest
+prefix_read capacity count base rest few low =
+    ap (λ bytes. prefix (bytes ++ rest)) (prefix_is_written capacity count base) ∙ prefix_reads_back (written_prefix capacity count base) rest (encoded_fits (count == 0)) (delta_fits (count == 0))
+  where
+    rest_of : (m : ℕ) → count % m ≤ count
+    rest_of m = grind (arith, common_steps)
+
+    encoded_fits : (b : Bool) → (if◌then◌else◌ {A = EncodedPrefix} b (record { encoded = 0; is_negative = false; delta = 0 }) (record { encoded = count % (2 * most_entries capacity) + 1; is_negative = nat_lt base count; delta = if nat_lt base count then count - base - 1 else base - count })).encoded < integer_limit 8
+    encoded_fits true = omega arith
+    encoded_fits false = omega (arith, few, rest_of (2 * most_entries capacity))
+
+    delta_fits : (b : Bool) → (if◌then◌else◌ {A = EncodedPrefix} b (record { encoded = 0; is_negative = false; delta = 0 }) (record { encoded = count % (2 * most_entries capacity) + 1; is_negative = nat_lt base count; delta = if nat_lt base count then count - base - 1 else base - count })).delta < integer_limit 7
+    delta_fits true = omega arith
+    delta_fits false = either (nat_lt base count)
+      where
+        either : (t : Bool) → (if t then count - base - 1 else base - count) < integer_limit 7
+        either true = omega (arith, few)
+        either false = omega (arith, low)
+
+-- A section whose insertions came means its fields.
+pub section_means : (s : Session) (b : UnderWay) → IsSound s → oldest b.stream s.blocks ≡ Some b → is_canceled s b.stream ≡ false → count_of b ≤ s.received → IsWritten s b
+    → MeansFields (decoder_of s) (encoded_section b.sender b.fields) (count_of b) b.fields
+section_means s b h is alive came w = by_count (nat_lt 0 (count_of b)) refl
+  where
+    d : DecodesTo s b
+    d = block_decodes s b h is alive came
+
+    lines : List FieldLine
+    lines = (draft_of b.sender b.fields).lines
+
+    received_is : length (take s.received s.sender.inserted) ≡ s.received
+    received_is = length-take-le s.received s.sender.inserted h.received
+
+    few : count_of b < 2 ^ 62
+    few = omega (arith, came, h.received, h.small)
+
+    by_count : (t : Bool) → nat_lt 0 (count_of b) ≡ t → MeansFields (decoder_of s) (encoded_section b.sender b.fields) (count_of b) b.fields
+    by_count true e =
+        let above : 0 < count_of b = grind (arith, common_steps) in
+        let window = count_in_window s b h is alive above in
+        let some : 0 < s.sender.capacity = omega (arith, window.not_too_old, window.not_too_new) in
+        let taken : IsPrefix s.sender.capacity s.received (written_prefix s.sender.capacity (count_of b) (length b.sender.inserted)) (count_of b) (length b.sender.inserted) =
+        prefix_is_read s.sender.capacity s.received (count_of b) (length b.sender.inserted) some (λ z. absurd (omega (arith, z, above))) window.not_too_old window.not_too_new in
+        record {
+          rest = flat_map line_bytes lines;
+          base = length b.sender.inserted;
+          lines = lines;
+          begins = record {
+            encoded = written_prefix b.sender.capacity (count_of b) (length b.sender.inserted);
+            whole = prefix_read b.sender.capacity (count_of b) (length b.sender.inserted) _ few w.base;
+            is = subst (λ n. IsPrefix s.sender.capacity n (written_prefix b.sender.capacity (count_of b) (length b.sender.inserted)) (count_of b) (length b.sender.inserted)) (sym received_is)
+                (subst (λ c. IsPrefix s.sender.capacity s.received (written_prefix c (count_of b) (length b.sender.inserted)) (count_of b) (length b.sender.inserted)) (sym (w.capacity above)) taken);
+          };
+          received = omega (arith, came, received_is);
+          split = lines_read lines w.lines;
+          named = lines_held s.sender.capacity (take s.received s.sender.inserted) (length b.sender.inserted) lines b.fields
+              (lines_name (λ n. dropped s.sender.capacity (take s.received s.sender.inserted) < n) b.sender b.fields d.held) d.lines;
+        }
+    by_count false e =
+        let none : count_of b ≡ 0 = grind (arith, common_steps) in
+        let counted : AllByRecursion (λ line. entry_number (length b.sender.inserted) line ≤ count_of b) lines = (block_counted b.sender b.fields).lines in
+        record {
+          rest = flat_map line_bytes lines;
+          base = 0;
+          lines = lines;
+          begins = record {
+            encoded = written_prefix b.sender.capacity (count_of b) (length b.sender.inserted);
+            whole = prefix_read b.sender.capacity (count_of b) (length b.sender.inserted) _ few w.base;
+            is = rw none (plain (nat_lt 0 s.sender.capacity) refl);
+          };
+          received = omega (arith, came, received_is);
+          split = lines_read lines w.lines;
+          named = lines_plain (held (table_of s.sender.capacity (take s.received s.sender.inserted))) (take s.received s.sender.inserted) (length b.sender.inserted) lines b.fields (rw none at counted) d.lines;
+        }
+      where
+        plain : (t : Bool) → nat_lt 0 s.sender.capacity ≡ t → IsPrefix s.sender.capacity (length (take s.received s.sender.inserted)) (written_prefix b.sender.capacity 0 (length b.sender.inserted)) 0 0
+        plain true e = inr (grind (arith, common_steps), inl (refl, refl), refl)
+        plain false e = inl (grind (arith, common_steps), refl, refl)

@@ -1,9 +1,25 @@
--- What a writer of field lines takes.
-use Rattle.std.specs.Prelude.{◌<◌, ◌^◌, length}
+-- What a writer of a section takes, and the decoder that reads it.
+use Rattle.std.specs.Prelude.{◌≡◌, ◌<◌, ◌^◌, ℕ, length, take, Option, Some}
+use Rattle.std.specs.List.{AllByRecursion}
 use Rattle.h3_field.specs.Line.{FieldLine, line_bytes}
 use Rattle.h3_field.specs.LineAnswer.{IsWritable}
 use Rattle.h3_field.specs.ReadBack.{IsLineOfBytes}
+use Rattle.h3_qpack.specs.Receiver.{Receiver}
+use Rattle.h3_qpack.specs.History.{held, table_of}
+use Rattle.h3_qpack.specs.Written.{draft_of}
+use Rattle.h3_qpack.specs.Session.{Session, UnderWay, count_of}
 
 -- The indexes and strings of the line are small enough, and its strings are bytes.
 abbrev pub IsWrittenLine : FieldLine → Type 0
 IsWrittenLine l = IsWritable l × IsLineOfBytes l × (length (line_bytes l) < 2 ^ 63)
+
+-- the decoder of a session, by the insertions that it has read
+abbrev pub decoder_of : Session → Receiver
+decoder_of s = record { announced = Some s.sender.capacity; table = held (table_of s.sender.capacity (take s.received s.sender.inserted)) }
+
+-- What a writer takes: the lines, and a base and a count below 2 ^ 62. A section that names entries was written with the
+-- capacity that the sender has now.
+pub record IsWritten (s : Session) (b : UnderWay) : Type 0 where
+  pub lines : AllByRecursion IsWrittenLine (draft_of b.sender b.fields).lines
+  pub base : length b.sender.inserted < 2 ^ 62
+  pub capacity : 0 < count_of b → b.sender.capacity ≡ s.sender.capacity

@@ -1,6 +1,13 @@
 //! Laws over the definitions.
 
 ghost use Rattle.std.specs.Prelude.{◌≡◌, ℕ, ◌+◌, ◌*◌, ◌%◌, ◌<◌, ◌≤◌, false, List, Some};
+ghost use Rattle.std.specs.Prelude.{take, length, [], ◌++◌};
+ghost use Rattle.h3_qpack.specs.Receiver.{Receiver};
+ghost use Rattle.h3_qpack.specs.Instructions.{HasRead};
+ghost use Rattle.h3_qpack.specs.History.{further_all, table_of};
+ghost use Rattle.h3_qpack.specs.Meaning.{MeansFields};
+ghost use Rattle.h3_qpack.specs.Written.{encoded_section};
+ghost use Rattle.h3_qpack.specs.Encodings.{decoder_of, IsWritten};
 ghost use Rattle.h3_field.specs.Prefix.{most_entries, IsRequiredCount};
 ghost use Rattle.h3_qpack.specs.Session.{Session, UnderWay, oldest, is_canceled, count_of, IsSound, DecodesTo};
 ghost use Rattle.h3_qpack.specs.Schedule.{SessionEvent, SessionRun, beginning};
@@ -18,4 +25,23 @@ pub fn every_block_decodes()
     ensures count { (capacity limit : ℕ) (events : List SessionEvent) (s : Session) (b : UnderWay) → SessionRun (beginning capacity limit) events s →
         oldest b.stream s.blocks ≡ Some b → is_canceled s b.stream ≡ false → 0 < count_of b →
         IsRequiredCount s.sender.capacity s.received (count_of b % (2 * most_entries s.sender.capacity) + 1) (count_of b) }
+{}
+
+/// Over every schedule, the encoding of a section that is tried once its insertions came means the section's fields to the
+/// decoder, whose table is that of the insertions read.
+pub fn every_encoding_means_its_fields()
+    ensures { (capacity limit : ℕ) (events : List SessionEvent) (s : Session) (b : UnderWay) → SessionRun (beginning capacity limit) events s →
+        oldest b.stream s.blocks ≡ Some b → is_canceled s b.stream ≡ false → count_of b ≤ s.received → IsWritten s b →
+        MeansFields (decoder_of s) (encoded_section b.sender b.fields) (count_of b) b.fields }
+{}
+
+/// After any number of the encoder's instructions a decoder's table is the encoder's after as many insertions.
+pub fn tables_agree()
+    ensures { (capacity limit : ℕ) (events : List SessionEvent) (s : Session) (k : ℕ) → SessionRun (beginning capacity limit) events s → k ≤ length s.instructions →
+        further_all s.sender.capacity (Some (table_of s.sender.capacity [])) (take k s.instructions) ≡ Some (table_of s.sender.capacity (take k s.sender.inserted)) }
+{}
+
+/// What was read of the first bytes is read of all, and then what is left.
+pub fn pieces_do_not_matter()
+    ensures { (old mid new : Receiver) (bytes more left rest : List ℕ) → HasRead old mid bytes left → HasRead mid new (left ++ more) rest → HasRead old new (bytes ++ more) rest }
 {}
