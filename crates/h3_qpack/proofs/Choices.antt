@@ -1,16 +1,15 @@
 -- Each choice of the sender's rule, made by what is kept.
-use Rattle.std.proofs.Common.{◌≡◌, ℕ, zero, suc, ◌+◌, ◌-◌, ◌^◌, ◌<◌, ◌≤◌, Bool, true, false, ◌&&◌, ◌||◌, List, [], ◌∷◌, ◌++◌, length, min, max, refl, sym, ◌∙◌, ap, subst, arith, length-append, Option, Some, None, nat_le, nat_lt, bytes_eq, if◌then◌else◌, map, fold}
+use Rattle.std.proofs.Common.{◌≡◌, ℕ, ◌+◌, ◌-◌, ◌^◌, ◌<◌, ◌≤◌, Bool, true, false, ◌&&◌, ◌||◌, List, [], ◌∷◌, ◌++◌, length, min, max, refl, sym, ◌∙◌, ap, arith, length-append, nat_le, nat_lt, bytes_eq, if◌then◌else◌, map, fold}
 use Rattle.std.specs.List.{AllByRecursion, list_all, flat_map}
 use Rattle.std.proofs.lemmas.Grind.{common_steps}
 use Rattle.h3_field.specs.Field.{Field, field_eq, field_size}
-use Rattle.h3_qpack.specs.Table.{table, dropped, newest}
-use Rattle.h3_qpack.specs.Held.{Held, gone, in_range, newest_in, with_entry}
+use Rattle.h3_qpack.specs.Table.{table, dropped}
+use Rattle.h3_qpack.specs.Held.{gone, newest_in, with_entry}
 use Rattle.h3_qpack.specs.Sender.{Sender, Tracked, blocks_out, referenced_entries}
 use Rattle.h3_qpack.specs.Written.{Draft, is_usable, found, found_name, remaining, dropped_by, is_insertable}
 use Rattle.h3_qpack.specs.Tracking.{is_free_to}
 use Rattle.h3_qpack.specs.Stored.{StoredSender, stored_section, least, MayInsertInto}
-use Rattle.h3_qpack.specs.declared.tracking.TrackedSection.{TrackedSection}
-use Rattle.h3_qpack.proofs.Tables.{length-table, dropped-append}
+use Rattle.h3_qpack.proofs.Tables.{dropped-append}
 use Rattle.h3_qpack.proofs.Kept.{held_of, with_entry-held, search_held}
 
 -- the greatest number that may be named, of those up to a number

@@ -1,25 +1,23 @@
 -- An encoded field section means its fields to the decoder that tries it.
-use Rattle.std.proofs.Common.{◌≡◌, ◌⊎◌, ⊎_elim, inl, inr, ℕ, zero, suc, ◌+◌, ◌-◌, ◌*◌, ◌%◌, ◌^◌, ◌<◌, ◌≤◌, Bool, true, false, List, [], ◌∷◌, ◌++◌, length, take, drop, refl, sym, ◌∙◌, ap, subst, arith, length-append, length-drop, Option, Some, None, nat_le, nat_lt, if◌then◌else◌, fold, slice_get}
+use Rattle.std.proofs.Common.{◌≡◌, ◌⊎◌, inl, inr, ℕ, zero, suc, ◌+◌, ◌-◌, ◌*◌, ◌%◌, ◌^◌, ◌<◌, ◌≤◌, Bool, true, false, List, [], ◌∷◌, ◌++◌, length, take, drop, refl, sym, ◌∙◌, ap, subst, arith, length-append, length-drop, Option, Some, None, nat_lt, if◌then◌else◌, fold, slice_get}
 use Rattle.std.specs.List.{AllByRecursion, flat_map}
 use Rattle.std.proofs.lemmas.Grind.{common_steps}
 use Rattle.h3_field.specs.Field.{Field}
 use Rattle.h3_field.specs.Line.{FieldLine, line_bytes}
 use Rattle.h3_field.specs.Line.FieldLine.{StaticField, RelativeField, PostBaseField, StaticName, RelativeName, PostBaseName, Literal}
-use Rattle.h3_field.specs.LineAnswer.{IsWritable}
-use Rattle.h3_field.specs.ReadBack.{IsLineOfBytes}
-use Rattle.h3_field.specs.Section.{HasLine, AreLines, NoLine, NextLine}
+use Rattle.h3_field.specs.Section.{AreLines, NoLine, NextLine}
 use Rattle.h3_field.specs.StaticTable.{static_field, static_name}
 use Rattle.h3_field.proofs.ReadBack.{line_reads_back}
-use Rattle.h3_qpack.specs.Table.{table, dropped}
+use Rattle.h3_qpack.specs.Table.{dropped}
 use Rattle.h3_qpack.specs.Sender.{Sender}
 use Rattle.h3_qpack.specs.Held.{Held, entry_at}
-use Rattle.h3_qpack.specs.History.{History, held, table_of}
+use Rattle.h3_qpack.specs.History.{held, table_of}
 use Rattle.h3_qpack.specs.Block.{insertion_at, named_field, StandFor, entry_number}
 use Rattle.h3_qpack.specs.Meaning.{field_at, HaveFields}
 use Rattle.h3_qpack.specs.Written.{Draft, found, found_name, is_insertable, add_line, add_literal, add_inserted, add_field, draft_of}
 use Rattle.h3_qpack.specs.Encodings.{IsWrittenLine}
 use Rattle.h3_qpack.proofs.Newest.{chosen, newest_from-passes}
-use Rattle.h3_qpack.proofs.Drafts.{either_way, both, All-join}
+use Rattle.h3_qpack.proofs.Drafts.{either_way, All-join}
 use Rattle.std.proofs.lemmas.List.{length-take-le}
 use Rattle.std.specs.Prelude.{◌==◌}
 use Rattle.h3_field.specs.Reading.{Whole}

@@ -1,5 +1,9 @@
 -- Instructions that are read one behind the other.
-use Rattle.std.proofs.Common.{◌≡◌, ℕ, List, [], ◌∷◌, ◌++◌, Option, Some, None, refl, sym, ◌∙◌, ap}
+use Rattle.std.proofs.Common.{◌≡◌, ℕ, List, [], ◌∷◌, ◌++◌, Option, Some, None, refl, ◌∙◌, ap, append_assoc}
+use Rattle.std.specs.List.{AllByRecursion, flat_map}
+use Rattle.h3_field.specs.Instruction.{encoder_bytes}
+use Rattle.h3_field.proofs.ReadBack.{instruction_reads_back}
+use Rattle.h3_qpack.specs.Encodings.{IsWrittenInstruction}
 use Rattle.h3_field.specs.Instruction.{EncoderInstruction}
 use Rattle.h3_field.specs.InstructionLaws.{instruction_stable}
 use Rattle.h3_field.specs.ReadBack.{HasInstruction}
@@ -51,3 +55,11 @@ read_pieces old mid new bytes more left rest h k =
       split = joined (bytes ++ more) (left ++ more) rest h.instructions k.instructions (longer_instructions bytes left more h.instructions h.split) k.split;
       table = having_read_all-append (Some old) h.instructions k.instructions ∙ ap (λ o. having_read_all o k.instructions) h.table ∙ k.table;
     }
+
+-- What is written is read as it was, whatever follows.
+pub written_read : (is : List EncoderInstruction) (rest : List ℕ) → AllByRecursion IsWrittenInstruction is → AreInstructions (flat_map encoder_bytes is ++ rest) is rest
+written_read [] rest h = NoInstruction rest
+written_read (i ∷ is) rest h =
+    rw (append_assoc (encoder_bytes i) (flat_map encoder_bytes is) rest)
+    (NextInstruction (encoder_bytes i ++ (flat_map encoder_bytes is ++ rest)) (flat_map encoder_bytes is ++ rest) rest i is
+    (instruction_reads_back i (flat_map encoder_bytes is ++ rest) h.0.0 h.0.1 h.0.2) (written_read is rest h.1))

@@ -1,14 +1,14 @@
 -- How the counts of sections go with the sections.
 use Rattle.std.proofs.Math.Seq.{take-length}
 use Rattle.std.proofs.lemmas.List.{take-append-le}
-use Rattle.std.proofs.Common.{take, ◌≡◌, ◌≢◌, ℕ, zero, suc, ◌+◌, ◌-◌, ◌<◌, ◌≤◌, Bool, true, false, ◌&&◌, List, [], ◌∷◌, ◌++◌, length, drop, refl, sym, ◌∙◌, ap, subst, arith, length-append, nat_lt, if◌then◌else◌, get_or, set, add-one}
+use Rattle.std.proofs.Common.{take, ◌≡◌, ◌≢◌, ℕ, zero, suc, ◌+◌, ◌-◌, ◌<◌, ◌≤◌, Bool, true, false, ◌&&◌, List, [], ◌∷◌, ◌++◌, length, drop, refl, sym, ◌∙◌, ap, arith, nat_lt, if◌then◌else◌, get_or, set, add-one}
 use Rattle.std.specs.Prelude.{◌==◌}
-use Rattle.std.specs.List.{AllByRecursion, list_all, count_by}
+use Rattle.std.specs.List.{AllByRecursion}
 use Rattle.std.proofs.lemmas.Grind.{common_steps}
 use Rattle.std.proofs.lemmas.List.Sums.{sum_by-cons, sum_by-append}
-use Rattle.h3_qpack.proofs.Drafts.{both, All-join}
+use Rattle.h3_qpack.proofs.Drafts.{both}
 use Rattle.h3_qpack.specs.declared.tracking.TrackedSection.{TrackedSection}
-use Rattle.h3_qpack.specs.Tracking.{held_by, held_from, is_free_to, is_of, without_oldest_of, without_newest_of}
+use Rattle.h3_qpack.specs.Tracking.{held_by, held_from, is_free_to}
 
 pub length-held_from : (first count : ℕ) (ts : List TrackedSection) → length (held_from first count ts) ≡ count
 length-held_from first zero ts = refl

@@ -2,21 +2,19 @@
 use Rattle.std.proofs.lemmas.List.{take-append-le}
 use Rattle.std.proofs.Math.Seq.{take-length}
 use Rattle.h3_field.specs.Line.{FieldLine}
-use Rattle.std.proofs.Common.{take, ◌≡◌, ℕ, zero, suc, ◌+◌, ◌-◌, ◌^◌, ◌<◌, ◌≤◌, Bool, true, false, ◌&&◌, List, [], ◌∷◌, ◌++◌, length, max, refl, sym, ◌∙◌, ap, subst, arith, length-append, Option, Some, None, nat_le, nat_lt, bytes_eq, if◌then◌else◌, unwrap_or, option_map, fold, append-nil, append_assoc}
+use Rattle.std.proofs.Common.{take, ◌≡◌, ℕ, ◌+◌, ◌-◌, ◌^◌, ◌<◌, ◌≤◌, Bool, true, false, ◌&&◌, List, [], ◌∷◌, ◌++◌, length, max, refl, sym, ◌∙◌, ap, subst, arith, length-append, Option, Some, None, nat_le, nat_lt, bytes_eq, fold, append-nil, append_assoc}
 use Rattle.std.proofs.lemmas.Grind.{common_steps}
 use Rattle.h3_field.specs.Field.{Field, field_eq, field_size}
 use Rattle.h3_field.specs.Section.{with_value}
 use Rattle.h3_field.specs.StaticTable.{static_table, static_field, static_name}
 use Rattle.h3_field.specs.Instruction.{EncoderInstruction}
-use Rattle.h3_field.specs.Instruction.EncoderInstruction.{SetCapacity, InsertWithStaticName, InsertWithEntryName, InsertLiteral, Duplicate}
-use Rattle.h3_qpack.specs.Table.{table, dropped, newest}
+use Rattle.h3_qpack.specs.Table.{dropped}
 use Rattle.h3_qpack.specs.Sender.{Sender}
-use Rattle.h3_qpack.specs.Written.{Draft, found, dropped_by, is_insertable, remaining, insertion, add_line, add_literal, add_inserted, add_field, draft_of, found_name, instructions_for}
-use Rattle.h3_qpack.specs.Block.{insertion_at}
+use Rattle.h3_qpack.specs.Written.{Draft, found, dropped_by, is_insertable, remaining, insertion, add_line, add_literal, add_field, draft_of, found_name, instructions_for}
 use Rattle.h3_qpack.specs.History.{History, still_at, field_inserted, longer, further, further_all, table_of, IsReadAs}
 use Rattle.h3_qpack.proofs.Tables.{dropped-append}
 use Rattle.h3_qpack.proofs.Newest.{chosen, newest_from-passes}
-use Rattle.h3_qpack.proofs.Drafts.{MayInsert, may_insert, either_way, both}
+use Rattle.h3_qpack.proofs.Drafts.{may_insert, either_way, both}
 use Rattle.h3_qpack.proofs.Blocks.{insertion_found, same_field, same_bytes, name_at}
 
 -- an entry that remains after the insertion is there, and stands at its index

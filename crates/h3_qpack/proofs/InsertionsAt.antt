@@ -1,5 +1,5 @@
 -- An instruction at the front of some bytes, and the field that it inserts.
-use Rattle.std.proofs.Common.{◌≡◌, ◌⊎◌, inl, inr, ℕ, ◌+◌, ◌-◌, ◌<◌, ◌≤◌, nat_le, Bool, true, false, List, [], ◌∷◌, length, Option, Some, None, Result, Ok, Err, refl, ap, sym, ◌∙◌, subst, arith}
+use Rattle.std.proofs.Common.{◌≡◌, inl, inr, ℕ, ◌<◌, ◌≤◌, nat_le, true, false, List, [], ◌∷◌, length, Option, Some, None, Ok, Err, refl, ap, sym, ◌∙◌, subst, arith}
 use Rattle.std.proofs.lemmas.Bool.{and_parts, leb-true, lt-leb}
 use Rattle.h3_field.specs.Field.{Field}
 use Rattle.h3_field.specs.Reading.{Reading, Whole, Unfinished, Bad}
@@ -7,12 +7,10 @@ use Rattle.h3_field.specs.Instruction.{EncoderInstruction}
 use Rattle.h3_field.specs.ReadBack.{HasInstruction}
 use Rattle.h3_field.specs.InstructionReading.{InstructionForm, Capacity, NameReference, LiteralName, Repeat, Says, instruction, name_reference, literal_name, capacity, repeat}
 use Rattle.h3_field.specs.InstructionAnswer.{AnswersInstruction}
-use Rattle.h3_field.specs.ShapeAnswer.{IsRefused}
 use Rattle.h3_field.specs.Shapes.{begins}
-use Rattle.h3_field.specs.StringReading.{StandsFor}
 use Rattle.h3_field.proofs.Sections.{stands_one}
 use Rattle.h3_field.specs.Errors.{decoder_parse}
-use Rattle.h3_field.specs.declared.prefix_int.Error.TheVariants.{Overflow, UnexpectedEnd}
+use Rattle.h3_field.specs.declared.prefix_int.Error.TheVariants.{Overflow}
 use Rattle.h3_field.specs.declared.prefix_string.Error as string
 use Rattle.h3_field.specs.declared.parse_error.ParseError.{ParseError}
 use Rattle.h3_field.specs.declared.parse_error.ParseError.TheVariants.{Integer, String, InvalidPrefix, InvalidBase, OutOfMemory}
@@ -126,9 +124,14 @@ no_insertion_bad r bytes (inr h) = inr (h.0, h.1, h.2, λ i s. let k = h.3 i s i
 
 -- a field for which there is no room
 pub no_room_bad : (r : Receiver) (bytes rest : List ℕ) (f : Field) → BeginsInsertion r.table bytes f rest → has_room r.table f ≡ false → BeginsBad r bytes
-no_room_bad r bytes rest f b none = inr (b.here.form, rest, b.here.whole, λ i s.
-    let same = says_one b.here.form i b.i s b.here.says in
-    ap (having_read r) same ∙ insertion_reads r b.i b.inserts ∙ ap (inserting r) b.names ∙ rw none refl)
+no_room_bad r bytes rest f b none = inr (
+  b.here.form,
+  rest,
+  b.here.whole,
+  λ i s.
+      let same = says_one b.here.form i b.i s b.here.says in
+      ap (having_read r) same ∙ insertion_reads r b.i b.inserts ∙ ap (inserting r) b.names ∙ rw none refl,
+)
 
 pub room_reads : (r : Receiver) (bytes rest : List ℕ) (f : Field) → BeginsInsertion r.table bytes f rest → has_room r.table f ≡ true
     → HasReadOne r (record r { table = with_entry r.table f }) bytes rest
@@ -162,6 +165,11 @@ capacity_reads r bytes rest n here less le =
     record { i = SetCapacity n; here = here; table = (let yes : nat_le n (greatest_capacity r) ≡ true = grind (arith, common_steps) in rw yes refl); less = less; grows = omega arith }
 
 pub capacity_bad : (r : Receiver) (bytes rest : List ℕ) (n : ℕ) → HasInstruction bytes (SetCapacity n) rest → greatest_capacity r < n → BeginsBad r bytes
-capacity_bad r bytes rest n here above = inr (here.form, rest, here.whole, λ i s.
-    let same = says_one here.form i (SetCapacity n) s here.says in
-    ap (having_read r) same ∙ (let no : nat_le n (greatest_capacity r) ≡ false = grind (arith, common_steps) in rw no refl))
+capacity_bad r bytes rest n here above = inr (
+  here.form,
+  rest,
+  here.whole,
+  λ i s.
+      let same = says_one here.form i (SetCapacity n) s here.says in
+      ap (having_read r) same ∙ (let no : nat_le n (greatest_capacity r) ≡ false = grind (arith, common_steps) in rw no refl),
+)

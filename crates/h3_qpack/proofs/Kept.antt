@@ -1,18 +1,11 @@
 -- What an encoder keeps serves for the list of all insertions.
-use Rattle.std.proofs.Common.{◌≡◌, ℕ, zero, suc, ◌+◌, ◌-◌, ◌^◌, ◌<◌, ◌≤◌, Bool, true, false, ◌&&◌, ◌||◌, List, [], ◌∷◌, ◌++◌, length, take, drop, min, max, refl, sym, ◌∙◌, ap, subst, arith, length-append, Option, Some, None, nat_le, nat_lt, bytes_eq, if◌then◌else◌, map, fold, append_assoc}
-use Rattle.std.specs.List.{AllByRecursion, list_all, flat_map}
+use Rattle.std.proofs.Common.{◌≡◌, ℕ, suc, ◌+◌, ◌-◌, ◌<◌, ◌≤◌, Bool, true, false, List, [], ◌∷◌, ◌++◌, length, take, drop, refl, sym, ◌∙◌, ap, arith, length-append, Option, Some, None, nat_le, if◌then◌else◌}
 use Rattle.std.proofs.lemmas.Grind.{common_steps}
 use Rattle.std.proofs.lemmas.List.{take-append-drop, length-take-le}
-use Rattle.std.proofs.lemmas.List.Sums.{sum_by-append}
-use Rattle.h3_field.specs.Field.{Field, field_eq, field_size, section_size}
+use Rattle.h3_field.specs.Field.{Field, field_size, section_size}
 use Rattle.h3_qpack.specs.Table.{table, dropped, newest, newest_from, or_else}
-use Rattle.h3_qpack.specs.Held.{Held, gone, in_range, newest_in, with_entry}
-use Rattle.h3_qpack.specs.Sender.{Sender, Tracked, blocks_out, referenced_entries}
-use Rattle.h3_qpack.specs.Written.{Draft, is_usable, found, found_name, remaining, dropped_by, is_insertable}
-use Rattle.h3_qpack.specs.Tracking.{is_free_to}
-use Rattle.h3_qpack.specs.Stored.{StoredSender, stored_section, least, MayInsertInto}
-use Rattle.h3_qpack.specs.declared.tracking.TrackedSection.{TrackedSection}
-use Rattle.h3_qpack.proofs.Tables.{length-table, table-one, table-whole}
+use Rattle.h3_qpack.specs.Held.{Held, in_range, newest_in, with_entry}
+use Rattle.h3_qpack.proofs.Tables.{length-table, table-one}
 use Rattle.h3_qpack.proofs.Newest.{newest_from-none}
 
 -- the table of all these insertions, as it is held
@@ -91,8 +84,8 @@ search_held capacity fs test above most whole gone_none same =
     newest_from-same (in_range test above most) whole (g + 1) (table capacity fs) (λ n e low high. same n e (omega (arith, low)) (omega (arith, high, len, length-table capacity fs)))
     ∙ ap (newest_from whole (g + 1)) (table-end capacity fs)
     ∙ sym (split ∙ ap (λ o. or_else (newest_from whole (1 + length (take g fs)) (drop g fs)) o) none
-      ∙ or_none (newest_from whole (1 + length (take g fs)) (drop g fs))
-      ∙ ap (λ n. newest_from whole n (drop g fs)) first)
+    ∙ or_none (newest_from whole (1 + length (take g fs)) (drop g fs))
+    ∙ ap (λ n. newest_from whole n (drop g fs)) first)
   where
     or_none : (o : Option ℕ) → or_else o None ≡ o
     or_none None = refl

@@ -1,14 +1,14 @@
 -- A line at the front of some bytes, and the field that it is of.
-use Rattle.std.proofs.Common.{◌≡◌, ℕ, zero, suc, ◌+◌, ◌-◌, ◌<◌, ◌≤◌, nat_le, Bool, true, false, List, [], ◌∷◌, length, Option, Some, None, Result, Ok, Err, refl, ap, sym, ◌∙◌, arith}
+use Rattle.std.proofs.Common.{◌≡◌, ℕ, zero, suc, ◌<◌, ◌≤◌, nat_le, true, List, [], ◌∷◌, length, Some, None, Ok, refl, sym, ◌∙◌, arith}
 use Rattle.std.specs.List.{slice_get}
 use Rattle.std.proofs.lemmas.Bool.{and_parts, leb-true, lt-leb}
 use Rattle.h3_field.specs.Field.{Field}
 use Rattle.h3_field.specs.Reading.{Reading, Whole, Unfinished, Bad}
 use Rattle.h3_field.specs.Line.{FieldLine}
-use Rattle.h3_field.specs.LineReading.{LineForm, SaysLine, line, post_base, post_base_named}
+use Rattle.h3_field.specs.LineReading.{LineForm, line, post_base, post_base_named}
 use Rattle.h3_field.specs.LineAnswer.{AnswersLine}
 use Rattle.h3_field.specs.Shapes.{begins}
-use Rattle.h3_field.specs.Section.{HasLine, with_value}
+use Rattle.h3_field.specs.Section.{HasLine}
 use Rattle.h3_field.specs.StaticTable.{static_table}
 use Rattle.h3_field.proofs.Sections.{line_one}
 use Rattle.h3_field.proofs.StaticEntries.{table_length}

@@ -1,11 +1,9 @@
 -- The prefix of a section stands for one required insert count and one base.
-use Rattle.std.proofs.Common.{◌≡◌, ◌⊎◌, ⊎_elim, inl, inr, ℕ, ◌+◌, ◌<◌, ◌≤◌, Bool, true, false, List, [], length, Option, Some, None, unwrap_or, Result, Ok, Err, refl, ap, sym, ◌∙◌, arith, subst}
+use Rattle.std.proofs.Common.{◌≡◌, inl, inr, ℕ, ◌<◌, ◌≤◌, Bool, true, false, List, length, Ok, refl, sym, ◌∙◌, arith, subst}
 use Rattle.h3_field.specs.Field.{Field}
-use Rattle.h3_field.specs.Line.{FieldLine}
 use Rattle.h3_field.specs.Section.{AreLines}
 use Rattle.h3_field.specs.Reading.{Reading, Whole, Unfinished, Bad}
-use Rattle.h3_field.specs.Prefix.{IsRequiredCount}
-use Rattle.h3_field.specs.PrefixReading.{EncodedPrefix, prefix, IsPrefix, IsCount, IsBase, HasNoCount}
+use Rattle.h3_field.specs.PrefixReading.{EncodedPrefix, prefix, IsPrefix, IsCount, IsBase}
 use Rattle.h3_field.specs.PrefixAnswer.{AnswersPrefix, HasNoPrefix}
 use Rattle.h3_field.specs.Errors.{decoder_parse}
 use Rattle.h3_field.specs.declared.parse_error.ParseError.{ParseError}
@@ -13,7 +11,7 @@ use Rattle.h3_field.specs.declared.parse_error.ParseError.TheVariants.{Integer, 
 use Rattle.h3_field.specs.declared.decoder_error.DecoderError.{DecoderError}
 use Rattle.h3_field.specs.declared.decoder_error.DecoderError.TheVariants as error
 use Rattle.h3_qpack.specs.Receiver.{Receiver, count_capacity}
-use Rattle.h3_qpack.specs.Meaning.{HasPrefix, HaveFields, MeansFields, IsMissing, IsBadSection}
+use Rattle.h3_qpack.specs.Meaning.{HasPrefix, HaveFields, IsBadSection}
 use Rattle.h3_qpack.specs.SectionAnswers.{BeginsWithNone, IsReason, IsRefusal}
 use Rattle.h3_qpack.proofs.Counts.{one_count}
 use Rattle.h3_qpack.proofs.Standing.{Standing, stand_bad}

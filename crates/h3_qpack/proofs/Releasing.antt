@@ -1,11 +1,9 @@
 -- A section is taken away.
-use Rattle.std.proofs.Common.{◌≡◌, ◌≢◌, ℕ, zero, suc, ◌+◌, ◌-◌, ◌<◌, ◌≤◌, Bool, true, false, ◌||◌, List, [], ◌∷◌, ◌++◌, length, take, drop, refl, sym, ◌∙◌, ap, subst, arith, if◌then◌else◌, get_or, add-one}
+use Rattle.std.proofs.Common.{◌≡◌, ℕ, zero, suc, ◌+◌, ◌<◌, Bool, true, false, ◌||◌, List, [], ◌∷◌, length, take, refl, sym, subst, arith, if◌then◌else◌, get_or}
 use Rattle.std.specs.Prelude.{◌==◌}
 use Rattle.std.specs.List.{AllByRecursion, list_any, remove}
-use Rattle.std.proofs.lemmas.Grind.{common_steps}
 use Rattle.std.proofs.lemmas.List.Sums.{sum_by-cons}
 use Rattle.h3_qpack.specs.declared.tracking.TrackedSection.{TrackedSection}
-use Rattle.h3_qpack.specs.Sender.{without_newest}
 use Rattle.h3_qpack.specs.Tracking.{held_by, is_of, without_oldest_of, without_newest_of, IsFirstOf, IsLastOf}
 
 pub All-remove : (P : TrackedSection → Type 0) (ts : List TrackedSection) (place : ℕ) → AllByRecursion P ts → AllByRecursion P (remove ts place)

@@ -1,6 +1,6 @@
 -- Every session is sound.
 use Rattle.std.proofs.Common.{ℕ, List, [], ◌∷◌, refl, sym, subst, arith}
-use Rattle.std.proofs.Common.{◌≡◌, ◌+◌, ◌<◌, ◌≤◌, ap, length}
+use Rattle.std.proofs.Common.{◌≡◌, ◌<◌, ◌≤◌, ap, length}
 use Rattle.std.specs.List.{AllByRecursion}
 use Rattle.h3_field.specs.Field.{Field}
 use Rattle.h3_field.specs.Instruction.{EncoderInstruction}

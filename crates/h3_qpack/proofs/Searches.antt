@@ -1,5 +1,5 @@
 -- A search of a table from the newest entry backwards.
-use Rattle.std.proofs.Common.{◌≡◌, ℕ, suc, ◌+◌, ◌-◌, ◌<◌, ◌≤◌, Bool, true, false, ◌&&◌, List, [], ◌∷◌, ◌++◌, length, take, min, refl, sym, ◌∙◌, ap, arith, Some, None, nat_le, nat_lt, if◌then◌else◌, get_or, add-one, ◌⊎◌, ⊎_elim, inl, inr}
+use Rattle.std.proofs.Common.{◌≡◌, ℕ, ◌+◌, ◌-◌, ◌<◌, ◌≤◌, Bool, true, false, List, [], ◌∷◌, ◌++◌, length, take, min, refl, sym, ◌∙◌, ap, arith, Some, None, nat_le, if◌then◌else◌, get_or, add-one}
 use Rattle.std.proofs.Math.Seq.{take-suc, take-length}
 use Rattle.std.proofs.lemmas.List.{length-take-le}
 use Rattle.std.proofs.lemmas.Grind.{common_steps}

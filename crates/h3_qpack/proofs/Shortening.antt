@@ -1,14 +1,12 @@
 -- What is read whole leaves fewer bytes.
-use Rattle.std.proofs.Common.{◌≡◌, ◌≢◌, ℕ, ◌+◌, ◌-◌, ◌*◌, ◌/◌, ◌%◌, ◌==◌, ◌^◌, ◌<◌, ◌≤◌, nat_le, nat_lt, Bool, true, false, ◌&&◌, if◌then◌else◌, List, [], ◌∷◌, ◌++◌, length, take, drop, Option, Some, None, Result, Ok, Err, refl, ap, sym, ◌∙◌, arith, length-append, length-drop}
-use Rattle.std.proofs.lemmas.Grind.{common_steps}
-use Rattle.std.proofs.lemmas.Bool.{and_parts, leb-true, lt-leb}
+use Rattle.std.proofs.Common.{◌≡◌, ℕ, ◌-◌, ◌<◌, ◌≤◌, nat_le, Bool, true, false, if◌then◌else◌, List, length, take, drop, refl, ap, arith, length-append, length-drop}
 use Rattle.h3_field.specs.Reading.{Reading, Whole, Unfinished, Bad, then_read}
 use Rattle.h3_field.specs.IntegerReading.{integer, IsInteger, InPrefix, Behind}
 use Rattle.h3_field.specs.IntegerLaws.{Encoded, integer_found}
 use Rattle.h3_field.specs.StringReading.{Payload, string, bytes_reading}
 use Rattle.h3_field.specs.Shapes.{index_and_string, two_strings}
-use Rattle.h3_field.specs.LineReading.{LineForm, PostBase, PostBaseNamed, line, post_base, post_base_named}
-use Rattle.h3_field.specs.InstructionReading.{InstructionForm, instruction, name_reference, literal_name, capacity, repeat}
+use Rattle.h3_field.specs.LineReading.{LineForm, post_base, post_base_named}
+use Rattle.h3_field.specs.InstructionReading.{InstructionForm, name_reference, literal_name, capacity, repeat}
 
 pub record Parts {A B : Type 0} (r : Reading A) (next : A → List ℕ → Reading B) (value : B) (rest : List ℕ) : Type 0 where
   pub first : A
@@ -58,24 +56,39 @@ post_base_named_less bytes rest form e =
     let p = parts_of (index_and_string 3 bytes) _ form rest e in
     let q = parts_of (integer 3 bytes) _ p.first p.middle p.whole in
     let r = parts_of (string 8 q.middle) _ p.first p.middle q.later in
-    omega (arith, integer_less 3 bytes q.middle q.first q.whole, string_less 8 q.middle r.middle r.first r.whole,
-    ap length (rest_is _ p.first r.middle p.middle r.later), ap length (rest_is _ form p.middle rest p.later))
+    omega (
+      arith,
+      integer_less 3 bytes q.middle q.first q.whole,
+      string_less 8 q.middle r.middle r.first r.whole,
+      ap length (rest_is _ p.first r.middle p.middle r.later),
+      ap length (rest_is _ form p.middle rest p.later),
+    )
 
 pub name_reference_less : (bytes rest : List ℕ) (form : InstructionForm) → name_reference bytes ≡ Whole form rest → length rest < length bytes
 name_reference_less bytes rest form e =
     let p = parts_of (index_and_string 6 bytes) _ form rest e in
     let q = parts_of (integer 6 bytes) _ p.first p.middle p.whole in
     let r = parts_of (string 8 q.middle) _ p.first p.middle q.later in
-    omega (arith, integer_less 6 bytes q.middle q.first q.whole, string_less 8 q.middle r.middle r.first r.whole,
-    ap length (rest_is _ p.first r.middle p.middle r.later), ap length (rest_is _ form p.middle rest p.later))
+    omega (
+      arith,
+      integer_less 6 bytes q.middle q.first q.whole,
+      string_less 8 q.middle r.middle r.first r.whole,
+      ap length (rest_is _ p.first r.middle p.middle r.later),
+      ap length (rest_is _ form p.middle rest p.later),
+    )
 
 pub literal_name_less : (bytes rest : List ℕ) (form : InstructionForm) → literal_name bytes ≡ Whole form rest → length rest < length bytes
 literal_name_less bytes rest form e =
     let p = parts_of (two_strings 6 bytes) _ form rest e in
     let q = parts_of (string 6 bytes) _ p.first p.middle p.whole in
     let r = parts_of (string 8 q.middle) _ p.first p.middle q.later in
-    omega (arith, string_less 6 bytes q.middle q.first q.whole, string_less 8 q.middle r.middle r.first r.whole,
-    ap length (rest_is _ p.first r.middle p.middle r.later), ap length (rest_is _ form p.middle rest p.later))
+    omega (
+      arith,
+      string_less 6 bytes q.middle q.first q.whole,
+      string_less 8 q.middle r.middle r.first r.whole,
+      ap length (rest_is _ p.first r.middle p.middle r.later),
+      ap length (rest_is _ form p.middle rest p.later),
+    )
 
 pub capacity_less : (bytes rest : List ℕ) (form : InstructionForm) → capacity bytes ≡ Whole form rest → length rest < length bytes
 capacity_less bytes rest form e =

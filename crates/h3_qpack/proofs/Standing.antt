@@ -1,11 +1,11 @@
 -- An encoded field section in the midst of its reading.
-use Rattle.std.proofs.Common.{◌≡◌, ◌⊎◌, ℕ, ◌+◌, ◌-◌, ◌^◌, ◌<◌, ◌≤◌, min, List, [], ◌∷◌, ◌++◌, length, Option, Some, None, Result, Ok, Err, refl, ap, sym, ◌∙◌, arith, subst, append_assoc, append-nil}
-use Rattle.h3_field.specs.Field.{Field, field_size, section_size}
+use Rattle.std.proofs.Common.{◌≡◌, ℕ, ◌<◌, ◌≤◌, List, [], ◌∷◌, ◌++◌, length, refl, arith, append_assoc, append-nil}
+use Rattle.h3_field.specs.Field.{Field}
 use Rattle.h3_field.specs.Line.{FieldLine}
 use Rattle.h3_field.specs.Section.{HasLine, AreLines, NoLine, NextLine}
 use Rattle.h3_field.proofs.Sections.{line_one}
 use Rattle.h3_qpack.specs.Held.{Held}
-use Rattle.h3_qpack.specs.Meaning.{field_at, HaveFields}
+use Rattle.h3_qpack.specs.Meaning.{HaveFields}
 use Rattle.h3_qpack.specs.SectionAnswers.{BeginsWith, BeginsWithNone}
 
 -- The rest is behind lines of these fields, and each way to read the whole reads the rest.

@@ -1,9 +1,11 @@
 -- What a writer of a section takes, and the decoder that reads it.
-use Rattle.std.specs.Prelude.{◌≡◌, ◌<◌, ◌^◌, ℕ, length, take, Option, Some}
+use Rattle.std.specs.Prelude.{◌≡◌, ◌<◌, ◌^◌, length, take, Some}
 use Rattle.std.specs.List.{AllByRecursion}
 use Rattle.h3_field.specs.Line.{FieldLine, line_bytes}
 use Rattle.h3_field.specs.LineAnswer.{IsWritable}
-use Rattle.h3_field.specs.ReadBack.{IsLineOfBytes}
+use Rattle.h3_field.specs.ReadBack.{IsLineOfBytes, IsInstructionOfBytes}
+use Rattle.h3_field.specs.Instruction.{EncoderInstruction, encoder_bytes}
+use Rattle.h3_field.specs.InstructionAnswer.{IsSendable}
 use Rattle.h3_qpack.specs.Receiver.{Receiver}
 use Rattle.h3_qpack.specs.History.{held, table_of}
 use Rattle.h3_qpack.specs.Written.{draft_of}
@@ -12,6 +14,10 @@ use Rattle.h3_qpack.specs.Session.{Session, UnderWay, count_of}
 -- The indexes and strings of the line are small enough, and its strings are bytes.
 abbrev pub IsWrittenLine : FieldLine → Type 0
 IsWrittenLine l = IsWritable l × IsLineOfBytes l × (length (line_bytes l) < 2 ^ 63)
+
+-- the same of an instruction
+abbrev pub IsWrittenInstruction : EncoderInstruction → Type 0
+IsWrittenInstruction i = IsSendable i × IsInstructionOfBytes i × (length (encoder_bytes i) < 2 ^ 63)
 
 -- the decoder of a session, by the insertions that it has read
 abbrev pub decoder_of : Session → Receiver

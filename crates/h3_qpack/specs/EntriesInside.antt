@@ -1,5 +1,5 @@
 -- What the fields of a table's struct stand for.
-use Rattle.std.specs.Prelude.{◌≡◌, ◌<◌, ◌≤◌, ℕ, ◌^◌, length}
+use Rattle.std.specs.Prelude.{◌≡◌, ◌<◌, ◌≤◌, ◌^◌, length}
 use Rattle.h3_field.specs.Field.{section_size}
 use Rattle.h3_qpack.specs.Held.{Held}
 use Rattle.h3_qpack.specs.declared.entries.Entries.TheInside.{Inside}

@@ -1,5 +1,5 @@
 -- A dynamic table as it is held: the entries that are there, and how many there ever were (RFC 9204, section 3.2).
-use Rattle.std.specs.Prelude.{ℕ, ◌+◌, ◌-◌, ◌^◌, ◌&&◌, Bool, List, [], ◌∷◌, ◌++◌, length, slice_get, nat_lt, nat_le, if◌then◌else◌, Option, Some, None}
+use Rattle.std.specs.Prelude.{ℕ, ◌+◌, ◌-◌, ◌^◌, ◌&&◌, Bool, List, [], ◌∷◌, ◌++◌, length, slice_get, nat_lt, nat_le, if◌then◌else◌, Option, None}
 use Rattle.h3_field.specs.Field.{Field, field_size}
 use Rattle.h3_qpack.specs.Table.{table, newest_from}
 

@@ -24,7 +24,7 @@ pub record BeginsInsertion (h : Held) (bytes : List ℕ) (f : Field) (rest : Lis
 abbrev pub BeginsNoInsertion : Held → List ℕ → Type 0
 BeginsNoInsertion h bytes = (instruction bytes ≡ Bad)
     ⊎ ((form : InstructionForm) × (rest : List ℕ) × (instruction bytes ≡ Whole form rest)
-      × ((i : EncoderInstruction) → Says form i → (is_insertion i ≡ true) × (insertion_of h i ≡ None)))
+    × ((i : EncoderInstruction) → Says form i → (is_insertion i ≡ true) × (insertion_of h i ≡ None)))
 
 abbrev pub AnswersInsertion : Held → List ℕ → List ℕ → Result (Option Field) DecoderError → Type 0
 AnswersInsertion h old new (Ok (Some f)) = BeginsInsertion h old f new

@@ -1,6 +1,6 @@
 -- Instructions at the front of some bytes (RFC 9204, sections 4.3 and 4.4): whole ones, and what is left.
-use Rattle.std.specs.Prelude.{◌≡◌, ◌⊎◌, ℕ, List, [], ◌∷◌, true, false, Option, Some, None}
-use Rattle.h3_field.specs.Reading.{Whole, Unfinished, Bad}
+use Rattle.std.specs.Prelude.{◌≡◌, ◌⊎◌, ℕ, List, [], ◌∷◌, true, false, Some, None}
+use Rattle.h3_field.specs.Reading.{Whole, Bad}
 use Rattle.h3_field.specs.Instruction.{EncoderInstruction, DecoderInstruction}
 use Rattle.h3_field.specs.InstructionReading.{InstructionForm, Says, instruction, decoder_instruction}
 use Rattle.h3_field.specs.ReadBack.{HasInstruction}

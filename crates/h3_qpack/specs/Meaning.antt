@@ -1,5 +1,5 @@
 -- What an encoded field section means to a decoder with this table (RFC 9204, sections 2.2.1, 2.2.3 and 4.5).
-use Rattle.std.specs.Prelude.{◌≡◌, ◌<◌, ◌≤◌, ℕ, ◌+◌, ◌-◌, List, [], ◌∷◌, slice_get, Option, Some, None, option_map}
+use Rattle.std.specs.Prelude.{◌≡◌, ◌<◌, ◌≤◌, ℕ, ◌+◌, ◌-◌, List, [], ◌∷◌, slice_get, Option, Some}
 use Rattle.h3_field.specs.Field.{Field}
 use Rattle.h3_field.specs.Section.{AreLines, with_value}
 use Rattle.h3_field.specs.StaticTable.{static_table}

@@ -1,5 +1,5 @@
 -- What the fields of `DynamicTable` stand for.
-use Rattle.std.specs.Prelude.{◌≡◌, ◌<◌, ◌≤◌, ◌^◌, ℕ}
+use Rattle.std.specs.Prelude.{◌≡◌, ◌≤◌}
 use Rattle.h3_qpack.specs.Held.{gone}
 use Rattle.h3_qpack.specs.Stored.{StoredSender}
 use Rattle.h3_qpack.specs.declared.dynamic.DynamicTable.TheInside.{Inside}

@@ -1,5 +1,5 @@
 -- What the fields of `Tracking` stand for.
-use Rattle.std.specs.Prelude.{◌≡◌, ◌<◌, ◌≤◌, ℕ, ◌+◌, ◌^◌, length}
+use Rattle.std.specs.Prelude.{◌≡◌, ◌<◌, ◌≤◌, ◌+◌, ◌^◌, length}
 use Rattle.std.specs.List.{AllByRecursion}
 use Rattle.h3_qpack.specs.Tracking.{Holds, held_from}
 use Rattle.h3_qpack.specs.declared.tracking.Tracking.TheInside.{Inside}

@@ -19,18 +19,17 @@ ghost use Rattle.h3_qpack.specs.Instructions.{HasRead, BeginsBad};
 use crate::dynamic::DynamicTable;
 use crate::entries::{Entries, MAX_CAPACITY, MOST_INSERTIONS, size_of};
 use crate::increment::{INCREMENT_LEN, put_increment};
-use h3_field::dynamic::Error;
 use h3_field::block::{
     HeaderBlockField, HeaderPrefix, Indexed, IndexedWithPostBase, Literal, LiteralWithNameRef,
     LiteralWithPostBaseNameRef,
 };
+use h3_field::dynamic::Error;
 use h3_field::static_::StaticTable;
 use h3_field::stream::{
     Duplicate, DynamicTableSizeUpdate, EncoderInstruction, HeaderAck, InsertWithNameRef,
     InsertWithoutNameRef, StreamCancel,
 };
-use h3_field::vas;
-use h3_field::{Decoded, DecoderError, HeaderField, SliceCursor};
+use h3_field::{Decoded, DecoderError, HeaderField, SliceCursor, vas};
 use std::alloc::{AllocError, Global};
 use std::borrow::CowSlice;
 use std::marker::Model;
@@ -132,7 +131,11 @@ impl Decoder {
     }
 
     /// The field of an indexed line.
-    fn take_indexed(&self, base: usize, buf: &mut SliceCursor<'_>) -> Result<HeaderField, DecoderError>
+    fn take_indexed(
+        &self,
+        base: usize,
+        buf: &mut SliceCursor<'_>,
+    ) -> Result<HeaderField, DecoderError>
         requires some { 0 < length buf.old }
         requires own { begins 128 255 buf.old ≡ true }
         ensures { AnswersLineAt self.now.table base buf.old buf.new result }
@@ -154,7 +157,11 @@ impl Decoder {
     }
 
     /// The field of a line that is an entry, by its distance from the base on.
-    fn take_post_base(&self, base: usize, buf: &mut SliceCursor<'_>) -> Result<HeaderField, DecoderError>
+    fn take_post_base(
+        &self,
+        base: usize,
+        buf: &mut SliceCursor<'_>,
+    ) -> Result<HeaderField, DecoderError>
         requires some { 0 < length buf.old }
         requires own { begins 16 31 buf.old ≡ true }
         ensures { AnswersLineAt self.now.table base buf.old buf.new result }
@@ -172,7 +179,11 @@ impl Decoder {
     }
 
     /// The field of a line with a literal value and the name of an entry.
-    fn take_named(&self, base: usize, buf: &mut SliceCursor<'_>) -> Result<HeaderField, DecoderError>
+    fn take_named(
+        &self,
+        base: usize,
+        buf: &mut SliceCursor<'_>,
+    ) -> Result<HeaderField, DecoderError>
         requires some { 0 < length buf.old }
         requires own { begins 64 127 buf.old ≡ true }
         ensures { AnswersLineAt self.now.table base buf.old buf.new result }
@@ -196,7 +207,11 @@ impl Decoder {
     }
 
     /// The field of a line with a literal value and the name of an entry, by its distance from the base on.
-    fn take_post_base_named(&self, base: usize, buf: &mut SliceCursor<'_>) -> Result<HeaderField, DecoderError>
+    fn take_post_base_named(
+        &self,
+        base: usize,
+        buf: &mut SliceCursor<'_>,
+    ) -> Result<HeaderField, DecoderError>
         requires some { 0 < length buf.old }
         requires own { begins 0 15 buf.old ≡ true }
         ensures { AnswersLineAt self.now.table base buf.old buf.new result }
@@ -216,7 +231,11 @@ impl Decoder {
     }
 
     /// The field of a line with a literal name and value.
-    fn take_literal(&self, base: usize, buf: &mut SliceCursor<'_>) -> Result<HeaderField, DecoderError>
+    fn take_literal(
+        &self,
+        base: usize,
+        buf: &mut SliceCursor<'_>,
+    ) -> Result<HeaderField, DecoderError>
         requires some { 0 < length buf.old }
         requires own { begins 32 63 buf.old ≡ true }
         ensures { AnswersLineAt self.now.table base buf.old buf.new result }
@@ -231,7 +250,11 @@ impl Decoder {
     }
 
     /// The field of the line at the front.
-    fn take_field(&self, base: usize, buf: &mut SliceCursor<'_>) -> Result<HeaderField, DecoderError>
+    fn take_field(
+        &self,
+        base: usize,
+        buf: &mut SliceCursor<'_>,
+    ) -> Result<HeaderField, DecoderError>
         requires { 0 < length buf.old }
         ensures { AnswersLineAt self.now.table base buf.old buf.new result }
     {
@@ -293,7 +316,9 @@ impl Decoder {
         ensures { AnswersInsertion self.now.table buf.old buf.new result }
     {
         match InsertWithNameRef::decode(self.alloc, buf) {
-            Ok(Some(InsertWithNameRef::Static { index, value })) => match StaticTable::get_name(index) {
+            Ok(Some(InsertWithNameRef::Static { index, value })) => match StaticTable::get_name(
+                index,
+            ) {
                 Ok(name) => Ok(Some(HeaderField::with_static_name(name, value))),
                 Err(e) => Err(DecoderError::InvalidStaticIndex(e)),
             },

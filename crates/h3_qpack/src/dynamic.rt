@@ -99,7 +99,13 @@ impl DynamicTable {
         self.limit
     }
 
-    pub(crate) fn newest(&self, what: Match, field: &HeaderField, above: usize, most: usize) -> Option<usize>
+    pub(crate) fn newest(
+        &self,
+        what: Match,
+        field: &HeaderField,
+        above: usize,
+        most: usize,
+    ) -> Option<usize>
         requires { gone self.now.table ≤ above }
         ensures { result ≡ newest_in self.now.table (matches what field.now) above most }
     {
@@ -112,7 +118,9 @@ impl DynamicTable {
         ensures some { IfSome result (λ n. MayInsertInto self.now field.now oldest × (n ≡ gone (with_entry self.now.table field.now)) × (gone self.now.table ≤ n)) }
         ensures none { IfNone result (MayInsertInto self.now field.now oldest → ⊥) }
     {
-        if self.entries.inserted() + 1 >= MOST_INSERTIONS || size_of(field) > self.entries.capacity() {
+        if self.entries.inserted() + 1 >= MOST_INSERTIONS
+            || size_of(field) > self.entries.capacity()
+        {
             return None;
         }
         let gone = self.entries.gone();
@@ -154,7 +162,12 @@ impl DynamicTable {
     }
 
     /// Counts a section that was written, and tracks it where it names entries. Where memory is refused nothing changes.
-    pub(crate) fn track(&mut self, stream: u64, count: usize, oldest: usize) -> Result<(), AllocError>
+    pub(crate) fn track(
+        &mut self,
+        stream: u64,
+        count: usize,
+        oldest: usize,
+    ) -> Result<(), AllocError>
         requires from { gone self.old.table < oldest }
         requires to { oldest ≤ self.old.table.inserted }
         ensures ok { OnOk result (self.new ≡ stored_sent self.old stream count oldest) }

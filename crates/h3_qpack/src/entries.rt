@@ -22,7 +22,11 @@ pub(crate) const MAX_CAPACITY: usize = 1073741823;
 pub(crate) fn size_of(field: &HeaderField) -> usize
     ensures { result ≡ min (2 ^ 64 - 1) (field_size field.now) }
 {
-    field.name().len().saturating_add(field.value().len()).saturating_add(32)
+    field
+        .name()
+        .len()
+        .saturating_add(field.value().len())
+        .saturating_add(32)
 }
 
 /// What an entry has in common with a field.
@@ -141,7 +145,13 @@ impl Entries {
 
     /// The number of the newest entry that matches the field, of those above one number and up to another. The search
     /// goes from the newest backwards, and compares lengths before bytes.
-    pub(crate) fn newest(&self, what: Match, field: &HeaderField, above: usize, most: usize) -> Option<usize>
+    pub(crate) fn newest(
+        &self,
+        what: Match,
+        field: &HeaderField,
+        above: usize,
+        most: usize,
+    ) -> Option<usize>
         requires { gone self.now ≤ above }
         ensures { result ≡ newest_in self.now (matches what field.now) above most }
     {

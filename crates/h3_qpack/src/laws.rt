@@ -3,11 +3,14 @@
 ghost use Rattle.std.specs.Prelude.{◌≡◌, ℕ, ◌+◌, ◌*◌, ◌%◌, ◌<◌, ◌≤◌, false, List, Some};
 ghost use Rattle.std.specs.Prelude.{take, length, [], ◌++◌};
 ghost use Rattle.h3_qpack.specs.Receiver.{Receiver};
-ghost use Rattle.h3_qpack.specs.Instructions.{HasRead};
+ghost use Rattle.std.specs.Prelude.{flat_map};
+ghost use Rattle.std.specs.List.{AllByRecursion};
+ghost use Rattle.h3_field.specs.Instruction.{EncoderInstruction, encoder_bytes};
+ghost use Rattle.h3_qpack.specs.Instructions.{HasRead, AreInstructions};
 ghost use Rattle.h3_qpack.specs.History.{further_all, table_of};
 ghost use Rattle.h3_qpack.specs.Meaning.{MeansFields};
 ghost use Rattle.h3_qpack.specs.Written.{encoded_section};
-ghost use Rattle.h3_qpack.specs.Encodings.{decoder_of, IsWritten};
+ghost use Rattle.h3_qpack.specs.Encodings.{decoder_of, IsWritten, IsWrittenInstruction};
 ghost use Rattle.h3_field.specs.Prefix.{most_entries, IsRequiredCount};
 ghost use Rattle.h3_qpack.specs.Session.{Session, UnderWay, oldest, is_canceled, count_of, IsSound, DecodesTo};
 ghost use Rattle.h3_qpack.specs.Schedule.{SessionEvent, SessionRun, beginning};
@@ -44,4 +47,10 @@ pub fn tables_agree()
 /// What was read of the first bytes is read of all, and then what is left.
 pub fn pieces_do_not_matter()
     ensures { (old mid new : Receiver) (bytes more left rest : List ℕ) → HasRead old mid bytes left → HasRead mid new (left ++ more) rest → HasRead old new (bytes ++ more) rest }
+{}
+
+/// What an encoder writes is read as its instructions, and what follows is left.
+pub fn instructions_read_back()
+    ensures { (instructions : List EncoderInstruction) (rest : List ℕ) → AllByRecursion IsWrittenInstruction instructions →
+        AreInstructions (flat_map encoder_bytes instructions ++ rest) instructions rest }
 {}

@@ -3,8 +3,8 @@ use std::test::Fail;
 
 // Capacity 220, and the insertions of :authority www.example.com and :path /sample/path.
 const TWO_INSERTIONS: [u8; 34] = [
-    63, 189, 1, 192, 15, 119, 119, 119, 46, 101, 120, 97, 109, 112, 108, 101, 46, 99, 111, 109, 193,
-    12, 47, 115, 97, 109, 112, 108, 101, 47, 112, 97, 116, 104,
+    63, 189, 1, 192, 15, 119, 119, 119, 46, 101, 120, 97, 109, 112, 108, 101, 46, 99, 111, 109,
+    193, 12, 47, 115, 97, 109, 112, 108, 101, 47, 112, 97, 116, 104,
 ];
 
 #[test]
@@ -28,7 +28,10 @@ fn refuses_a_capacity_above_the_announced_one(rt: HostRuntime) -> Result<(), Fai
     let mut decoder = Decoder::announced(rt.alloc(), 220);
     let mut read = SliceCursor::new(&[63, 190, 1]);
     let mut write = Vec::new(rt.alloc());
-    assert_eq!(rt; decoder.on_encoder_recv(&mut read, &mut write).is_err(), true);
+    assert_eq!(rt;
+        decoder.on_encoder_recv(&mut read, &mut write).is_err(),
+        true
+    );
     assert_eq!(rt; read.remaining(), 3);
     assert_eq!(rt; write.len(), 0);
     Ok(())
@@ -50,7 +53,9 @@ fn waits_for_insertions_and_decodes(rt: HostRuntime) -> Result<(), Fail> {
     let mut read = SliceCursor::new(&TWO_INSERTIONS[20..]);
     assert_eq!(rt; decoder.on_encoder_recv(&mut read, &mut write), Ok(2));
     assert_eq!(rt; write.as_slice(), [1, 1].as_slice());
-    let decoded = decoder.decode_header(&mut SliceCursor::new(&section)).map_err(|_| "refused")?;
+    let decoded = decoder
+        .decode_header(&mut SliceCursor::new(&section))
+        .map_err(|_| "refused")?;
     let expected: [(&[u8], &[u8]); 4] = [
         (b":method", b"GET"),
         (b":scheme", b"https"),

@@ -1,8 +1,8 @@
-use Rattle.std.proofs.Common.{◌≡◌, ◌+◌, ◌-◌, ◌^◌, ◌≤◌, ◌++◌, ◌∷◌, [], ℕ, List, length, min, unwrap_or, refl, sym, ◌∙◌, ap, arith, Ok}
+use Rattle.std.proofs.Common.{◌≡◌, ◌+◌, ◌-◌, ◌^◌, ◌++◌, ◌∷◌, [], ℕ, List, min, unwrap_or, refl, sym, ◌∙◌, ap, arith}
 use Rattle.std.proofs.lemmas.List.Sums.{sum_by-append}
 use Rattle.h3_field.specs.Field.{Field, field_size, section_size}
-use Rattle.h3_qpack.specs.Receiver.{Receiver, count_capacity}
-use Rattle.h3_qpack.proofs.Standing.{Standing, stand_begin, stand_next, stand_end}
+use Rattle.h3_qpack.specs.Receiver.{count_capacity}
+use Rattle.h3_qpack.proofs.Standing.{stand_next, stand_end}
 use Rattle.h3_qpack.proofs.Prefixes.{Begun, prefix_read, has_prefix, no_prefix, refused_line}
 use Rattle.h3_qpack.proofs.decoder.Decoder.decode_header.Goals as goal
 
@@ -55,13 +55,18 @@ returns-clause-ok c =
       inserted_is = c.inserted-inserted.ensures.value ∙ ap (λ r. r.table.inserted) c.self.view_is;
       capacity_is = c.unwrap_or-capacity.ensures ∙ ap (unwrap_or c.self.inside.announced) c.capacity.ensures.value ∙ ap count_capacity c.self.view_is;
     } in
-    let end = stand_end _ _ _ _ _ c.lines.invariant.stands (rw c.remaining.ensures at c.lines-test.false) in
-    (c.in-Ok-get.found.0, record {
-      rest = c.decode.new.buf;
-      base = c.in-Ok-get.found.1;
-      lines = end.0.0;
-      begins = has_prefix _ _ _ _ _ _ _ _ begun c.in-Ok-get.ensures;
-      received = omega (arith, begun.inserted_is, c.if-count-inserted.false);
-      split = end.0.1;
-      named = end.0.2;
-    }, refl, c.lines.invariant.sum, sym end.1)
+    let end = stand_end _ _ _ _ _ c.lines.invariant.stands (rw c.remaining.ensures at c.lines-test.false) in (
+      c.in-Ok-get.found.0,
+      record {
+        rest = c.decode.new.buf;
+        base = c.in-Ok-get.found.1;
+        lines = end.0.0;
+        begins = has_prefix _ _ _ _ _ _ _ _ begun c.in-Ok-get.ensures;
+        received = omega (arith, begun.inserted_is, c.if-count-inserted.false);
+        split = end.0.1;
+        named = end.0.2;
+      },
+      refl,
+      c.lines.invariant.sum,
+      sym end.1,
+    )

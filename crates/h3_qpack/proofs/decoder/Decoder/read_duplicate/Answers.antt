@@ -1,4 +1,4 @@
-use Rattle.std.proofs.Common.{◌≡◌, ◌-◌, refl, sym, ◌∙◌, ap, Some, None}
+use Rattle.std.proofs.Common.{◌≡◌, ◌-◌, refl, sym, ◌∙◌, ap, Some}
 use Rattle.h3_qpack.specs.Held.{entry_at}
 use Rattle.h3_field.specs.InstructionReading.{repeat}
 use Rattle.h3_field.specs.InstructionAnswer.{duplication}

@@ -1,4 +1,4 @@
-use Rattle.std.proofs.Common.{refl, sym}
+use Rattle.std.proofs.Common.{refl}
 use Rattle.h3_field.specs.InstructionReading.{literal_name}
 use Rattle.h3_field.specs.InstructionAnswer.{literal_insertion}
 use Rattle.h3_qpack.proofs.Shortening.{literal_name_less}

@@ -1,7 +1,6 @@
-use Rattle.std.proofs.Common.{◌≡◌, ◌<◌, ◌≤◌, length, refl, sym, ◌∙◌, ap, arith}
+use Rattle.std.proofs.Common.{refl, sym, ◌∙◌, arith}
 use Rattle.h3_field.specs.InstructionReading.{capacity}
 use Rattle.h3_field.specs.InstructionAnswer.{capacity_setting}
-use Rattle.h3_qpack.specs.Receiver.{greatest_capacity}
 use Rattle.h3_qpack.proofs.Shortening.{capacity_less}
 use Rattle.h3_qpack.proofs.InsertionsAt.{has_instruction, capacity_reads, refused, reason_map, no_insertion_bad, is_capacity}
 use Rattle.h3_qpack.proofs.decoder.Decoder.take_capacity.Goals as goal
@@ -15,6 +14,9 @@ returns-else-capacity-unwrap_or c =
 
 pub returns-in-Err : goal.returns-in-Err
 returns-in-Err c =
-    let own = rw (c.new-ahead.ensures, c.chunk.ensures) at c.in-Err.ensures.own in
-    (rw c.from.ensures (reason_map _ _ _ (no_insertion_bad c.args.self.now c.args.buf.now)
-    (refused c.args.self.now.table capacity_setting (capacity c.args.buf.now) c.args.buf.now _ c.in-Err.e (is_capacity _ c.requires.some c.requires.own) (own c.requires.own))), refl, refl)
+    let own = rw (c.new-ahead.ensures, c.chunk.ensures) at c.in-Err.ensures.own in (
+      rw c.from.ensures (reason_map _ _ _ (no_insertion_bad c.args.self.now c.args.buf.now)
+          (refused c.args.self.now.table capacity_setting (capacity c.args.buf.now) c.args.buf.now _ c.in-Err.e (is_capacity _ c.requires.some c.requires.own) (own c.requires.own))),
+      refl,
+      refl,
+    )

@@ -1,4 +1,4 @@
-use Rattle.std.proofs.Common.{refl, sym, ◌∙◌, ap, Some}
+use Rattle.std.proofs.Common.{sym, ◌∙◌, ap, Some}
 use Rattle.h3_field.specs.LineReading.{indexed}
 use Rattle.h3_field.specs.LineAnswer.{indexed_line}
 use Rattle.h3_field.proofs.Sections.{line_indexed, indexed_shortens}

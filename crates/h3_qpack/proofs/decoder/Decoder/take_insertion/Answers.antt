@@ -13,15 +13,21 @@ too_large h f size is lt = let far : h.capacity < field_size f = omega (arith, i
 
 pub returns-then-inserted-ge-MOST_INSERTIONS : goal.returns-then-inserted-ge-MOST_INSERTIONS
 returns-then-inserted-ge-MOST_INSERTIONS c =
-    let begins = rw (c.in-Ok-Some.field-0-is, c.new-ahead.ensures, c.chunk.ensures) at c.in-Ok-Some.ensures in
-    (no_room_bad c.args.self.now c.args.buf.now _ c.in-Ok-Some.field begins
-    (too_many c.args.self.now.table c.in-Ok-Some.field (omega (arith, c.inserted.ensures.value, ap (λ r. r.table.inserted) c.self.view_is))), refl, refl)
+    let begins = rw (c.in-Ok-Some.field-0-is, c.new-ahead.ensures, c.chunk.ensures) at c.in-Ok-Some.ensures in (
+      no_room_bad c.args.self.now c.args.buf.now _ c.in-Ok-Some.field begins
+          (too_many c.args.self.now.table c.in-Ok-Some.field (omega (arith, c.inserted.ensures.value, ap (λ r. r.table.inserted) c.self.view_is))),
+      refl,
+      refl,
+    )
 
 pub returns-then-size_of-capacity : goal.returns-then-size_of-capacity
 returns-then-size_of-capacity c =
-    let begins = rw (c.in-Ok-Some.field-0-is, c.new-ahead.ensures, c.chunk.ensures) at c.in-Ok-Some.ensures in
-    (no_room_bad c.args.self.now c.args.buf.now _ c.in-Ok-Some.field begins
-    (too_large c.args.self.now.table c.in-Ok-Some.field c.size_of.result c.size_of.ensures (omega (arith, c.capacity.ensures.value, ap (λ r. r.table.capacity) c.self.view_is))), refl, refl)
+    let begins = rw (c.in-Ok-Some.field-0-is, c.new-ahead.ensures, c.chunk.ensures) at c.in-Ok-Some.ensures in (
+      no_room_bad c.args.self.now c.args.buf.now _ c.in-Ok-Some.field begins
+          (too_large c.args.self.now.table c.in-Ok-Some.field c.size_of.result c.size_of.ensures (omega (arith, c.capacity.ensures.value, ap (λ r. r.table.capacity) c.self.view_is))),
+      refl,
+      refl,
+    )
 
 pub returns-in-Err : goal.returns-in-Err
 returns-in-Err c =

@@ -1,4 +1,4 @@
-use Rattle.std.proofs.Common.{rules, ◌≡◌, ◌≤◌, true, false, [], refl, sym, arith}
+use Rattle.std.proofs.Common.{rules, ◌≡◌, true, [], refl, arith}
 use Rattle.h3_qpack.specs.Instructions.{NoInstruction}
 use Rattle.h3_qpack.proofs.Hearing.{read_on}
 use Rattle.h3_qpack.proofs.decoder.Decoder.take_instructions.Goals as goal

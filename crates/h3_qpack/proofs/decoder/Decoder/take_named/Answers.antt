@@ -1,7 +1,6 @@
-use Rattle.std.proofs.Common.{refl, sym, ◌∙◌, ap, Some}
+use Rattle.std.proofs.Common.{refl}
 use Rattle.h3_field.specs.LineReading.{named}
 use Rattle.h3_field.specs.LineAnswer.{named_line}
-use Rattle.h3_field.specs.Section.{with_value}
 use Rattle.h3_field.proofs.Sections.{named_entry, line_named, named_shortens}
 use Rattle.h3_qpack.proofs.LinesAt.{begins_with, begins_with_none, static_none}
 use Rattle.h3_qpack.proofs.decoder.Decoder.take_named.Goals as goal

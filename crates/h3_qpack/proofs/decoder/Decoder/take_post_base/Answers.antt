@@ -1,4 +1,4 @@
-use Rattle.std.proofs.Common.{refl, sym, ◌∙◌, ap, Some}
+use Rattle.std.proofs.Common.{sym, ◌∙◌, ap, Some}
 use Rattle.h3_field.specs.LineReading.{post_base}
 use Rattle.h3_field.specs.LineAnswer.{post_base_line}
 use Rattle.h3_qpack.proofs.Shortening.{post_base_less}

@@ -1,4 +1,4 @@
-use Rattle.std.proofs.Common.{refl, sym, ◌∙◌, ap, Some}
+use Rattle.std.proofs.Common.{refl}
 use Rattle.h3_field.specs.LineReading.{post_base_named}
 use Rattle.h3_field.specs.LineAnswer.{post_base_named_line}
 use Rattle.h3_qpack.proofs.Shortening.{post_base_named_less}

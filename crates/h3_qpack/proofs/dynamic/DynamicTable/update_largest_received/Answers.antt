@@ -1,4 +1,4 @@
-use Rattle.std.proofs.Common.{rules, ◌≡◌, refl, min, ◌+◌, nat_lt, ap, ◌∙◌, arith}
+use Rattle.std.proofs.Common.{rules, refl, nat_lt}
 use Rattle.std.proofs.lemmas.Fn.{filter_same}
 use Rattle.h3_qpack.proofs.dynamic.DynamicTable.update_largest_received.Goals as goal
 

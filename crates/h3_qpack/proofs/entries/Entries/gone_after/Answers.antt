@@ -1,6 +1,5 @@
-use Rattle.std.proofs.Common.{◌≡◌, ◌<◌, ◌≤◌, ◌+◌, ◌-◌, ◌^◌, ℕ, List, length, drop, min, sym, ◌∙◌, ap, arith}
-use Rattle.h3_field.specs.Field.{Field, field_size, section_size}
-use Rattle.h3_qpack.specs.Table.{table}
+use Rattle.std.proofs.Common.{◌≡◌, ◌<◌, ◌≤◌, ◌+◌, ◌-◌, ◌^◌, ℕ, length, min, arith}
+use Rattle.h3_field.specs.Field.{Field, field_size}
 use Rattle.h3_qpack.specs.Held.{Held, gone, with_entry}
 use Rattle.h3_qpack.proofs.Rooms.{gone_when, gone_further}
 use Rattle.h3_qpack.proofs.entries.Entries.gone_after.Invariants.{Invariant}
@@ -30,13 +29,24 @@ pub returns-then-gone-dropped-clause-none : goal.returns-then-gone-dropped-claus
 returns-then-gone-dropped-clause-none c =
     let fits = rw (← c.self.view_is) at c.requires.fits in
     rw (← c.self.view_is)
-    (omega (arith, c.self.inside.fields.ok.0, c.len.ensures, further _ c.args.field.now c.size_of.result c.loop-sum.sum c.loop-sum.dropped
-    (record { made = c.self.invariant.made; fits = fits; small = c.self.invariant.small; size_is = c.size_of.ensures; loop = c.loop-sum.invariant.0 }) c.loop-sum-test.true))
+    (omega (
+      arith,
+      c.self.inside.fields.ok.0,
+      c.len.ensures,
+      further _ c.args.field.now c.size_of.result c.loop-sum.sum c.loop-sum.dropped
+          (record { made = c.self.invariant.made; fits = fits; small = c.self.invariant.small; size_is = c.size_of.ensures; loop = c.loop-sum.invariant.0 }) c.loop-sum-test.true,
+    ))
 
 pub returns-clause-some : goal.returns-clause-some
 returns-clause-some c =
     let fits = rw (← c.self.view_is) at c.requires.fits in
-    rw (← c.self.view_is)
-    (omega (arith, c.self.inside.fields.ok.0, c.len.ensures, over _ c.args.field.now c.size_of.result c.loop-sum.sum c.loop-sum.dropped
-    (record { made = c.self.invariant.made; fits = fits; small = c.self.invariant.small; size_is = c.size_of.ensures; loop = c.loop-sum.invariant.0 }) c.loop-sum-test.false),
-    omega (arith, c.loop-sum.invariant.1))
+    rw (← c.self.view_is) (
+      omega (
+        arith,
+        c.self.inside.fields.ok.0,
+        c.len.ensures,
+        over _ c.args.field.now c.size_of.result c.loop-sum.sum c.loop-sum.dropped
+            (record { made = c.self.invariant.made; fits = fits; small = c.self.invariant.small; size_is = c.size_of.ensures; loop = c.loop-sum.invariant.0 }) c.loop-sum-test.false,
+      ),
+      omega (arith, c.loop-sum.invariant.1),
+    )

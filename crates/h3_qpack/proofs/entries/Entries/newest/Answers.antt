@@ -1,5 +1,4 @@
-use Rattle.std.proofs.Common.{◌≡◌, ◌<◌, ◌≤◌, ◌+◌, ◌-◌, ℕ, List, length, take, min, Some, None, true, false, Bool, refl, sym, ◌∙◌, ap, arith, subst}
-use Rattle.std.proofs.Common.{get_or}
+use Rattle.std.proofs.Common.{◌≡◌, ◌<◌, ◌≤◌, ◌+◌, ◌-◌, ℕ, length, take, min, Some, true, false, Bool, sym, ◌∙◌, ap, arith}
 use Rattle.h3_field.specs.Field.{Field}
 use Rattle.h3_qpack.specs.Table.{newest_from}
 use Rattle.h3_qpack.specs.Held.{Held, newest_in, in_range, gone}

@@ -1,8 +1,8 @@
-use Rattle.std.proofs.Common.{◌≡◌, ℕ, ◌+◌, ◌-◌, ◌<◌, ◌≤◌, List, [], ◌∷◌, ◌++◌, length, refl, sym, ◌∙◌, ap, arith, length-append}
+use Rattle.std.proofs.Common.{◌≡◌, ℕ, ◌+◌, ◌<◌, ◌≤◌, List, [], ◌∷◌, ◌++◌, length, sym, ◌∙◌, ap, arith, length-append}
 use Rattle.std.specs.List.{AllByRecursion}
 use Rattle.h3_qpack.specs.declared.tracking.TrackedSection.{TrackedSection}
 use Rattle.h3_qpack.specs.Tracking.{held_from, held_by}
-use Rattle.h3_qpack.proofs.Holding.{held_from-last, none_holds, there_later, below_next}
+use Rattle.h3_qpack.proofs.Holding.{held_from-last, none_holds, there_later}
 use Rattle.h3_qpack.proofs.tracking.Tracking.add_entry.Goals as goal
 
 longer : (refs pushed : List ℕ) → pushed ≡ refs ++ 0 ∷ [] → length pushed ≡ length refs + 1

@@ -1,7 +1,6 @@
-use Rattle.std.proofs.Common.{◌≡◌, ℕ, ◌+◌, ◌-◌, ◌≤◌, List, [], ◌∷◌, ◌++◌, length, drop, refl, sym, ◌∙◌, ap, arith, length-drop, true}
+use Rattle.std.proofs.Common.{◌≡◌, ℕ, ◌+◌, ◌-◌, ◌≤◌, List, length, drop, sym, ◌∙◌, ap, arith, length-drop}
 use Rattle.h3_qpack.specs.declared.tracking.TrackedSection.{TrackedSection}
-use Rattle.h3_qpack.specs.Tracking.{held_from, is_free_to}
-use Rattle.h3_qpack.specs.TrackingInside.{IsTracking}
+use Rattle.h3_qpack.specs.Tracking.{held_from}
 use Rattle.h3_qpack.proofs.Holding.{drop-held_from, above_free, there_later}
 use Rattle.h3_qpack.proofs.tracking.Tracking.drop_to.Goals as goal
 

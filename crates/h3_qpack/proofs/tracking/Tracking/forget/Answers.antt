@@ -1,11 +1,11 @@
 use Rattle.std.proofs.Common.{◌≡◌, ◌≢◌, ℕ, ◌+◌, ◌-◌, ◌<◌, ◌≤◌, List, length, refl, sym, ◌∙◌, ap, arith, get_or, set, Bool, true, false, if◌then◌else◌}
 use Rattle.std.specs.Prelude.{◌==◌}
-use Rattle.std.specs.List.{AllByRecursion, remove}
+use Rattle.std.specs.List.{remove}
 use Rattle.std.proofs.lemmas.Grind.{common_steps}
 use Rattle.std.proofs.lemmas.List.{length-set}
 use Rattle.h3_qpack.specs.declared.tracking.TrackedSection.{TrackedSection}
 use Rattle.h3_qpack.specs.Tracking.{held_from, held_by}
-use Rattle.h3_qpack.proofs.Holding.{held_set, held_at, held_count}
+use Rattle.h3_qpack.proofs.Holding.{held_set, held_count}
 use Rattle.h3_qpack.proofs.Releasing.{All-remove, All-at, held_by-remove}
 use Rattle.h3_qpack.proofs.tracking.Tracking.forget.Goals as goal
 

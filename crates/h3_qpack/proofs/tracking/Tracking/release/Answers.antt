@@ -2,7 +2,7 @@ use Rattle.std.proofs.Common.{◌≡◌, ◌+◌, length, false, refl, ◌∙◌
 use Rattle.std.specs.List.{list_any}
 use Rattle.h3_qpack.specs.declared.tracking.TrackedSection.{TrackedSection}
 use Rattle.std.proofs.Common.{List}
-use Rattle.h3_qpack.specs.Tracking.{Holds, is_of}
+use Rattle.h3_qpack.specs.Tracking.{is_of}
 use Rattle.h3_qpack.proofs.Releasing.{first_removed, none_removed}
 use Rattle.h3_qpack.proofs.tracking.Tracking.release.Goals as goal
 

@@ -1,7 +1,7 @@
 use Rattle.std.proofs.Common.{◌≡◌, ◌+◌, length, false, refl, ◌∙◌, ap, List}
 use Rattle.std.specs.List.{list_any}
 use Rattle.h3_qpack.specs.declared.tracking.TrackedSection.{TrackedSection}
-use Rattle.h3_qpack.specs.Tracking.{Holds, is_of}
+use Rattle.h3_qpack.specs.Tracking.{is_of}
 use Rattle.h3_qpack.proofs.Releasing.{last_removed, none_newest}
 use Rattle.h3_qpack.proofs.tracking.Tracking.release_newest.Goals as goal
 

@@ -1,8 +1,7 @@
-use Rattle.std.proofs.Common.{◌≡◌, ℕ, ◌+◌, ◌-◌, ◌<◌, ◌≤◌, List, length, take, refl, sym, ◌∙◌, ap, arith}
+use Rattle.std.proofs.Common.{◌≡◌, ℕ, ◌+◌, ◌-◌, ◌<◌, List, length, take, sym, ◌∙◌, ap, arith}
 use Rattle.std.proofs.lemmas.List.{length-take}
-use Rattle.std.specs.List.{AllByRecursion}
 use Rattle.h3_qpack.specs.declared.tracking.TrackedSection.{TrackedSection}
-use Rattle.h3_qpack.specs.Tracking.{held_from, held_by}
+use Rattle.h3_qpack.specs.Tracking.{held_from}
 use Rattle.h3_qpack.proofs.Holding.{held_from-front, there_before, there_later}
 use Rattle.h3_qpack.proofs.tracking.Tracking.remove_entry.Goals as goal
 

@@ -1,12 +1,11 @@
-use Rattle.std.proofs.Common.{◌≡◌, ◌≢◌, ℕ, ◌+◌, ◌-◌, ◌<◌, ◌≤◌, List, [], ◌∷◌, ◌++◌, length, refl, sym, ◌∙◌, ap, arith, get_or, set, Bool, true, false, if◌then◌else◌}
+use Rattle.std.proofs.Common.{◌≡◌, ◌≢◌, ℕ, ◌+◌, ◌-◌, ◌<◌, ◌≤◌, List, [], ◌∷◌, ◌++◌, length, refl, sym, ◌∙◌, ap, arith, set, Bool, true, false}
 use Rattle.std.specs.Prelude.{◌==◌}
 use Rattle.std.proofs.lemmas.Grind.{common_steps}
 use Rattle.std.proofs.lemmas.List.{length-set}
-use Rattle.std.specs.List.{AllByRecursion}
 use Rattle.h3_qpack.specs.declared.tracking.TrackedSection.{TrackedSection}
 use Rattle.h3_qpack.specs.Tracking.{held_from, held_by}
 use Rattle.h3_qpack.proofs.Drafts.{All-join}
-use Rattle.h3_qpack.proofs.Holding.{held_set, held_at, held_by-append, one_holds, held_by-length, held_count}
+use Rattle.h3_qpack.proofs.Holding.{held_set, held_by-append, one_holds, held_by-length, held_count}
 use Rattle.h3_qpack.proofs.tracking.Tracking.track.Goals as goal
 
 one_more : (number n : ℕ) (ts : List TrackedSection) (t : TrackedSection) → t.oldest ≡ number → held_by number (ts ++ t ∷ []) ≡ held_by number ts + 1
