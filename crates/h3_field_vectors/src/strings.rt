@@ -97,7 +97,7 @@ fn strings_both_ways(rt: HostRuntime) -> Result<(), Fail> {
 #[test]
 fn refused_strings(rt: HostRuntime) -> Result<(), Fail> {
     // eleven ones of padding, eight ones of padding, the end-of-string symbol, and a word that is cut off
-    let refused: [&[u8]; 4] = [&[31, 255], &[252, 255], &[255, 255, 255, 255], &[250]];
+    let refused: [&[u8]; 4] = [&[31, 255], &[252, 255], &[255, 255, 255, 255], &[254]];
     for bytes in refused {
         assert!(rt; decoded(rt.alloc(), bytes)?.is_none());
     }
