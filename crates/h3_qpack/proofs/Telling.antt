@@ -1,0 +1,41 @@
+-- What an encoder keeps, after an instruction of its receiver.
+use Rattle.std.proofs.Common.{◌≡◌, ℕ, ◌+◌, ◌-◌, ◌^◌, ◌≤◌, Bool, true, false, ◌||◌, List, [], ◌∷◌, map, filter, cond, min, refl, sym, ◌∙◌, ap, arith, nat_lt, if◌then◌else◌}
+use Rattle.std.specs.Prelude.{◌==◌}
+use Rattle.std.specs.List.{list_any}
+use Rattle.std.proofs.lemmas.Grind.{common_steps}
+use Rattle.h3_field.specs.Instruction.{DecoderInstruction}
+use Rattle.h3_field.specs.Instruction.DecoderInstruction.{Acknowledge, CancelStream, Increment}
+use Rattle.h3_qpack.specs.Sender.{Sender, Tracked, released, told}
+use Rattle.h3_qpack.specs.Tracking.{is_of, without_oldest_of}
+use Rattle.h3_qpack.specs.Stored.{StoredSender, stored, stored_section, stored_told}
+
+released_stored : (stream : ℕ) (ts : List Tracked) → map stored_section (released stream ts) ≡ without_oldest_of stream (map stored_section ts)
+released_stored stream [] = refl
+released_stored stream (t ∷ ts) = by_test (t.stream == stream) (released_stored stream ts)
+  where
+    by_test : (b : Bool) → map stored_section (released stream ts) ≡ without_oldest_of stream (map stored_section ts)
+        → map stored_section (if b then ts else t ∷ released stream ts) ≡ (if b then map stored_section ts else stored_section t ∷ without_oldest_of stream (map stored_section ts))
+    by_test true h = refl
+    by_test false h = ap (λ us. stored_section t ∷ us) h
+
+-- a stream has a tracked section where it is kept with one
+pub tracked_stored : (stream : ℕ) (ts : List Tracked) → list_any (λ t. t.stream == stream) ts ≡ list_any (is_of stream) (map stored_section ts)
+tracked_stored stream [] = refl
+tracked_stored stream (t ∷ ts) = ap (λ b. (t.stream == stream) || b) (tracked_stored stream ts)
+
+filter_twice : (known later : ℕ) (counts : List ℕ) → known ≤ later → filter (λ c. nat_lt later c) counts ≡ filter (λ c. nat_lt later c) (filter (λ c. nat_lt known c) counts)
+filter_twice known later [] le = refl
+filter_twice known later (c ∷ cs) le = by_tests (nat_lt known c) (nat_lt later c) refl refl (filter_twice known later cs le)
+  where
+    by_tests : (a b : Bool) → nat_lt known c ≡ a → nat_lt later c ≡ b → filter (λ c. nat_lt later c) cs ≡ filter (λ c. nat_lt later c) (filter (λ c. nat_lt known c) cs)
+        → cond b (c ∷ filter (λ c. nat_lt later c) cs) (filter (λ c. nat_lt later c) cs) ≡ filter (λ c. nat_lt later c) (cond a (c ∷ filter (λ c. nat_lt known c) cs) (filter (λ c. nat_lt known c) cs))
+    by_tests true true e f h = rw f (ap (λ ns. c ∷ ns) h)
+    by_tests true false e f h = rw f h
+    by_tests false true e f h = absurd (grind (arith, common_steps))
+    by_tests false false e f h = h
+
+pub told_stored : (s : Sender) (i : DecoderInstruction) → s.known_received ≤ 2 ^ 64 - 1 → stored (told s i) ≡ stored_told (stored s) i
+told_stored s (Acknowledge stream) small = rw (released_stored stream s.tracked) refl
+told_stored s (CancelStream stream) small = rw (released_stored stream (released stream s.tracked), released_stored stream s.tracked) refl
+told_stored s (Increment count) small =
+    rw (filter_twice s.known_received (min (s.known_received + count) (2 ^ 64 - 1)) s.required_insert_counts (omega (arith, small))) refl
