@@ -1,0 +1,10 @@
+pub mod Sections
+pub mod Frames
+pub mod Reading
+pub mod Flows
+pub mod Runs
+pub mod Worlds
+pub mod Standing
+pub mod Events
+pub mod Pulls
+pub mod Starts

@@ -1,0 +1,7 @@
+use Rattle.std.proofs.Common.{◌∙◌}
+use Rattle.h3_talk.proofs.Reading.{head_few}
+use Rattle.h3_talk.proofs.session.endpoint.head_bytes.Goals as goal
+
+pub headers-requires : goal.headers-requires
+headers-requires c = head_few _ _ _ _ (c.deref.ensures.value ∙ c.in-Ok.ensures.value) c.requires
+    (rw c.in-Some.is at c.in-Ok-encode_section.ensures.some) c.deref-2.ensures.value

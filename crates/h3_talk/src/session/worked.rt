@@ -1,0 +1,14 @@
+//! The definitions at worked schedules.
+
+ghost use Rattle.std.specs.Prelude.{◌≡◌};
+ghost use Rattle.h3_talk.specs.Worked.{plain, answers, no_tables, small_client, short_run, short_answers, large_answers, cut_run, cut_answers, refused_run, refused_answers, literal_run, literal_answers, static_run, static_answers};
+
+/// What the definitions answer to whole schedules.
+pub fn worked_runs()
+    ensures one_head { answers no_tables short_run ≡ short_answers }
+    ensures too_large { answers small_client short_run ≡ large_answers }
+    ensures cut { answers no_tables cut_run ≡ cut_answers }
+    ensures refused { answers no_tables refused_run ≡ refused_answers }
+    ensures literal { answers no_tables literal_run ≡ literal_answers }
+    ensures second_field { answers no_tables static_run ≡ static_answers }
+{}
