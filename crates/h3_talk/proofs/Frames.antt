@@ -6,15 +6,13 @@ use Rattle.h3_wire.specs.declared.proto.frame.PayloadLen.{PayloadLen}
 use Rattle.h3_wire.specs.declared.proto.frame.Frame.{Frame}
 use Rattle.h3_wire.specs.declared.proto.frame.Frame.TheVariants as wire
 use Rattle.h3_wire.specs.Frames.{Front, Whole, Unknown, Refused, Unfinished, frame_at}
-use Rattle.h3_wire.specs.FrameLaws.{IsFinished, with_more, frame_at-more, written_headers}
+use Rattle.h3_wire.specs.FrameLaws.{IsFinished, with_more, frame_at-more}
+use Rattle.h3_wire.specs.EncodedLaws.{written_headers}
 use Rattle.h3_talk.specs.Frame.{frame, IsUnfinishedFrame}
 
 -- the frame is read, whatever follows it
 pub frame_at-frame : (section rest : List ℕ) → length section < 2 ^ 62 → frame_at (frame 1 section ++ rest) ≡ Whole (wire.Headers section) rest
-frame_at-frame section rest few =
-    ap frame_at (append_assoc (encoding 1) (encoding (length section) ++ section) rest
-    ∙ ap (λ bytes. encoding 1 ++ bytes) (append_assoc (encoding (length section)) section rest))
-    ∙ written_headers section rest few
+frame_at-frame section rest few = written_headers section rest few
 
 is_waiting : (x : Front) (more : List ℕ) (f : Frame PayloadLen) → 0 < length more
     → (IsFinished x → with_more x more ≡ Whole f []) → (least : ℕ) × (x ≡ Unfinished least)
