@@ -6,6 +6,14 @@ SCRIPT ?= examples/first.talk
 help: ## list the commands
 	@grep -hE '^[a-z]+:.*## ' $(MAKEFILE_LIST) | sed -E 's/^([a-z]+):.*## /make \1: /'
 
+run: ## run the program on examples/first.talk, or SCRIPT=file, built without proof (rt try): the answers are printed
+	@log=$$(mktemp); cd crates/h3_talk && rt try < "$(abspath $(SCRIPT))" 2> "$$log"; status=$$?; \
+	if [ $$status -ne 0 ]; then cat "$$log" >&2; fi; rm -f "$$log"; exit $$status
+
+build: ## prove and build the program, and say where it lies
+	@cd crates/h3_talk && rt run < stdin > out.log 2>&1 || { cat out.log; rm -f out.log; exit 1; }; rm -f out.log
+	@echo "crates/h3_talk/out/h3_talk"
+
 test: ## prove every crate from nothing, try the must-fail edits, run the tests and the program
 	@bash scripts/test.sh
 

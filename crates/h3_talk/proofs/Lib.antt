@@ -8,3 +8,4 @@ pub mod Standing
 pub mod Events
 pub mod Pulls
 pub mod Starts
+pub mod Sent

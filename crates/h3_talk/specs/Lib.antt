@@ -3,6 +3,7 @@ pub mod Delivering
 pub mod Flow
 pub mod Frame
 pub mod Headline
+pub mod Lines
 pub mod Machine
 pub mod Pulling
 pub mod Refusals
@@ -18,4 +19,5 @@ pub mod StreamSets
 pub mod Streams
 pub mod Worked
 pub mod Sums
+pub mod Talks
 pub mod World
