@@ -1,13 +1,14 @@
 -- What an encoder keeps, after an instruction of its receiver.
-use Rattle.std.proofs.Common.{◌≡◌, ℕ, ◌+◌, ◌-◌, ◌^◌, ◌≤◌, Bool, true, false, ◌||◌, List, [], ◌∷◌, map, filter, cond, min, refl, sym, ◌∙◌, ap, arith, nat_lt, if◌then◌else◌}
+use Rattle.std.proofs.Common.{◌≡◌, ℕ, ◌+◌, ◌-◌, ◌^◌, ◌≤◌, Bool, true, false, ◌||◌, List, [], ◌∷◌, length, map, filter, cond, min, refl, ap, arith, nat_lt, if◌then◌else◌}
 use Rattle.std.specs.Prelude.{◌==◌}
-use Rattle.std.specs.List.{list_any}
+use Rattle.std.specs.List.{list_any, count_by}
+use Rattle.std.proofs.lemmas.List.Sums.{sum_by-cons}
 use Rattle.std.proofs.lemmas.Grind.{common_steps}
 use Rattle.h3_field.specs.Instruction.{DecoderInstruction}
 use Rattle.h3_field.specs.Instruction.DecoderInstruction.{Acknowledge, CancelStream, Increment}
 use Rattle.h3_qpack.specs.Sender.{Sender, Tracked, released, told}
 use Rattle.h3_qpack.specs.Tracking.{is_of, without_oldest_of}
-use Rattle.h3_qpack.specs.Stored.{StoredSender, stored, stored_section, stored_told}
+use Rattle.h3_qpack.specs.Stored.{stored, stored_section, stored_told}
 
 released_stored : (stream : ℕ) (ts : List Tracked) → map stored_section (released stream ts) ≡ without_oldest_of stream (map stored_section ts)
 released_stored stream [] = refl
@@ -34,8 +35,20 @@ filter_twice known later (c ∷ cs) le = by_tests (nat_lt known c) (nat_lt later
     by_tests false true e f h = absurd (grind (arith, common_steps))
     by_tests false false e f h = h
 
-pub told_stored : (s : Sender) (i : DecoderInstruction) → s.known_received ≤ 2 ^ 64 - 1 → stored (told s i) ≡ stored_told (stored s) i
+pub told_stored : (s : Sender) (i : DecoderInstruction) → ((count : ℕ) → i ≡ Increment count → s.known_received ≤ 2 ^ 64 - 1) → stored (told s i) ≡ stored_told (stored s) i
 told_stored s (Acknowledge stream) small = rw (released_stored stream s.tracked) refl
 told_stored s (CancelStream stream) small = rw (released_stored stream (released stream s.tracked), released_stored stream s.tracked) refl
 told_stored s (Increment count) small =
-    rw (filter_twice s.known_received (min (s.known_received + count) (2 ^ 64 - 1)) s.required_insert_counts (omega (arith, small))) refl
+    rw (filter_twice s.known_received (min (s.known_received + count) (2 ^ 64 - 1)) s.required_insert_counts (omega (arith, small count refl))) refl
+
+-- the counts above what is known, counted
+pub waiting_counted : (test : ℕ → Bool) (counts : List ℕ) → length (filter test counts) ≡ count_by test counts
+waiting_counted test [] = refl
+waiting_counted test (c ∷ cs) = by_test (test c) refl (waiting_counted test cs)
+  where
+    one : count_by test (c ∷ cs) ≡ ◌+◌ (if test c then 1 else 0) (count_by test cs)
+    one = sum_by-cons (λ n. if test n then 1 else 0) c cs
+
+    by_test : (b : Bool) → test c ≡ b → length (filter test cs) ≡ count_by test cs → length (cond b (c ∷ filter test cs) (filter test cs)) ≡ count_by test (c ∷ cs)
+    by_test true e h = let now : ◌≡◌ {A = ℕ} (if test c then 1 else 0) 1 = rw e refl in omega (arith, h, one, now)
+    by_test false e h = let now : ◌≡◌ {A = ℕ} (if test c then 1 else 0) 0 = rw e refl in omega (arith, h, one, now)

@@ -18,6 +18,7 @@ pub mod Stored
 pub mod TableInside
 pub mod SectionAnswers
 pub mod InstructionAnswers
+pub mod Telling
 pub mod Increments
 pub mod Encodings
 pub mod Worked

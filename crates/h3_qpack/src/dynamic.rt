@@ -1,17 +1,22 @@
 //! The dynamic table with what its sender goes by (RFC 9204, sections 2.1 and 3.2).
-ghost use Rattle.std.specs.Prelude.{◌≡◌, ℕ, ◌+◌, ◌-◌, ◌^◌, ◌<◌, ◌≤◌, List, [], ◌∷◌, ◌++◌, length, min, max, true, false, filter, nat_lt, IfSome, IfNone, IfOk, OnErr, OnOk};
+ghost use Rattle.std.specs.Prelude.{◌≡◌, ℕ, ◌+◌, ◌-◌, ◌^◌, ◌<◌, ◌≤◌, List, [], ◌∷◌, ◌++◌, length, min, max, true, false, filter, nat_lt, IfSome, IfNone, IfOk, IfErr, OnErr, OnOk};
 ghost use Rattle.std.specs.List.{list_any};
 ghost use Rattle.h3_field.specs.Field.{Field, field_size};
 ghost use Rattle.h3_qpack.specs.Held.{Held, no_entries, gone, newest_in, with_entry, with_capacity};
 ghost use Rattle.h3_qpack.specs.Matches.{matches};
 ghost use Rattle.h3_qpack.specs.Tracking.{is_of, is_free_to, without_oldest_of, without_newest_of};
 ghost use Rattle.h3_qpack.specs.Stored.{StoredSender, MayInsertInto, raised, stored_sent};
+ghost use Rattle.h3_field.specs.declared.dynamic.Error.TheVariants.{MaxBlockedStreamsTooLarge};
 
 use crate::entries::{Entries, MOST_INSERTIONS, Match, size_of};
 use crate::tracking::{TrackedSection, Tracking};
 use h3_field::HeaderField;
+use h3_field::dynamic::Error;
 use std::alloc::{AllocError, Global};
 use std::marker::Model;
+
+/// The most sections that may wait at a receiver.
+const MAX_BLOCKED: usize = 65535;
 
 /// The entries of a table, and what a sender knows of its receiver: the greatest number of insertions known to be
 /// received, the sections that may wait there, and those that hold entries.
@@ -112,6 +117,18 @@ impl DynamicTable {
         self.entries.newest(what, field, above, most)
     }
 
+    /// Sets how many sections may wait at the receiver, at most 65535.
+    pub fn set_max_blocked(&mut self, limit: usize) -> Result<(), Error>
+        ensures ok { OnOk result ((limit ≤ 65535) × (self.new ≡ record self.old { limit = limit })) }
+        ensures err { IfErr result (λ e. (65535 < limit) × (e ≡ MaxBlockedStreamsTooLarge) × (self.new ≡ self.old)) }
+    {
+        if limit > MAX_BLOCKED {
+            return Err(Error::MaxBlockedStreamsTooLarge);
+        }
+        self.limit = limit;
+        Ok(())
+    }
+
     /// How many entries are gone once the field is inserted, where it may be: the entries in the way are known to be
     /// received, no tracked section names them, and they are below `oldest`.
     pub(crate) fn room_for(&self, field: &HeaderField, oldest: usize) -> Option<usize>
@@ -135,7 +152,8 @@ impl DynamicTable {
     /// The sum of increments grows, and stops at the greatest number. Sections whose insertions are known to be received
     /// wait no more.
     pub fn update_largest_received(&mut self, increment: usize)
-        ensures { self.new ≡ raised self.old increment }
+        ensures after { self.new ≡ raised self.old increment }
+        ensures small { self.old.known_received < 2 ^ 64 }
     {
         let known = self.known_received.saturating_add(increment);
         self.known_received = known;

@@ -3,6 +3,7 @@
 
 pub mod decoder;
 pub mod dynamic;
+pub mod encoder;
 mod entries;
 pub mod examples;
 mod increment;
@@ -13,6 +14,7 @@ mod tracking;
 
 pub use decoder::{Decoder, ack_header, stream_canceled};
 pub use dynamic::DynamicTable;
+pub use encoder::Encoder;
 pub use h3_field::{
     Decoded, DecoderError, EncoderError, Error, HeaderField, SliceCursor, decode_stateless,
     encode_stateless,

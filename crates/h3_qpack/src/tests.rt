@@ -1,4 +1,8 @@
-use crate::{Decoder, DecoderError, SliceCursor, ack_header, stream_canceled};
+use crate::{
+    Decoder, DecoderError, DynamicTable, Encoder, EncoderError, SliceCursor, ack_header,
+    stream_canceled,
+};
+use h3_field::dynamic;
 use std::test::Fail;
 
 // Capacity 220, and the insertions of :authority www.example.com and :path /sample/path.
@@ -77,5 +81,31 @@ fn writes_acknowledgments_and_cancellations(rt: HostRuntime) -> Result<(), Fail>
     ack_header(4, &mut out)?;
     stream_canceled(4, &mut out)?;
     assert_eq!(rt; out.as_slice(), [132, 68].as_slice());
+    Ok(())
+}
+
+#[test]
+fn leaves_an_acknowledgment_of_no_section(rt: HostRuntime) -> Result<(), Fail> {
+    let mut table = DynamicTable::new(rt.alloc());
+    assert_eq!(rt; table.set_max_blocked(65535), Ok(()));
+    assert_eq!(rt;
+        table.set_max_blocked(65536),
+        Err(dynamic::Error::MaxBlockedStreamsTooLarge)
+    );
+    let mut encoder = Encoder::from(table);
+    // an increment by 63, the cancellation of stream 4, the acknowledgment of stream 4, an increment by 1
+    let mut read = SliceCursor::new(&[63, 0, 68, 132, 1]);
+    assert_eq!(rt;
+        encoder.on_decoder_recv(&mut read),
+        Err(EncoderError::Insertion(dynamic::Error::UnknownStreamId(4)))
+    );
+    assert_eq!(rt; read.remaining(), 2);
+    assert_eq!(rt; encoder.known_received(), 63);
+    assert_eq!(rt; encoder.blocks_out(), 0);
+    // an increment that is not whole
+    let mut read = SliceCursor::new(&[2, 63]);
+    assert_eq!(rt; encoder.on_decoder_recv(&mut read), Ok(()));
+    assert_eq!(rt; read.remaining(), 1);
+    assert_eq!(rt; encoder.known_received(), 65);
     Ok(())
 }

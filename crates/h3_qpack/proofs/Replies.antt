@@ -1,0 +1,124 @@
+-- An instruction of a decoder at the front of some bytes, and instructions one behind the other.
+use Rattle.std.proofs.Common.{◌≡◌, ℕ, ◌<◌, ◌≤◌, ◌^◌, ◌-◌, nat_le, not, Bool, true, false, List, [], ◌∷◌, ◌++◌, length, Option, Some, None, Ok, Err, refl, ap, sym, ◌∙◌, subst, arith}
+use Rattle.std.specs.List.{list_any}
+use Rattle.std.proofs.lemmas.Bool.{and_parts, leb-true, lt-leb}
+use Rattle.h3_field.specs.Reading.{Reading, Whole, Unfinished, Bad}
+use Rattle.h3_field.specs.IntegerReading.{integer}
+use Rattle.h3_field.specs.Shapes.{begins}
+use Rattle.h3_field.specs.Errors.{encoder_parse}
+use Rattle.h3_field.specs.Instruction.{DecoderInstruction}
+use Rattle.h3_field.specs.Instruction.DecoderInstruction.{Acknowledge, Increment}
+use Rattle.h3_field.specs.InstructionReading.{acknowledgment, cancellation, increment, decoder_instruction}
+use Rattle.h3_field.specs.InstructionAnswer.{AnswersReply}
+use Rattle.h3_field.specs.declared.prefix_int.Error.TheVariants.{Overflow}
+use Rattle.h3_field.specs.declared.parse_error.ParseError.{ParseError}
+use Rattle.h3_field.specs.declared.parse_error.ParseError.TheVariants.{Integer}
+use Rattle.h3_qpack.specs.Sender.{Sender, told, told_all, is_refused}
+use Rattle.h3_qpack.specs.Tracking.{is_of}
+use Rattle.h3_qpack.specs.Stored.{StoredSender, stored, stored_told}
+use Rattle.h3_qpack.specs.Instructions.{AreDecoderInstructions, NoDecoderInstruction, NextDecoderInstruction, AreAccepted}
+use Rattle.h3_qpack.specs.Telling.{HasHeard, HasHeardOne, IsReplyRefusal}
+use Rattle.h3_qpack.proofs.Shortening.{parts_of, rest_is, integer_less}
+use Rattle.h3_qpack.proofs.Telling.{told_stored, tracked_stored}
+
+-- which instruction the first byte begins
+pub is_acknowledgment : (bytes : List ℕ) → 0 < length bytes → begins 128 255 bytes ≡ true → decoder_instruction bytes ≡ acknowledgment bytes
+is_acknowledgment [] some h = absurd (omega arith)
+is_acknowledgment (first ∷ rest) some h =
+    let parts = and_parts (nat_le 128 first) (nat_le first 255) h in
+    rw parts.0 refl
+
+pub is_cancellation : (bytes : List ℕ) → 0 < length bytes → begins 64 127 bytes ≡ true → decoder_instruction bytes ≡ cancellation bytes
+is_cancellation [] some h = absurd (omega arith)
+is_cancellation (first ∷ rest) some h =
+    let parts = and_parts (nat_le 64 first) (nat_le first 127) h in
+    rw (lt-leb 128 first (omega (arith, leb-true first 127 parts.1)), parts.0) refl
+
+pub is_increment : (bytes : List ℕ) → 0 < length bytes → begins 0 63 bytes ≡ true → decoder_instruction bytes ≡ increment bytes
+is_increment [] some h = absurd (omega arith)
+is_increment (first ∷ rest) some h =
+    let parts = and_parts (nat_le 0 first) (nat_le first 63) h in
+    let most = leb-true first 63 parts.1 in
+    rw (lt-leb 128 first (omega (arith, most)), lt-leb 64 first (omega (arith, most))) refl
+
+pub acknowledgment_less : (bytes rest : List ℕ) (i : DecoderInstruction) → acknowledgment bytes ≡ Whole i rest → length rest < length bytes
+acknowledgment_less bytes rest i e =
+    let p = parts_of (integer 7 bytes) _ i rest e in
+    omega (arith, integer_less 7 bytes p.middle p.first p.whole, ap length (rest_is _ i p.middle rest p.later))
+
+pub cancellation_less : (bytes rest : List ℕ) (i : DecoderInstruction) → cancellation bytes ≡ Whole i rest → length rest < length bytes
+cancellation_less bytes rest i e =
+    let p = parts_of (integer 6 bytes) _ i rest e in
+    omega (arith, integer_less 6 bytes p.middle p.first p.whole, ap length (rest_is _ i p.middle rest p.later))
+
+pub increment_less : (bytes rest : List ℕ) (i : DecoderInstruction) → increment bytes ≡ Whole i rest → length rest < length bytes
+increment_less bytes rest i e =
+    let p = parts_of (integer 6 bytes) _ i rest e in
+    omega (arith, integer_less 6 bytes p.middle p.first p.whole, ap length (rest_is _ i p.middle rest p.later))
+
+-- what was read at the front
+pub reply_here : {I : Type 0} (says : I → DecoderInstruction) (r : Reading DecoderInstruction) (old new : List ℕ) (o : Option I) (i : I) → o ≡ Some i
+    → AnswersReply says r old new (Ok o) → r ≡ Whole (says i) new
+reply_here {I} says r old new o i is answer = from r (subst (λ (x : Option I). AnswersReply says r old new (Ok x)) is answer)
+  where
+    from : (r : Reading DecoderInstruction) → AnswersReply says r old new (Ok (Some i)) → r ≡ Whole (says i) new
+    from (Whole j rest) h = rw (h.0, h.1) refl
+    from Unfinished h = absurd (cc)
+    from Bad h = absurd (cc)
+
+pub reply_unfinished : {I : Type 0} (says : I → DecoderInstruction) (r : Reading DecoderInstruction) (old new : List ℕ) → AnswersReply says r old new (Ok None) → r ≡ Unfinished
+reply_unfinished says (Whole i rest) old new h = absurd h
+reply_unfinished says Unfinished old new h = refl
+reply_unfinished says Bad old new h = absurd (cc)
+
+pub reply_refused : {I : Type 0} (says : I → DecoderInstruction) (r : Reading DecoderInstruction) (old new : List ℕ) (e : ParseError) → AnswersReply says r old new (Err e)
+    → (r ≡ Bad) × IsReplyRefusal r (encoder_parse e)
+reply_refused says (Whole i rest) old new e h = absurd h
+reply_refused says Unfinished old new e h = absurd (cc)
+reply_refused says Bad old new e h =
+    let same : e ≡ Integer Overflow = cc in
+    (refl, rw same refl)
+
+-- One instruction that was read and is not refused, by what is kept after it.
+pub heard_one : (old new : StoredSender) (bytes left : List ℕ) (i : DecoderInstruction) → decoder_instruction bytes ≡ Whole i left → length left < length bytes
+    → new ≡ stored_told old i → ((count : ℕ) → i ≡ Increment count → old.known_received < 2 ^ 64) → ((s : Sender) → old ≡ stored s → is_refused s i ≡ false) → HasHeardOne old new bytes left
+heard_one old new bytes left i here less is small accepted =
+    record {
+      i = i;
+      here = here;
+      after = λ s e.
+          let few : (count : ℕ) → i ≡ Increment count → s.known_received ≤ 2 ^ 64 - 1 = λ count k. omega (arith, small count k, ap (λ (t : StoredSender). t.known_received) e) in
+          is ∙ ap (λ t. stored_told t i) e ∙ sym (told_stored s i few);
+      accepted = accepted;
+      less = less;
+    }
+
+-- A stream has a tracked section by the history where it is kept with one.
+pub acknowledged : (old : StoredSender) (stream : ℕ) (b : Bool) → b ≡ list_any (is_of stream) old.tracked → (s : Sender) → old ≡ stored s → is_refused s (Acknowledge stream) ≡ not b
+acknowledged old stream b e s is = ap not (tracked_stored stream s.tracked ∙ ap (λ t. list_any (is_of stream) t.tracked) (sym is) ∙ sym e)
+
+one_further : (bytes left rest : List ℕ) (is : List DecoderInstruction) (i : DecoderInstruction) → AreDecoderInstructions bytes is left → decoder_instruction left ≡ Whole i rest
+    → AreDecoderInstructions bytes (is ++ i ∷ []) rest
+one_further bytes left rest [] i (NoDecoderInstruction b) here = NextDecoderInstruction bytes rest rest i [] here (NoDecoderInstruction rest)
+one_further bytes left rest (j ∷ is) i (NextDecoderInstruction b middle l k ks first others) here =
+    NextDecoderInstruction bytes middle rest j (is ++ i ∷ []) first (one_further middle left rest is i others here)
+
+told_all-one : (s : Sender) (is : List DecoderInstruction) (i : DecoderInstruction) → told_all s (is ++ i ∷ []) ≡ told (told_all s is) i
+told_all-one s [] i = refl
+told_all-one s (j ∷ is) i = told_all-one (told s j) is i
+
+accepted-one : (s : Sender) (is : List DecoderInstruction) (i : DecoderInstruction) → AreAccepted s is → is_refused (told_all s is) i ≡ false → AreAccepted s (is ++ i ∷ [])
+accepted-one s [] i h k = (k, tt)
+accepted-one s (j ∷ is) i h k = (h.0, accepted-one (told s j) is i h.1 k)
+
+pub heard_none : (old : StoredSender) (bytes : List ℕ) → HasHeard old old bytes bytes
+heard_none old bytes = record { instructions = []; split = NoDecoderInstruction bytes; told = λ s e. e; accepted = λ s e. tt }
+
+pub heard_on : (start mid new : StoredSender) (bytes left rest : List ℕ) → HasHeard start mid bytes left → HasHeardOne mid new left rest → HasHeard start new bytes rest
+heard_on start mid new bytes left rest h one =
+    record {
+      instructions = h.instructions ++ one.i ∷ [];
+      split = one_further bytes left rest h.instructions one.i h.split one.here;
+      told = λ s e. one.after (told_all s h.instructions) (h.told s e) ∙ ap stored (sym (told_all-one s h.instructions one.i));
+      accepted = λ s e. accepted-one s h.instructions one.i (h.accepted s e) (one.accepted (told_all s h.instructions) (h.told s e));
+    }

@@ -1,0 +1,43 @@
+-- What an encoder reads of its receiver's instructions (RFC 9204, section 4.4).
+use Rattle.std.specs.Prelude.{◌≡◌, ◌<◌, ℕ, true, false, List, length, Result, Ok, Err, Bool}
+use Rattle.h3_field.specs.Reading.{Reading, Whole, Unfinished, Bad}
+use Rattle.h3_field.specs.Instruction.{DecoderInstruction}
+use Rattle.h3_field.specs.Instruction.DecoderInstruction.{Acknowledge, CancelStream, Increment}
+use Rattle.h3_field.specs.InstructionReading.{decoder_instruction}
+use Rattle.h3_field.specs.declared.prefix_int.Error.TheVariants.{Overflow}
+use Rattle.h3_field.specs.declared.dynamic.Error.TheVariants.{UnknownStreamId}
+use Rattle.h3_field.specs.declared.encoder_error.EncoderError.{EncoderError}
+use Rattle.h3_field.specs.declared.encoder_error.EncoderError.TheVariants.{Insertion, InvalidInteger}
+use Rattle.h3_qpack.specs.Sender.{Sender, told, told_all, is_refused}
+use Rattle.h3_qpack.specs.Stored.{StoredSender, stored}
+use Rattle.h3_qpack.specs.Instructions.{AreDecoderInstructions, AreAccepted, BeginsRefused}
+
+-- An encoder went from one value to another by the instructions in front of the bytes left: of each history that the first
+-- value stands for, the other is that of the sender told by them, and it refused none.
+pub record HasHeard (old new : StoredSender) (bytes left : List ℕ) : Type 0 where
+  pub instructions : List DecoderInstruction
+  pub split : AreDecoderInstructions bytes instructions left
+  pub told : (s : Sender) → old ≡ stored s → new ≡ stored (told_all s instructions)
+  pub accepted : (s : Sender) → old ≡ stored s → AreAccepted s instructions
+
+-- the same of one instruction
+pub record HasHeardOne (old new : StoredSender) (bytes left : List ℕ) : Type 0 where
+  pub i : DecoderInstruction
+  pub here : decoder_instruction bytes ≡ Whole i left
+  pub after : (s : Sender) → old ≡ stored s → new ≡ stored (told s i)
+  pub accepted : (s : Sender) → old ≡ stored s → is_refused s i ≡ false
+  pub less : length left < length bytes
+
+-- which error the instruction at the front is refused with
+abbrev pub IsReplyRefusal : Reading DecoderInstruction → EncoderError → Type 0
+IsReplyRefusal Bad e = e ≡ InvalidInteger Overflow
+IsReplyRefusal Unfinished e = ⊥
+IsReplyRefusal (Whole (Acknowledge stream) rest) e = e ≡ Insertion (UnknownStreamId stream)
+IsReplyRefusal (Whole (CancelStream stream) rest) e = ⊥
+IsReplyRefusal (Whole (Increment count) rest) e = ⊥
+
+-- One instruction is read, or the first is not whole, or it is refused and left unread.
+abbrev pub AnswersReplyAt : StoredSender → StoredSender → List ℕ → List ℕ → Result Bool EncoderError → Type 0
+AnswersReplyAt old new bytes left (Ok true) = HasHeardOne old new bytes left
+AnswersReplyAt old new bytes left (Ok false) = (decoder_instruction bytes ≡ Unfinished) × (new ≡ old) × (left ≡ bytes)
+AnswersReplyAt old new bytes left (Err e) = ((s : Sender) → old ≡ stored s → BeginsRefused s bytes) × IsReplyRefusal (decoder_instruction bytes) e × (new ≡ old) × (left ≡ bytes)

@@ -1,0 +1,153 @@
+//! An encoder with its dynamic table: what it is told of its receiver (RFC 9204, sections 2.1 and 4.4).
+ghost use Rattle.std.specs.Prelude.{◌≡◌, ◌<◌, ℕ, true, false, length, IfErr, OnOk};
+ghost use Rattle.h3_field.specs.Reading.{Unfinished};
+ghost use Rattle.h3_field.specs.Shapes.{begins};
+ghost use Rattle.h3_field.specs.InstructionReading.{decoder_instruction};
+ghost use Rattle.h3_qpack.specs.Sender.{Sender, no_table, blocks_out};
+ghost use Rattle.h3_qpack.specs.Stored.{stored};
+ghost use Rattle.h3_qpack.specs.Instructions.{BeginsRefused};
+ghost use Rattle.h3_qpack.specs.Telling.{HasHeard, AnswersReplyAt, IsReplyRefusal};
+
+use crate::dynamic::DynamicTable;
+use h3_field::stream::{DecoderInstruction, HeaderAck, InsertCountIncrement, StreamCancel};
+use h3_field::{EncoderError, SliceCursor, dynamic};
+use std::alloc::Global;
+use std::marker::Model;
+
+/// Keeps what its receiver says of one dynamic table.
+#[derive(Drop)]
+pub struct Encoder {
+    table: DynamicTable,
+}
+
+impl Model for Encoder {
+    ghost use Rattle.h3_qpack.specs.Stored.{StoredSender};
+
+    ghost Value = { StoredSender };
+
+    ghost view = { λ e. e.table };
+}
+
+impl Encoder {
+    /// An encoder that may not use a table.
+    pub fn new(alloc: Global) -> Encoder
+        ensures { result ≡ stored no_table }
+    {
+        Encoder {
+            table: DynamicTable::new(alloc),
+        }
+    }
+
+    /// An encoder with this table.
+    pub fn from(table: DynamicTable) -> Encoder
+        ensures { result ≡ table }
+    {
+        Encoder { table }
+    }
+
+    /// How many insertions are known to be received.
+    pub fn known_received(&self) -> usize
+        ensures value { result ≡ self.now.known_received }
+        ensures history { (s : Sender) → self.now ≡ stored s → result ≡ s.known_received }
+    {
+        self.table.known_received()
+    }
+
+    /// How many sections may wait at the receiver.
+    pub fn blocks_out(&self) -> usize
+        ensures value { result ≡ length self.now.waiting }
+        ensures history { (s : Sender) → self.now ≡ stored s → result ≡ blocks_out s }
+    {
+        self.table.blocks_out()
+    }
+
+    /// Reads the acknowledgment at the front. What is refused is left unread.
+    fn take_acknowledgment(&mut self, buf: &mut SliceCursor<'_>) -> Result<bool, EncoderError>
+        requires some { 0 < length buf.old }
+        requires own { begins 128 255 buf.old ≡ true }
+        ensures { AnswersReplyAt self.old self.new buf.old buf.new result }
+    {
+        let mut ahead = SliceCursor::new(buf.chunk());
+        match HeaderAck::decode(&mut ahead) {
+            Ok(Some(HeaderAck(stream))) => {
+                if !self.table.release(stream) {
+                    let unknown = dynamic::Error::UnknownStreamId(stream);
+                    return Err(EncoderError::Insertion(unknown));
+                }
+                *buf = ahead;
+                Ok(true)
+            }
+            Ok(None) => Ok(false),
+            Err(e) => Err(EncoderError::from(e)),
+        }
+    }
+
+    /// Reads the cancellation at the front. What is refused is left unread.
+    fn take_cancellation(&mut self, buf: &mut SliceCursor<'_>) -> Result<bool, EncoderError>
+        requires some { 0 < length buf.old }
+        requires own { begins 64 127 buf.old ≡ true }
+        ensures { AnswersReplyAt self.old self.new buf.old buf.new result }
+    {
+        let mut ahead = SliceCursor::new(buf.chunk());
+        match StreamCancel::decode(&mut ahead) {
+            Ok(Some(StreamCancel(stream))) => {
+                self.table.release(stream);
+                self.table.release(stream);
+                *buf = ahead;
+                Ok(true)
+            }
+            Ok(None) => Ok(false),
+            Err(e) => Err(EncoderError::from(e)),
+        }
+    }
+
+    /// Reads the increment at the front. What is refused is left unread.
+    fn take_increment(&mut self, buf: &mut SliceCursor<'_>) -> Result<bool, EncoderError>
+        requires some { 0 < length buf.old }
+        requires own { begins 0 63 buf.old ≡ true }
+        ensures { AnswersReplyAt self.old self.new buf.old buf.new result }
+    {
+        let mut ahead = SliceCursor::new(buf.chunk());
+        match InsertCountIncrement::decode(&mut ahead) {
+            Ok(Some(InsertCountIncrement(count))) => {
+                self.table.update_largest_received(count as usize);
+                *buf = ahead;
+                Ok(true)
+            }
+            Ok(None) => Ok(false),
+            Err(e) => Err(EncoderError::from(e)),
+        }
+    }
+
+    /// Reads the instruction at the front, and does as it says. What is refused is left unread.
+    fn take_instruction(&mut self, buf: &mut SliceCursor<'_>) -> Result<bool, EncoderError>
+        requires { 0 < length buf.old }
+        ensures { AnswersReplyAt self.old self.new buf.old buf.new result }
+    {
+        match DecoderInstruction::decode(buf.chunk()[0]) {
+            DecoderInstruction::HeaderAck => self.take_acknowledgment(buf),
+            DecoderInstruction::StreamCancel => self.take_cancellation(buf),
+            _ => self.take_increment(buf),
+        }
+    }
+
+    /// Reads a decoder's instructions: the whole ones at the front, up to the first that is refused. One that is not
+    /// whole, or is refused, is left unread; those before it stand. Refused are an integer out of range, and an
+    /// acknowledgment of a stream without a tracked section.
+    pub fn on_decoder_recv(&mut self, read: &mut SliceCursor<'_>) -> Result<(), EncoderError>
+        ensures heard { HasHeard self.old self.new read.old read.new }
+        ensures ok { OnOk result (decoder_instruction read.new ≡ Unfinished) }
+        ensures err { IfErr result (λ e. ((s : Sender) → self.new ≡ stored s → BeginsRefused s read.new) × IsReplyRefusal (decoder_instruction read.new) e) }
+    {
+        while read.remaining() > 0 {
+            let is_read = match self.take_instruction(read) {
+                Ok(is_read) => is_read,
+                Err(e) => return Err(e),
+            };
+            if !is_read {
+                return Ok(());
+            }
+        }
+        Ok(())
+    }
+}
