@@ -4,7 +4,8 @@ use Rattle.std.specs.Prelude.{◌==◌}
 use Rattle.std.specs.List.{AllByRecursion, list_any, remove}
 use Rattle.std.proofs.lemmas.List.Sums.{sum_by-cons}
 use Rattle.h3_qpack.specs.declared.tracking.TrackedSection.{TrackedSection}
-use Rattle.h3_qpack.specs.Tracking.{held_by, is_of, without_oldest_of, without_newest_of, IsFirstOf, IsLastOf}
+use Rattle.h3_qpack.specs.Sender.{without_newest}
+use Rattle.h3_qpack.specs.Tracking.{held_by, is_of, without_oldest_of, IsFirstOf, IsLast}
 
 pub All-remove : (P : TrackedSection → Type 0) (ts : List TrackedSection) (place : ℕ) → AllByRecursion P ts → AllByRecursion P (remove ts place)
 All-remove P [] zero h = tt
@@ -47,31 +48,31 @@ pub none_removed : (stream : ℕ) (ts : List TrackedSection) → list_any (is_of
 none_removed stream [] h = refl
 none_removed stream (t ∷ ts) h = let e = neither (is_of stream t) (list_any (is_of stream) ts) h in rw (e.0, none_removed stream ts e.1) refl
 
-later : (stream : ℕ) (t : TrackedSection) (ts : List TrackedSection) (place : ℕ) → IsLastOf stream (t ∷ ts) (suc place) → IsLastOf stream ts place
-later stream t ts place h =
+later : {X : Type 0} (test : X → Bool) (x : X) (xs : List X) (place : ℕ) → IsLast test (x ∷ xs) (suc place) → IsLast test xs place
+later test x xs place h =
     let same : suc place + 1 ≡ suc (place + 1) = omega arith in
     let behind = rw same at h.behind in
     record { inside = omega (arith, h.inside); behind = behind; here = h.here }
 
-last_there : (stream : ℕ) (ts : List TrackedSection) (place : ℕ) → IsLastOf stream ts place → list_any (is_of stream) ts ≡ true
-last_there stream [] place h = absurd (omega (arith, h.inside))
-last_there stream (t ∷ ts) zero h = let yes = h.here t refl in rw yes refl
-last_there stream (t ∷ ts) (suc place) h = or_right (is_of stream t) (last_there stream ts place (later stream t ts place h))
+last_there : {X : Type 0} (test : X → Bool) (xs : List X) (place : ℕ) → IsLast test xs place → list_any test xs ≡ true
+last_there test [] place h = absurd (omega (arith, h.inside))
+last_there test (x ∷ xs) zero h = let yes = h.here x refl in rw yes refl
+last_there test (x ∷ xs) (suc place) h = or_right (test x) (last_there test xs place (later test x xs place h))
   where
     or_right : (a : Bool) {b : Bool} → b ≡ true → (a || b) ≡ true
     or_right true e = refl
     or_right false e = e
 
-pub last_removed : (stream : ℕ) (ts : List TrackedSection) (place : ℕ) → IsLastOf stream ts place → remove ts place ≡ without_newest_of stream ts
-last_removed stream [] place h = absurd (omega (arith, h.inside))
-last_removed stream (t ∷ ts) zero h =
-    let yes = h.here t refl in
-    let behind : list_any (is_of stream) ts ≡ false = h.behind in
+pub last_removed : {X : Type 0} (test : X → Bool) (xs : List X) (place : ℕ) → IsLast test xs place → remove xs place ≡ without_newest test xs
+last_removed test [] place h = absurd (omega (arith, h.inside))
+last_removed test (x ∷ xs) zero h =
+    let yes = h.here x refl in
+    let behind : list_any test xs ≡ false = h.behind in
     rw (behind, yes) refl
-last_removed stream (t ∷ ts) (suc place) h =
-    let l = later stream t ts place h in
-    rw (last_there stream ts place l, last_removed stream ts place l) refl
+last_removed test (x ∷ xs) (suc place) h =
+    let l = later test x xs place h in
+    rw (last_there test xs place l, last_removed test xs place l) refl
 
-pub none_newest : (stream : ℕ) (ts : List TrackedSection) → list_any (is_of stream) ts ≡ false → without_newest_of stream ts ≡ ts
-none_newest stream [] h = refl
-none_newest stream (t ∷ ts) h = let e = neither (is_of stream t) (list_any (is_of stream) ts) h in rw (e.1, e.0) refl
+pub none_newest : {X : Type 0} (test : X → Bool) (xs : List X) → list_any test xs ≡ false → without_newest test xs ≡ xs
+none_newest test [] h = refl
+none_newest test (x ∷ xs) h = let e = neither (test x) (list_any test xs) h in rw (e.1, e.0) refl

@@ -1,12 +1,12 @@
 -- What an encoder keeps of its history.
-use Rattle.std.specs.Prelude.{◌≡◌, ◌<◌, ◌≤◌, ℕ, ◌+◌, ◌-◌, ◌^◌, true, min, max, List, [], ◌∷◌, ◌++◌, length, map, filter, fold, nat_lt, if◌then◌else◌}
+use Rattle.std.specs.Prelude.{◌≡◌, ◌<◌, ◌≤◌, ℕ, ◌+◌, ◌-◌, ◌^◌, true, min, max, List, [], ◌∷◌, ◌++◌, length, map, filter, fold, nat_lt, if◌then◌else◌, ◌==◌}
 use Rattle.h3_field.specs.Instruction.{DecoderInstruction}
 use Rattle.h3_field.specs.Instruction.DecoderInstruction.{Acknowledge, CancelStream, Increment}
-use Rattle.h3_qpack.specs.Tracking.{is_free_to, without_oldest_of}
+use Rattle.h3_qpack.specs.Tracking.{is_free_to, without_oldest_of, without_newest_of}
 use Rattle.h3_field.specs.Field.{Field, field_size}
 use Rattle.h3_qpack.specs.Table.{table}
 use Rattle.h3_qpack.specs.Held.{Held, gone, with_entry}
-use Rattle.h3_qpack.specs.Sender.{Sender, Tracked}
+use Rattle.h3_qpack.specs.Sender.{Sender, Tracked, without_newest}
 use Rattle.h3_qpack.specs.declared.tracking.TrackedSection.{TrackedSection}
 
 pub record StoredSender : Type 0 where
@@ -62,4 +62,12 @@ stored_sent s stream count oldest =
     record s {
       waiting = if nat_lt s.known_received count then s.waiting ++ count ∷ [] else s.waiting;
       tracked = s.tracked ++ record { stream = stream; oldest = oldest } ∷ [];
+    }
+
+-- what is stored, after the newest section of the stream, which has that required insert count, was withdrawn
+abbrev pub stored_withdrawn : StoredSender → ℕ → ℕ → StoredSender
+stored_withdrawn s stream count =
+    record s {
+      waiting = without_newest (λ other. other == count) s.waiting;
+      tracked = if count == 0 then s.tracked else without_newest_of stream s.tracked;
     }

@@ -41,8 +41,12 @@ pub record IsFirstOf (stream : ℕ) (ts : List TrackedSection) (place : ℕ) : T
   pub before : list_any (is_of stream) (take place ts) ≡ false
   pub here : (t : TrackedSection) → t ≡ slice_index_or ts place t → is_of stream t ≡ true
 
+-- The item at the place passes, and none behind it.
+pub record IsLast {X : Type 0} (test : X → Bool) (xs : List X) (place : ℕ) : Type 0 where
+  pub inside : place < length xs
+  pub behind : list_any test (drop (place + 1) xs) ≡ false
+  pub here : (x : X) → x ≡ slice_index_or xs place x → test x ≡ true
+
 -- It is the last of its stream.
-pub record IsLastOf (stream : ℕ) (ts : List TrackedSection) (place : ℕ) : Type 0 where
-  pub inside : place < length ts
-  pub behind : list_any (is_of stream) (drop (place + 1) ts) ≡ false
-  pub here : (t : TrackedSection) → t ≡ slice_index_or ts place t → is_of stream t ≡ true
+abbrev pub IsLastOf : ℕ → List TrackedSection → ℕ → Type 0
+IsLastOf stream ts place = IsLast (is_of stream) ts place

@@ -1,11 +1,12 @@
 //! The dynamic table with what its sender goes by (RFC 9204, sections 2.1 and 3.2).
-ghost use Rattle.std.specs.Prelude.{◌≡◌, ℕ, ◌+◌, ◌-◌, ◌^◌, ◌<◌, ◌≤◌, List, [], ◌∷◌, ◌++◌, length, min, max, true, false, filter, nat_lt, IfSome, IfNone, IfOk, IfErr, OnErr, OnOk};
+ghost use Rattle.std.specs.Prelude.{◌≡◌, ℕ, ◌+◌, ◌-◌, ◌^◌, ◌<◌, ◌≤◌, List, [], ◌∷◌, ◌++◌, length, min, max, true, false, filter, nat_lt, IfSome, IfNone, ◌==◌, IfOk, IfErr, OnErr, OnOk};
 ghost use Rattle.std.specs.List.{list_any};
 ghost use Rattle.h3_field.specs.Field.{Field, field_size};
 ghost use Rattle.h3_qpack.specs.Held.{Held, no_entries, gone, newest_in, with_entry, with_capacity};
 ghost use Rattle.h3_qpack.specs.Matches.{matches};
-ghost use Rattle.h3_qpack.specs.Tracking.{is_of, is_free_to, without_oldest_of, without_newest_of};
-ghost use Rattle.h3_qpack.specs.Stored.{StoredSender, MayInsertInto, raised, stored_sent};
+ghost use Rattle.h3_qpack.specs.Sender.{without_newest};
+ghost use Rattle.h3_qpack.specs.Tracking.{IsLast, is_of, is_free_to, without_oldest_of, without_newest_of};
+ghost use Rattle.h3_qpack.specs.Stored.{StoredSender, MayInsertInto, raised, stored_sent, stored_withdrawn};
 ghost use Rattle.h3_field.specs.declared.dynamic.Error.TheVariants.{MaxBlockedStreamsTooLarge};
 
 use crate::entries::{Entries, MOST_INSERTIONS, Match, size_of};
@@ -41,6 +42,30 @@ impl Model for DynamicTable {
     ghost view = { stored_inside };
 
     ghost invariant = { IsTable };
+}
+
+/// The place of the newest one of the equal counts.
+fn last_equal(counts: &Vec<usize>, count: usize) -> Option<usize>
+    ensures some { IfSome result (IsLast (λ n. n == count) counts.now.items) }
+    ensures none { IfNone result (list_any (λ n. n == count) counts.now.items ≡ false) }
+{
+    let mut left = counts.len();
+    while left > 0 {
+        left -= 1;
+        if counts[left] == count {
+            return Some(left);
+        }
+    }
+    None
+}
+
+/// Removes the newest one of the equal counts.
+fn remove_newest(counts: &mut Vec<usize>, count: usize)
+    ensures { counts.new.items ≡ without_newest (λ n. n == count) counts.old.items }
+{
+    if let Some(place) = last_equal(counts, count) {
+        counts.remove(place);
+    }
 }
 
 impl DynamicTable {
@@ -205,5 +230,14 @@ impl DynamicTable {
         ensures after { self.new ≡ record self.old { tracked = without_oldest_of stream self.old.tracked } }
     {
         self.tracking.release(stream)
+    }
+    /// Takes back the newest section of a stream, which has that required insert count, as if it had not been sent.
+    pub(crate) fn withdraw(&mut self, stream: u64, count: usize)
+        ensures { self.new ≡ stored_withdrawn self.old stream count }
+    {
+        remove_newest(&mut self.waiting, count);
+        if count != 0 {
+            self.tracking.release_newest(stream);
+        }
     }
 }

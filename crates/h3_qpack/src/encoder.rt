@@ -3,7 +3,7 @@ ghost use Rattle.std.specs.Prelude.{◌≡◌, ◌<◌, ℕ, true, false, length
 ghost use Rattle.h3_field.specs.Reading.{Unfinished};
 ghost use Rattle.h3_field.specs.Shapes.{begins};
 ghost use Rattle.h3_field.specs.InstructionReading.{decoder_instruction};
-ghost use Rattle.h3_qpack.specs.Sender.{Sender, no_table, blocks_out};
+ghost use Rattle.h3_qpack.specs.Sender.{Sender, no_table, blocks_out, withdrawn};
 ghost use Rattle.h3_qpack.specs.Stored.{stored};
 ghost use Rattle.h3_qpack.specs.Instructions.{BeginsRefused};
 ghost use Rattle.h3_qpack.specs.Telling.{HasHeard, AnswersReplyAt, IsReplyRefusal};
@@ -149,5 +149,13 @@ impl Encoder {
             }
         }
         Ok(())
+    }
+
+    /// Takes back the newest section of a stream, where `count` is its required insert count, as if it had not been
+    /// written: for a section that is not sent after all. Its insertions stay.
+    pub fn withdraw(&mut self, stream: u64, count: usize)
+        ensures { (s : Sender) → self.old ≡ stored s → self.new ≡ stored (withdrawn s stream count) }
+    {
+        self.table.withdraw(stream, count);
     }
 }
