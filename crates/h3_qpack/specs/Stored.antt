@@ -1,11 +1,13 @@
 -- What an encoder keeps of its history.
-use Rattle.std.specs.Prelude.{◌≡◌, ◌<◌, ◌≤◌, ℕ, ◌+◌, ◌-◌, ◌^◌, true, min, max, List, [], ◌∷◌, ◌++◌, length, map, filter, fold, nat_lt, if◌then◌else◌, ◌==◌}
+use Rattle.std.specs.Prelude.{◌≡◌, ◌⊎◌, false, ◌<◌, ◌≤◌, ℕ, ◌+◌, ◌-◌, ◌^◌, true, min, max, List, [], ◌∷◌, ◌++◌, length, map, filter, fold, nat_lt, if◌then◌else◌, ◌==◌}
 use Rattle.h3_field.specs.Instruction.{DecoderInstruction}
 use Rattle.h3_field.specs.Instruction.DecoderInstruction.{Acknowledge, CancelStream, Increment}
 use Rattle.h3_qpack.specs.Tracking.{is_free_to, without_oldest_of, without_newest_of}
 use Rattle.h3_field.specs.Field.{Field, field_size}
 use Rattle.h3_qpack.specs.Table.{table}
-use Rattle.h3_qpack.specs.Held.{Held, gone, with_entry}
+use Rattle.h3_qpack.specs.Held.{Held, gone, with_entry, with_capacity}
+use Rattle.h3_field.specs.declared.dynamic.Error.{Error}
+use Rattle.h3_field.specs.declared.dynamic.Error.TheVariants.{MaximumTableSizeTooLarge, MaxTableSizeReached}
 use Rattle.h3_qpack.specs.Sender.{Sender, Tracked, without_newest}
 use Rattle.h3_qpack.specs.declared.tracking.TrackedSection.{TrackedSection}
 
@@ -71,3 +73,13 @@ stored_withdrawn s stream count =
       waiting = without_newest (λ other. other == count) s.waiting;
       tracked = if count == 0 then s.tracked else without_newest_of stream s.tracked;
     }
+
+-- The table may be given this capacity: no section that is tracked names an entry in the way.
+pub record MayHaveCapacity (s : StoredSender) (capacity : ℕ) : Type 0 where
+  pub small : capacity < 2 ^ 30
+  pub free : is_free_to (gone (with_capacity s.table capacity)) s.tracked ≡ true
+
+-- why it is not given
+abbrev pub IsCapacityRefusal : StoredSender → ℕ → Error → Type 0
+IsCapacityRefusal s capacity e = ((2 ^ 30 ≤ capacity) × (e ≡ MaximumTableSizeTooLarge))
+    ⊎ ((capacity < 2 ^ 30) × (is_free_to (gone (with_capacity s.table capacity)) s.tracked ≡ false) × (e ≡ MaxTableSizeReached))

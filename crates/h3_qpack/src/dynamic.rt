@@ -6,10 +6,10 @@ ghost use Rattle.h3_qpack.specs.Held.{Held, no_entries, gone, newest_in, with_en
 ghost use Rattle.h3_qpack.specs.Matches.{matches};
 ghost use Rattle.h3_qpack.specs.Sender.{without_newest};
 ghost use Rattle.h3_qpack.specs.Tracking.{IsLast, is_of, is_free_to, without_oldest_of, without_newest_of};
-ghost use Rattle.h3_qpack.specs.Stored.{StoredSender, MayInsertInto, raised, stored_sent, stored_withdrawn};
+ghost use Rattle.h3_qpack.specs.Stored.{StoredSender, MayInsertInto, MayHaveCapacity, IsCapacityRefusal, raised, stored_sent, stored_withdrawn};
 ghost use Rattle.h3_field.specs.declared.dynamic.Error.TheVariants.{MaxBlockedStreamsTooLarge};
 
-use crate::entries::{Entries, MOST_INSERTIONS, Match, size_of};
+use crate::entries::{Entries, MAX_CAPACITY, MOST_INSERTIONS, Match, size_of};
 use crate::tracking::{TrackedSection, Tracking};
 use h3_field::HeaderField;
 use h3_field::dynamic::Error;
@@ -151,6 +151,26 @@ impl DynamicTable {
             return Err(Error::MaxBlockedStreamsTooLarge);
         }
         self.limit = limit;
+        Ok(())
+    }
+
+    /// Sets the capacity, at most 2^30 - 1: the oldest entries give way, unless a tracked section names one of them.
+    pub fn set_max_size(&mut self, size: usize) -> Result<(), Error>
+        ensures ok { OnOk result (MayHaveCapacity self.old size × (self.new ≡ record self.old { table = with_capacity self.old.table size })) }
+        ensures err { IfErr result (λ e. IsCapacityRefusal self.old size e × (self.new ≡ self.old)) }
+    {
+        if size > MAX_CAPACITY {
+            return Err(Error::MaximumTableSizeTooLarge);
+        }
+        let inserted = self.entries.inserted();
+        let Some(after) = self.entries.gone_within(size, inserted) else {
+            return Err(Error::MaxTableSizeReached);
+        };
+        if !self.tracking.is_free_to(after) {
+            return Err(Error::MaxTableSizeReached);
+        }
+        self.entries.set_capacity(size);
+        self.tracking.drop_to(after);
         Ok(())
     }
 

@@ -170,16 +170,14 @@ impl Entries {
         None
     }
 
-    /// How many entries are gone once this field is inserted, unless that is above the most.
-    pub(crate) fn gone_after(&self, field: &HeaderField, most: usize) -> Option<usize>
-        requires fits { field_size field.now ≤ self.now.capacity }
-        requires may { gone self.now ≤ most }
-        ensures some { IfSome result (λ n. (n ≡ gone (with_entry self.now field.now)) × (n ≤ most)) }
+    /// How many entries are gone once the sizes of the others sum to at most the room, unless that is above the most.
+    pub(crate) fn gone_within(&self, room: usize, most: usize) -> Option<usize>
+        requires { gone self.now ≤ most }
+        ensures some { IfSome result (λ n. (n ≡ self.now.inserted - length (table room self.now.entries)) × (n ≤ most)) }
         ensures made { IfSome result (λ n. (gone self.now ≤ n) × (n ≤ self.now.inserted)) }
-        ensures none { IfNone result (most < gone (with_entry self.now field.now)) }
+        ensures none { IfNone result (most < self.now.inserted - length (table room self.now.entries)) }
     {
         let gone = self.inserted - self.fields.len();
-        let room = self.capacity - size_of(field);
         let mut sum = self.size;
         let mut dropped = 0;
         while sum > room {
@@ -193,6 +191,17 @@ impl Entries {
             dropped += 1;
         }
         Some(gone + dropped)
+    }
+
+    /// How many entries are gone once this field is inserted, unless that is above the most.
+    pub(crate) fn gone_after(&self, field: &HeaderField, most: usize) -> Option<usize>
+        requires fits { field_size field.now ≤ self.now.capacity }
+        requires may { gone self.now ≤ most }
+        ensures some { IfSome result (λ n. (n ≡ gone (with_entry self.now field.now)) × (n ≤ most)) }
+        ensures made { IfSome result (λ n. (gone self.now ≤ n) × (n ≤ self.now.inserted)) }
+        ensures none { IfNone result (most < gone (with_entry self.now field.now)) }
+    {
+        self.gone_within(self.capacity - size_of(field), most)
     }
 
     /// Sets the capacity: the oldest entries give way.

@@ -1,7 +1,7 @@
 use Rattle.std.proofs.Common.{◌≡◌, ◌≤◌, ◌+◌, ◌-◌, ℕ, List, length, drop}
 use Rattle.h3_field.specs.Field.{Field, section_size}
 use Rattle.h3_qpack.specs.Table.{table}
-use Rattle.h3_qpack.proofs.entries.Entries.gone_after.Given as goal
+use Rattle.h3_qpack.proofs.entries.Entries.gone_within.Given as goal
 
 pub record Invariant (es : List Field) (room sum dropped : ℕ) : Type 0 where
   pub inside : dropped ≤ length es
