@@ -7,9 +7,9 @@ use Rattle.h3_field.specs.InstructionReading.{decoder_instruction}
 use Rattle.h3_field.specs.declared.prefix_int.Error.TheVariants.{Overflow}
 use Rattle.h3_field.specs.declared.dynamic.Error.TheVariants.{UnknownStreamId}
 use Rattle.h3_field.specs.declared.encoder_error.EncoderError.{EncoderError}
-use Rattle.h3_field.specs.declared.encoder_error.EncoderError.TheVariants.{Insertion, InvalidInteger}
+use Rattle.h3_field.specs.declared.encoder_error.EncoderError.TheVariants.{Insertion, InvalidInteger, InvalidString, UnknownDecoderInstruction, OutOfMemory}
 use Rattle.h3_qpack.specs.Sender.{Sender, told, told_all, is_refused}
-use Rattle.h3_qpack.specs.Stored.{StoredSender, stored}
+use Rattle.h3_qpack.specs.Stored.{StoredSender, stored, IsCapacityRefusal}
 use Rattle.h3_qpack.specs.Instructions.{AreDecoderInstructions, AreAccepted, BeginsRefused}
 
 -- An encoder went from one value to another by the instructions in front of the bytes left: of each history that the first
@@ -41,3 +41,11 @@ abbrev pub AnswersReplyAt : StoredSender → StoredSender → List ℕ → List 
 AnswersReplyAt old new bytes left (Ok true) = HasHeardOne old new bytes left
 AnswersReplyAt old new bytes left (Ok false) = (decoder_instruction bytes ≡ Unfinished) × (new ≡ old) × (left ≡ bytes)
 AnswersReplyAt old new bytes left (Err e) = ((s : Sender) → old ≡ stored s → BeginsRefused s bytes) × IsReplyRefusal (decoder_instruction bytes) e × (new ≡ old) × (left ≡ bytes)
+
+-- why a table is not given a capacity: want of memory, or the table's own reason
+abbrev pub IsSizeRefusal : StoredSender → ℕ → EncoderError → Type 0
+IsSizeRefusal s capacity OutOfMemory = Unit {0}
+IsSizeRefusal s capacity (Insertion e) = IsCapacityRefusal s capacity e
+IsSizeRefusal s capacity (InvalidString e) = ⊥
+IsSizeRefusal s capacity (InvalidInteger e) = ⊥
+IsSizeRefusal s capacity (UnknownDecoderInstruction first) = ⊥

@@ -1,15 +1,21 @@
 //! An encoder with its dynamic table: what it is told of its receiver (RFC 9204, sections 2.1 and 4.4).
-ghost use Rattle.std.specs.Prelude.{◌≡◌, ◌<◌, ℕ, true, false, length, IfErr, OnOk};
+ghost use Rattle.std.specs.Prelude.{◌≡◌, ◌<◌, ◌++◌, ℕ, true, false, length, IfErr, OnOk};
 ghost use Rattle.h3_field.specs.Reading.{Unfinished};
 ghost use Rattle.h3_field.specs.Shapes.{begins};
 ghost use Rattle.h3_field.specs.InstructionReading.{decoder_instruction};
 ghost use Rattle.h3_qpack.specs.Sender.{Sender, no_table, blocks_out, withdrawn};
-ghost use Rattle.h3_qpack.specs.Stored.{stored};
+ghost use Rattle.h3_qpack.specs.Stored.{stored, MayHaveCapacity};
+ghost use Rattle.h3_qpack.specs.Held.{with_capacity};
+ghost use Rattle.h3_field.specs.Instruction.{encoder_bytes};
+ghost use Rattle.h3_field.specs.Instruction.EncoderInstruction.{SetCapacity};
 ghost use Rattle.h3_qpack.specs.Instructions.{BeginsRefused};
-ghost use Rattle.h3_qpack.specs.Telling.{HasHeard, AnswersReplyAt, IsReplyRefusal};
+ghost use Rattle.h3_qpack.specs.Telling.{HasHeard, AnswersReplyAt, IsReplyRefusal, IsSizeRefusal};
 
 use crate::dynamic::DynamicTable;
-use h3_field::stream::{DecoderInstruction, HeaderAck, InsertCountIncrement, StreamCancel};
+use crate::entries::MAX_CAPACITY;
+use h3_field::stream::{
+    DecoderInstruction, DynamicTableSizeUpdate, HeaderAck, InsertCountIncrement, StreamCancel,
+};
 use h3_field::{EncoderError, SliceCursor, dynamic};
 use std::alloc::Global;
 use std::marker::Model;
@@ -158,4 +164,28 @@ impl Encoder {
     {
         self.table.withdraw(stream, count);
     }
+}
+
+/// Sets the capacity of a table, and appends the instruction for it (RFC 9204, section 4.3.1). A refusal changes nothing.
+pub fn set_dynamic_table_size(
+    table: &mut DynamicTable,
+    out: &mut Vec<u8>,
+    size: usize,
+) -> Result<(), EncoderError>
+    ensures ok { OnOk result (MayHaveCapacity table.old size × (table.new ≡ record table.old { table = with_capacity table.old.table size })) }
+    ensures written { OnOk result (out.new.items ≡ out.old.items ++ encoder_bytes (SetCapacity size)) }
+    ensures err { IfErr result (λ e. IsSizeRefusal table.old size e × (table.new ≡ table.old) × (out.new.items ≡ out.old.items)) }
+{
+    if size > MAX_CAPACITY {
+        return Err(EncoderError::Insertion(dynamic::Error::MaximumTableSizeTooLarge));
+    }
+    let start = out.len();
+    if DynamicTableSizeUpdate(size).encode(out).is_err() {
+        return Err(EncoderError::OutOfMemory);
+    }
+    if let Err(e) = table.set_max_size(size) {
+        out.truncate(start);
+        return Err(EncoderError::Insertion(e));
+    }
+    Ok(())
 }

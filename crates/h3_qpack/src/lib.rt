@@ -14,7 +14,7 @@ mod tracking;
 
 pub use decoder::{Decoder, ack_header, stream_canceled};
 pub use dynamic::DynamicTable;
-pub use encoder::Encoder;
+pub use encoder::{Encoder, set_dynamic_table_size};
 pub use h3_field::{
     Decoded, DecoderError, EncoderError, Error, HeaderField, SliceCursor, decode_stateless,
     encode_stateless,

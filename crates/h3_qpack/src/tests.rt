@@ -1,6 +1,6 @@
 use crate::{
     Decoder, DecoderError, DynamicTable, Encoder, EncoderError, SliceCursor, ack_header,
-    stream_canceled,
+    set_dynamic_table_size, stream_canceled,
 };
 use h3_field::dynamic;
 use std::test::Fail;
@@ -107,5 +107,18 @@ fn leaves_an_acknowledgment_of_no_section(rt: HostRuntime) -> Result<(), Fail> {
     assert_eq!(rt; encoder.on_decoder_recv(&mut read), Ok(()));
     assert_eq!(rt; read.remaining(), 1);
     assert_eq!(rt; encoder.known_received(), 65);
+    Ok(())
+}
+
+#[test]
+fn writes_the_capacity_that_it_sets(rt: HostRuntime) -> Result<(), Fail> {
+    let mut table = DynamicTable::new(rt.alloc());
+    let mut out = Vec::new(rt.alloc());
+    assert_eq!(rt; set_dynamic_table_size(&mut table, &mut out, 220), Ok(()));
+    assert_eq!(rt;
+        set_dynamic_table_size(&mut table, &mut out, 1073741824),
+        Err(EncoderError::Insertion(dynamic::Error::MaximumTableSizeTooLarge))
+    );
+    assert_eq!(rt; out.as_slice(), [63, 189, 1].as_slice());
     Ok(())
 }
