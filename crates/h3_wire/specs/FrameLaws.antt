@@ -1,5 +1,6 @@
 -- What holds of the frame that bytes begin with, whatever follows them.
 use Rattle.std.proofs.Common.{◌≡◌, ℕ, ◌+◌, ◌-◌, ◌<◌, ◌≤◌, ◌^◌, ◌==◌, Bool, true, false, List, [], ◌∷◌, ◌++◌, length, take, drop, nat_lt, arith, lit<, sym, ◌∙◌, ap, ap₂, subst, refl, inl, inr, ◌⊎◌, append_assoc, append-nil, length-append, Option, Some, None, Result, Ok, Err, if◌then◌else◌}
+use Rattle.std.specs.Option.{is_some}
 use Rattle.std.proofs.lemmas.List.{take_at, drop_at, take-append-le, drop-append-le, length-drop, nil_from_length}
 use Rattle.std.proofs.lemmas.Bool.{cases_lt, lt-ltb, le-ltb}
 use Rattle.h3_coding.specs.Encodings.{encoding}
@@ -12,7 +13,7 @@ use Rattle.h3_wire.specs.declared.proto.frame.Frame.{Frame}
 use Rattle.h3_wire.specs.declared.proto.frame.Frame.TheVariants as frame
 use Rattle.h3_wire.specs.declared.proto.frame.FrameError.{FrameError}
 use Rattle.h3_wire.specs.declared.proto.frame.FrameError.TheVariants as error
-use Rattle.h3_wire.specs.Frames.{Front, Whole, Unknown, Refused, Unfinished, alone, one_number, settings_frame, promise_frame, is_http2, frame_of, with_head, with_number, with_kind, frame_at}
+use Rattle.h3_wire.specs.Frames.{Front, Whole, Unknown, Refused, Unfinished, alone, one_number, settings_frame, promise_frame, is_http2, frame_of, with_head, with_number, with_kind, frame_at, is_followed, has_head}
 
 -- the three ways in which a front is read
 pub at_no_kind : (bytes : List ℕ) → varint_at bytes ≡ None → frame_at bytes ≡ Unfinished (length bytes + 1)
@@ -154,7 +155,11 @@ frame_at-more bytes more h = elim (cases_number bytes) [
   ]
 ]
 
-least_of : {a b : ℕ} → Unfinished a ≡ Unfinished b → a ≡ b
+-- a test has one value
+pub truth_apart : true ≡ false → ⊥
+truth_apart e = absurd (cc)
+
+pub least_of : {a b : ℕ} → Unfinished a ≡ Unfinished b → a ≡ b
 least_of e = cc
 
 nothing_more : (front more : List ℕ) (least : ℕ) → frame_at front ≡ Unfinished least → frame_at front ≡ Unfinished (length front + 1) → length (front ++ more) < least → (k : ℕ) × (frame_at (front ++ more) ≡ Unfinished k)
@@ -191,6 +196,36 @@ frame_at-fewer front more least e few = elim (cases_number front) [
         let inside : length n.1 ≤ length front = omega (arith, shorter k.0 front k.1 k.2, shorter n.0 k.1 n.1 n.2) in
         let still = waits_on (k.0 == 0x41) (k.0 == 0) (length front) (length (front ++ more)) k.0 n.0 least n.1 more here inside (length-append front more) few in
         (still.0, there ∙ still.1)
+  ]
+]
+
+payload_there : (size size' kind number least : ℕ) (behind more : List ℕ) → (nat_lt (length behind) number ≡ true) × (length behind < number) ⊎ (nat_lt (length behind) number ≡ false) × (number ≤ length behind)
+    → tested false false size kind number behind ≡ Unfinished least → length behind ≤ size → size' ≡ size + length more → least ≤ size' → IsFinished (tested false false size' kind number (behind ++ more))
+payload_there size size' kind number least behind more (inl t) e inside sum enough =
+    let asked : size - length behind + number ≡ least = least_of (rw t.0 at e) in
+    let there : number ≤ length (behind ++ more) = omega (arith, length-append behind more, asked, enough, inside, sum) in
+    rw (le-ltb (length (behind ++ more)) number there) (frame_of-finished kind (take number (behind ++ more)) (drop number (behind ++ more))).0
+payload_there size size' kind number least behind more (inr t) e inside sum enough =
+    let f = rw t.0 at e in
+    absurd (subst IsFinished f (frame_of-finished kind (take number behind) (drop number behind)).0)
+
+head_and_payload : (a b : Bool) (size size' kind number least : ℕ) (behind more : List ℕ) → tested a b size kind number behind ≡ Unfinished least → length behind ≤ size → size' ≡ size + length more → least ≤ size'
+    → IsFinished (tested a b size' kind number (behind ++ more))
+head_and_payload true b size size' kind number least behind more e inside sum enough = absurd (cc)
+head_and_payload false true size size' kind number least behind more e inside sum enough = absurd (cc)
+head_and_payload false false size size' kind number least behind more e inside sum enough = payload_there size size' kind number least behind more (short_or_whole number behind) e inside sum enough
+
+-- as many bytes as a front with a whole head asked for wait no longer
+pub frame_at-enough : (front more : List ℕ) (least : ℕ) → has_head front ≡ true → frame_at front ≡ Unfinished least → least ≤ length (front ++ more) → IsFinished (frame_at (front ++ more))
+frame_at-enough front more least whole e enough = elim (cases_number front) [
+  | inl none ↦ absurd (truth_apart (sym whole ∙ ap is_followed none))
+  | inr k ↦ elim (cases_number k.1) [
+    | inl none ↦ absurd (truth_apart (sym whole ∙ ap is_followed k.2 ∙ ap is_some none))
+    | inr n ↦
+        let here = sym (at_head k.0 n.0 front k.1 n.1 k.2 n.2) ∙ e in
+        let there = at_head k.0 n.0 (front ++ more) (k.1 ++ more) (n.1 ++ more) (reads_more k.0 front k.1 more k.2) (reads_more n.0 k.1 n.1 more n.2) in
+        let inside : length n.1 ≤ length front = omega (arith, shorter k.0 front k.1 k.2, shorter n.0 k.1 n.1 n.2) in
+        subst IsFinished (sym there) (head_and_payload (k.0 == 0x41) (k.0 == 0) (length front) (length (front ++ more)) k.0 n.0 least n.1 more here inside (length-append front more) enough)
   ]
 ]
 

@@ -1,6 +1,7 @@
 -- What bytes begin with, as frames (RFC 9114, section 7.1).
-use Rattle.std.specs.Prelude.{◌≡◌, ℕ, zero, suc, ◌<◌, ◌+◌, ◌-◌, ◌==◌, Bool, List, [], ◌∷◌, length, take, drop, nat_lt, if◌then◌else◌, Option, Some, None, Result, Ok, Err}
+use Rattle.std.specs.Prelude.{◌≡◌, ℕ, zero, suc, ◌<◌, ◌+◌, ◌-◌, ◌==◌, Bool, false, List, [], ◌∷◌, length, take, drop, nat_lt, if◌then◌else◌, Option, Some, None, Result, Ok, Err}
 use Rattle.std.specs.List.{list_any}
+use Rattle.std.specs.Option.{is_some}
 use Rattle.h3_coding.specs.Varint.{varint_at}
 use Rattle.h3_proto.specs.Settings.{settings_of}
 use Rattle.h3_proto.specs.declared.frame.SettingsError.{SettingsError}
@@ -76,6 +77,15 @@ with_kind size (Some p) = with_number size p.0 (varint_at p.1)
 -- what the bytes begin with
 unfoldable pub frame_at : List ℕ → Front
 frame_at bytes = with_kind (length bytes) (varint_at bytes)
+
+-- behind the type there is a whole number
+abbrev pub is_followed : Option (ℕ × List ℕ) → Bool
+is_followed None = false
+is_followed (Some p) = is_some (varint_at p.1)
+
+-- the bytes begin with a whole head: a type, and the number behind it
+abbrev pub has_head : List ℕ → Bool
+has_head bytes = is_followed (varint_at bytes)
 
 -- only a frame whose payload is handed out wants memory
 abbrev pub TakesMemory : Front → Type 0

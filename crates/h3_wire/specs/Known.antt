@@ -47,11 +47,6 @@ Gives (Err stream.OutOfMemory) old new = (new ≡ known old) × TakesMemory (fra
 Gives (Err (stream.Quic e)) old new = ⊥
 Gives (Err stream.UnexpectedEnd) old new = ⊥
 
--- The bytes begin with those that an earlier try found to be less than a frame, and so many are needed for the next.
-abbrev pub Expects : Option ℕ → List ℕ → Type 0
-Expects None bytes = Unit {0}
-Expects (Some least) bytes = (front : List ℕ) × (more : List ℕ) × (bytes ≡ front ++ more) × (frame_at front ≡ Unfinished least)
-
 -- a try takes the frame at the front, an unknown one too, and else nothing
 abbrev pub Tries : Tried → Front → List ℕ → List ℕ → Type 0
 Tries (tried.Frame f) front old new = front ≡ Whole f new

@@ -4,7 +4,7 @@ use Rattle.std.specs.Option.{unwrap_or}
 use Rattle.std.proofs.lemmas.List.{nil_from_length}
 use Rattle.h3_wire.specs.Frames.{Front, Whole, Unknown, Refused, Unfinished, frame_at}
 use Rattle.h3_wire.specs.FrameLaws.{IsFinished, with_more, IsShorter, frame_at-more, frame_at-fewer, frame_at-shorter, frame_at-nil}
-use Rattle.h3_wire.specs.Known.{past_unknown, skipped, known, IsWaiting, Expects}
+use Rattle.h3_wire.specs.Known.{past_unknown, skipped, known, IsWaiting}
 
 -- no unknown frame
 abbrev pub IsKnown : Front → Type 0
@@ -89,26 +89,6 @@ known_is bytes = known_is_within (length bytes) bytes (omega arith)
 
 pub known_known : (bytes : List ℕ) → known (known bytes) ≡ known bytes
 known_known bytes = known-other (known bytes) (known_is bytes)
-
--- more bytes at the end keep what a decoder expects
-pub Expects-more : (expected : Option ℕ) (bytes more : List ℕ) → Expects expected bytes → Expects expected (bytes ++ more)
-Expects-more None bytes more h = tt
-Expects-more (Some least) bytes more h = (h.0, h.1 ++ more, ap (λ l. l ++ more) h.2 ∙ append_assoc h.0 h.1 more, h.3)
-
--- too few bytes are still waiting
-pub still_waiting : (least : ℕ) (bytes : List ℕ) → Expects (Some least) bytes → length bytes < least → (known bytes ≡ bytes) × IsWaiting (frame_at bytes)
-still_waiting least bytes h few =
-    let size : length (h.0 ++ h.1) < least = subst (λ l. length l < least) h.2 few in
-    let w = frame_at-fewer h.0 h.1 least h.3 size in
-    let here : frame_at bytes ≡ Unfinished w.0 = ap frame_at h.2 ∙ w.1 in
-    (known-other bytes (subst IsKnown (sym here) tt), subst IsWaiting (sym here) tt)
-
--- and so are none
-pub too_few : (expected : Option ℕ) (bytes : List ℕ) → Expects expected bytes → length bytes < unwrap_or expected 1 → (known bytes ≡ bytes) × IsWaiting (frame_at bytes)
-too_few None bytes h few =
-    let here : frame_at bytes ≡ Unfinished 1 = ap frame_at (nil_from_length bytes (omega arith)) ∙ frame_at-nil in
-    (known-other bytes (subst IsKnown (sym here) tt), subst IsWaiting (sym here) tt)
-too_few (Some least) bytes h few = still_waiting least bytes h few
 
 -- nothing is added
 known_length_within : (n : ℕ) (bytes : List ℕ) → length bytes ≤ n → length (known bytes) ≤ length bytes

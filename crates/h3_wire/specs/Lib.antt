@@ -19,3 +19,5 @@ pub mod Accepting
 pub mod Accepted
 pub mod AcceptingLaws
 pub mod Buffering
+pub mod Tries
+pub mod TryLaws

@@ -33,14 +33,14 @@ pub struct FrameStream<S> {
 
 impl<S> Model for FrameStream<S> {
     ghost use Rattle.std.specs.Prelude.{◌≡◌, true, None};
-    ghost use Rattle.h3_wire.specs.Known.{Expects};
+    ghost use Rattle.h3_wire.specs.Tries.{Expects};
     ghost use Rattle.h3_wire.specs.Streams.{Framing, is_open};
 
     ghost Value = { Framing S };
 
     ghost view = { λ s. record { buffered = s.stream.buffered; source = s.stream.source; is_eos = s.stream.is_eos; payload = s.payload } };
 
-    ghost invariant = { λ s. Expects s.decoder s.stream.buffered × (is_open s.payload ≡ true → s.decoder ≡ None) };
+    ghost invariant = { λ s. Expects s.decoder s.stream.buffered × (is_open s.payload ≡ true → s.decoder.expected ≡ None) };
 }
 
 // The payload that is under way behind a frame.

@@ -5,7 +5,8 @@ ghost use Rattle.std.specs.Borrow.{Lends, sem};
 ghost use Rattle.h3_wire.specs.contracts.stream.BufRecvStream.{the_row};
 ghost use Rattle.h3_wire.specs.Accepting.{TakesNumber};
 ghost use Rattle.h3_wire.specs.Buffering.{left_behind, AnswersFrom, polls_behind, same_behind};
-ghost use Rattle.h3_wire.specs.Known.{Gives, Expects};
+ghost use Rattle.h3_wire.specs.Known.{Gives};
+ghost use Rattle.h3_wire.specs.Tries.{Expects};
 ghost use Rattle.h3_wire.specs.Streams.{ReadsMore, Tells, Adds, EndIsTold, AsksFirst, stream_error, error_of};
 
 use crate::buf::BufList;
@@ -184,7 +185,7 @@ impl<S: RecvStream> BufRecvStream<S> {
         requires expects { Expects decoder.old self.old.buffered }
         ensures gives { Gives result self.old.buffered self.new.buffered }
         ensures expects { Expects decoder.new self.new.buffered }
-        ensures fresh { IfOk result (λ o. IfSome o (λ f. decoder.new ≡ None)) }
+        ensures fresh { IfOk result (λ o. IfSome o (λ f. decoder.new.expected ≡ None)) }
         ensures source { self.new.source ≡ self.old.source }
         ensures is_eos { self.new.is_eos ≡ self.old.is_eos }
     {

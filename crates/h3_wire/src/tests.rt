@@ -1,4 +1,5 @@
 //! What no clause says, and worked examples.
+mod decoder;
 mod feed;
 mod frames;
 mod streams;

@@ -1,7 +1,8 @@
 //! Reading the frames of a buffer, one after another.
-ghost use Rattle.std.specs.Prelude.{◌≡◌, None, IfOk, IfSome};
-ghost use Rattle.h3_wire.specs.Frames.{frame_at};
-ghost use Rattle.h3_wire.specs.Known.{Gives, Expects, Tries};
+ghost use Rattle.std.specs.Prelude.{◌≡◌, ◌<◌, ◌≤◌, None, false, length, IfOk, IfSome};
+ghost use Rattle.h3_wire.specs.Frames.{frame_at, has_head};
+ghost use Rattle.h3_wire.specs.Known.{Gives, Tries};
+ghost use Rattle.h3_wire.specs.Tries.{Counts, Expects, counted, needed, one_more};
 
 use super::errors::{FrameProtocolError, FrameStreamError};
 use crate::buf::BufList;
@@ -10,25 +11,33 @@ use bytes::{Buf, Bytes};
 use std::alloc::Global;
 use std::marker::Model;
 
-/// Reads frames off a buffer. It keeps how many bytes the next try needs.
+/// Reads frames off a buffer. It keeps how many bytes the next try needs, and how often the frame
+/// at the front was tried.
 #[derive(Drop)]
 pub struct FrameDecoder {
     expected: Option<usize>,
+    tries: u8,
 }
 
 impl Model for FrameDecoder {
-    ghost use Rattle.std.specs.Prelude.{ℕ, Option};
+    ghost use Rattle.std.specs.Prelude.{◌≤◌};
+    ghost use Rattle.h3_wire.specs.Tries.{Decoding};
 
-    ghost Value = { Option ℕ };
+    ghost Value = { Decoding };
 
-    ghost view = { λ d. d.expected };
+    ghost view = { λ d. record { expected = d.expected; tries = d.tries } };
+
+    ghost invariant = { λ d. d.tries ≤ 17 };
 }
 
 impl Default for FrameDecoder {
-    ghost is_default = { λ d. d ≡ None };
+    ghost is_default = { λ d. d ≡ record { expected = None; tries = 0 } };
 
     fn default() -> Self {
-        FrameDecoder { expected: None }
+        FrameDecoder {
+            expected: None,
+            tries: 0,
+        }
     }
 }
 
@@ -43,6 +52,35 @@ pub(crate) enum Tried {
 }
 
 impl FrameDecoder {
+    /// How often the frame under way was tried, or else the last one that was taken, an unknown one
+    /// too: at most 17 times, and 0 before the first. A try does not count that ends for want of
+    /// memory or at a frame that is refused.
+    pub fn tries(&self) -> u8
+        ensures value { result ≡ self.now.tries }
+        ensures bound { result ≤ 17 }
+    {
+        self.tries
+    }
+
+    // How many bytes the next try needs.
+    fn needed(&self) -> usize
+        ensures { result ≡ needed self.now }
+    {
+        self.expected.unwrap_or(1)
+    }
+
+    // Counts a try, after which so many bytes are expected.
+    fn count(&mut self, expected: Option<usize>)
+        requires { one_more self.old.expected self.old.tries ≤ 17 }
+        ensures { self.new ≡ counted self.old expected }
+    {
+        self.tries = match self.expected {
+            Some(_) => self.tries + 1,
+            None => 1,
+        };
+        self.expected = expected;
+    }
+
     /// Takes the next known frame, of DATA the head alone, and the unknown ones before it. Without
     /// a whole frame, and at an error, only unknown frames are taken. Where a call answered no
     /// frame, the next one must find the bytes that it left, and may find more behind them.
@@ -54,20 +92,21 @@ impl FrameDecoder {
         requires expects { Expects self.old src.old.bytes }
         ensures gives { Gives result src.old.bytes src.new.bytes }
         ensures expects { Expects self.new src.new.bytes }
-        ensures fresh { IfOk result (λ o. IfSome o (λ f. self.new ≡ None)) }
+        ensures fresh { IfOk result (λ o. IfSome o (λ f. self.new.expected ≡ None)) }
+        ensures counts { Counts self.old src.old.bytes result self.new }
     {
         loop {
-            if src.remaining() < self.expected.unwrap_or(1) {
+            if src.remaining() < self.needed() {
                 return Ok(None);
             }
             match try_frame(alloc, src) {
                 Tried::Frame(frame) => {
-                    self.expected = None;
+                    self.count(None);
                     return Ok(Some(frame));
                 }
-                Tried::Unknown => self.expected = None,
+                Tried::Unknown => self.count(None),
                 Tried::Waits(least) => {
-                    self.expected = Some(least);
+                    self.count(Some(least));
                     return Ok(None);
                 }
                 Tried::Refused(e) => return Err(FrameStreamError::Proto(e)),
@@ -79,7 +118,8 @@ impl FrameDecoder {
 
 // Takes the frame at the front, an unknown one too. Anything else takes nothing.
 fn try_frame(alloc: Global, src: &mut BufList<Bytes>) -> Tried
-    ensures { Tries result (frame_at src.old.bytes) src.old.bytes src.new.bytes }
+    ensures tries { Tries result (frame_at src.old.bytes) src.old.bytes src.new.bytes }
+    ensures few { has_head src.old.bytes ≡ false → length src.old.bytes < 16 }
 {
     let mut cursor = src.cursor();
     let decoded = Frame::decode(alloc, &mut cursor);

@@ -1,7 +1,7 @@
 //! How a frame is read (RFC 9114, section 7.1).
-ghost use Rattle.std.specs.Prelude.{◌≡◌, ◌≤◌, [], length, take, drop, IfOk, IfErr, Some};
+ghost use Rattle.std.specs.Prelude.{◌≡◌, ◌<◌, ◌≤◌, false, [], length, take, drop, IfOk, IfErr, Some};
 ghost use Rattle.h3_coding.specs.Varint.{varint_at};
-ghost use Rattle.h3_wire.specs.Frames.{frame_at, frame_of, Decodes, IsNoNumber};
+ghost use Rattle.h3_wire.specs.Frames.{frame_at, frame_of, has_head, Decodes, IsNoNumber};
 ghost use Rattle.h3_wire.specs.declared.proto.frame.FrameError.TheVariants as error;
 
 use super::{Frame, FrameError, FrameType, PayloadLen, PushPromise, Settings};
@@ -23,6 +23,7 @@ impl Frame<PayloadLen> {
     /// PUSH_PROMISE want memory.
     pub fn decode<B: Buf>(alloc: Global, buf: &mut B) -> Result<Self, FrameError>
         ensures decodes { Decodes result (frame_at (B.unread buf.old)) (B.unread buf.new) }
+        ensures few { has_head (B.unread buf.old) ≡ false → length (B.unread buf.old) < 16 }
         ensures kept { B.kept buf.new ≡ B.kept buf.old }
     {
         let remaining = buf.remaining();

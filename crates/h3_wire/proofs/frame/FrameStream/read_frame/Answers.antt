@@ -1,7 +1,7 @@
 use Rattle.std.proofs.Common.{◌≡◌, ◌++◌, ℕ, List, [], true, length, arith, sym, ◌∙◌, ap, ap₂, subst, refl, rules}
 use Rattle.h3_wire.specs.Source.{coming}
-use Rattle.h3_wire.specs.Known.{Expects}
-use Rattle.h3_wire.specs.KnownLaws.{Expects-more}
+use Rattle.h3_wire.specs.Tries.{Expects}
+use Rattle.h3_wire.specs.TryLaws.{Awaits-more}
 use Rattle.h3_wire.specs.Streams.{Framing, left}
 use Rattle.h3_wire.specs.declared.quic.Poll.TheVariants.{Pending}
 use Rattle.h3_wire.proofs.TakenFrames.{taken, Taken, taken_fewer, polls_error, polls_frame, polls_same, polls_end, polls_failed}
@@ -10,12 +10,12 @@ use Rattle.h3_wire.proofs.frame.FrameStream.read_frame.Goals as goal
 pub invariant_of-self : goal.invariant_of-self
 invariant_of-self g c =
     let more = c.receive.ensures.grows in
-    (subst (λ l. Expects c.self.inside.decoder l) (sym more.1) (Expects-more c.self.inside.decoder c.self.inside.stream.buffered more.0 c.self.invariant.0), c.self.invariant.1)
+    (subst (λ l. Expects c.self.inside.decoder l) (sym more.1) (Awaits-more c.self.inside.decoder.expected c.self.inside.decoder.tries c.self.inside.stream.buffered more.0 c.self.invariant.0), c.self.invariant.1)
 
 pub take_frame-requires : goal.take_frame-requires
 take_frame-requires g c =
     let more = c.receive.ensures.grows in
-    record { expects = subst (λ l. Expects c.self.inside.decoder l) (sym more.1) (Expects-more c.self.inside.decoder c.self.inside.stream.buffered more.0 c.self.invariant.0) }
+    record { expects = subst (λ l. Expects c.self.inside.decoder l) (sym more.1) (Awaits-more c.self.inside.decoder.expected c.self.inside.decoder.tries c.self.inside.stream.buffered more.0 c.self.invariant.0) }
 
 pub returns-in-Err-take_frame-clause-polls : goal.returns-in-Err-take_frame-clause-polls
 returns-in-Err-take_frame-clause-polls g c =
