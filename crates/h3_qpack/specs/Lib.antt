@@ -15,6 +15,7 @@ pub mod Instructions
 pub mod Tracking
 pub mod TrackingInside
 pub mod Stored
+pub mod Drafting
 pub mod TableInside
 pub mod SectionAnswers
 pub mod InstructionAnswers

@@ -56,7 +56,7 @@ impl Model for Decoder {
 }
 
 /// A field with copies of the bytes of another.
-fn copy_of(alloc: Global, field: &HeaderField) -> Result<HeaderField, AllocError>
+pub(crate) fn copy_of(alloc: Global, field: &HeaderField) -> Result<HeaderField, AllocError>
     ensures { IfOk result (λ f. f ≡ field.now) }
 {
     let name = Vec::from_slice(alloc, field.name())?;

@@ -7,6 +7,7 @@ ghost use Rattle.h3_qpack.specs.Matches.{matches};
 ghost use Rattle.h3_qpack.specs.Sender.{without_newest};
 ghost use Rattle.h3_qpack.specs.Tracking.{IsLast, is_of, is_free_to, without_oldest_of, without_newest_of};
 ghost use Rattle.h3_qpack.specs.Stored.{StoredSender, MayInsertInto, MayHaveCapacity, IsCapacityRefusal, raised, stored_sent, stored_withdrawn};
+ghost use Rattle.h3_qpack.specs.Drafting.{IsSmall};
 ghost use Rattle.h3_field.specs.declared.dynamic.Error.TheVariants.{MaxBlockedStreamsTooLarge};
 
 use crate::entries::{Entries, MAX_CAPACITY, MOST_INSERTIONS, Match, size_of};
@@ -88,6 +89,11 @@ impl DynamicTable {
         self.entries
     }
 
+    /// Where the table takes its memory.
+    pub(crate) fn alloc(&self) -> Global {
+        *self.waiting.allocator()
+    }
+
     pub(crate) fn capacity(&self) -> usize
         ensures value { result ≡ self.now.table.capacity }
         ensures small { result < 2 ^ 30 }
@@ -129,6 +135,14 @@ impl DynamicTable {
         self.limit
     }
 
+    /// It does nothing: a proof that needs the fact calls it.
+    pub(crate) fn is_small(&self)
+        ensures { IsSmall self.now }
+    {
+        self.tracking.names_entries();
+        self.entries.inserted();
+    }
+
     pub(crate) fn newest(
         &self,
         what: Match,
@@ -137,7 +151,8 @@ impl DynamicTable {
         most: usize,
     ) -> Option<usize>
         requires { gone self.now.table ≤ above }
-        ensures { result ≡ newest_in self.now.table (matches what field.now) above most }
+        ensures value { result ≡ newest_in self.now.table (matches what field.now) above most }
+        ensures within { IfSome result (λ n. (above < n) × (n ≤ most) × (n ≤ self.now.table.inserted)) }
     {
         self.entries.newest(what, field, above, most)
     }

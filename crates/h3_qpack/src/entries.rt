@@ -153,7 +153,8 @@ impl Entries {
         most: usize,
     ) -> Option<usize>
         requires { gone self.now ≤ above }
-        ensures { result ≡ newest_in self.now (matches what field.now) above most }
+        ensures value { result ≡ newest_in self.now (matches what field.now) above most }
+        ensures within { IfSome result (λ n. (above < n) × (n ≤ most) × (n ≤ self.now.inserted)) }
     {
         let gone = self.inserted - self.fields.len();
         let lowest = above - gone;

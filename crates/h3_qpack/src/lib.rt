@@ -8,9 +8,11 @@ mod entries;
 pub mod examples;
 mod increment;
 pub mod laws;
+mod section;
 #[cfg(test)]
 mod tests;
 mod tracking;
+mod writing;
 
 pub use decoder::{Decoder, ack_header, stream_canceled};
 pub use dynamic::DynamicTable;

@@ -1,7 +1,7 @@
 //! Sections that are sent and neither acknowledged nor canceled (RFC 9204, sections 2.1.1 and 2.1.2), and how many of
 //! them hold each entry.
 ghost use Rattle.std.specs.Prelude.{◌≡◌, ℕ, ◌+◌, ◌-◌, ◌^◌, ◌<◌, ◌≤◌, List, [], ◌∷◌, ◌++◌, length, true, false, drop, IfSome, IfNone, OnErr, OnOk};
-ghost use Rattle.std.specs.List.{list_any, remove};
+ghost use Rattle.std.specs.List.{list_any, remove, AllByRecursion};
 ghost use Rattle.h3_qpack.specs.Tracking.{Holds, is_of, held_by, is_free_to, without_oldest_of, without_newest_of, IsFirstOf, IsLastOf};
 
 use std::alloc::{AllocError, Global};
@@ -82,6 +82,13 @@ impl Tracking {
             gone: 0,
             sections: VecDeque::new(alloc),
         }
+    }
+
+    /// The oldest entry of each section has a number from 1. It does nothing: a proof that needs the fact calls it.
+    pub(crate) fn names_entries(&self)
+        ensures { AllByRecursion (λ t. 0 < t.oldest) self.now.sections }
+    {
+        self.sections.len();
     }
 
     /// Whether no section names an entry up to that number.

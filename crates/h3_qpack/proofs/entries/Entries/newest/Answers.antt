@@ -40,8 +40,8 @@ passes h test above most left entry i more low at is =
           ∙ is_passed_over test above most (gone h + 1) (left - 1) h.entries entry at (omega (arith, more, low)) (omega (arith, more, i.within)) is;
     }
 
-pub returns-then-is_met : goal.returns-then-is_met
-returns-then-is_met c =
+pub returns-then-is_met-clause-value : goal.returns-then-is_met-clause-value
+returns-then-is_met-clause-value c =
     let i = rw (← c.self.view_is) at c.loop-left.invariant in
     let low = rw (← c.self.view_is) at c.requires in
     let at : AtEntry c.self.inside.fields.items (c.loop-left.left - 1) c.in-Some.entry.now = record { inside = omega (arith, i.inside); is = c.in-Some.ensures.lookup } in
@@ -57,8 +57,8 @@ loop-left-preserved c =
     rw (← c.self.view_is)
     (passes _ (matches c.args.what c.args.field.now) c.args.above c.args.most c.loop-left.left c.in-Some.entry.now i (omega arith) low at (sym c.is_met.ensures ∙ c.if-is_met.false))
 
-pub returns : goal.returns
-returns c =
+pub returns-clause-value : goal.returns-clause-value
+returns-clause-value c =
     let i = rw (← c.self.view_is) at c.loop-left.invariant in
     let low = rw (← c.self.view_is) at c.requires in
     rw (← c.self.view_is) (sym (i.same ∙ is_over (matches c.args.what c.args.field.now) c.args.above c.args.most _ c.loop-left.left c.self.inside.fields.items i.inside (omega arith)))

@@ -1,0 +1,119 @@
+-- A field section under way: what is kept and written goes with the draft, field by field.
+use Rattle.std.proofs.Common.{◌≡◌, inl, inr, ℕ, ◌+◌, ◌-◌, ◌^◌, ◌<◌, ◌≤◌, List, [], ◌∷◌, ◌++◌, length, min, max, map, refl, sym, ◌∙◌, ap, subst, arith, append-nil, flat_map, fold}
+use Rattle.std.specs.List.{AllByRecursion}
+use Rattle.std.proofs.lemmas.List.{flat_map_more}
+use Rattle.std.proofs.lemmas.List.Sums.{fold_push}
+use Rattle.h3_field.specs.Field.{Field, field_size}
+use Rattle.h3_field.specs.Line.{FieldLine, line_bytes}
+use Rattle.h3_field.specs.Line.{FieldLine as line}
+use Rattle.h3_field.specs.Instruction.{encoder_bytes}
+use Rattle.h3_qpack.specs.Held.{gone, with_entry}
+use Rattle.h3_qpack.specs.Sender.{Sender, Tracked}
+use Rattle.h3_qpack.specs.Stored.{StoredSender, stored, stored_section, least}
+use Rattle.h3_qpack.specs.Written.{Draft, add_line, add_inserted, add_field, entry_name_line, dropped_by, insertion, required_insert_count}
+use Rattle.h3_qpack.specs.Drafting.{IsKept, IsDrafted, IsSmall, IsChosen, IsPossible, line_for, section_after, kept_after, instructions_after, naming, oldest_of}
+use Rattle.h3_qpack.specs.declared.section.Section.{Section}
+use Rattle.h3_qpack.specs.declared.section.Choice.{Choice}
+use Rattle.h3_qpack.specs.declared.section.Choice.TheVariants as choice
+use Rattle.h3_qpack.proofs.Kept.{held_of, with_entry-held}
+use Rattle.h3_qpack.proofs.Choices.{NameEntries}
+use Rattle.h3_qpack.proofs.Chosen.{drafted, rule_kept, insertion_kept}
+
+oldest_more : (ns : List ℕ) (n oldest : ℕ) → oldest ≡ oldest_of ns → min oldest n ≡ oldest_of (ns ++ n ∷ [])
+oldest_more ns n oldest e = ap (λ k. min k n) e ∙ sym (fold_push min (2 ^ 64 - 1) ns n)
+
+newest_more : (ns : List ℕ) (n newest : ℕ) → newest ≡ fold max 0 ns → max newest n ≡ fold max 0 (ns ++ n ∷ [])
+newest_more ns n newest e = ap (λ k. max k n) e ∙ sym (fold_push max 0 ns n)
+
+lines_more : (ls : List FieldLine) (l m : FieldLine) (lines : List ℕ) → lines ≡ flat_map line_bytes ls → l ≡ m → lines ++ line_bytes l ≡ flat_map line_bytes (ls ++ m ∷ [])
+lines_more ls l m lines e same = ap (λ bytes. bytes ++ line_bytes l) e ∙ ap (λ k. flat_map line_bytes ls ++ line_bytes k) same ∙ flat_map_more line_bytes [] ls m
+
+-- a line that names nothing
+plain_drafted : (s : Sender) (d : Draft) (t : StoredSender) (section : Section) (lines start told : List ℕ) (l : FieldLine) → IsDrafted s d t section lines start told
+    → IsDrafted s (add_line d l []) t section (lines ++ line_bytes l) start (told ++ [])
+plain_drafted s d t section lines start told l h =
+    record {
+      kept = record {
+        stores = h.kept.stores;
+        base = h.kept.base;
+        may_wait = h.kept.may_wait;
+        oldest = h.kept.oldest ∙ ap oldest_of (sym (append-nil d.references));
+        newest = h.kept.newest ∙ ap (λ ns. fold max 0 ns) (sym (append-nil d.references));
+      };
+      lines_are = lines_more d.lines l l lines h.lines_are refl;
+      told_is = append-nil told ∙ h.told_is;
+    }
+
+-- a line that names an entry
+entry_drafted : (s : Sender) (d : Draft) (t : StoredSender) (section : Section) (lines start told : List ℕ) (l m : FieldLine) (number : ℕ) → IsDrafted s d t section lines start told → l ≡ m
+    → IsDrafted s (add_line d m (number ∷ [])) t (naming section number) (lines ++ line_bytes l) start (told ++ [])
+entry_drafted s d t section lines start told l m number h same =
+    record {
+      kept = record {
+        stores = h.kept.stores;
+        base = h.kept.base;
+        may_wait = h.kept.may_wait;
+        oldest = oldest_more d.references number section.oldest h.kept.oldest;
+        newest = newest_more d.references number section.newest h.kept.newest;
+      };
+      lines_are = lines_more d.lines l m lines h.lines_are same;
+      told_is = append-nil told ∙ h.told_is;
+    }
+
+-- a new entry
+insertion_drafted : (s : Sender) (d : Draft) (t : StoredSender) (section : Section) (f : Field) (after : ℕ) (lines start told : List ℕ) → IsDrafted s d t section lines start told
+    → IsPossible t section f (choice.Insertion after)
+    → IsDrafted s (add_inserted s d f) (kept_after t f (choice.Insertion after)) (section_after t section (choice.Insertion after)) (lines ++ line_bytes (line_for t section f (choice.Insertion after))) start
+    (told ++ flat_map encoder_bytes (instructions_after t f (choice.Insertion after)))
+insertion_drafted s d t section f after lines start told h p =
+    let table : t.table ≡ held_of s.capacity d.inserted = ap (λ (u : StoredSender). u.table) h.kept.stores in
+    let made : t.table.inserted ≡ length d.inserted = ap (λ (u : StoredSender). u.table.inserted) h.kept.stores in
+    let fits = subst (λ k. field_size f ≤ k) (ap (λ (u : StoredSender). u.table.capacity) h.kept.stores) p.0.fits in
+    let entry = with_entry-held s.capacity d.inserted f fits in
+    let is : after ≡ dropped_by s d f = p.1 ∙ ap (λ k. gone (with_entry k f)) table ∙ ap gone entry in
+    let number : t.table.inserted + 1 ≡ length d.inserted + 1 = ap (λ n. n + 1) made in
+    let place : t.table.inserted - section.base ≡ length d.inserted - length s.inserted = ap (λ n. n - section.base) made ∙ ap (λ n. length d.inserted - n) h.kept.base in
+    record {
+      kept = record {
+        stores = ap (λ (u : StoredSender). record u { table = with_entry u.table f }) h.kept.stores ∙ ap (λ k. record (stored s) { table = k }) entry;
+        base = h.kept.base;
+        may_wait = h.kept.may_wait;
+        oldest = ap (λ n. min section.oldest n) number ∙ oldest_more d.references (length d.inserted + 1) section.oldest h.kept.oldest;
+        newest = ap (λ n. max section.newest n) number ∙ newest_more d.references (length d.inserted + 1) section.newest h.kept.newest;
+      };
+      lines_are = lines_more d.lines _ _ lines h.lines_are (ap (λ n. line.PostBaseField n) place);
+      told_is = ap (λ i. told ++ flat_map encoder_bytes (i ∷ [])) (insertion_kept s d t section f after h.kept is)
+          ∙ ap (λ bytes. bytes ++ flat_map encoder_bytes (insertion s d f ∷ [])) h.told_is
+          ∙ ap (λ bytes. (start ++ flat_map encoder_bytes d.instructions) ++ bytes) (append-nil (encoder_bytes (insertion s d f)))
+          ∙ flat_map_more encoder_bytes start d.instructions (insertion s d f);
+    }
+
+chosen_drafted : (s : Sender) (d : Draft) (t : StoredSender) (section : Section) (f : Field) (c : Choice) (lines start told : List ℕ) → IsDrafted s d t section lines start told
+    → IsPossible t section f c
+    → IsDrafted s (drafted s d f c) (kept_after t f c) (section_after t section c) (lines ++ line_bytes (line_for t section f c)) start (told ++ flat_map encoder_bytes (instructions_after t f c))
+chosen_drafted s d t section f (choice.Static index) lines start told h p = plain_drafted s d t section lines start told (line.StaticField index) h
+chosen_drafted s d t section f (choice.Entry number) lines start told h p =
+    entry_drafted s d t section lines start told _ _ number h (ap (λ n. line.RelativeField (n - number)) h.kept.base)
+chosen_drafted s d t section f (choice.Insertion after) lines start told h p = insertion_drafted s d t section f after lines start told h p
+chosen_drafted s d t section f (choice.StaticName index) lines start told h p = plain_drafted s d t section lines start told (line.StaticName index f.value) h
+chosen_drafted s d t section f (choice.EntryName number) lines start told h p =
+    entry_drafted s d t section lines start told _ _ number h (ap (λ n. entry_name_line n number f.value) h.kept.base)
+chosen_drafted s d t section f choice.Literal lines start told h p = plain_drafted s d t section lines start told (line.Literal f.name f.value) h
+
+-- what sections that are tracked name is there
+names_kept : (s : Sender) (d : Draft) (t : StoredSender) (section : Section) → IsKept s d t section → AllByRecursion (λ u. 0 < u.oldest) t.tracked → NameEntries s
+names_kept s d t section k h = each s.tracked (subst (AllByRecursion (λ u. 0 < u.oldest)) (ap (λ (u : StoredSender). u.tracked) k.stores) h)
+  where
+    each : (ts : List Tracked) → AllByRecursion (λ u. 0 < u.oldest) (map stored_section ts) → AllByRecursion (λ u. 0 < least u.references) ts
+    each [] h = tt
+    each (u ∷ us) h = (h.0, each us h.1)
+
+-- A field was written as it was chosen.
+pub field_drafted : (s : Sender) (d : Draft) (t : StoredSender) (section : Section) (f : Field) (c : Choice) (lines start told : List ℕ) → IsDrafted s d t section lines start told
+    → IsSmall t → IsChosen t section f c → IsPossible t section f c
+    → IsDrafted s (add_field s d f) (kept_after t f c) (section_after t section c) (lines ++ line_bytes (line_for t section f c)) start (told ++ flat_map encoder_bytes (instructions_after t f c))
+field_drafted s d t section f c lines start told h small rule p =
+    let few : length d.inserted < 2 ^ 62 = subst (λ n. n < 2 ^ 62) (ap (λ (u : StoredSender). u.table.inserted) h.kept.stores) small.few in
+    subst (λ e. IsDrafted s e (kept_after t f c) (section_after t section c) (lines ++ line_bytes (line_for t section f c)) start (told ++ flat_map encoder_bytes (instructions_after t f c)))
+    (sym (rule_kept s d t section f c h.kept (names_kept s d t section h.kept small.names) few rule))
+    (chosen_drafted s d t section f c lines start told h p)

@@ -1,0 +1,112 @@
+-- A field section field by field: what stays as it is written, and what a loop over its fields keeps.
+use Rattle.std.proofs.Common.{◌≡◌, inl, inr, ℕ, ◌+◌, ◌-◌, ◌^◌, ◌<◌, ◌≤◌, List, [], ◌∷◌, ◌++◌, length, take, drop, get_or, min, max, refl, sym, ◌∙◌, ap, subst, arith, flat_map, fold, Result, Ok, Err}
+use Rattle.std.specs.Result.{OnOk}
+use Rattle.std.proofs.lemmas.List.{take_more, take_all, take-append-drop}
+use Rattle.std.proofs.lemmas.List.Sums.{fold_push, sum_by-append, sum_by-cons}
+use Rattle.h3_field.specs.Field.{Field, field_size, section_size}
+use Rattle.h3_field.specs.Line.{line_bytes}
+use Rattle.h3_field.specs.Instruction.{encoder_bytes}
+use Rattle.h3_qpack.specs.Held.{Held, gone, with_entry}
+use Rattle.h3_qpack.specs.Sender.{Sender}
+use Rattle.h3_qpack.specs.Stored.{StoredSender}
+use Rattle.h3_qpack.specs.Written.{Draft, add_field, draft_of}
+use Rattle.h3_qpack.specs.Drafting.{IsDrafted, IsOver, IsSmall, IsChosen, IsPossible, IsCutOff, line_for, section_after, kept_after, instructions_after, naming}
+use Rattle.h3_qpack.specs.declared.section.Section.{Section}
+use Rattle.h3_qpack.specs.declared.section.Choice.{Choice}
+use Rattle.h3_qpack.specs.declared.section.Choice.TheVariants as choice
+use Rattle.h3_qpack.proofs.Rooms.{gone_with_entry}
+use Rattle.h3_qpack.proofs.Drafted.{field_drafted}
+
+-- what follows from two facts of an accepted call
+pub on_both : {T E P Q R : Type 0} (r : Result T E) → (P → Q → R) → OnOk r P → OnOk r Q → OnOk r R
+on_both (Ok x) f p q = f p q
+on_both (Err e) f p q = p
+
+-- the same of four
+pub on_four : {T E P Q R S U : Type 0} (r : Result T E) → (P → Q → R → S → U) → OnOk r P → OnOk r Q → OnOk r R → OnOk r S → OnOk r U
+on_four (Ok x) f p q a b = f p q a b
+on_four (Err e) f p q a b = p
+
+-- an entry that is there is named
+naming_over : (h : Held) (section : Section) (number : ℕ) → IsOver h section → gone h < number → number ≤ h.inserted → IsOver h (naming section number)
+naming_over h section number o low high =
+    record { base = o.base; above = omega (arith, o.above, low); named = inr (omega (arith, high)); newest = omega (arith, o.newest, high) }
+
+chosen_over : (t : StoredSender) (section : Section) (f : Field) (c : Choice) → IsOver t.table section → IsPossible t section f c → IsOver (kept_after t f c).table (section_after t section c)
+chosen_over t section f (choice.Static index) o p = o
+chosen_over t section f (choice.Entry number) o p = naming_over t.table section number o p.0 (omega (arith, p.1, o.base))
+chosen_over t section f (choice.Insertion after) o p =
+    let here = gone_with_entry t.table f p.0.fits in
+    record {
+      base = omega (arith, o.base);
+      above = omega (arith, p.0.own, here);
+      named = inr (omega arith);
+      newest = omega (arith, o.newest);
+    }
+chosen_over t section f (choice.StaticName index) o p = o
+chosen_over t section f (choice.EntryName number) o p = naming_over t.table section number o p.0 p.1
+chosen_over t section f choice.Literal o p = o
+
+pub over_after : (t : StoredSender) (section : Section) (f : Field) (c : Choice) (new : StoredSender) (next : Section) → IsOver t.table section → IsPossible t section f c
+    → new ≡ kept_after t f c → next ≡ section_after t section c → IsOver new.table next
+over_after t section f c new next o p table named = rw (table, named) (chosen_over t section f c o p)
+
+pub drafted_after : (s : Sender) (d : Draft) (start : List ℕ) (t : StoredSender) (section : Section) (f : Field) (c : Choice) (new : StoredSender) (next : Section) (lines more told later : List ℕ)
+    → IsDrafted s d t section lines start told → IsSmall t → IsChosen t section f c → IsPossible t section f c
+    → new ≡ kept_after t f c → next ≡ section_after t section c → more ≡ lines ++ line_bytes (line_for t section f c) → later ≡ told ++ flat_map encoder_bytes (instructions_after t f c)
+    → IsDrafted s (add_field s d f) new next more start later
+drafted_after s d start t section f c new next lines more told later h small rule p a b e g = rw (a, b, e, g) (field_drafted s d t section f c lines start told h small rule p)
+
+-- What a loop over the fields keeps.
+pub record InFields (t : StoredSender) (section : Section) (lines told : List ℕ) (new : StoredSender) (next : Section) (more later : List ℕ) (fields : List Field) (index : ℕ) : Type 0 where
+  pub over : IsOver new.table next
+  pub drafted : (s : Sender) (start : List ℕ) → IsDrafted s (draft_of s []) t section lines start told → IsDrafted s (draft_of s (take index fields)) new next more start later
+
+pub in_none : (t : StoredSender) (section : Section) (lines told : List ℕ) (fields : List Field) → IsOver t.table section → InFields t section lines told t section lines told fields 0
+in_none t section lines told fields o = record { over = o; drafted = λ s start h. h }
+
+pub draft_more : (s : Sender) (fields : List Field) (index : ℕ) (f : Field) → index < length fields → f ≡ get_or fields index f → draft_of s (take (index + 1) fields) ≡ add_field s (draft_of s (take index fields)) f
+draft_more s fields index f lt is =
+    ap (draft_of s) (take_more fields index f lt ∙ ap (λ x. take index fields ++ x ∷ []) (sym is))
+    ∙ fold_push (add_field s) (record { inserted = s.inserted; instructions = []; lines = []; references = [] }) (take index fields) f
+
+pub in_more : (t : StoredSender) (section : Section) (lines told : List ℕ) (mid : StoredSender) (between : Section) (m l : List ℕ) (new : StoredSender) (next : Section) (more later : List ℕ) (fields : List Field) (index : ℕ) (f : Field)
+    → InFields t section lines told mid between m l fields index → index < length fields → f ≡ get_or fields index f → IsOver new.table next
+    → ((s : Sender) (d : Draft) (start : List ℕ) → IsDrafted s d mid between m start l → IsDrafted s (add_field s d f) new next more start later)
+    → InFields t section lines told new next more later fields (index + 1)
+in_more t section lines told mid between m l new next more later fields index f i lt is over step =
+    record {
+      over = over;
+      drafted = λ s start h. subst (λ d. IsDrafted s d new next more start later) (sym (draft_more s fields index f lt is)) (step s (draft_of s (take index fields)) start (i.drafted s start h));
+    }
+
+pub in_all : (t : StoredSender) (section : Section) (lines told : List ℕ) (new : StoredSender) (next : Section) (more later : List ℕ) (fields : List Field) (index : ℕ)
+    → InFields t section lines told new next more later fields index → length fields ≤ index
+    → (s : Sender) (start : List ℕ) → IsDrafted s (draft_of s []) t section lines start told → IsDrafted s (draft_of s fields) new next more start later
+in_all t section lines told new next more later fields index i all s start h =
+    subst (λ fs. IsDrafted s (draft_of s fs) new next more start later) (take_all index fields all) (i.drafted s start h)
+
+-- a refused field leaves the section cut off behind the fields before it
+pub in_cut_off : (t : StoredSender) (section : Section) (lines told : List ℕ) (new : StoredSender) (next : Section) (more later : List ℕ) (fields : List Field) (index : ℕ)
+    → InFields t section lines told new next more later fields index → index ≤ length fields
+    → (s : Sender) (start : List ℕ) → IsDrafted s (draft_of s []) t section lines start told → IsCutOff s fields new start later
+in_cut_off t section lines told new next more later fields index i le s start h =
+    let d = i.drafted s start h in
+    record { front = index; within = le; stores = d.kept.stores; told_is = d.told_is }
+
+pub in_refused : (t : StoredSender) (section : Section) (lines told : List ℕ) (mid : StoredSender) (between : Section) (m l : List ℕ) (new : StoredSender) (later : List ℕ) (fields : List Field) (index : ℕ)
+    → InFields t section lines told mid between m l fields index → index ≤ length fields → new ≡ mid → later ≡ l
+    → (s : Sender) (start : List ℕ) → IsDrafted s (draft_of s []) t section lines start told → IsCutOff s fields new start later
+in_refused t section lines told mid between m l new later fields index i le same unwritten s start h =
+    rw (same, unwritten) (in_cut_off t section lines told mid between m l fields index i le s start h)
+
+-- a field is within the sum
+one_size : (f : Field) → section_size (f ∷ []) ≡ field_size f
+one_size f = omega (arith, sum_by-cons field_size f [])
+
+pub field_within : (fields : List Field) (index : ℕ) (f : Field) (most : ℕ) → index < length fields → f ≡ get_or fields index f → section_size fields < most → field_size f < most
+field_within fields index f most lt is below =
+    let more : take (index + 1) fields ≡ take index fields ++ f ∷ [] = take_more fields index f lt ∙ ap (λ x. take index fields ++ x ∷ []) (sym is) in
+    let whole = sym (ap (λ x. section_size x) (take-append-drop (index + 1) fields)) ∙ sum_by-append field_size (take (index + 1) fields) (drop (index + 1) fields) in
+    let front = ap (λ x. section_size x) more ∙ sum_by-append field_size (take index fields) (f ∷ []) in
+    omega (arith, whole, front, one_size f, below)

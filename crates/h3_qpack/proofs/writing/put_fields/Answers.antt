@@ -1,0 +1,17 @@
+use Rattle.std.proofs.Common.{arith}
+use Rattle.std.proofs.lemmas.Result.{err_from_is_err_and}
+use Rattle.h3_qpack.proofs.Fieldwise.{in_more, in_all, in_cut_off, in_refused}
+use Rattle.h3_qpack.proofs.writing.put_fields.Goals as goal
+
+pub returns-in_err-put_field-clause-err : goal.returns-in_err-put_field-clause-err
+returns-in_err-put_field-clause-err c =
+    let p = err_from_is_err_and c.from_residual.result c.from_residual.ensures.1 in
+    rw p.1 (λ s start h. in_refused _ _ _ _ _ _ _ _ _ _ _ _ c.fields.invariant (omega arith) c.in_err-put_field.ensures.err.0 c.in_err-put_field.ensures.err.1 s start h)
+
+pub fields-preserved : goal.fields-preserved
+fields-preserved c =
+    in_more _ _ _ _ _ _ _ _ _ _ _ _ _ _ _ c.fields.invariant c.fields-test.true c.field-item.is c.in_ok-put_field.ensures.over c.in_ok-put_field.ensures.ok
+
+pub returns-clause-ok : goal.returns-clause-ok
+returns-clause-ok c =
+    λ s start h. in_all _ _ _ _ _ _ _ _ _ _ c.fields.invariant (omega arith) s start h

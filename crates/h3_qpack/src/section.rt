@@ -1,0 +1,106 @@
+//! A field section under way, and the choice of how each field is written (RFC 9204, section 2.1).
+ghost use Rattle.std.specs.Prelude.{◌≡◌, ◌+◌, ◌<◌, ◌≤◌};
+ghost use Rattle.h3_qpack.specs.Stored.{StoredSender};
+ghost use Rattle.h3_qpack.specs.Drafting.{begun, naming, most_usable, IsOver, IsNowhere, IsLiteral, IsChosen, IsPossible};
+
+use crate::dynamic::DynamicTable;
+use crate::entries::Match;
+use h3_field::HeaderField;
+use h3_field::static_::StaticTable;
+
+/// How a field is written.
+#[derive(Clone, Copy)]
+pub(crate) enum Choice {
+    /// A line that is the static entry of that index.
+    Static(usize),
+    /// A line that is the dynamic entry of that number, which is older than the section.
+    Entry(usize),
+    /// An insertion, after which so many entries are gone, and a line that is the new entry.
+    Insertion(usize),
+    /// A literal value with the name of the static entry of that index.
+    StaticName(usize),
+    /// A literal value with the name of the dynamic entry of that number.
+    EntryName(usize),
+    /// A literal name and value.
+    Literal,
+}
+
+/// A section under way: how many insertions there were before it, whether it may wait at the receiver, and the oldest and
+/// the newest entry that its lines name so far. Where they name none, these are the greatest number and 0.
+#[derive(Clone, Copy)]
+pub(crate) struct Section {
+    pub base: usize,
+    pub may_wait: bool,
+    pub oldest: usize,
+    pub newest: usize,
+}
+
+impl Section {
+    /// A section before its first field.
+    pub(crate) fn begin(table: &DynamicTable) -> Section
+        ensures value { result ≡ begun table.now }
+        ensures over { IsOver table.now.table result }
+    {
+        Section {
+            base: table.inserted(),
+            may_wait: table.blocks_out() < table.limit(),
+            oldest: usize::MAX,
+            newest: 0,
+        }
+    }
+
+    /// A line names this entry.
+    pub(crate) fn name(&mut self, number: usize)
+        ensures { self.new ≡ naming self.old number }
+    {
+        self.oldest = self.oldest.min(number);
+        self.newest = self.newest.max(number);
+    }
+
+    /// The greatest number that a line may name, of those up to a number.
+    fn most_usable(&self, table: &DynamicTable, number: usize) -> usize
+        ensures { result ≡ most_usable table.now self.now number }
+    {
+        if self.may_wait {
+            return number;
+        }
+        number.min(table.known_received())
+    }
+
+    /// How a field is written that is no entry and may not be inserted.
+    fn choose_literal(&self, table: &DynamicTable, field: &HeaderField) -> Choice
+        requires { IsLiteral table.now self.now field.now }
+        ensures rule { IsChosen table.now self.now field.now result }
+        ensures possible { IsPossible table.now self.now field.now result }
+    {
+        if let Some(index) = StaticTable::find_name(field.name()) {
+            return Choice::StaticName(index);
+        }
+        let most = self.most_usable(table, table.inserted());
+        if let Some(number) = table.newest(Match::Name, field, table.gone(), most) {
+            return Choice::EntryName(number);
+        }
+        Choice::Literal
+    }
+
+    /// How a field is written: a static entry, else an older entry, else a new one, else a literal.
+    pub(crate) fn choose(&self, table: &DynamicTable, field: &HeaderField) -> Choice
+        requires { self.now.base ≤ table.now.table.inserted }
+        ensures rule { IsChosen table.now self.now field.now result }
+        ensures possible { IsPossible table.now self.now field.now result }
+    {
+        if let Some(index) = StaticTable::find(field) {
+            return Choice::Static(index);
+        }
+        let most = self.most_usable(table, self.base);
+        if let Some(number) = table.newest(Match::Field, field, table.gone(), most) {
+            return Choice::Entry(number);
+        }
+        if self.may_wait {
+            if let Some(after) = table.room_for(field, self.oldest) {
+                return Choice::Insertion(after);
+            }
+        }
+        self.choose_literal(table, field)
+    }
+}

@@ -1,0 +1,193 @@
+//! A field section in the midst of its writing: lines and instructions, field by field (RFC 9204, sections 4.3 and 4.5).
+ghost use Rattle.std.specs.Prelude.{◌≡◌, ◌<◌, ◌≤◌, ◌^◌, ◌+◌, ◌-◌, ◌++◌, ◌∷◌, [], List, ℕ, flat_map, length, OnOk, OnErr};
+ghost use Rattle.std.specs.Result.{IsOkUnless};
+ghost use Rattle.h3_field.specs.Field.{field_size, section_size};
+ghost use Rattle.h3_field.specs.Line.{line_bytes};
+ghost use Rattle.h3_field.specs.Line.FieldLine.{PostBaseField};
+ghost use Rattle.h3_field.specs.Instruction.{encoder_bytes};
+ghost use Rattle.h3_field.specs.declared.encoder_error.EncoderError.TheVariants.{OutOfMemory};
+ghost use Rattle.h3_qpack.specs.Held.{gone, with_entry};
+ghost use Rattle.h3_qpack.specs.Stored.{MayInsertInto};
+ghost use Rattle.h3_qpack.specs.Sender.{Sender};
+ghost use Rattle.h3_qpack.specs.Written.{Draft, add_field, draft_of, entry_name_line};
+ghost use Rattle.h3_qpack.specs.Drafting.{naming, IsOver, IsPossible, line_for, section_after, kept_after, instructions_after, insertion_for, IsDrafted, IsCutOff};
+
+use crate::decoder::copy_of;
+use crate::dynamic::DynamicTable;
+use crate::entries::Match;
+use crate::section::{Choice, Section};
+use h3_field::block::{
+    Indexed, IndexedWithPostBase, Literal, LiteralWithNameRef, LiteralWithPostBaseNameRef,
+};
+use h3_field::static_::StaticTable;
+use h3_field::stream::{Duplicate, InsertWithNameRef, InsertWithoutNameRef};
+use h3_field::{EncoderError, HeaderField};
+
+/// Appends the instruction that inserts a field, after which so many entries are gone.
+fn put_insertion(
+    table: &DynamicTable,
+    field: &HeaderField,
+    after: usize,
+    encoder_buf: &mut Vec<u8>,
+) -> Result<(), EncoderError>
+    requires after { gone table.now.table ≤ after }
+    requires size { field_size field.now < 2 ^ 62 }
+    ensures memory { IsOkUnless result OutOfMemory }
+    ensures ok { OnOk result (encoder_buf.new.items ≡ encoder_buf.old.items ++ encoder_bytes (insertion_for table.now.table after field.now)) }
+    ensures err { OnErr result (encoder_buf.new.items ≡ encoder_buf.old.items) }
+{
+    let inserted = table.inserted();
+    if let Some(number) = table.newest(Match::Field, field, after, inserted) {
+        Duplicate(inserted - number).encode(encoder_buf)?;
+        return Ok(());
+    }
+    if let Some(index) = StaticTable::find_name(field.name()) {
+        InsertWithNameRef::write_static(index, field.value(), encoder_buf)?;
+        return Ok(());
+    }
+    if let Some(number) = table.newest(Match::Name, field, after, inserted) {
+        InsertWithNameRef::write_dynamic(inserted - number, field.value(), encoder_buf)?;
+        return Ok(());
+    }
+    InsertWithoutNameRef::write(field.name(), field.value(), encoder_buf)?;
+    Ok(())
+}
+
+/// Inserts a field that may be, and appends the instruction for it and the line that is the new entry. A refusal inserts
+/// nothing, and may leave the line.
+fn put_inserted(
+    table: &mut DynamicTable,
+    base: usize,
+    field: &HeaderField,
+    after: usize,
+    lines: &mut Vec<u8>,
+    encoder_buf: &mut Vec<u8>,
+) -> Result<(), EncoderError>
+    requires may { (oldest : ℕ) × MayInsertInto table.old field.now oldest }
+    requires after { after ≡ gone (with_entry table.old.table field.now) }
+    requires from { gone table.old.table ≤ after }
+    requires size { field_size field.now < 2 ^ 62 }
+    requires base { base ≤ table.old.table.inserted }
+    ensures memory { IsOkUnless result OutOfMemory }
+    ensures ok { OnOk result (table.new ≡ record table.old { table = with_entry table.old.table field.now }) }
+    ensures line { OnOk result (lines.new.items ≡ lines.old.items ++ line_bytes (PostBaseField (table.old.table.inserted - base))) }
+    ensures told { OnOk result (encoder_buf.new.items ≡ encoder_buf.old.items ++ encoder_bytes (insertion_for table.old.table after field.now)) }
+    ensures err { OnErr result ((table.new ≡ table.old) × (encoder_buf.new.items ≡ encoder_buf.old.items)) }
+{
+    let copy = copy_of(table.alloc(), field)?;
+    IndexedWithPostBase(table.inserted() - base).encode(lines)?;
+    let start = encoder_buf.len();
+    put_insertion(table, field, after, encoder_buf)?;
+    if table.insert(copy, after).is_err() {
+        encoder_buf.truncate(start);
+        return Err(EncoderError::OutOfMemory);
+    }
+    Ok(())
+}
+
+/// Appends the line of a literal value with the name of a dynamic entry.
+fn put_entry_name(
+    base: usize,
+    number: usize,
+    value: &[u8],
+    lines: &mut Vec<u8>,
+) -> Result<(), EncoderError>
+    requires base { base < 2 ^ 62 }
+    requires number { number < 2 ^ 62 }
+    requires value { length value.now < 2 ^ 62 }
+    ensures memory { IsOkUnless result OutOfMemory }
+    ensures ok { OnOk result (lines.new.items ≡ lines.old.items ++ line_bytes (entry_name_line base number value.now)) }
+{
+    if number <= base {
+        LiteralWithNameRef::write_dynamic(base - number, value, lines)?;
+        return Ok(());
+    }
+    LiteralWithPostBaseNameRef::write(number - base - 1, value, lines)?;
+    Ok(())
+}
+
+/// Writes a field as it was chosen. A refusal inserts nothing, and may leave a line.
+fn put_chosen(
+    table: &mut DynamicTable,
+    section: &mut Section,
+    field: &HeaderField,
+    choice: Choice,
+    lines: &mut Vec<u8>,
+    encoder_buf: &mut Vec<u8>,
+) -> Result<(), EncoderError>
+    requires over { IsOver table.old.table section.old }
+    requires possible { IsPossible table.old section.old field.now choice }
+    requires size { field_size field.now < 2 ^ 62 }
+    ensures memory { IsOkUnless result OutOfMemory }
+    ensures table { OnOk result (table.new ≡ kept_after table.old field.now choice) }
+    ensures section { OnOk result (section.new ≡ section_after table.old section.old choice) }
+    ensures line { OnOk result (lines.new.items ≡ lines.old.items ++ line_bytes (line_for table.old section.old field.now choice)) }
+    ensures told { OnOk result (encoder_buf.new.items ≡ encoder_buf.old.items ++ flat_map encoder_bytes (instructions_after table.old field.now choice)) }
+    ensures err { OnErr result ((table.new ≡ table.old) × (encoder_buf.new.items ≡ encoder_buf.old.items)) }
+{
+    let inserted = table.inserted();
+    match choice {
+        Choice::Static(index) => Indexed::Static(index).encode(lines)?,
+        Choice::Entry(number) => {
+            Indexed::Dynamic(section.base - number).encode(lines)?;
+            section.name(number);
+        }
+        Choice::Insertion(after) => {
+            put_inserted(table, section.base, field, after, lines, encoder_buf)?;
+            section.name(inserted + 1);
+        }
+        Choice::StaticName(index) => {
+            LiteralWithNameRef::write_static(index, field.value(), lines)?
+        }
+        Choice::EntryName(number) => {
+            put_entry_name(section.base, number, field.value(), lines)?;
+            section.name(number);
+        }
+        Choice::Literal => Literal::write(field.name(), field.value(), lines)?,
+    }
+    Ok(())
+}
+
+/// Writes a field: its line, and the instruction where it is inserted. A refusal inserts nothing, and may leave a line.
+fn put_field(
+    table: &mut DynamicTable,
+    section: &mut Section,
+    field: &HeaderField,
+    lines: &mut Vec<u8>,
+    encoder_buf: &mut Vec<u8>,
+) -> Result<(), EncoderError>
+    requires over { IsOver table.old.table section.old }
+    requires size { field_size field.now < 2 ^ 62 }
+    ensures memory { IsOkUnless result OutOfMemory }
+    ensures over { OnOk result (IsOver table.new.table section.new) }
+    ensures ok { OnOk result ((s : Sender) (d : Draft) (start : List ℕ) → IsDrafted s d table.old section.old lines.old.items start encoder_buf.old.items →
+        IsDrafted s (add_field s d field.now) table.new section.new lines.new.items start encoder_buf.new.items) }
+    ensures err { OnErr result ((table.new ≡ table.old) × (encoder_buf.new.items ≡ encoder_buf.old.items)) }
+{
+    table.is_small();
+    let choice = section.choose(table, field);
+    put_chosen(table, section, field, choice, lines, encoder_buf)
+}
+
+/// Writes the fields of a section, one behind the other. A refusal leaves whole instructions, those of the insertions made.
+pub(crate) fn put_fields(
+    table: &mut DynamicTable,
+    section: &mut Section,
+    fields: &[HeaderField],
+    lines: &mut Vec<u8>,
+    encoder_buf: &mut Vec<u8>,
+) -> Result<(), EncoderError>
+    requires over { IsOver table.old.table section.old }
+    requires size { section_size fields.now < 2 ^ 62 }
+    ensures memory { IsOkUnless result OutOfMemory }
+    ensures over { OnOk result (IsOver table.new.table section.new) }
+    ensures ok { OnOk result ((s : Sender) (start : List ℕ) → IsDrafted s (draft_of s []) table.old section.old lines.old.items start encoder_buf.old.items →
+        IsDrafted s (draft_of s fields.now) table.new section.new lines.new.items start encoder_buf.new.items) }
+    ensures err { OnErr result ((s : Sender) (start : List ℕ) → IsDrafted s (draft_of s []) table.old section.old lines.old.items start encoder_buf.old.items →
+        IsCutOff s fields.now table.new start encoder_buf.new.items) }
+{
+    'fields: for field in fields {
+        put_field(table, section, field, lines, encoder_buf)?;
+    }
+    Ok(())
+}
