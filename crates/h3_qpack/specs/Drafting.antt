@@ -1,7 +1,7 @@
 -- A field section under way, as an encoder keeps it: how each field is written, by what is kept (RFC 9204, section 2.1).
 use Rattle.std.specs.Prelude.{◌≡◌, ◌⊎◌, ◌<◌, ◌≤◌, ℕ, ◌+◌, ◌-◌, ◌^◌, true, List, [], ◌∷◌, ◌++◌, length, min, max, fold, take, flat_map, nat_lt, if◌then◌else◌, Option, Some, None, option_map, unwrap_or}
 use Rattle.std.specs.List.{AllByRecursion}
-use Rattle.h3_field.specs.Field.{Field}
+use Rattle.h3_field.specs.Field.{Field, section_size}
 use Rattle.h3_field.specs.StaticTable.{static_field, static_name}
 use Rattle.h3_field.specs.Line.{FieldLine, line_bytes}
 use Rattle.h3_field.specs.Line.{FieldLine as line}
@@ -11,7 +11,7 @@ use Rattle.h3_qpack.specs.Held.{Held, gone, newest_in, with_entry}
 use Rattle.h3_qpack.specs.Matches.{matches}
 use Rattle.h3_qpack.specs.Sender.{Sender, blocks_out}
 use Rattle.h3_qpack.specs.Stored.{StoredSender, stored, MayInsertInto}
-use Rattle.h3_qpack.specs.Written.{Draft, draft_of, required_insert_count, entry_name_line}
+use Rattle.h3_qpack.specs.Written.{Draft, draft_of, required_insert_count, entry_name_line, encoded_section, instructions_for, sent_section}
 use Rattle.h3_qpack.specs.declared.entries.Match.TheVariants as what
 use Rattle.h3_qpack.specs.declared.section.Section.{Section}
 use Rattle.h3_qpack.specs.declared.section.Choice.{Choice}
@@ -36,10 +36,11 @@ pub record IsOver (h : Held) (section : Section) : Type 0 where
   pub named : (section.newest ≡ 0) ⊎ (section.oldest ≤ h.inserted)
   pub newest : section.newest ≤ h.inserted
 
--- What tracked sections name has numbers from 1, and all numbers of entries are small.
+-- What tracked sections name has numbers from 1, all numbers of entries are small, and the entries fit.
 pub record IsSmall (t : StoredSender) : Type 0 where
   pub names : AllByRecursion (λ u. 0 < u.oldest) t.tracked
   pub few : t.table.inserted < 2 ^ 62
+  pub fits : section_size t.table.entries ≤ t.table.capacity
 
 -- the greatest number that a line may name, of those up to a number
 abbrev pub most_usable : StoredSender → Section → ℕ → ℕ
@@ -138,3 +139,10 @@ pub record IsCutOff (s : Sender) (fields : List Field) (t : StoredSender) (start
   pub within : front ≤ length fields
   pub stores : t ≡ stored (record s { inserted = (draft_of s (take front fields)).inserted })
   pub told_is : told ≡ start ++ flat_map encoder_bytes (draft_of s (take front fields)).instructions
+
+-- The section was written behind what was there, and its instructions behind what was there; it is counted and tracked.
+pub record IsSent (s : Sender) (stream : ℕ) (fields : List Field) (count : ℕ) (t : StoredSender) (before block start told : List ℕ) : Type 0 where
+  pub stores : t ≡ stored (sent_section s stream fields)
+  pub count_is : count ≡ required_insert_count (draft_of s fields)
+  pub block_is : block ≡ before ++ encoded_section s fields
+  pub told_is : told ≡ start ++ flat_map encoder_bytes (instructions_for s fields)

@@ -141,6 +141,7 @@ impl DynamicTable {
     {
         self.tracking.names_entries();
         self.entries.inserted();
+        self.entries.size();
     }
 
     pub(crate) fn newest(

@@ -1,10 +1,14 @@
-//! An encoder with its dynamic table: what it is told of its receiver (RFC 9204, sections 2.1 and 4.4).
-ghost use Rattle.std.specs.Prelude.{◌≡◌, ◌<◌, ◌++◌, ℕ, true, false, length, IfErr, OnOk};
+//! An encoder with its dynamic table: what it writes, and what it is told of its receiver (RFC 9204, sections 2.1 and 4).
+ghost use Rattle.std.specs.Prelude.{◌≡◌, ◌<◌, ◌^◌, ◌++◌, ℕ, true, false, length, IfOk, IfErr, OnOk, OnErr};
+ghost use Rattle.std.specs.Result.{IsOkUnless};
+ghost use Rattle.h3_field.specs.Field.{section_size};
+ghost use Rattle.h3_field.specs.declared.encoder_error.EncoderError.TheVariants.{OutOfMemory};
 ghost use Rattle.h3_field.specs.Reading.{Unfinished};
 ghost use Rattle.h3_field.specs.Shapes.{begins};
 ghost use Rattle.h3_field.specs.InstructionReading.{decoder_instruction};
 ghost use Rattle.h3_qpack.specs.Sender.{Sender, no_table, blocks_out, withdrawn};
 ghost use Rattle.h3_qpack.specs.Stored.{stored, MayHaveCapacity};
+ghost use Rattle.h3_qpack.specs.Drafting.{IsSent, IsCutOff};
 ghost use Rattle.h3_qpack.specs.Held.{with_capacity};
 ghost use Rattle.h3_field.specs.Instruction.{encoder_bytes};
 ghost use Rattle.h3_field.specs.Instruction.EncoderInstruction.{SetCapacity};
@@ -13,17 +17,21 @@ ghost use Rattle.h3_qpack.specs.Telling.{HasHeard, AnswersReplyAt, IsReplyRefusa
 
 use crate::dynamic::DynamicTable;
 use crate::entries::MAX_CAPACITY;
+use crate::section::Section;
+use crate::writing::{put_fields, put_section};
 use h3_field::stream::{
     DecoderInstruction, DynamicTableSizeUpdate, HeaderAck, InsertCountIncrement, StreamCancel,
 };
-use h3_field::{EncoderError, SliceCursor, dynamic};
+use h3_field::{EncoderError, HeaderField, SliceCursor, dynamic};
 use std::alloc::Global;
 use std::marker::Model;
 
-/// Keeps what its receiver says of one dynamic table.
+/// Writes field sections over one dynamic table, and keeps what its receiver says of it.
 #[derive(Drop)]
 pub struct Encoder {
     table: DynamicTable,
+    // the lines of a section, before its prefix is known
+    lines: Vec<u8>,
 }
 
 impl Model for Encoder {
@@ -41,6 +49,7 @@ impl Encoder {
     {
         Encoder {
             table: DynamicTable::new(alloc),
+            lines: Vec::new(alloc),
         }
     }
 
@@ -48,7 +57,8 @@ impl Encoder {
     pub fn from(table: DynamicTable) -> Encoder
         ensures { result ≡ table }
     {
-        Encoder { table }
+        let lines = Vec::new(table.alloc());
+        Encoder { table, lines }
     }
 
     /// How many insertions are known to be received.
@@ -155,6 +165,38 @@ impl Encoder {
             }
         }
         Ok(())
+    }
+
+    /// Appends an encoded field section to `block`, and the instructions for it to `encoder_buf`, and answers its required
+    /// insert count. The section is tracked under its stream where it names entries. Where memory is refused, `block` is as
+    /// it was, and `encoder_buf` gained whole instructions, those of the insertions that were made.
+    pub fn encode(
+        &mut self,
+        stream: u64,
+        block: &mut Vec<u8>,
+        encoder_buf: &mut Vec<u8>,
+        fields: &[HeaderField],
+    ) -> Result<usize, EncoderError>
+        requires { section_size fields.now < 2 ^ 62 }
+        ensures memory { IsOkUnless result OutOfMemory }
+        ensures sent { IfOk result (λ count. (s : Sender) → self.old ≡ stored s →
+            IsSent s stream fields.now count self.new block.old.items block.new.items encoder_buf.old.items encoder_buf.new.items) }
+        ensures unwritten { OnErr result (block.new.items ≡ block.old.items) }
+        ensures cut_off { OnErr result ((s : Sender) → self.old ≡ stored s → IsCutOff s fields.now self.new encoder_buf.old.items encoder_buf.new.items) }
+    {
+        self.lines.clear();
+        let mut section = Section::begin(&self.table);
+        put_fields(&mut self.table, &mut section, fields, &mut self.lines, encoder_buf)?;
+        self.table.is_small();
+        let start = block.len();
+        put_section(&self.table, &section, &self.lines, block)?;
+        if section.newest != 0 {
+            let Ok(()) = self.table.track(stream, section.newest, section.oldest) else {
+                block.truncate(start);
+                return Err(EncoderError::OutOfMemory);
+            };
+        }
+        Ok(section.newest)
     }
 
     /// Takes back the newest section of a stream, where `count` is its required insert count, as if it had not been

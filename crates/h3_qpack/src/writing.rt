@@ -5,6 +5,7 @@ ghost use Rattle.h3_field.specs.Field.{field_size, section_size};
 ghost use Rattle.h3_field.specs.Line.{line_bytes};
 ghost use Rattle.h3_field.specs.Line.FieldLine.{PostBaseField};
 ghost use Rattle.h3_field.specs.Instruction.{encoder_bytes};
+ghost use Rattle.h3_field.specs.Prefix.{prefix_bytes};
 ghost use Rattle.h3_field.specs.declared.encoder_error.EncoderError.TheVariants.{OutOfMemory};
 ghost use Rattle.h3_qpack.specs.Held.{gone, with_entry};
 ghost use Rattle.h3_qpack.specs.Stored.{MayInsertInto};
@@ -17,11 +18,12 @@ use crate::dynamic::DynamicTable;
 use crate::entries::Match;
 use crate::section::{Choice, Section};
 use h3_field::block::{
-    Indexed, IndexedWithPostBase, Literal, LiteralWithNameRef, LiteralWithPostBaseNameRef,
+    HeaderPrefix, Indexed, IndexedWithPostBase, Literal, LiteralWithNameRef, LiteralWithPostBaseNameRef,
 };
 use h3_field::static_::StaticTable;
 use h3_field::stream::{Duplicate, InsertWithNameRef, InsertWithoutNameRef};
 use h3_field::{EncoderError, HeaderField};
+use std::alloc::AllocError;
 
 /// Appends the instruction that inserts a field, after which so many entries are gone.
 fn put_insertion(
@@ -188,6 +190,29 @@ pub(crate) fn put_fields(
 {
     'fields: for field in fields {
         put_field(table, section, field, lines, encoder_buf)?;
+    }
+    Ok(())
+}
+
+/// Appends a section that is written: its prefix, and then its lines. A refusal appends nothing.
+pub(crate) fn put_section(
+    table: &DynamicTable,
+    section: &Section,
+    lines: &[u8],
+    block: &mut Vec<u8>,
+) -> Result<(), AllocError>
+    requires { IsOver table.now.table section.now }
+    ensures ok { OnOk result (block.new.items ≡ block.old.items ++ (prefix_bytes table.now.table.capacity section.now.newest section.now.base ++ lines.now)) }
+    ensures err { OnErr result (block.new.items ≡ block.old.items) }
+{
+    table.is_small();
+    let inserted = table.inserted();
+    let prefix = HeaderPrefix::new(section.newest, section.base, inserted, table.capacity());
+    let start = block.len();
+    prefix.encode(block)?;
+    if block.extend_from_slice(lines).is_err() {
+        block.truncate(start);
+        return Err(AllocError);
     }
     Ok(())
 }

@@ -1,0 +1,157 @@
+-- A field section that is written whole: what is kept of it.
+use Rattle.std.proofs.Common.{◌≡◌, ◌⊎◌, inl, inr, ℕ, ◌+◌, ◌-◌, ◌^◌, ◌<◌, ◌≤◌, Bool, true, false, List, [], ◌∷◌, ◌++◌, length, take, min, max, map, filter, fold, refl, sym, ◌∙◌, ap, subst, arith, append-nil, append_assoc, flat_map, nat_lt, if◌then◌else◌}
+use Rattle.std.specs.Prelude.{◌==◌}
+use Rattle.std.proofs.lemmas.Grind.{common_steps}
+use Rattle.std.proofs.lemmas.List.{map-append, take_all}
+use Rattle.std.proofs.lemmas.List.Elements.{filter-append}
+use Rattle.std.proofs.lemmas.List.Sums.{sum_by-cons}
+use Rattle.h3_field.specs.Field.{Field, field_size, section_size}
+use Rattle.h3_field.specs.Line.{line_bytes}
+use Rattle.h3_field.specs.Prefix.{prefix_bytes}
+use Rattle.h3_field.specs.PrefixReading.{EncodedPrefix}
+use Rattle.h3_field.specs.PrefixWriting.{written_prefix, encoded_bytes}
+use Rattle.h3_field.proofs.PrefixReadBack.{prefix_is_written}
+use Rattle.h3_qpack.specs.Held.{Held, gone}
+use Rattle.h3_qpack.specs.Sender.{Sender, Tracked, blocks_out}
+use Rattle.h3_qpack.specs.Stored.{StoredSender, stored, stored_section, stored_sent, least}
+use Rattle.h3_qpack.specs.Written.{Draft, draft_of, required_insert_count, encoded_section, sent_section}
+use Rattle.h3_qpack.specs.Drafting.{IsKept, IsDrafted, IsOver, IsSmall, IsSent, IsCutOff, begun, oldest_of}
+use Rattle.h3_qpack.specs.declared.section.Section.{Section}
+use Rattle.h3_qpack.specs.declared.tracking.TrackedSection.{TrackedSection}
+use Rattle.h3_qpack.proofs.Telling.{waiting_counted}
+
+-- a section that names an entry is over a table that can have one
+one_fits : (fs : List Field) → 0 < length fs → 32 ≤ section_size fs
+one_fits [] above = absurd (omega (arith, above))
+one_fits (f ∷ fs) above = omega (arith, sum_by-cons field_size f fs)
+
+pub named_fits : (t : StoredSender) (section : Section) → IsOver t.table section → IsSmall t → (section.newest ≡ 0) ⊎ (32 ≤ t.table.capacity)
+named_fits t section o small = by_names o.named
+  where
+    by_names : (section.newest ≡ 0) ⊎ (section.oldest ≤ t.table.inserted) → (section.newest ≡ 0) ⊎ (32 ≤ t.table.capacity)
+    by_names (inl none) = inl none
+    by_names (inr some) = inr (omega (arith, one_fits t.table.entries (omega (arith, o.above, some)), small.fits))
+
+-- the oldest entry that is named is there
+pub oldest_there : (t : StoredSender) (section : Section) → IsOver t.table section → (section.newest ≡ 0 → ⊥) → section.oldest ≤ t.table.inserted
+oldest_there t section o some = by_names o.named
+  where
+    by_names : (section.newest ≡ 0) ⊎ (section.oldest ≤ t.table.inserted) → section.oldest ≤ t.table.inserted
+    by_names (inl none) = absurd (some none)
+    by_names (inr there) = there
+
+-- the prefix and the lines
+pub section_put : (before mid block lines : List ℕ) (capacity own count base : ℕ) (p : EncodedPrefix) → own ≡ capacity → p ≡ written_prefix own count base → mid ≡ before ++ encoded_bytes p → block ≡ mid ++ lines
+    → block ≡ before ++ (prefix_bytes capacity count base ++ lines)
+section_put before mid block lines capacity own count base p same is prefix all =
+    all ∙ ap (λ bytes. bytes ++ lines) (prefix ∙ ap (λ q. before ++ encoded_bytes q) (is ∙ ap (λ n. written_prefix n count base) same))
+    ∙ append_assoc before (encoded_bytes (written_prefix capacity count base)) lines
+    ∙ ap (λ bytes. before ++ (bytes ++ lines)) (sym (prefix_is_written capacity count base))
+
+-- before the first field
+pub begun_drafted : (s : Sender) (t : StoredSender) (section : Section) (lines start : List ℕ) → t ≡ stored s → section ≡ begun t → lines ≡ [] → IsDrafted s (draft_of s []) t section lines start start
+begun_drafted s t section lines start e is none =
+    record {
+      kept = record {
+        stores = e;
+        base = ap (λ (x : Section). x.base) is ∙ ap (λ (u : StoredSender). u.table.inserted) e;
+        may_wait = ap (λ (x : Section). x.may_wait) is ∙ ap (λ (u : StoredSender). nat_lt (length u.waiting) u.limit) e
+            ∙ ap (λ n. nat_lt n s.limit) (waiting_counted (λ n. nat_lt s.known_received n) s.required_insert_counts);
+        oldest = ap (λ (x : Section). x.oldest) is;
+        newest = ap (λ (x : Section). x.newest) is;
+      };
+      lines_are = none;
+      told_is = sym (append-nil start);
+    }
+
+-- each number is at most the greatest
+most_above : (ns : List ℕ) (m : ℕ) → m ≤ fold max m ns
+most_above [] m = omega arith
+most_above (n ∷ ns) m = omega (arith, most_above ns (max m n))
+
+-- the least number, where the greatest is not 0 and is small
+least_is : (ns : List ℕ) → (fold max 0 ns ≡ 0 → ⊥) → fold max 0 ns < 2 ^ 62 → oldest_of ns ≡ least ns
+least_is [] some few = absurd (some refl)
+least_is (n ∷ ns) some few =
+    let same : min (2 ^ 64 - 1) n ≡ n = omega (arith, most_above ns (max 0 n), few) in
+    ap (λ m. fold min m ns) same
+
+-- the counts above what is known
+waiting_more : (known count : ℕ) (counts : List ℕ) → (if nat_lt known count then filter (λ c. nat_lt known c) counts ++ count ∷ [] else filter (λ c. nat_lt known c) counts) ≡ filter (λ c. nat_lt known c) (counts ++ count ∷ [])
+waiting_more known count counts = by_test (nat_lt known count) refl
+  where
+    by_test : (b : Bool) → nat_lt known count ≡ b → (if b then filter (λ c. nat_lt known c) counts ++ count ∷ [] else filter (λ c. nat_lt known c) counts) ≡ filter (λ c. nat_lt known c) (counts ++ count ∷ [])
+    by_test true e =
+        let one : filter (λ c. nat_lt known c) (count ∷ []) ≡ count ∷ [] = rw e refl in
+        sym (filter-append (λ c. nat_lt known c) counts (count ∷ []) ∙ ap (λ cs. filter (λ c. nat_lt known c) counts ++ cs) one)
+    by_test false e =
+        let none : filter (λ c. nat_lt known c) (count ∷ []) ≡ [] = rw e refl in
+        sym (filter-append (λ c. nat_lt known c) counts (count ∷ []) ∙ ap (λ cs. filter (λ c. nat_lt known c) counts ++ cs) none ∙ append-nil _)
+
+tracked_more : (b : Bool) (stream : ℕ) (references : List ℕ) (ts : List Tracked) → b ≡ false
+    → map stored_section ts ++ record { stream = stream; oldest = least references } ∷ [] ≡ map stored_section (ts ++ (if b then [] else record { stream = stream; references = references } ∷ []))
+tracked_more b stream references ts e = rw e (sym (map-append stored_section ts (record { stream = stream; references = references } ∷ [])))
+
+tracked_same : (b : Bool) (more ts : List Tracked) → b ≡ true → map stored_section ts ≡ map stored_section (ts ++ (if b then [] else more))
+tracked_same b more ts e = rw e (ap (map stored_section) (sym (append-nil ts)))
+
+not_zero : (n : ℕ) → (n ≡ 0 → ⊥) → (n == 0) ≡ false
+not_zero n some = by_test (n == 0) refl
+  where
+    by_test : (b : Bool) → (n == 0) ≡ b → b ≡ false
+    by_test true e = absurd (some (grind (arith, common_steps)))
+    by_test false e = refl
+
+-- a section that names entries is counted and tracked
+pub sent_named : (s : Sender) (d : Draft) (stream : ℕ) (t new : StoredSender) (section : Section) → IsKept s d t section → IsSmall t → section.newest ≤ t.table.inserted → (section.newest ≡ 0 → ⊥)
+    → new ≡ stored_sent t stream section.newest section.oldest
+    → new ≡ stored (record s { inserted = d.inserted; required_insert_counts = s.required_insert_counts ++ required_insert_count d ∷ [];
+      tracked = s.tracked ++ (if required_insert_count d == 0 then [] else record { stream = stream; references = d.references } ∷ []) })
+sent_named s d stream t new section k small few some is =
+    let named : required_insert_count d ≡ 0 → ⊥ = λ z. some (k.newest ∙ z) in
+    let least_one : section.oldest ≡ least d.references = k.oldest ∙ least_is d.references named (omega (arith, sym k.newest, few, small.few)) in
+    is ∙ ap (λ (u : StoredSender). stored_sent u stream section.newest section.oldest) k.stores
+    ∙ ap (λ n. stored_sent (stored (record s { inserted = d.inserted })) stream n section.oldest) k.newest
+    ∙ ap (λ n. stored_sent (stored (record s { inserted = d.inserted })) stream (required_insert_count d) n) least_one
+    ∙ rw (waiting_more s.known_received (required_insert_count d) s.required_insert_counts, tracked_more (required_insert_count d == 0) stream d.references s.tracked (not_zero (required_insert_count d) named)) refl
+
+none_below : (n : ℕ) → nat_lt n 0 ≡ false
+none_below n = grind (arith, common_steps)
+
+-- one that names none is not
+pub sent_plain : (s : Sender) (d : Draft) (stream : ℕ) (t : StoredSender) (section : Section) → IsKept s d t section → section.newest ≡ 0
+    → t ≡ stored (record s { inserted = d.inserted; required_insert_counts = s.required_insert_counts ++ required_insert_count d ∷ [];
+      tracked = s.tracked ++ (if required_insert_count d == 0 then [] else record { stream = stream; references = d.references } ∷ []) })
+sent_plain s d stream t section k none =
+    let zero_is : required_insert_count d ≡ 0 = sym k.newest ∙ none in
+    let far : nat_lt s.known_received (required_insert_count d) ≡ false = ap (λ n. nat_lt s.known_received n) zero_is ∙ none_below s.known_received in
+    let counts = ap (λ b. if b then filter (λ c. nat_lt s.known_received c) s.required_insert_counts ++ required_insert_count d ∷ [] else filter (λ c. nat_lt s.known_received c) s.required_insert_counts) (sym far)
+    ∙ waiting_more s.known_received (required_insert_count d) s.required_insert_counts in
+    let none_named : (required_insert_count d == 0) ≡ true = rw zero_is refl in
+    k.stores ∙ ap (λ (ws : List ℕ). record (stored (record s { inserted = d.inserted })) { waiting = ws }) counts
+    ∙ ap (λ ts. record (stored (record s { inserted = d.inserted })) { waiting = filter (λ c. nat_lt s.known_received c) (s.required_insert_counts ++ required_insert_count d ∷ []); tracked = ts })
+    (tracked_same (required_insert_count d == 0) (record { stream = stream; references = d.references } ∷ []) s.tracked none_named)
+
+-- The section and its instructions were written.
+pub section_sent : (s : Sender) (stream : ℕ) (fields : List Field) (t new : StoredSender) (section : Section) (lines before block start told : List ℕ) → IsDrafted s (draft_of s fields) t section lines start told
+    → block ≡ before ++ (prefix_bytes t.table.capacity section.newest section.base ++ lines) → new ≡ stored (sent_section s stream fields)
+    → IsSent s stream fields section.newest new before block start told
+section_sent s stream fields t new section lines before block start told h is kept =
+    let d = draft_of s fields in
+    let capacity : t.table.capacity ≡ s.capacity = ap (λ (u : StoredSender). u.table.capacity) h.kept.stores in
+    let prefix : prefix_bytes t.table.capacity section.newest section.base ≡ prefix_bytes s.capacity (required_insert_count d) (length s.inserted) =
+    ap (λ n. prefix_bytes n section.newest section.base) capacity ∙ ap (λ n. prefix_bytes s.capacity n section.base) h.kept.newest ∙ ap (λ n. prefix_bytes s.capacity (required_insert_count d) n) h.kept.base in
+    let body : prefix_bytes t.table.capacity section.newest section.base ++ lines ≡ encoded_section s fields =
+    ap (λ p. p ++ lines) prefix ∙ ap (λ ls. prefix_bytes s.capacity (required_insert_count d) (length s.inserted) ++ ls) h.lines_are in
+    record {
+      stores = kept;
+      count_is = h.kept.newest;
+      block_is = is ∙ ap (λ b. before ++ b) body;
+      told_is = h.told_is;
+    }
+
+-- A section whose fields are all written is cut off behind the last.
+pub whole_cut_off : (s : Sender) (fields : List Field) (t new : StoredSender) (section : Section) (lines start told : List ℕ) → IsDrafted s (draft_of s fields) t section lines start told → new ≡ t → IsCutOff s fields new start told
+whole_cut_off s fields t new section lines start told h same =
+    let all : take (length fields) fields ≡ fields = take_all (length fields) fields (omega arith) in
+    record { front = length fields; within = omega arith; stores = same ∙ rw all h.kept.stores; told_is = rw all h.told_is }

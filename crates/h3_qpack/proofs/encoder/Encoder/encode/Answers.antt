@@ -1,0 +1,37 @@
+use Rattle.std.proofs.Common.{◌≡◌, ◌∙◌, ◌++◌, refl, rules}
+use Rattle.std.proofs.lemmas.Result.{err_from_is_err_and}
+use Rattle.h3_field.specs.Prefix.{prefix_bytes}
+use Rattle.h3_qpack.specs.Stored.{stored_sent}
+use Rattle.h3_qpack.proofs.Sent.{begun_drafted, whole_cut_off, section_sent, sent_named, sent_plain}
+use Rattle.h3_qpack.proofs.encoder.Encoder.encode.Goals as goal
+
+pub returns-in_err-put_fields-clause-cut_off : goal.returns-in_err-put_fields-clause-cut_off
+returns-in_err-put_fields-clause-cut_off c =
+    let p = err_from_is_err_and c.from_residual.result c.from_residual.ensures.1 in
+    rw p.1 (λ s e. c.in_err-put_fields.ensures.err s _ (begun_drafted s _ _ _ _ (c.self.view_is ∙ e) c.begin-section.ensures.value c.clear.ensures.items))
+
+pub returns-in_err-put_section-clause-cut_off : goal.returns-in_err-put_section-clause-cut_off
+returns-in_err-put_section-clause-cut_off c =
+    let p = err_from_is_err_and c.from_residual-in_err-put_section.result c.from_residual-in_err-put_section.ensures.1 in
+    rw p.1 (λ s e. whole_cut_off s _ _ _ _ _ _ _ (c.in_ok-put_fields.ensures.ok s _ (begun_drafted s _ _ _ _ (c.self.view_is ∙ e) c.begin-section.ensures.value c.clear.ensures.items)) refl)
+
+pub returns-in_default-clause-cut_off : goal.returns-in_default-clause-cut_off
+returns-in_default-clause-cut_off c =
+    let same : c.track.new.self ≡ c.put_fields.new.table = search rules in
+    λ s e. whole_cut_off s _ _ _ _ _ _ _ (c.in_ok-put_fields.ensures.ok s _ (begun_drafted s _ _ _ _ (c.self.view_is ∙ e) c.begin-section.ensures.value c.clear.ensures.items)) same
+
+pub returns-in-Ok-clause-sent : goal.returns-in-Ok-clause-sent
+returns-in-Ok-clause-sent c =
+    let put : c.put_section.new.block.items ≡ c.args.block.now.items ++ (prefix_bytes c.put_fields.new.table.table.capacity c.put_fields.new.section.newest c.put_fields.new.section.base ++ c.put_fields.new.lines.items) = search rules in
+    λ s e.
+    let h = c.in_ok-put_fields.ensures.ok s _ (begun_drafted s _ _ _ _ (c.self.view_is ∙ e) c.begin-section.ensures.value c.clear.ensures.items) in
+    section_sent s c.args.stream c.args.fields.now _ _ _ _ _ _ _ _ h put
+    (sent_named s _ c.args.stream _ _ _ h.kept c.is_small.ensures c.in_ok-put_fields.ensures.over.newest c.if-section-ne0.true c.in-Ok.ensures.ok)
+
+pub returns-else-section-ne0-clause-sent : goal.returns-else-section-ne0-clause-sent
+returns-else-section-ne0-clause-sent c =
+    let put : c.put_section.new.block.items ≡ c.args.block.now.items ++ (prefix_bytes c.put_fields.new.table.table.capacity c.put_fields.new.section.newest c.put_fields.new.section.base ++ c.put_fields.new.lines.items) = search rules in
+    λ s e.
+    let h = c.in_ok-put_fields.ensures.ok s _ (begun_drafted s _ _ _ _ (c.self.view_is ∙ e) c.begin-section.ensures.value c.clear.ensures.items) in
+    section_sent s c.args.stream c.args.fields.now _ _ _ _ _ _ _ _ h put
+    (sent_plain s _ c.args.stream _ _ h.kept c.if-section-ne0.false)
