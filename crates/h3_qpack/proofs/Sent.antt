@@ -105,8 +105,11 @@ not_zero n some = by_test (n == 0) refl
 -- a section that names entries is counted and tracked
 pub sent_named : (s : Sender) (d : Draft) (stream : ℕ) (t new : StoredSender) (section : Section) → IsKept s d t section → IsSmall t → section.newest ≤ t.table.inserted → (section.newest ≡ 0 → ⊥)
     → new ≡ stored_sent t stream section.newest section.oldest
-    → new ≡ stored (record s { inserted = d.inserted; required_insert_counts = s.required_insert_counts ++ required_insert_count d ∷ [];
-      tracked = s.tracked ++ (if required_insert_count d == 0 then [] else record { stream = stream; references = d.references } ∷ []) })
+    → new ≡ stored (record s {
+      inserted = d.inserted;
+      required_insert_counts = s.required_insert_counts ++ required_insert_count d ∷ [];
+      tracked = s.tracked ++ (if required_insert_count d == 0 then [] else record { stream = stream; references = d.references } ∷ []);
+    })
 sent_named s d stream t new section k small few some is =
     let named : required_insert_count d ≡ 0 → ⊥ = λ z. some (k.newest ∙ z) in
     let least_one : section.oldest ≡ least d.references = k.oldest ∙ least_is d.references named (omega (arith, sym k.newest, few, small.few)) in
@@ -120,8 +123,11 @@ none_below n = grind (arith, common_steps)
 
 -- one that names none is not
 pub sent_plain : (s : Sender) (d : Draft) (stream : ℕ) (t : StoredSender) (section : Section) → IsKept s d t section → section.newest ≡ 0
-    → t ≡ stored (record s { inserted = d.inserted; required_insert_counts = s.required_insert_counts ++ required_insert_count d ∷ [];
-      tracked = s.tracked ++ (if required_insert_count d == 0 then [] else record { stream = stream; references = d.references } ∷ []) })
+    → t ≡ stored (record s {
+      inserted = d.inserted;
+      required_insert_counts = s.required_insert_counts ++ required_insert_count d ∷ [];
+      tracked = s.tracked ++ (if required_insert_count d == 0 then [] else record { stream = stream; references = d.references } ∷ []);
+    })
 sent_plain s d stream t section k none =
     let zero_is : required_insert_count d ≡ 0 = sym k.newest ∙ none in
     let far : nat_lt s.known_received (required_insert_count d) ≡ false = ap (λ n. nat_lt s.known_received n) zero_is ∙ none_below s.known_received in

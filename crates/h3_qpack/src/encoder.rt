@@ -186,7 +186,13 @@ impl Encoder {
     {
         self.lines.clear();
         let mut section = Section::begin(&self.table);
-        put_fields(&mut self.table, &mut section, fields, &mut self.lines, encoder_buf)?;
+        put_fields(
+            &mut self.table,
+            &mut section,
+            fields,
+            &mut self.lines,
+            encoder_buf,
+        )?;
         self.table.is_small();
         let start = block.len();
         put_section(&self.table, &section, &self.lines, block)?;

@@ -3,6 +3,8 @@
 
 pub mod decoder;
 pub mod dynamic;
+#[cfg(test)]
+mod encode_tests;
 pub mod encoder;
 mod entries;
 pub mod examples;

@@ -18,7 +18,8 @@ use crate::dynamic::DynamicTable;
 use crate::entries::Match;
 use crate::section::{Choice, Section};
 use h3_field::block::{
-    HeaderPrefix, Indexed, IndexedWithPostBase, Literal, LiteralWithNameRef, LiteralWithPostBaseNameRef,
+    HeaderPrefix, Indexed, IndexedWithPostBase, Literal, LiteralWithNameRef,
+    LiteralWithPostBaseNameRef,
 };
 use h3_field::static_::StaticTable;
 use h3_field::stream::{Duplicate, InsertWithNameRef, InsertWithoutNameRef};
