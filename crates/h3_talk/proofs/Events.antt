@@ -1,42 +1,35 @@
 -- What comes of each event, by what the calls answer.
-use Rattle.std.proofs.Common.{◌≡◌, ◌≢◌, ℕ, zero, suc, ◌+◌, ◌*◌, ◌-◌, ◌/◌, ◌%◌, ◌==◌, ◌^◌, ◌<◌, ◌≤◌, ◌⊎◌, Bool, true, false, not, ◌&&◌, List, [], ◌∷◌, ◌++◌, length, take, drop, Option, Some, None, Result, Ok, Err, option_map, unwrap_or, refl, sym, ◌∙◌, ap, subst, arith, inl, inr, ⊎_elim, if◌then◌else◌, IfSome, IfOk, IfErr, OnOk, nat_le, nat_lt, slice_get, is_none, length-append}
+use Rattle.std.proofs.Common.{◌≡◌, ◌≢◌, ℕ, zero, suc, ◌+◌, ◌*◌, ◌/◌, ◌%◌, ◌==◌, ◌<◌, ◌≤◌, Bool, true, false, not, ◌&&◌, List, [], ◌∷◌, ◌++◌, length, take, Option, Some, None, Result, Ok, Err, unwrap_or, refl, sym, ◌∙◌, ap, subst, arith, ⊎_elim, if◌then◌else◌, IfSome, IfOk, IfErr, OnOk, nat_lt, slice_get, length-append}
 use Rattle.std.proofs.lemmas.Bool.{cases_eq, cases_lt, and_parts, lt-ltb, le-ltb, eqb-true, false≢true}
-use Rattle.std.proofs.lemmas.Grind.{common_steps}
-use Rattle.h3_field.specs.Field.{Field}
 use Rattle.h3_field.specs.Section.{section_bytes}
 use Rattle.h3_header.specs.Head.{Head as Fields, head_fields}
 use Rattle.h3_proto.specs.declared.stream.Side.{Side}
 use Rattle.h3_proto.specs.declared.stream.Side.TheVariants.{Client, Server}
-use Rattle.h3_talk.specs.Frame.{frame, IsUnfinishedFrame}
-use Rattle.h3_talk.specs.Flow.{Flow, Section, Part, flow_bytes, bytes_waiting, unused}
+use Rattle.h3_talk.specs.Frame.{frame}
+use Rattle.h3_talk.specs.Flow.{Flow, bytes_waiting, unused}
 use Rattle.h3_talk.specs.Flow.Part.{Head}
-use Rattle.h3_talk.specs.Setup.{section_of, announced_by, other}
 use Rattle.h3_talk.specs.World.{World, Exchange}
 use Rattle.h3_talk.specs.Streams.{exchange, with_exchange, no_exchange, is_open, flow}
-use Rattle.h3_talk.specs.Refusals.{next_id, content_refusal, takes_head, head_refusal, open_refusal}
+use Rattle.h3_talk.specs.Refusals.{next_id, content_refusal, head_refusal, open_refusal}
 use Rattle.h3_talk.specs.Sending.{opened, appended, sent_section, section_of as sent_section_of}
 use Rattle.h3_talk.specs.Delivering.{delivery, delivered}
-use Rattle.h3_talk.specs.Pulling.{IsHeadItem, HasCome, PauseAllowed, next_part, pause_before, pause_of, settled, Pulls, PausesExactly, handed_out, one_way, unopened, PullsNext}
-use Rattle.h3_talk.specs.Step.{Does, Step}
-use Rattle.h3_talk.specs.Headline.{Happens, is_memory, is_connection_fault, IsDelivered}
-use Rattle.h3_talk.specs.StreamSets.{Streams, stream_at, Sets, AllSame}
-use Rattle.h3_talk.specs.Stored.{Stored, StoredStream, Outgoing, Incoming, fresh_stream, IsSame, SetsStream, OpensNext}
-use Rattle.h3_talk.specs.Calls.{IsRefusal, open_refused, head_refused, deliver_refused, deliver_refused_by, place_refusal, with_head, with_unread, without_front, with_rest, IsWritable, BeginsWith, Reads, AnswersDelivery, opened_answer, done_answer, is_memory_pull, absent}
+use Rattle.h3_talk.specs.Step.{Does}
+use Rattle.h3_talk.specs.Headline.{Happens, is_memory, is_connection_fault}
+use Rattle.h3_talk.specs.StreamSets.{stream_at}
+use Rattle.h3_talk.specs.Stored.{Stored, StoredStream, Outgoing, fresh_stream, IsSame, SetsStream, OpensNext}
+use Rattle.h3_talk.specs.Calls.{IsRefusal, open_refused, head_refused, deliver_refused_by, with_head, with_unread, without_front, IsWritable, AnswersDelivery, opened_answer, done_answer}
 use Rattle.h3_talk.specs.Stands.{place_after, SendsFlow, ReceivesFlow, IsStreamOf, HasStream, IsSoundFlow, ExchangeStands, Stands}
 use Rattle.h3_talk.specs.declared.session.setup.Setup.{Setup}
-use Rattle.h3_talk.specs.declared.session.stream.Place.TheVariants.{BeforeHead, InBody}
+use Rattle.h3_talk.specs.declared.session.stream.Place.TheVariants.{BeforeHead}
 use Rattle.h3_talk.specs.declared.session.event.Event.{Event}
 use Rattle.h3_talk.specs.declared.session.event.Event.TheVariants as does
 use Rattle.h3_talk.specs.declared.session.event.Answer.{Answer}
 use Rattle.h3_talk.specs.declared.session.event.Answer.TheVariants as answer
-use Rattle.h3_talk.specs.declared.session.event.Pull.{Pull}
-use Rattle.h3_talk.specs.declared.session.event.Pull.TheVariants as pull
-use Rattle.h3_talk.specs.declared.session.event.Item.{Item}
 use Rattle.h3_talk.specs.declared.session.event.Refusal.{Refusal}
 use Rattle.h3_talk.specs.declared.session.event.Refusal.TheVariants as refusal
-use Rattle.h3_talk.proofs.Flows.{flow_of, sent_sends, sent_sound, sent_receives, delivered_more, delivered_sends, delivered_receives, delivered_sound, waiting_length, IsNext, Waits, Comes, next_is}
-use Rattle.h3_talk.proofs.Worlds.{Alters, with_exchange-Alters, IsOpened, opened_id}
-use Rattle.h3_talk.proofs.Standing.{moved, set_keeps, same_keeps, self_keeps, stands_after, stands_same, self_same, Has, has_some, has_none, has_here, received_at, refusal_agrees, TakesHead, takes, sent_is}
+use Rattle.h3_talk.proofs.Flows.{sent_sends, sent_sound, sent_receives, delivered_more, delivered_sends, delivered_receives, delivered_sound, waiting_length}
+use Rattle.h3_talk.proofs.Worlds.{with_exchange-Alters}
+use Rattle.h3_talk.proofs.Standing.{moved, set_keeps, self_keeps, stands_after, stands_same, self_same, has_some, has_none, has_here, received_at, refusal_agrees, takes, sent_is}
 
 abbrev pub After : Setup → World → Event → Answer → Stored → Stored → Type 0
 After setup w event given client server = (new : World) × Happens setup w event given new × Stands setup new client server
@@ -63,7 +56,6 @@ refusal_is rule refusal.NotOpen h m = h
 refusal_is rule refusal.OutOfOrder h m = h
 refusal_is rule refusal.WrongSide h m = h
 refusal_is rule refusal.Interim h m = h
-refusal_is rule refusal.NotYet h m = h
 refusal_is rule refusal.OutOfMemory h m = cc
 
 slice_get-push : {X : Type 0} (xs : List X) (x : X) (i : ℕ) → unwrap_or (slice_get (xs ++ x ∷ []) i) x ≡ unwrap_or (slice_get xs i) x

@@ -1,5 +1,5 @@
 -- What the ends keep of one flow, from one event to the next.
-use Rattle.std.proofs.Common.{◌≡◌, ◌≢◌, ℕ, zero, suc, ◌+◌, ◌-◌, ◌^◌, ◌<◌, ◌≤◌, Bool, true, false, List, [], ◌∷◌, ◌++◌, length, take, drop, Option, Some, None, refl, sym, ◌∙◌, ap, subst, arith, inl, inr, ⊎_elim, nat_lt, flat_map, slice_get, is_none, if◌then◌else◌, append-nil, length-append, length-take, length-drop, min}
+use Rattle.std.proofs.Common.{◌≡◌, ℕ, zero, suc, ◌+◌, ◌^◌, ◌<◌, ◌≤◌, Bool, true, List, [], ◌∷◌, ◌++◌, length, take, drop, Some, None, refl, sym, ◌∙◌, ap, subst, arith, inl, ⊎_elim, flat_map, append-nil, length-take, length-drop}
 use Rattle.std.proofs.Math.Seq.{take-add}
 use Rattle.std.proofs.lemmas.Bool.{cases_lt, lt-ltb, le-ltb}
 use Rattle.std.proofs.lemmas.List.{drop-drop, drop-append-le, take_all, drop_all}
@@ -11,10 +11,9 @@ use Rattle.h3_talk.specs.Flow.Part.{Head}
 use Rattle.h3_talk.specs.Sending.{appended}
 use Rattle.h3_talk.specs.Pulling.{PauseAllowed, next_part, pause_before}
 use Rattle.h3_talk.specs.Stored.{Outgoing, Incoming}
-use Rattle.h3_talk.specs.Calls.{IsWritable, BeginsWith}
-use Rattle.h3_talk.specs.Stands.{place_after, SendsFlow, ReceivesFlow, IsSentHead, AreSent, IsSoundFlow}
+use Rattle.h3_talk.specs.Calls.{BeginsWith}
+use Rattle.h3_talk.specs.Stands.{place_after, SendsFlow, ReceivesFlow, IsSentHead, IsSoundFlow}
 use Rattle.h3_talk.specs.declared.session.event.Pull.TheVariants as pull
-use Rattle.h3_talk.specs.declared.session.stream.Place.{Place}
 use Rattle.h3_talk.specs.declared.session.stream.Place.TheVariants.{BeforeHead, InBody}
 use Rattle.h3_talk.proofs.Frames.{frame_front, frame_some}
 use Rattle.h3_talk.proofs.Sections.{few_bytes}

@@ -1,33 +1,31 @@
 -- What comes of a pull.
-use Rattle.std.proofs.Common.{◌≡◌, ℕ, ◌+◌, ◌-◌, ◌%◌, ◌==◌, ◌<◌, ◌≤◌, ◌⊎◌, Bool, true, false, not, ◌&&◌, List, [], ◌∷◌, length, Option, Some, None, MatchOption, refl, sym, ◌∙◌, ap, subst, arith, inl, inr, if◌then◌else◌, IfSome, is_none, is_some}
+use Rattle.std.proofs.Common.{◌≡◌, ℕ, ◌+◌, ◌%◌, ◌==◌, ◌≤◌, ◌⊎◌, Bool, true, false, not, ◌&&◌, List, Option, Some, None, MatchOption, refl, sym, ◌∙◌, ap, subst, inl, inr, if◌then◌else◌, IfSome, is_some}
 use Rattle.std.proofs.lemmas.Bool.{false≢true}
-use Rattle.h3_field.specs.Field.{Field}
 use Rattle.h3_proto.specs.declared.stream.Side.{Side}
 use Rattle.h3_proto.specs.declared.stream.Side.TheVariants.{Client, Server}
-use Rattle.h3_talk.specs.Flow.{Flow, Section, Part, bytes_waiting, unused}
+use Rattle.h3_talk.specs.Flow.{Flow, Section, bytes_waiting, unused}
 use Rattle.h3_talk.specs.Flow.Part.{Head}
 use Rattle.h3_talk.specs.Setup.{section_of, announced_by, other}
 use Rattle.h3_talk.specs.World.{World, Exchange}
 use Rattle.h3_talk.specs.Streams.{exchange, with_exchange, is_open, flow}
-use Rattle.h3_talk.specs.Pulling.{IsHeadItem, HasCome, PauseAllowed, next_part, pause_before, pause_of, settled, Pulls, PausesExactly, PullsNext, handed_out, one_way, unopened, encoder_delivered}
-use Rattle.h3_talk.specs.Headline.{Happens, ComesOut, is_memory, is_connection_fault, IsDelivered}
+use Rattle.h3_talk.specs.Pulling.{IsHeadItem, HasCome, PauseAllowed, next_part, pause_before, pause_of, settled, PullsNext, handed_out, one_way, unopened}
+use Rattle.h3_talk.specs.Headline.{Happens, is_memory, is_connection_fault}
 use Rattle.h3_talk.specs.StreamSets.{stream_at}
-use Rattle.h3_talk.specs.Stored.{Stored, StoredStream, Incoming, IsSame, SetsStream, ChangesOnly}
-use Rattle.h3_talk.specs.Calls.{BeginsWith, Reads, with_rest, PullsStream, is_memory_pull, absent}
-use Rattle.h3_talk.specs.Stands.{place_after, IsStreamOf, HasStream, IsSoundFlow, ReceivesFlow, ExchangeStands, Stands}
+use Rattle.h3_talk.specs.Stored.{Stored, StoredStream, IsSame, SetsStream, ChangesOnly}
+use Rattle.h3_talk.specs.Calls.{with_rest, PullsStream, is_memory_pull, absent}
+use Rattle.h3_talk.specs.Stands.{place_after, HasStream, IsSoundFlow, ReceivesFlow, ExchangeStands, Stands}
 use Rattle.h3_talk.specs.declared.session.setup.Setup.{Setup}
 use Rattle.h3_talk.specs.declared.session.stream.Place.TheVariants.{InBody}
 use Rattle.h3_talk.specs.declared.session.event.Event.TheVariants as does
-use Rattle.h3_talk.specs.declared.session.event.Answer.{Answer}
 use Rattle.h3_talk.specs.declared.session.event.Answer.TheVariants as answer
 use Rattle.h3_talk.specs.declared.session.event.Pull.{Pull}
 use Rattle.h3_talk.specs.declared.session.event.Pull.TheVariants as pull
 use Rattle.h3_talk.specs.declared.session.event.Item.{Item}
 use Rattle.h3_talk.specs.declared.session.event.Fault.TheVariants as fault
-use Rattle.h3_talk.proofs.Flows.{flow_of, IsNext, Waits, Comes, next_is}
+use Rattle.h3_talk.proofs.Flows.{IsNext, Waits, Comes, next_is}
 use Rattle.h3_talk.proofs.Worlds.{Alters, with_exchange-Alters, opened_id}
-use Rattle.h3_talk.proofs.Standing.{set_keeps, same_keeps, self_keeps, stands_after, stands_same, self_same, Has, has_some, has_none, has_here, received_at}
-use Rattle.h3_talk.proofs.Events.{After, if_true, if_false, server_open}
+use Rattle.h3_talk.proofs.Standing.{set_keeps, self_keeps, stands_after, stands_same, self_same, has_some, has_none, has_here}
+use Rattle.h3_talk.proofs.Events.{After, if_false, server_open}
 
 zero_ne : (side : Side) → (0 == one_way (other side)) ≡ false
 zero_ne Client = refl

@@ -1,8 +1,10 @@
 -- What a try to read the next frame tells.
-use Rattle.std.proofs.Common.{◌≡◌, ℕ, ◌+◌, ◌-◌, ◌^◌, ◌<◌, ◌≤◌, true, false, List, [], ◌∷◌, ◌++◌, length, drop, Err, arith, refl, sym, ◌∙◌, ap, subst, length-append}
+use Rattle.std.proofs.Common.{◌≡◌, ℕ, ◌-◌, ◌^◌, ◌<◌, true, List, [], ◌++◌, length, drop, Err, arith, refl, sym, ◌∙◌, ap, subst, length-append}
 use Rattle.std.proofs.lemmas.List.{drop_at}
 use Rattle.h3_field.specs.Field.{Field, section_size}
+use Rattle.std.specs.List.{AllByRecursion}
 use Rattle.h3_field.specs.Section.{section_bytes}
+use Rattle.h3_field.specs.ReadBack.{IsFieldOfBytes}
 use Rattle.h3_wire.specs.declared.proto.frame.PayloadLen.{PayloadLen}
 use Rattle.h3_wire.specs.declared.proto.frame.Frame.{Frame}
 use Rattle.h3_wire.specs.declared.proto.frame.Frame.TheVariants as wire
@@ -10,20 +12,19 @@ use Rattle.h3_wire.specs.declared.proto.frame.FrameError.{FrameError}
 use Rattle.h3_wire.specs.declared.proto.frame.FrameError.TheVariants as error
 use Rattle.h3_wire.specs.Frames.{Front, Whole, Unknown, Refused, Unfinished, frame_at, Decodes, TakesMemory}
 use Rattle.h3_wire.specs.FrameLaws.{IsShorter, frame_at-shorter}
-use Rattle.h3_talk.specs.Section.{are_static}
-use Rattle.h3_talk.specs.Frame.{frame, IsUnfinishedFrame}
+use Rattle.h3_talk.specs.Frame.{frame}
 use Rattle.h3_talk.specs.Stored.{Incoming}
-use Rattle.h3_talk.specs.Calls.{IsWritable, BeginsWith, is_memory_pull, answer_without_frame}
+use Rattle.h3_talk.specs.Calls.{BeginsWith, is_memory_pull, answer_without_frame}
 use Rattle.h3_talk.specs.declared.session.event.Pull.TheVariants as pull
 use Rattle.h3_talk.proofs.Frames.{frame_at-frame}
 use Rattle.h3_talk.proofs.Sections.{few_bytes, section_few}
 
 -- the section of a head that may be sent is short
-pub head_few : (fields read : List Field) (bytes section : List ℕ) → read ≡ fields → section_size fields < 2 ^ 56
-    → (are_static read ≡ true) × (section ≡ section_bytes read) → bytes ≡ section → length bytes < 2 ^ 62
-head_few fields read bytes section e small s b =
-    let few : length (section_bytes read) < 2 ^ 62 = section_few read s.0 (rw e small) in
-    rw (b, s.1) few
+pub head_few : (fields read : List Field) (bytes section start : List ℕ) → read ≡ fields → section_size fields < 2 ^ 56
+    → AllByRecursion IsFieldOfBytes read → start ≡ [] → section ≡ start ++ section_bytes read → bytes ≡ section → length bytes < 2 ^ 62
+head_few fields read bytes section start e small all none s b =
+    let few : length (section_bytes read) < 2 ^ 62 = section_few read all (rw e small) in
+    rw (b, s, none) few
 
 pub begins_at : (i : Incoming) (bytes : List ℕ) (fields : List Field) (rest : List ℕ) → i.unread ≡ bytes → BeginsWith i fields rest
     → frame_at bytes ≡ Whole (wire.Headers (section_bytes fields)) rest

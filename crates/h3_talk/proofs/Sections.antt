@@ -1,29 +1,25 @@
--- Sections of static entries, as they are written and read back.
-use Rattle.std.proofs.Common.{◌≡◌, ℕ, zero, suc, ◌+◌, ◌-◌, ◌*◌, ◌%◌, ◌/◌, ◌^◌, ◌<◌, ◌≤◌, Bool, true, false, ◌&&◌, List, [], ◌∷◌, ◌++◌, length, take, Option, Some, None, is_some, refl, sym, ◌∙◌, ap, subst, arith, length-append, append_assoc, append-nil, flat_map, sum_by, nat_lt, get_or, slice_get, bytes_eq, if◌then◌else◌}
-use Rattle.std.specs.List.{list_all, position}
-use Rattle.std.proofs.lemmas.Bool.{and_parts}
-use Rattle.std.proofs.lemmas.Grind.{flat_map-append}
-use Rattle.std.proofs.lemmas.List.{take_more}
-use Rattle.std.proofs.lemmas.List.Folds.{list_all_at, list_all-append}
-use Rattle.std.proofs.lemmas.List.Quantifiers.{position-Some}
-use Rattle.std.proofs.lemmas.List.Sums.{sum_by-append, sum_by-cons}
-use Rattle.std.proofs.lemmas.Option.{slice_get-get_or}
-use Rattle.std.proofs.lemmas.Slice.Eq.{bytes_eq-Decides}
-use Rattle.h3_field.specs.Field.{Field, field_eq, section_size, field_size}
-use Rattle.h3_field.specs.StaticTable.{static_table, static_field}
+-- Encoded field sections: how long they are, and how they are read back.
+use Rattle.std.proofs.Common.{◌≡◌, ℕ, zero, suc, ◌+◌, ◌-◌, ◌*◌, ◌%◌, ◌/◌, ◌^◌, ◌<◌, ◌≤◌, Bool, true, false, List, [], ◌∷◌, length, Option, Some, None, refl, ◌∙◌, subst, arith, length-append, flat_map, nat_lt, if◌then◌else◌}
+use Rattle.std.specs.List.{AllByRecursion}
+use Rattle.std.proofs.lemmas.List.Sums.{sum_by-cons}
+use Rattle.h3_huffman.specs.Huffman.{huffman, code_word}
+use Rattle.h3_huffman.proofs.Writing.{word_is, length-huffman}
+use Rattle.h3_field.specs.Field.{Field, section_size, field_size}
+use Rattle.h3_field.specs.StaticTable.{static_field, static_name}
 use Rattle.h3_field.specs.Integer.{prefixed, groups, ones}
+use Rattle.h3_field.specs.StringLiteral.{string_literal}
 use Rattle.h3_field.specs.Line.{line_bytes}
-use Rattle.h3_field.specs.Line.FieldLine.{StaticField}
-use Rattle.h3_field.specs.Section.{section_bytes, static_line, line_or_literal}
-use Rattle.h3_talk.specs.Section.{is_static, are_static}
-use Rattle.h3_talk.specs.Calls.{IsWritable}
+use Rattle.h3_field.specs.Section.{section_bytes, static_line, static_lines, line_or_literal, literal_line, Answer, Fields, TooLong, Refused, AnswersSection}
+use Rattle.h3_field.specs.SectionAnswer.{IsRefusal}
+use Rattle.h3_field.specs.ReadBack.{AreBytes, IsFieldOfBytes}
+use Rattle.h3_field.specs.declared.decoder_error.DecoderError.{DecoderError}
+use Rattle.h3_field.specs.declared.decoder_error.DecoderError.TheVariants as error
+use Rattle.h3_field.proofs.SectionReadBack.{section_reads_back, all_within}
+use Rattle.h3_talk.specs.Calls.{IsWritable, fault_of_section}
+use Rattle.h3_talk.specs.declared.session.event.Fault.TheVariants.{Memory}
 
 section_size-cons : (f : Field) (fields : List Field) → section_size (f ∷ fields) ≡ field_size f + section_size fields
 section_size-cons f fields = sum_by-cons field_size f fields
-
-either_some : (b : Bool) (xs ys : List ℕ) → 0 < length xs → 0 < length ys → 0 < length (if b then xs else ys)
-either_some true xs ys p q = p
-either_some false xs ys p q = q
 
 -- in either case at most so many bytes
 either_few : (b : Bool) (xs ys : List ℕ) (n : ℕ) → length xs ≤ n → length ys ≤ n → length (if b then xs else ys) ≤ n
@@ -36,121 +32,82 @@ groups_few (suc most) n =
     let rest : length (groups most (n / 128)) ≤ most = groups_few most (n / 128) in
     either_few (nat_lt n 128) (n ∷ []) ((128 + n % 128) ∷ groups most (n / 128)) (suc most) (omega arith) (omega arith)
 
-line_few : (found : Option ℕ) (f : Field) → is_some found ≡ true → length (line_bytes (line_or_literal found f)) ≤ 10
-line_few None f h = cc
-line_few (Some index) f h =
-    either_few (nat_lt index (ones 6)) ((3 * 2 ^ 6 + index) ∷ []) ((3 * 2 ^ 6 + ones 6) ∷ groups 9 (index - ones 6)) 10 (omega arith) (omega (arith, groups_few 9 (index - ones 6)))
+-- an integer has at most ten bytes
+prefixed_few : (size flags n : ℕ) → length (prefixed size flags n) ≤ 10
+prefixed_few size flags n =
+    either_few (nat_lt n (ones size)) ((flags * 2 ^ size + n) ∷ []) ((flags * 2 ^ size + ones size) ∷ groups 9 (n - ones size)) 10
+    (omega arith) (omega (arith, groups_few 9 (n - ones size)))
 
-lines_few : (fields : List Field) → are_static fields ≡ true → length (flat_map (λ f. line_bytes (static_line f)) fields) ≤ section_size fields
-lines_few [] h = omega arith
-lines_few (f ∷ fields) h =
-    let parts = and_parts (is_static f) (are_static fields) h in
-    omega (arith, length-append (line_bytes (static_line f)) (flat_map (λ f. line_bytes (static_line f)) fields), line_few (static_field f) f parts.0, lines_few fields parts.1, section_size-cons f fields)
+-- a code word has at most 30 bits
+words_few : (s : List ℕ) → AreBytes s → length (flat_map code_word s) ≤ 30 * length s
+words_few [] b = omega arith
+words_few (c ∷ s) b =
+    let word = word_is c b.0 in
+    omega (arith, length-append (code_word c) (flat_map code_word s), word.len, word.most, words_few s b.1)
+
+huffman_few : (s : List ℕ) → AreBytes s → length (huffman s) ≤ 4 * length s
+huffman_few s b = omega (arith, length-huffman s, words_few s b)
+
+string_few : (size flags : ℕ) (s : List ℕ) → AreBytes s → length (string_literal size flags s) ≤ 10 + 4 * length s
+string_few size flags s b =
+    let h = huffman s in
+    omega (arith, length-append (prefixed (size - 1) (2 * flags + 1) (length h)) h, prefixed_few (size - 1) (2 * flags + 1) (length h), huffman_few s b)
+
+literal_few : (name : Option ℕ) (f : Field) → IsFieldOfBytes f → length (line_bytes (literal_line name f)) ≤ 4 * field_size f
+literal_few (Some index) f b =
+    omega (arith, length-append (prefixed 4 5 index) (string_literal 8 0 f.value), prefixed_few 4 5 index, string_few 8 0 f.value b.1)
+literal_few None f b =
+    omega (arith, length-append (string_literal 4 2 f.name) (string_literal 8 0 f.value), string_few 4 2 f.name b.0, string_few 8 0 f.value b.1)
+
+line_few : (found : Option ℕ) (f : Field) → IsFieldOfBytes f → length (line_bytes (line_or_literal found f)) ≤ 4 * field_size f
+line_few (Some index) f b = omega (arith, prefixed_few 6 3 index)
+line_few None f b = literal_few (static_name f.name) f b
+
+lines_few : (fields : List Field) → AllByRecursion IsFieldOfBytes fields → length (static_lines fields) ≤ 4 * section_size fields
+lines_few [] b = omega arith
+lines_few (f ∷ fields) b =
+    omega (arith, length-append (line_bytes (static_line f)) (static_lines fields), line_few (static_field f) f b.0, lines_few fields b.1, section_size-cons f fields)
+
+pub section_few : (fields : List Field) → AllByRecursion IsFieldOfBytes fields → section_size fields < 2 ^ 56 → length (section_bytes fields) < 2 ^ 62
+section_few fields b small = omega (arith, lines_few fields b)
 
 pub few_bytes : (fields : List Field) → IsWritable fields → length (section_bytes fields) < 2 ^ 62
-few_bytes fields h = omega (arith, lines_few fields h.are_static, h.small)
+few_bytes fields h = section_few fields h.bytes h.small
 
-pub section_few : (fields : List Field) → are_static fields ≡ true → section_size fields < 2 ^ 56 → length (section_bytes fields) < 2 ^ 62
-section_few fields h small = omega (arith, lines_few fields h)
+-- the greatest limit stops no section that was written
+pub section_read : (fields : List Field) (answer : Answer) → IsWritable fields → AnswersSection (2 ^ 64 - 1) (section_bytes fields) answer → answer ≡ Fields fields (section_size fields)
+section_read fields answer h r =
+    section_reads_back (2 ^ 64 - 1) fields answer h.bytes (omega (arith, h.small)) (omega (arith, few_bytes fields h)) r
+    ∙ all_within (2 ^ 64 - 1) fields (omega (arith, h.small)) (omega (arith, h.small))
 
-same_bytes : (a b : List ℕ) → bytes_eq a b ≡ true → a ≡ b
-same_bytes a b h = (bytes_eq-Decides a b).0 h
+no_refusal : (fields : List Field) → IsWritable fields → AnswersSection (2 ^ 64 - 1) (section_bytes fields) Refused → ⊥
+no_refusal fields h r = let e = section_read fields Refused h r in cc
 
-same_field : (a b : Field) → field_eq a b ≡ true → a ≡ b
-same_field a b h =
-    let parts = and_parts (bytes_eq a.name b.name) (bytes_eq a.value b.value) h in
-    let names = same_bytes a.name b.name parts.0 in
-    let values = same_bytes a.value b.value parts.1 in
-    λ i. record { name = names i; value = values i }
+not_long : (fields : List Field) (size : ℕ) → IsWritable fields → AnswersSection (2 ^ 64 - 1) (section_bytes fields) (TooLong size) → ⊥
+not_long fields size h r = let e = section_read fields (TooLong size) h r in cc
 
--- The entry of an index that was found.
-pub record IsEntry (f : Field) (index : ℕ) : Type 0 where
-  pub below : index < 99
-  pub entry : slice_get static_table index ≡ Some f
+-- a section that was written is refused for memory alone
+pub section_memory : (fields : List Field) (e : DecoderError) → IsWritable fields → IsRefusal (2 ^ 64 - 1) (section_bytes fields) e → fault_of_section e ≡ Memory
+section_memory fields error.OutOfMemory h r = refl
+section_memory fields (error.HeaderTooLong size) h r = absurd (not_long fields size h r)
+section_memory fields (error.InvalidInteger e) h r = absurd (no_refusal fields h r)
+section_memory fields (error.InvalidString e) h r = absurd (no_refusal fields h r)
+section_memory fields (error.InvalidIndex e) h r = absurd (no_refusal fields h r)
+section_memory fields (error.DynamicTable e) h r = absurd (no_refusal fields h r)
+section_memory fields (error.InvalidStaticIndex e) h r = absurd (no_refusal fields h r)
+section_memory fields (error.UnknownPrefix e) h r = absurd (no_refusal fields h r)
+section_memory fields (error.MissingRefs e) h r = absurd (no_refusal fields h r)
+section_memory fields error.BadBaseIndex h r = absurd (no_refusal fields h r)
+section_memory fields error.UnexpectedEnd h r = absurd (no_refusal fields h r)
+section_memory fields error.BufSize h r = absurd (no_refusal fields h r)
 
-table_length : length static_table ≡ 99
-unfolding static_table
-table_length = refl
+-- what a reader of a written section got
+pub section_got : (fields got : List Field) (size : ℕ) (bytes cursor : List ℕ) → IsWritable fields → bytes ≡ section_bytes fields → cursor ≡ bytes
+    → AnswersSection (2 ^ 64 - 1) cursor (Fields got size) → (got ≡ fields) × (size ≡ section_size fields)
+section_got fields got size bytes cursor h b s r =
+    let e : Fields got size ≡ Fields fields (section_size fields) = section_read fields (Fields got size) h (subst (λ x. AnswersSection (2 ^ 64 - 1) x (Fields got size)) (s ∙ b) r) in
+    (cc, cc)
 
-pub found_entry : (f : Field) (index : ℕ) → static_field f ≡ Some index → IsEntry f index
-unfolding static_field
-found_entry f index h =
-    let p = position-Some (λ entry. field_eq entry f) static_table index f h in
-    record {
-      below = omega (arith, p.0, table_length);
-      entry = slice_get-get_or static_table index f p.0 ∙ ap Some (same_field (get_or static_table index f) f p.1);
-    }
-
--- one more field at the end
-pub section_more : (fields : List Field) (f : Field) (index : ℕ) → static_field f ≡ Some index
-    → section_bytes (fields ++ f ∷ []) ≡ section_bytes fields ++ line_bytes (StaticField index)
-section_more fields f index h =
-    ap (λ lines. 0 ∷ 0 ∷ lines) (flat_map-append (λ g. line_bytes (static_line g)) fields (f ∷ [])
-    ∙ ap (λ end. flat_map (λ g. line_bytes (static_line g)) fields ++ end) (append-nil (line_bytes (static_line f)) ∙ ap (λ found. line_bytes (line_or_literal found f)) h))
-
-pub static_more : (fields : List Field) (f : Field) (index : ℕ) → static_field f ≡ Some index → are_static fields ≡ true → are_static (fields ++ f ∷ []) ≡ true
-static_more fields f index h all =
-    list_all-append is_static fields (f ∷ []) ∙ ap (λ b. b && are_static (f ∷ [])) all ∙ ap (λ found. is_some found && true) h
-
-pub not_static : (fields : List Field) (i : ℕ) (f : Field) → i < length fields → f ≡ get_or fields i f → static_field f ≡ None → are_static fields ≡ false
-not_static fields i f lt is none = list_all_at is_static fields i f lt (ap is_static (sym is) ∙ ap is_some none)
-
-pub size_more : (fields : List Field) (f : Field) → section_size (fields ++ f ∷ []) ≡ section_size fields + field_size f
-size_more fields f = sum_by-append field_size fields (f ∷ []) ∙ ap (λ n. section_size fields + n) (section_size-cons f [] ∙ omega arith)
-
--- What is left to read of a section.
-pub record Left (all done : List Field) (rest : List ℕ) : Type 0 where
-  pub more : List Field
-  pub parts : all ≡ done ++ more
-  pub static : are_static more ≡ true
-  pub bytes : rest ≡ flat_map (λ f. line_bytes (static_line f)) more
-
--- The next of the fields that are left.
-pub record NextField (all done : List Field) (rest : List ℕ) : Type 0 where
-  pub field : Field
-  pub index : ℕ
-  pub behind : List ℕ
-  pub is_entry : IsEntry field index
-  pub line : rest ≡ line_bytes (StaticField index) ++ behind
-  pub left : Left all (done ++ field ∷ []) behind
-
-next_at : (all done more : List Field) (rest : List ℕ) (f : Field) (found : Option ℕ) → static_field f ≡ found → is_some found ≡ true
-    → all ≡ done ++ f ∷ more → are_static more ≡ true → rest ≡ line_bytes (static_line f) ++ flat_map (λ f. line_bytes (static_line f)) more → NextField all done rest
-next_at all done more rest f None e some parts static bytes = cc
-next_at all done more rest f (Some index) e some parts static bytes =
-    record {
-      field = f;
-      index = index;
-      behind = flat_map (λ f. line_bytes (static_line f)) more;
-      is_entry = found_entry f index e;
-      line = bytes ∙ ap (λ found. line_bytes (line_or_literal found f) ++ flat_map (λ f. line_bytes (static_line f)) more) e;
-      left = record { more = more; parts = parts ∙ sym (append_assoc done (f ∷ []) more); static = static; bytes = refl };
-    }
-
-next_of : (all done more : List Field) (rest : List ℕ) → all ≡ done ++ more → are_static more ≡ true → rest ≡ flat_map (λ f. line_bytes (static_line f)) more
-    → 0 < length rest → NextField all done rest
-next_of all done [] rest parts static bytes some = absurd (omega (arith, ap length bytes))
-next_of all done (f ∷ more) rest parts static bytes some =
-    let tests = and_parts (is_static f) (are_static more) static in
-    next_at all done more rest f (static_field f) refl tests.0 parts tests.1 bytes
-
-pub next_field : (all done : List Field) (rest : List ℕ) → Left all done rest → 0 < length rest → NextField all done rest
-next_field all done rest h some = next_of all done h.more rest h.parts h.static h.bytes some
-
-line_some : (found : Option ℕ) (f : Field) → is_some found ≡ true → 0 < length (line_bytes (line_or_literal found f))
-line_some None f h = cc
-line_some (Some index) f h = either_some (nat_lt index (ones 6)) ((3 * 2 ^ 6 + index) ∷ []) ((3 * 2 ^ 6 + ones 6) ∷ groups 9 (index - ones 6)) (omega arith) (omega arith)
-
--- nothing is left once all bytes are read
-all_read : (all done more : List Field) (rest : List ℕ) → all ≡ done ++ more → are_static more ≡ true → rest ≡ flat_map (λ f. line_bytes (static_line f)) more
-    → length rest ≡ 0 → done ≡ all
-all_read all done [] rest parts static bytes none = sym (parts ∙ append-nil done)
-all_read all done (f ∷ more) rest parts static bytes none =
-    let tests = and_parts (is_static f) (are_static more) static in
-    absurd (omega (arith, ap length bytes, length-append (line_bytes (static_line f)) (flat_map (λ f. line_bytes (static_line f)) more), line_some (static_field f) f tests.0))
-
-pub section_read : (all done : List Field) (rest : List ℕ) → Left all done rest → length rest ≡ 0 → done ≡ all
-section_read all done rest h none = all_read all done h.more rest h.parts h.static h.bytes none
-
-pub section_start : (all : List Field) (bytes : List ℕ) → are_static all ≡ true → 0 ∷ 0 ∷ bytes ≡ section_bytes all → Left all [] bytes
-section_start all bytes static is = record { more = all; parts = refl; static = static; bytes = let e : bytes ≡ flat_map (λ f. line_bytes (static_line f)) all = cc in e }
+pub section_kept : (fields : List Field) (e : DecoderError) (bytes cursor : List ℕ) → IsWritable fields → bytes ≡ section_bytes fields → cursor ≡ bytes
+    → IsRefusal (2 ^ 64 - 1) cursor e → fault_of_section e ≡ Memory
+section_kept fields e bytes cursor h b s r = section_memory fields e h (subst (λ x. IsRefusal (2 ^ 64 - 1) x e) (s ∙ b) r)

@@ -1,31 +1,24 @@
 -- The two ends stand in the world that an event leaves.
-use Rattle.std.proofs.Common.{◌≡◌, ◌≢◌, ℕ, zero, suc, ◌+◌, ◌*◌, ◌-◌, ◌/◌, ◌%◌, ◌==◌, ◌<◌, ◌≤◌, ◌⊎◌, Bool, true, false, not, ◌&&◌, List, [], ◌∷◌, ◌++◌, length, take, drop, Option, Some, None, option_map, unwrap_or, refl, sym, ◌∙◌, ap, subst, arith, inl, inr, ⊎_elim, if◌then◌else◌, IfSome, nat_le, nat_lt, flat_map}
-use Rattle.std.proofs.lemmas.Bool.{cases_eq, and_parts}
+use Rattle.std.proofs.Common.{◌≡◌, ℕ, ◌+◌, ◌*◌, Bool, true, false, not, List, [], ◌∷◌, length, Option, Some, None, option_map, refl, sym, ◌∙◌, ap, subst, arith, ⊎_elim, if◌then◌else◌, flat_map}
+use Rattle.std.proofs.lemmas.Bool.{cases_eq}
 use Rattle.h3_field.specs.Field.{Field}
 use Rattle.h3_field.specs.Section.{section_bytes}
-use Rattle.h3_header.specs.Head.{Head as Fields, head_fields}
-use Rattle.h3_proto.specs.declared.stream.Side.{Side}
-use Rattle.h3_proto.specs.declared.stream.Side.TheVariants.{Client, Server}
-use Rattle.h3_talk.specs.Frame.{frame, IsUnfinishedFrame}
-use Rattle.h3_talk.specs.Flow.{Flow, Section, Part, part_bytes, flow_bytes, bytes_waiting, unused}
-use Rattle.h3_talk.specs.Flow.Part.{Head}
-use Rattle.h3_talk.specs.Setup.{section_of}
+use Rattle.h3_proto.specs.declared.stream.Side.TheVariants.{Client}
+use Rattle.h3_talk.specs.Frame.{frame}
+use Rattle.h3_talk.specs.Flow.{Flow, Part, part_bytes}
 use Rattle.h3_talk.specs.World.{World, Exchange}
-use Rattle.h3_talk.specs.Streams.{exchange, with_exchange, no_exchange, is_open}
-use Rattle.h3_talk.specs.Refusals.{next_id, content_refusal, takes_head, is_unsent, head_refusal}
-use Rattle.h3_talk.specs.Sending.{opened, appended, section_of as sent_section_of}
-use Rattle.h3_talk.specs.Pulling.{IsHeadItem, PauseAllowed, next_part, pause_before, pause_of}
-use Rattle.h3_talk.specs.Headline.{Happens, is_memory}
-use Rattle.h3_talk.specs.StreamSets.{Streams, stream_at, Sets, AllSame}
-use Rattle.h3_talk.specs.Stored.{Stored, StoredStream, Outgoing, Incoming, fresh_stream, IsSame, SetsStream, ChangesOnly, OpensNext}
-use Rattle.h3_talk.specs.Calls.{IsRefusal, place_refusal, with_head, with_unread, without_front, IsWritable, BeginsWith}
-use Rattle.h3_talk.specs.Stands.{place_after, SendsFlow, ReceivesFlow, IsStreamOf, HasStream, IsSentHead, AreSent, IsSoundFlow, ExchangeStands, Stands}
+use Rattle.h3_talk.specs.Streams.{exchange, is_open}
+use Rattle.h3_talk.specs.Refusals.{takes_head, is_unsent}
+use Rattle.h3_talk.specs.Sending.{section_of as sent_section_of}
+use Rattle.h3_talk.specs.StreamSets.{stream_at}
+use Rattle.h3_talk.specs.Stored.{Stored, StoredStream, IsSame, SetsStream, ChangesOnly}
+use Rattle.h3_talk.specs.Calls.{place_refusal, IsWritable}
+use Rattle.h3_talk.specs.Stands.{place_after, ReceivesFlow, IsStreamOf, HasStream, IsSentHead, ExchangeStands, Stands}
 use Rattle.h3_talk.specs.declared.session.setup.Setup.{Setup}
 use Rattle.h3_talk.specs.declared.session.stream.Place.{Place}
 use Rattle.h3_talk.specs.declared.session.stream.Place.TheVariants.{BeforeHead, InBody}
 use Rattle.h3_talk.specs.declared.session.event.Refusal.{Refusal}
 use Rattle.h3_talk.specs.declared.session.event.Refusal.TheVariants as refusal
-use Rattle.h3_talk.proofs.Flows.{flow_of, sent_sends, sent_sound, sent_receives, delivered_more, delivered_sends, delivered_receives, delivered_sound, waiting_length}
 use Rattle.h3_talk.proofs.Worlds.{Alters}
 
 pub set_keeps : (old new : Stored) (id : ℕ) (s : StoredStream) → SetsStream old new id s → ChangesOnly old new id

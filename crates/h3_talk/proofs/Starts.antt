@@ -1,5 +1,5 @@
 -- The start of a run.
-use Rattle.std.proofs.Common.{◌≡◌, ℕ, ◌+◌, ◌*◌, ◌/◌, ◌%◌, ◌==◌, ◌^◌, ◌<◌, ◌≤◌, Bool, false, true, List, [], ◌∷◌, length, None, refl, sym, ◌∙◌, ap, arith, nat_lt, sum_by, slice_get, unwrap_or, if◌then◌else◌}
+use Rattle.std.proofs.Common.{◌≡◌, ℕ, ◌/◌, ◌%◌, ◌==◌, ◌^◌, ◌<◌, ◌≤◌, false, List, [], ◌∷◌, None, refl, arith, nat_lt, sum_by}
 use Rattle.std.specs.List.{AllByRecursion}
 use Rattle.std.proofs.lemmas.Bool.{le-ltb}
 use Rattle.std.proofs.lemmas.List.Sums.{sum_by-cons}
@@ -11,7 +11,7 @@ use Rattle.h3_talk.specs.World.{empty_world}
 use Rattle.h3_talk.specs.Streams.{exchange, is_open, no_exchange}
 use Rattle.h3_talk.specs.Stored.{Stored}
 use Rattle.h3_talk.specs.Stands.{ExchangeStands, Stands}
-use Rattle.h3_talk.specs.Sums.{field_sum, head_sum, sent_by, IsSmall}
+use Rattle.h3_talk.specs.Sums.{field_sum, sent_by, IsSmall}
 use Rattle.h3_talk.specs.declared.session.setup.Setup.{Setup}
 use Rattle.h3_talk.specs.declared.session.event.Event.{Event}
 use Rattle.h3_talk.specs.declared.session.event.Event.TheVariants as does

@@ -1,8 +1,12 @@
 -- What the calls of an end answer, by what it keeps.
-use Rattle.std.specs.Prelude.{◌≡◌, ℕ, ◌%◌, ◌^◌, ◌<◌, ◌≤◌, Bool, true, false, not, ◌==◌, nat_le, List, [], ◌∷◌, ◌++◌, length, take, drop, unwrap_or, Option, Some, None, Result, Ok, Err, option_map, if◌then◌else◌}
+use Rattle.std.specs.Prelude.{◌≡◌, ℕ, ◌%◌, ◌^◌, ◌<◌, ◌≤◌, Bool, true, false, not, ◌==◌, nat_le, List, ◌++◌, length, take, drop, unwrap_or, Option, Some, None, Result, Ok, Err, option_map, if◌then◌else◌}
+use Rattle.std.specs.List.{AllByRecursion}
 use Rattle.h3_field.specs.Field.{Field, section_size}
 use Rattle.h3_field.specs.Section.{section_bytes}
-use Rattle.h3_header.specs.Head.{Head as Fields, head_fields}
+use Rattle.h3_field.specs.ReadBack.{IsFieldOfBytes}
+use Rattle.h3_field.specs.declared.decoder_error.DecoderError.{DecoderError}
+use Rattle.h3_field.specs.declared.decoder_error.DecoderError.TheVariants as decoder_error
+use Rattle.h3_header.specs.Head.{Head as Fields}
 use Rattle.h3_header.specs.ReadsBack.{ReadsBack}
 use Rattle.h3_header.specs.declared.headers.error.HeaderError.{HeaderError}
 use Rattle.h3_header.specs.declared.headers.error.HeaderError.TheVariants as header_error
@@ -11,7 +15,6 @@ use Rattle.h3_wire.specs.declared.proto.frame.FrameError.TheVariants as wire_err
 use Rattle.h3_wire.specs.declared.proto.frame.PayloadLen.{PayloadLen}
 use Rattle.h3_wire.specs.declared.proto.frame.Frame.{Frame}
 use Rattle.h3_wire.specs.declared.proto.frame.Frame.TheVariants as wire
-use Rattle.h3_talk.specs.Section.{are_static}
 use Rattle.h3_talk.specs.Frame.{frame, IsUnfinishedFrame}
 use Rattle.h3_talk.specs.Setup.{other}
 use Rattle.h3_talk.specs.Refusals.{content_refusal}
@@ -64,9 +67,9 @@ without_front s count = record s { outgoing = record s.outgoing { waiting = drop
 abbrev pub with_unread : StoredStream → List ℕ → StoredStream
 with_unread s bytes = record s { incoming = record s.incoming { unread = s.incoming.unread ++ bytes } }
 
--- the fields of a head as a sender of this stage writes it
+-- the fields of a head as a sender writes them
 pub record IsWritable (fields : List Field) : Type 0 where
-  pub are_static : are_static fields ≡ true
+  pub bytes : AllByRecursion IsFieldOfBytes fields
   pub reads_back : ReadsBack fields
   pub small : section_size fields < 2 ^ 56
 
@@ -104,6 +107,11 @@ abbrev pub answer_without_frame : FrameError → Pull
 answer_without_frame (wire_error.Incomplete least) = pull.Pending
 answer_without_frame wire_error.OutOfMemory = pull.Fault Memory
 answer_without_frame _ = pull.Fault (Connection 0x105)
+
+-- the fault of a field section that can't be decoded
+abbrev pub fault_of_section : DecoderError → Fault
+fault_of_section decoder_error.OutOfMemory = Memory
+fault_of_section _ = Connection 0x200
 
 -- the fault of fields that are no header
 abbrev pub fault_of_header : HeaderError → Fault

@@ -8,7 +8,6 @@ pub mod Machine
 pub mod Pulling
 pub mod Refusals
 pub mod Run
-pub mod Section
 pub mod Sending
 pub mod Setup
 pub mod Step

@@ -22,7 +22,6 @@ refusal_name refusal.NotOpen = codes "NotOpen"
 refusal_name refusal.OutOfOrder = codes "OutOfOrder"
 refusal_name refusal.WrongSide = codes "WrongSide"
 refusal_name refusal.Interim = codes "Interim"
-refusal_name refusal.NotYet = codes "NotYet"
 refusal_name refusal.OutOfMemory = codes "OutOfMemory"
 
 abbrev pub fault_text : Fault → List ℕ

@@ -3,7 +3,7 @@ use Rattle.std.specs.Prelude.{ℕ, List, [], ◌∷◌, nat_lt, if◌then◌else
 use Rattle.h3_field.specs.Field.{Field, section_size}
 use Rattle.h3_header.specs.Head.{head_fields}
 use Rattle.h3_header.specs.Reads.{head_of_fields}
-use Rattle.h3_talk.specs.Flow.{Flow, Part}
+use Rattle.h3_talk.specs.Flow.{Part}
 use Rattle.h3_talk.specs.Flow.Part.{Head}
 use Rattle.h3_talk.specs.Setup.{announced_by, section_of, other}
 use Rattle.h3_talk.specs.declared.session.setup.Setup.{Setup}
@@ -18,7 +18,6 @@ use Rattle.h3_talk.specs.declared.session.event.Event.{Event}
 use Rattle.h3_talk.specs.declared.session.event.Event.TheVariants as event
 use Rattle.h3_talk.specs.declared.session.event.Answer.{Answer}
 use Rattle.h3_talk.specs.declared.session.event.Answer.TheVariants as answer
-use Rattle.h3_talk.specs.declared.session.event.Item.{Item}
 use Rattle.h3_talk.specs.declared.session.event.Item.TheVariants as item
 use Rattle.h3_talk.specs.declared.session.event.Pull.{Pull}
 use Rattle.h3_talk.specs.declared.session.event.Pull.TheVariants as pull

@@ -1,14 +1,13 @@
 -- When a call is refused, and by what first.
-use Rattle.std.specs.Prelude.{ℕ, ◌*◌, ◌^◌, Bool, true, false, not, ◌&&◌, List, [], ◌∷◌, length, nat_le, ◌==◌, if◌then◌else◌, Option, Some, None}
-use Rattle.h3_header.specs.Head.{Head as Fields, head_fields, is_request, is_response}
-use Rattle.h3_talk.specs.Section.{are_static}
+use Rattle.std.specs.Prelude.{ℕ, ◌*◌, ◌^◌, Bool, true, false, not, ◌&&◌, List, [], ◌∷◌, length, nat_le, if◌then◌else◌, Option, Some, None}
+use Rattle.h3_header.specs.Head.{Head as Fields, is_request, is_response}
 use Rattle.h3_talk.specs.Flow.{Flow, Part}
 use Rattle.h3_talk.specs.World.{World}
 use Rattle.h3_talk.specs.Streams.{flow, is_open}
 use Rattle.h3_proto.specs.declared.stream.Side.{Side}
 use Rattle.h3_proto.specs.declared.stream.Side.TheVariants.{Client, Server}
 use Rattle.h3_talk.specs.declared.session.event.Refusal.{Refusal}
-use Rattle.h3_talk.specs.declared.session.event.Refusal.TheVariants.{NotClient, IdsUsedUp, NotOpen, OutOfOrder, WrongSide, Interim, NotYet}
+use Rattle.h3_talk.specs.declared.session.event.Refusal.TheVariants.{NotClient, IdsUsedUp, NotOpen, OutOfOrder, WrongSide, Interim}
 
 -- the first refusal whose test holds
 abbrev pub first_of : List (Bool × Refusal) → Option Refusal
@@ -45,10 +44,8 @@ open_refusal w Client = first_of ((nat_le (2 ^ 62) (next_id w), IdsUsedUp) ∷ [
 abbrev pub content_refusal : Side → Fields → Option Refusal
 content_refusal side head = first_of (
     (is_of_wrong_side side head, WrongSide) ∷
-    (is_interim head.status, Interim) ∷
-    (not (are_static (head_fields head)), NotYet) ∷ [])
+    (is_interim head.status, Interim) ∷ [])
 
--- NotYet is the last one, for a field that is no entry of the static table
 abbrev pub head_refusal : World → Side → ℕ → Fields → Option Refusal
 head_refusal w side id head =
     if not (is_open w side id) then Some NotOpen else (

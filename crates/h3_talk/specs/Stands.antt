@@ -1,6 +1,5 @@
 -- The two ends stand in a world.
-use Rattle.std.specs.Prelude.{◌≡◌, ℕ, ◌+◌, ◌^◌, ◌<◌, ◌≤◌, Bool, true, false, ◌&&◌, List, [], ◌∷◌, length, take, drop, flat_map, Option, Some, None}
-use Rattle.h3_field.specs.Field.{section_size}
+use Rattle.std.specs.Prelude.{◌≡◌, ℕ, ◌<◌, ◌≤◌, Bool, true, false, ◌&&◌, List, [], ◌∷◌, length, take, drop, flat_map, Option, Some, None}
 use Rattle.h3_field.specs.Section.{section_bytes}
 use Rattle.h3_talk.specs.Frame.{frame}
 use Rattle.h3_talk.specs.Flow.{Flow, Section, Part, part_bytes, flow_bytes, unused}

@@ -1,5 +1,5 @@
 -- What may come of one event.
-use Rattle.std.specs.Prelude.{◌≡◌, ℕ, Option, Some, None}
+use Rattle.std.specs.Prelude.{◌≡◌, Option, Some, None}
 use Rattle.h3_header.specs.Head.{head_fields}
 use Rattle.h3_talk.specs.Flow.Part.{Head}
 use Rattle.h3_talk.specs.declared.session.setup.Setup.{Setup}

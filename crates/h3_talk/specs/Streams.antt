@@ -1,5 +1,5 @@
 -- The streams by their ids (RFC 9000, section 2.1).
-use Rattle.std.specs.Prelude.{ℕ, ◌/◌, ◌%◌, Bool, ◌&&◌, List, length, slice_get, slice_set, nat_lt, ◌==◌, if◌then◌else◌, unwrap_or}
+use Rattle.std.specs.Prelude.{ℕ, ◌/◌, ◌%◌, Bool, ◌&&◌, length, slice_get, slice_set, nat_lt, ◌==◌, if◌then◌else◌, unwrap_or}
 use Rattle.h3_talk.specs.Flow.{Flow, unused}
 use Rattle.h3_talk.specs.World.{World, Exchange}
 use Rattle.h3_proto.specs.declared.stream.Side.{Side}

@@ -1,13 +1,15 @@
 -- The worked schedules that the definitions are tried at.
-use Rattle.std.specs.Prelude.{ℕ, List, [], ◌∷◌, codes}
+use Rattle.std.specs.Prelude.{ℕ, List, [], ◌∷◌, codes, Some}
 use Rattle.http_header.specs.FieldValue.{plain_value}
-use Rattle.http_header.specs.HeaderMap.{Entries, append}
-use Rattle.http_header.specs.FieldValue.{FieldValue}
-use Rattle.h3_header.specs.Head.{Head as Fields, response_head}
+use Rattle.http_header.specs.HeaderMap.{append}
+use Rattle.h3_header.specs.Head.{Head as Fields, trailer_head, response_head}
 use Rattle.h3_talk.specs.declared.session.setup.Announced.{Announced}
 use Rattle.h3_talk.specs.declared.session.setup.Setup.{Setup}
 use Rattle.h3_talk.specs.World.{empty_world}
-use Rattle.h3_talk.specs.Machine.{answers_from}
+use Rattle.h3_talk.specs.Flow.{flow_bytes}
+use Rattle.h3_talk.specs.Streams.{flow}
+use Rattle.h3_talk.specs.Machine.{answers_from, world_after}
+use Rattle.h3_proto.specs.declared.stream.Side.{Side}
 use Rattle.h3_proto.specs.declared.stream.Side.TheVariants.{Client, Server}
 use Rattle.h3_talk.specs.declared.session.event.Event.{Event}
 use Rattle.h3_talk.specs.declared.session.event.Event.TheVariants as event
@@ -29,6 +31,10 @@ small_client = record { client = plain 41; server = plain 1000 }
 
 abbrev pub answers : Setup → List Event → List Answer
 answers setup events = answers_from setup empty_world events
+
+-- what the side has written on a stream once all of that has happened
+abbrev pub written : Setup → List Event → Side → ℕ → List ℕ
+written setup events side id = flow_bytes (flow (world_after setup empty_world events) side id)
 
 -- a response without regular fields, and one with a single one
 abbrev pub status : ℕ → Fields
@@ -82,11 +88,36 @@ cut_answers =
 abbrev pub literal_run : List Event
 literal_run =
     event.OpenRequest Client ∷ event.Deliver Client 0 0 ∷ event.Head Server 0 (with_one 200 (codes "x-b") (codes "2")) ∷
-    event.Deliver Server 0 1 ∷ []
+    event.Deliver Server 0 12 ∷ event.Deliver Server 0 11 ∷ event.Pull Client 0 ∷ []
 
 abbrev pub literal_answers : List Answer
 literal_answers =
-    answer.Opened 0 ∷ answer.Delivered 0 ∷ answer.Refused refusal.NotYet ∷ answer.Short 0 ∷ []
+    answer.Opened 0 ∷ answer.Delivered 0 ∷ answer.Done ∷
+    answer.Short 11 ∷ answer.Delivered 11 ∷ answer.Pulled (pull.Item (item.Head (with_one 200 (codes "x-b") (codes "2")))) ∷ []
+
+abbrev pub literal_frame : List ℕ
+literal_frame = 1 ∷ 9 ∷ 0 ∷ 0 ∷ 217 ∷ 43 ∷ 242 ∷ 180 ∷ 127 ∷ 129 ∷ 23 ∷ []
+
+-- a request for https://www.example.com/
+abbrev pub get : Fields
+get = record (trailer_head []) {
+  method = Some (codes "GET");
+  scheme = Some (codes "https");
+  authority = Some (codes "www.example.com");
+  path = Some (codes "/");
+}
+
+abbrev pub request_run : List Event
+request_run =
+    event.OpenRequest Client ∷ event.Head Client 0 get ∷ event.Deliver Client 0 21 ∷ event.Pull Server 0 ∷ event.Pull Server 0 ∷ []
+
+abbrev pub request_answers : List Answer
+request_answers =
+    answer.Opened 0 ∷ answer.Done ∷ answer.Delivered 21 ∷ answer.Pulled (pull.Item (item.Head get)) ∷ answer.Pulled pull.Pending ∷ []
+
+abbrev pub request_frame : List ℕ
+request_frame =
+    1 ∷ 19 ∷ 0 ∷ 0 ∷ 209 ∷ 215 ∷ 80 ∷ 140 ∷ 241 ∷ 227 ∷ 194 ∷ 229 ∷ 242 ∷ 58 ∷ 107 ∷ 160 ∷ 171 ∷ 144 ∷ 244 ∷ 255 ∷ 193 ∷ []
 
 -- refusals, one of each kind, and streams that aren't there
 abbrev pub refused_run : List Event

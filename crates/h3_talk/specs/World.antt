@@ -1,5 +1,5 @@
 -- A client and a server, and all that was sent between them.
-use Rattle.std.specs.Prelude.{ℕ, List, []}
+use Rattle.std.specs.Prelude.{List, []}
 use Rattle.h3_talk.specs.Flow.{Flow}
 
 -- both directions of a request stream

@@ -1,7 +1,6 @@
 //! Scripts of what a client and a server do, and what comes of it.
 #![tactic(auto)]
 
-mod field;
 mod frame;
 mod script;
 mod session;

@@ -3,13 +3,15 @@ ghost use Rattle.std.specs.Prelude.{◌≤◌, length};
 
 use crate::session::event::Event;
 use crate::session::setup::{Limits, Setup};
-use h3_header::Header;
+use h3_header::{Header, HeaderError};
 use h3_proto::config::Config;
 use h3_proto::stream::{Side, StreamId};
-use http::StatusCode;
+use http::method::MethodError;
+use http::{Method, StatusCode};
 use http_header::{
     HeaderMap, HeaderMapError, HeaderName, HeaderNameError, HeaderValue, HeaderValueError,
 };
+use http_uri::{Uri, UriError};
 use std::alloc::{AllocError, AllocFailed, Global};
 
 /// A script that was read.
@@ -75,6 +77,33 @@ impl From<HeaderValueError> for LineError {
         match e {
             HeaderValueError::Invalid => LineError::NoSuchLine,
             HeaderValueError::OutOfMemory => LineError::OutOfMemory,
+        }
+    }
+}
+
+impl From<MethodError> for LineError {
+    fn from(e: MethodError) -> LineError {
+        match e {
+            MethodError::Invalid => LineError::NoSuchLine,
+            MethodError::OutOfMemory => LineError::OutOfMemory,
+        }
+    }
+}
+
+impl From<UriError> for LineError {
+    fn from(e: UriError) -> LineError {
+        match e {
+            UriError::OutOfMemory => LineError::OutOfMemory,
+            _ => LineError::NoSuchLine,
+        }
+    }
+}
+
+impl From<HeaderError> for LineError {
+    fn from(e: HeaderError) -> LineError {
+        match e {
+            HeaderError::OutOfMemory => LineError::OutOfMemory,
+            _ => LineError::NoSuchLine,
         }
     }
 }
@@ -206,7 +235,8 @@ fn short_line(words: &[&str]) -> Option<Event> {
     None
 }
 
-/// `head`, a side, a stream, a status and fields.
+/// `head`, a side, a stream, and a status or a method and a URI, and then fields. A word of three
+/// digits is a status.
 fn head_line(alloc: Global, words: &[&str]) -> Result<Event, LineError>
     requires { 4 ≤ length words.now }
 {
@@ -216,23 +246,38 @@ fn head_line(alloc: Global, words: &[&str]) -> Result<Event, LineError>
     let Some(id) = stream_id(words[2]) else {
         return Err(LineError::NoSuchLine);
     };
-    let Some(status) = status(words[3]) else {
-        return Err(LineError::NoSuchLine);
+    let head = if is_status(words[3]) {
+        response(alloc, words[3], &words[4..])?
+    } else {
+        request(alloc, words[3], &words[4..])?
     };
-    let map = fields(alloc, &words[4..])?;
-    Ok(Event::Head(side, id, Header::response(status, map)))
+    Ok(Event::Head(side, id, head))
 }
 
-/// A status of three digits.
-fn status(word: &str) -> Option<StatusCode> {
-    if word.len() != 3 {
-        return None;
-    }
-    let code = number(word)?;
-    if code >= 1000 {
-        return None;
-    }
-    StatusCode::from_u16(code as u16).ok()
+/// Whether the word is three digits.
+fn is_status(word: &str) -> bool {
+    word.len() == 3 && word.bytes().all(|byte| byte.is_ascii_digit())
+}
+
+/// The head of a response.
+fn response(alloc: Global, status: &str, words: &[&str]) -> Result<Header, LineError> {
+    let Ok(status) = StatusCode::from_bytes(status.as_bytes()) else {
+        return Err(LineError::NoSuchLine);
+    };
+    let fields = fields(alloc, words)?;
+    Ok(Header::response(status, fields))
+}
+
+/// The head of a request.
+fn request(alloc: Global, method: &str, words: &[&str]) -> Result<Header, LineError> {
+    let Some((uri, words)) = words.split_first() else {
+        return Err(LineError::NoSuchLine);
+    };
+    let method = Method::from_bytes(alloc, method.as_bytes())?;
+    let uri = Uri::from_bytes(alloc, uri.as_bytes())?;
+    let fields = fields(alloc, words)?;
+    let head = Header::request(method, uri, fields, None)?;
+    Ok(head)
 }
 
 /// Fields as names and values, each parted by the first `=`.

@@ -1,6 +1,11 @@
+use crate::session::endpoint::Endpoint;
 use crate::session::event::{Answer, Fault, Pull, Refusal};
 use crate::talk::talk;
 use crate::text::answer_text;
+use h3_header::Header;
+use h3_proto::stream::{Side, StreamId};
+use http::StatusCode;
+use http_header::{HeaderMap, HeaderName, HeaderValue};
 use std::io;
 use std::io::{Read, Write};
 use std::test::Fail;
@@ -25,7 +30,14 @@ fn answers_scripts(rt: HostRuntime) -> Result<(), Fail> {
             "head s 0 200\ndeliver s 0 4\npull c 0\ndeliver s 0 2\ndeliver s 0 1\npull c 0\n",
             "ok\ndelivered 4\npending\nshort 1\ndelivered 1\nhead :status=200\n",
         ),
-        ("head s 0 200 x-b=2\n", "refused NotYet\n"),
+        (
+            "head s 0 200 x-b=2\ndeliver s 0 11\npull c 0\n",
+            "ok\ndelivered 11\nhead :status=200 x-b=2\n",
+        ),
+        (
+            "head c 0 GET https://www.example.com/\ndeliver c 0 21\npull s 0\n",
+            "ok\ndelivered 21\nhead :method=GET :scheme=https :authority=www.example.com :path=/\n",
+        ),
         (
             "head s 0 200\nhead s 0 200\nhead c 0 200\nhead s 0 103\nhead s 4 200\n",
             "ok\nrefused OutOfOrder\nrefused WrongSide\nrefused OutOfOrder\nrefused NotOpen\n",
@@ -66,7 +78,7 @@ fn tells_the_size_of_a_large_head(rt: HostRuntime) {
 
 #[test]
 fn refuses_lines(rt: HostRuntime) -> Result<(), Fail> {
-    let rows: [(&[u8], u64); 30] = [
+    let rows: [(&[u8], u64); 35] = [
         (b"", 1),
         (b"\n# nothing\n\n", 1),
         (b"config 0 0 0 0 0", 1),
@@ -85,7 +97,12 @@ fn refuses_lines(rt: HostRuntime) -> Result<(), Fail> {
         (b"config 0 0 0 0 0 0\nhead s 0", 2),
         (b"config 0 0 0 0 0 0\nhead s 0 20", 2),
         (b"config 0 0 0 0 0 0\nhead s 0 099", 2),
-        (b"config 0 0 0 0 0 0\nhead s 0 GET https://a/", 2),
+        (b"config 0 0 0 0 0 0\nhead c 0 GET", 2),
+        (b"config 0 0 0 0 0 0\nhead c 0 G=T https://a/", 2),
+        (b"config 0 0 0 0 0 0\nhead c 0 GET a:b:c", 2),
+        (b"config 0 0 0 0 0 0\nhead c 0 GET /", 2),
+        (b"config 0 0 0 0 0 0\nhead c 0 GET https://a/ host=b", 2),
+        (b"config 0 0 0 0 0 0\nhead c 0 GET https://a/ x", 2),
         (b"config 0 0 0 0 0 0\nhead s 4611686018427387904 200", 2),
         (b"config 0 0 0 0 0 0\nhead s 0 200 x", 2),
         (b"config 0 0 0 0 0 0\nhead s 0 200  x=1", 2),
@@ -105,6 +122,24 @@ fn refuses_lines(rt: HostRuntime) -> Result<(), Fail> {
         let wanted = format!(in rt.alloc(); "line {line}\n")?;
         assert_eq!(rt; out.as_slice(), wanted.as_bytes());
     }
+    Ok(())
+}
+
+/// The frame of a response with the field `x-b: 2`.
+#[test]
+fn writes_literal_fields(rt: HostRuntime) -> Result<(), Fail> {
+    let alloc = rt.alloc();
+    let id = StreamId::try_from(0)?;
+    let mut fields = HeaderMap::new(alloc);
+    let name = HeaderName::from_static("x-b");
+    fields.append(name, HeaderValue::from_static("2"))?;
+    let mut server = Endpoint::new(alloc, Side::Server, 0);
+    server.deliver(id, b"").ok();
+    server
+        .send_head(id, &Header::response(StatusCode::OK, fields))
+        .ok();
+    let response: &[u8] = &[1, 9, 0, 0, 217, 43, 242, 180, 127, 129, 23];
+    assert_eq!(rt; server.outgoing(id), response);
     Ok(())
 }
 

@@ -25,7 +25,6 @@ impl fmt::Display for Refusal {
             Refusal::OutOfOrder => "OutOfOrder",
             Refusal::WrongSide => "WrongSide",
             Refusal::Interim => "Interim",
-            Refusal::NotYet => "NotYet",
             Refusal::OutOfMemory => "OutOfMemory",
         })
     }

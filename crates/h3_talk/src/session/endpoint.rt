@@ -5,14 +5,14 @@ ghost use Rattle.h3_field.specs.Section.{section_bytes};
 ghost use Rattle.h3_header.specs.Head.{head_fields};
 ghost use Rattle.h3_talk.specs.Frame.{frame};
 ghost use Rattle.h3_talk.specs.Refusals.{content_refusal, is_of_wrong_side, is_interim};
-ghost use Rattle.h3_talk.specs.Section.{are_static};
 ghost use Rattle.h3_talk.specs.StreamSets.{stream_at};
 ghost use Rattle.h3_talk.specs.Stored.{fresh_stream, IsSame, ChangesOnly, SetsStream, OpensNext};
 ghost use Rattle.h3_talk.specs.Calls.{IsRefusal, open_refused, head_refused, deliver_refused, with_head, with_unread, without_front, IsWritable, PullsStream, absent};
 
+use crate::frame;
 use crate::session::event::{Pull, Refusal};
 use crate::session::stream::{Place, Stream};
-use crate::{field, frame};
+use h3_field::encode_stateless;
 use h3_header::Header;
 use h3_proto::stream::{Side, StreamId};
 use std::alloc::Global;
@@ -231,11 +231,9 @@ fn head_bytes(alloc: Global, side: Side, head: &Header) -> Result<Vec<u8>, Refus
     let Ok(fields) = head.fields(alloc) else {
         return Err(Refusal::OutOfMemory);
     };
-    let Ok(found) = field::encode_section(alloc, &fields) else {
+    let mut section = Vec::new(alloc);
+    let Ok(_size) = encode_stateless(&mut section, &fields) else {
         return Err(Refusal::OutOfMemory);
-    };
-    let Some(section) = found else {
-        return Err(Refusal::NotYet);
     };
     match frame::headers(alloc, &section) {
         Ok(bytes) => Ok(bytes),

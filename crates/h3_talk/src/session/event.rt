@@ -32,8 +32,6 @@ pub enum Refusal {
     WrongSide,
     /// The status is from 100 to 199.
     Interim,
-    /// Some field is no entry of the static table, and other lines can't be written yet.
-    NotYet,
     /// Memory was refused.
     OutOfMemory,
 }

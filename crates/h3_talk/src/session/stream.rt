@@ -3,10 +3,10 @@ ghost use Rattle.std.specs.Prelude.{◌≡◌, ℕ, ◌^◌, ◌<◌, ◌≤◌,
 ghost use Rattle.h3_field.specs.Field.{Field};
 ghost use Rattle.h3_talk.specs.Stored.{fresh_stream};
 ghost use Rattle.h3_field.specs.Section.{section_bytes};
-ghost use Rattle.h3_talk.specs.Calls.{with_head, with_unread, without_front, IsWritable, PullsStream, IsHeadFrame, ReadsPayload, answer_without_frame, fault_of_header};
+ghost use Rattle.h3_talk.specs.Calls.{with_head, with_unread, without_front, IsWritable, PullsStream, IsHeadFrame, ReadsPayload, answer_without_frame, fault_of_section, fault_of_header};
 
-use crate::field;
 use crate::session::event::{Fault, Item, Pull};
+use h3_field::{DecoderError, SliceCursor, decode_stateless};
 use h3_header::{Header, HeaderError};
 use h3_proto::error::Code;
 use h3_wire::proto::frame::{Frame, FrameError, PayloadLen};
@@ -150,20 +150,27 @@ fn read_item(
 fn read_head(alloc: Global, section: &[u8], most: u64) -> Result<Item, Fault>
     ensures { (fields : List Field) → IsWritable fields → section.now ≡ section_bytes fields → ReadsPayload most fields result }
 {
-    let fields = match field::decode_section(alloc, section) {
-        Ok(fields) => fields,
-        Err(field::SectionError::OutOfMemory) => return Err(Fault::Memory),
-        Err(field::SectionError::Refused) => {
-            return Err(Fault::Connection(Code::QPACK_DECOMPRESSION_FAILED));
-        }
+    let mut section = SliceCursor::new(section);
+    let decoded = match decode_stateless(alloc, &mut section, u64::MAX) {
+        Ok(decoded) => decoded,
+        Err(e) => return Err(fault_of_section(e)),
     };
-    let size = field::size(&fields);
-    if size as u64 > most {
-        return Ok(Item::TooLarge(size));
+    if decoded.mem_size > most {
+        return Ok(Item::TooLarge(decoded.mem_size as usize));
     }
-    match Header::try_from(alloc, fields) {
+    match Header::try_from(alloc, decoded.fields) {
         Ok(head) => Ok(Item::Head(head)),
         Err(e) => Err(fault_of_header(e)),
+    }
+}
+
+/// The fault of a field section that can't be decoded.
+fn fault_of_section(e: DecoderError) -> Fault
+    ensures { result ≡ fault_of_section e }
+{
+    match e {
+        DecoderError::OutOfMemory => Fault::Memory,
+        _ => Fault::Connection(Code::QPACK_DECOMPRESSION_FAILED),
     }
 }
 

@@ -1,4 +1,4 @@
-use Rattle.std.proofs.Common.{arith, ◌≡◌, ◌++◌, ◌∷◌, [], take, sym, ◌∙◌, ap, ◌+◌}
+use Rattle.std.proofs.Common.{◌≡◌, ◌++◌, ◌∷◌, [], take, sym, ◌∙◌, ap, ◌+◌}
 use Rattle.std.proofs.lemmas.List.{take_more}
 use Rattle.h3_talk.specs.World.{empty_world}
 use Rattle.h3_talk.specs.Headline.{Happens}
