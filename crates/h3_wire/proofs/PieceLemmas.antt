@@ -1,8 +1,8 @@
 -- Pieces joined, one more and one less.
-use Rattle.std.proofs.Common.{◌≡◌, ℕ, ◌+◌, ◌<◌, List, [], ◌∷◌, ◌++◌, length, drop, get_or, append-nil, append_assoc, length-append, ap, sym, refl, ◌∙◌, inl, inr, arith}
+use Rattle.std.proofs.Common.{◌≡◌, ℕ, ◌+◌, ◌<◌, List, [], ◌∷◌, ◌++◌, length, drop, get_or, append-nil, append_assoc, length-append, ap, sym, refl, ◌∙◌, inl, inr, arith, Option, Some, None}
 use Rattle.std.proofs.lemmas.List.{drop-drop, drop_more, drop_at, drop_all, length-drop}
 use Rattle.std.proofs.lemmas.Bool.{cases_lt}
-use Rattle.h3_wire.specs.Pieces.{joined, with_piece, without}
+use Rattle.h3_wire.specs.Pieces.{joined, with_piece, first_of}
 
 pub joined-push : {T : Type 0} (unread : T → List ℕ) (xs : List T) (x : T) → joined unread (xs ++ x ∷ []) ≡ joined unread xs ++ unread x
 joined-push unread [] x = append-nil (unread x)
@@ -47,6 +47,14 @@ pub with_piece-none : (pieces : List (List ℕ)) (x : List ℕ) → length x ≡
 with_piece-none pieces [] h = refl
 with_piece-none pieces (byte ∷ bytes) h = absurd (omega arith)
 
-pub without-none : (pieces : List (List ℕ)) → without 0 pieces ≡ pieces
-without-none [] = refl
-without-none (p ∷ pieces) = refl
+-- the first piece, and the others
+pub first_is : (pieces others : List (List ℕ)) (first : List ℕ) → (Some first, others) ≡ first_of pieces → pieces ≡ first ∷ others
+first_is [] others first e = let none : Some first ≡ None = ap (λ (x : Option (List ℕ) × List (List ℕ)). x.0) e in absurd (cc)
+first_is (p ∷ pieces) others first e =
+    let same : Some first ≡ Some p = ap (λ (x : Option (List ℕ) × List (List ℕ)). x.0) e in
+    let behind : others ≡ pieces = ap (λ (x : Option (List ℕ) × List (List ℕ)). x.1) e in
+    cc
+
+pub none_first : (pieces others : List (List ℕ)) → (None, others) ≡ first_of pieces → pieces ≡ []
+none_first [] others e = refl
+none_first (p ∷ pieces) others e = let some : None ≡ Some p = ap (λ (x : Option (List ℕ) × List (List ℕ)). x.0) e in absurd (cc)

@@ -1,10 +1,12 @@
 -- What a read leaves of all the bytes that are left.
-use Rattle.std.proofs.Common.{◌≡◌, ◌⊎◌, inl, inr, ℕ, ◌<◌, Bool, true, false, List, [], ◌++◌, length, arith, sym, ◌∙◌, ap, ap₂, subst, refl, append_assoc, append-nil, length-append, Result, Ok, Err, Option, Some, None}
+use Rattle.std.proofs.Common.{◌≡◌, ◌⊎◌, inl, inr, ℕ, ◌<◌, Bool, true, false, List, [], ◌∷◌, ◌++◌, length, arith, sym, ◌∙◌, ap, ap₂, subst, refl, append_assoc, append-nil, length-append, Result, Ok, Err, Option, Some, None}
 use Rattle.h3_wire.specs.declared.quic.Poll.{Poll}
 use Rattle.h3_wire.specs.declared.quic.Poll.TheVariants.{Ready, Pending}
 use Rattle.h3_wire.specs.declared.quic.StreamErrorIncoming.{StreamErrorIncoming}
 use Rattle.h3_wire.specs.declared.quic.StreamErrorIncoming.TheVariants as incoming
 use Rattle.h3_wire.specs.Source.{Answer, Polls, coming, Asked, done, more}
+use Rattle.h3_wire.specs.Given.{Gave, AddsPieces, asked_no_more, gave_once}
+use Rattle.h3_wire.proofs.PieceLemmas.{with_piece-some}
 use Rattle.h3_wire.specs.Streams.{Buffered, ReadsMore, Tells, AsksFirst, stream_error}
 use Rattle.h3_wire.specs.declared.frame.errors.FrameStreamError.{FrameStreamError}
 use Rattle.h3_wire.specs.declared.frame.errors.FrameStreamError.TheVariants as stream
@@ -117,3 +119,23 @@ tells_error rest answers (incoming.StreamTerminated code) old new h = (old.sourc
 pub no_error_first : {S : Type 0} (answers : S → Answer → S → Type 0) (s : S) (told : Option FrameStreamError) → AsksFirst answers s None → AsksFirst answers s told
 no_error_first answers s told (inl m) = absurd (cc)
 no_error_first answers s told (inr a) = inr (a.0, a.1, a.2, λ e q. let none = a.3 e q in absurd (cc))
+
+-- the pieces that a read adds
+pub adds_pieces : {S : Type 0} (rest : S → List ℕ) (answers : S → Answer → S → Type 0) → ((s t : S) (answer : Answer) → answers s answer t → Polls answer (rest s) (rest t))
+    → (r : Poll (Result Bool StreamErrorIncoming)) (old new : Buffered S) → ReadsMore answers r old new → AddsPieces answers old.source old.pieces new.source new.pieces
+adds_pieces rest answers polls (Ready (Ok false)) old new h =
+    let some = (polls old.source new.source (Ready (Ok (Some h.0))) h.1).0 in
+    (h.0 ∷ [], gave_once answers old.source new.source (Ready (Ok (Some h.0))) h.1, h.4 ∙ with_piece-some old.pieces h.0 some)
+adds_pieces rest answers polls (Ready (Ok true)) old new h = ([], gave_once answers old.source new.source (Ready (Ok None)) h.0, h.3 ∙ sym (append-nil old.pieces))
+adds_pieces rest answers polls (Ready (Err incoming.OutOfMemory)) old new h = elim h.2 [
+  | inl same ↦ ([], asked_no_more old.source new.source [] same refl, h.3 ∙ sym (append-nil old.pieces))
+  | inr a ↦ ([], gave_once answers old.source new.source (Ready (Err incoming.OutOfMemory)) a, h.3 ∙ sym (append-nil old.pieces))
+]
+adds_pieces rest answers polls (Ready (Err incoming.Unknown)) old new h = ([], gave_once answers old.source new.source (Ready (Err incoming.Unknown)) h.2, h.3 ∙ sym (append-nil old.pieces))
+adds_pieces rest answers polls (Ready (Err (incoming.ConnectionErrorIncoming code))) old new h = ([], gave_once answers old.source new.source (Ready (Err (incoming.ConnectionErrorIncoming code))) h.2, h.3 ∙ sym (append-nil old.pieces))
+adds_pieces rest answers polls (Ready (Err (incoming.StreamTerminated code))) old new h = ([], gave_once answers old.source new.source (Ready (Err (incoming.StreamTerminated code))) h.2, h.3 ∙ sym (append-nil old.pieces))
+adds_pieces rest answers polls Pending old new h = ([], gave_once answers old.source new.source Pending h.0, h.3 ∙ sym (append-nil old.pieces))
+
+-- and none where the source is not asked
+pub adds_none : {S : Type 0} (answers : S → Answer → S → Type 0) (s t : S) (old new : List (List ℕ)) → t ≡ s → new ≡ old → AddsPieces answers s old t new
+adds_none answers s t old new same e = ([], asked_no_more s t [] same refl, e ∙ sym (append-nil old))

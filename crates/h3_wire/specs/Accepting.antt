@@ -42,17 +42,18 @@ resolved None id = false
 resolved (Some kind) None = if has_id kind then false else true
 resolved (Some kind) (Some id) = true
 
--- What is seen of a one-way stream whose type is read: the bytes that were read and not yet taken, where the rest comes
--- from, whether the end was told, and type and id as far as they were read.
+-- What is seen of a one-way stream whose type is read: the bytes that were read and not yet taken, the pieces that they
+-- lie in, where the rest comes from, whether the end was told, and type and id as far as they were read.
 pub record Accepting (S : Type 0) : Type 0 where
   pub buffered : List ℕ
+  pub pieces : List (List ℕ)
   pub source : S
   pub is_eos : Bool
   pub kind : Option ℕ
   pub id : Option ℕ
 
 abbrev pub stream_of : {S : Type 0} → Accepting S → Buffered S
-stream_of s = record { buffered = s.buffered; source = s.source; is_eos = s.is_eos }
+stream_of s = record { buffered = s.buffered; pieces = s.pieces; source = s.source; is_eos = s.is_eos }
 
 -- the bytes that are left
 abbrev pub all_left : {S : Type 0} → (S → List ℕ) → Accepting S → List ℕ

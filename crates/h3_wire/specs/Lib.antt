@@ -21,3 +21,6 @@ pub mod AcceptingLaws
 pub mod Buffering
 pub mod Tries
 pub mod TryLaws
+pub mod PieceLaws
+pub mod Given
+pub mod Cut

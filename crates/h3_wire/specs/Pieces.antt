@@ -1,5 +1,5 @@
 -- Bytes in pieces, one after another.
-use Rattle.std.specs.Prelude.{ℕ, zero, suc, ◌-◌, List, [], ◌∷◌, ◌++◌, length, take, drop, map, nat_lt, nat_le, if◌then◌else◌, Option, Some, None}
+use Rattle.std.specs.Prelude.{◌≡◌, ℕ, zero, suc, ◌-◌, ◌≤◌, List, [], ◌∷◌, ◌++◌, length, take, drop, map, nat_lt, nat_le, if◌then◌else◌, Option, Some, None}
 use Rattle.std.specs.List.{concat}
 
 -- the bytes of the pieces, joined
@@ -32,3 +32,11 @@ first_of (p ∷ pieces) = (Some p, pieces)
 abbrev pub chunk_of : ℕ → List (List ℕ) → Option (List ℕ) × List (List ℕ)
 chunk_of max [] = (None, [])
 chunk_of max (p ∷ pieces) = if nat_le (length p) max then (Some p, pieces) else (Some (take max p), drop max p ∷ pieces)
+
+-- some bytes at the front of the pieces are passed
+abbrev pub IsRest : List (List ℕ) → List (List ℕ) → Type 0
+IsRest all new = (count : ℕ) × (count ≤ length (concat all)) × (new ≡ without count all)
+
+-- the last bytes of the pieces, so many
+abbrev pub ending : ℕ → List (List ℕ) → List (List ℕ)
+ending size all = without (length (concat all) - size) all

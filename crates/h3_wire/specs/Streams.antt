@@ -14,18 +14,22 @@ use Rattle.h3_wire.specs.declared.frame.payload_left.PayloadLeft.TheVariants as 
 use Rattle.h3_wire.specs.declared.stream.Received.{Received}
 use Rattle.h3_wire.specs.declared.stream.Received.TheVariants as received
 use Rattle.h3_wire.specs.Source.{Answer, coming}
+use Rattle.h3_wire.specs.Pieces.{with_piece}
 use Rattle.h3_wire.specs.Frames.{Front, Whole, Refused, frame_at}
 use Rattle.h3_wire.specs.Known.{known, refusal, IsWaiting}
 
--- the bytes that were read and not yet taken, where the rest comes from, and whether the end was told
+-- the bytes that were read and not yet taken, the pieces that they lie in, where the rest comes from, and whether the end
+-- was told
 pub record Buffered (S : Type 0) : Type 0 where
   pub buffered : List ℕ
+  pub pieces : List (List ℕ)
   pub source : S
   pub is_eos : Bool
 
 -- the same, and what is left of the payload under way
 pub record Framing (S : Type 0) : Type 0 where
   pub buffered : List ℕ
+  pub pieces : List (List ℕ)
   pub source : S
   pub is_eos : Bool
   pub payload : PayloadLeft
@@ -36,11 +40,11 @@ left rest s = s.buffered ++ coming s.is_eos (rest s.source)
 
 -- what a read adds: a piece, the end, or nothing
 abbrev pub ReadsMore : {S : Type 0} → (S → Answer → S → Type 0) → Poll (Result Bool StreamErrorIncoming) → Buffered S → Buffered S → Type 0
-ReadsMore answers (Ready (Ok false)) old new = (piece : List ℕ) × answers old.source (Ready (Ok (Some piece))) new.source × (new.buffered ≡ old.buffered ++ piece) × (new.is_eos ≡ old.is_eos)
-ReadsMore answers (Ready (Ok true)) old new = answers old.source (Ready (Ok None)) new.source × (new.buffered ≡ old.buffered) × (new.is_eos ≡ true)
-ReadsMore answers (Ready (Err incoming.OutOfMemory)) old new = (new.buffered ≡ old.buffered) × (new.is_eos ≡ old.is_eos) × ((new.source ≡ old.source) ⊎ answers old.source (Ready (Err incoming.OutOfMemory)) new.source)
-ReadsMore answers (Ready (Err e)) old new = (new.buffered ≡ old.buffered) × (new.is_eos ≡ old.is_eos) × answers old.source (Ready (Err e)) new.source
-ReadsMore answers Pending old new = answers old.source Pending new.source × (new.buffered ≡ old.buffered) × (new.is_eos ≡ old.is_eos)
+ReadsMore answers (Ready (Ok false)) old new = (piece : List ℕ) × answers old.source (Ready (Ok (Some piece))) new.source × (new.buffered ≡ old.buffered ++ piece) × (new.is_eos ≡ old.is_eos) × (new.pieces ≡ with_piece old.pieces piece)
+ReadsMore answers (Ready (Ok true)) old new = answers old.source (Ready (Ok None)) new.source × (new.buffered ≡ old.buffered) × (new.is_eos ≡ true) × (new.pieces ≡ old.pieces)
+ReadsMore answers (Ready (Err incoming.OutOfMemory)) old new = (new.buffered ≡ old.buffered) × (new.is_eos ≡ old.is_eos) × ((new.source ≡ old.source) ⊎ answers old.source (Ready (Err incoming.OutOfMemory)) new.source) × (new.pieces ≡ old.pieces)
+ReadsMore answers (Ready (Err e)) old new = (new.buffered ≡ old.buffered) × (new.is_eos ≡ old.is_eos) × answers old.source (Ready (Err e)) new.source × (new.pieces ≡ old.pieces)
+ReadsMore answers Pending old new = answers old.source Pending new.source × (new.buffered ≡ old.buffered) × (new.is_eos ≡ old.is_eos) × (new.pieces ≡ old.pieces)
 
 -- the payload that is under way behind a frame
 abbrev pub payload_behind : Frame PayloadLen → PayloadLeft
@@ -115,7 +119,7 @@ Continues rest old new = (known (left rest new) ≡ known (left rest old)) × (l
 
 -- what is seen of the stream under the frames
 abbrev pub stream_part : {S : Type 0} → Framing S → Buffered S
-stream_part s = record { buffered = s.buffered; source = s.source; is_eos = s.is_eos }
+stream_part s = record { buffered = s.buffered; pieces = s.pieces; source = s.source; is_eos = s.is_eos }
 
 -- bytes at the front of what was read are taken, as far as the payload goes; none where none was read
 abbrev pub TakesData : {S : Type 0} → Result (Option (List ℕ)) FrameStreamError → Framing S → Framing S → Type 0

@@ -1,5 +1,6 @@
 //! A list of pieces of bytes that is read as one run.
 ghost use Rattle.std.specs.Prelude.{◌≡◌, ◌+◌, ◌-◌, ◌^◌, ◌<◌, ◌≤◌, ◌++◌, [], ◌∷◌, length, drop, nat_le, IfOk, IfErr, OnOk, OnErr, Some, MatchOption};
+ghost use Rattle.std.specs.List.{concat};
 ghost use Rattle.h3_wire.specs.Pieces.{with_piece, without, chunk_of, first_of};
 
 use bytes::{Buf, Bytes};
@@ -97,6 +98,13 @@ impl<T: Buf> BufList<T> {
         }
         self.len += len;
         self.bufs.push_back_reserved(piece);
+    }
+
+    /// The bytes are the pieces joined. This does nothing.
+    pub fn known(&self)
+        ensures { self.now.bytes ≡ concat self.now.pieces }
+    {
+        let _ = &self.bufs;
     }
 
     // Whether there is at most one piece.

@@ -1,8 +1,11 @@
 //! A stream of frames.
-ghost use Rattle.std.specs.Prelude.{◌≡◌, ◌<◌, ◌≤◌, ◌-◌, ◌^◌, ℕ, List, false, true, None, [], length, MatchOption};
+ghost use Rattle.std.specs.Prelude.{◌≡◌, ◌<◌, ◌≤◌, ◌-◌, ◌^◌, ℕ, List, false, true, None, [], length, MatchOption, IfOk, OnErr};
 ghost use Rattle.std.specs.Borrow.{Lends, sem};
 ghost use Rattle.h3_wire.specs.contracts.frame.FrameStream.{the_row};
 ghost use Rattle.h3_wire.specs.Source.{Asked, coming};
+ghost use Rattle.std.specs.List.{concat};
+ghost use Rattle.h3_wire.specs.Cut.{PollsPiece, TellsEnd, cut, is_cut_short};
+ghost use Rattle.h3_wire.specs.Given.{AddsPieces, LeavesPieces, PassesPieces};
 ghost use Rattle.h3_wire.specs.ReadsOn.{ReadsFrame, ReadsData};
 ghost use Rattle.h3_wire.specs.Streams.{left, is_open, payload_behind, stream_part, Tells, PollsFrame, PollsData, TakesData, IsCutShort, Continues, EndIsTold, AsksFirst, error_of, poll_error, round_error};
 
@@ -38,7 +41,7 @@ impl<S> Model for FrameStream<S> {
 
     ghost Value = { Framing S };
 
-    ghost view = { λ s. record { buffered = s.stream.buffered; source = s.stream.source; is_eos = s.stream.is_eos; payload = s.payload } };
+    ghost view = { λ s. record { buffered = s.stream.buffered; pieces = s.stream.pieces; source = s.stream.source; is_eos = s.stream.is_eos; payload = s.payload } };
 
     ghost invariant = { λ s. Expects s.decoder s.stream.buffered × (is_open s.payload ≡ true → s.decoder.expected ≡ None) };
 }
@@ -58,6 +61,7 @@ impl<S> FrameStream<S> {
     /// Reads frames from here on. What was read of the stream and not yet taken comes first.
     pub fn new(alloc: Global, stream: BufRecvStream<S>) -> Self
         ensures buffered { result.buffered ≡ stream.buffered }
+        ensures pieces { result.pieces ≡ stream.pieces }
         ensures source { result.source ≡ stream.source }
         ensures is_eos { result.is_eos ≡ stream.is_eos }
         ensures payload { is_open result.payload ≡ false }
@@ -73,6 +77,7 @@ impl<S> FrameStream<S> {
     /// The stream with the bytes that no call took.
     pub fn into_inner(self) -> BufRecvStream<S>
         ensures buffered { result.buffered ≡ self.buffered }
+        ensures pieces { result.pieces ≡ self.pieces }
         ensures source { result.source ≡ self.source }
         ensures is_eos { result.is_eos ≡ self.is_eos }
     {
@@ -87,6 +92,13 @@ impl<S> FrameStream<S> {
             PayloadLeft::Bytes(count) => 0 < count,
             PayloadLeft::ToEnd => true,
         }
+    }
+
+    /// The bytes are the pieces joined. This does nothing.
+    pub fn known(&self)
+        ensures { self.now.buffered ≡ concat self.now.pieces }
+    {
+        self.stream.known();
     }
 
     /// Lends the source, so that more can be put into it.
@@ -117,8 +129,11 @@ impl<S: RecvStream> FrameStream<S> {
         ensures asked { Asked S.answers self.old.source self.new.source }
         ensures ended { EndIsTold S.answers self.new.source self.old.is_eos self.new.is_eos }
         ensures first { self.old.is_eos ≡ false → AsksFirst S.answers self.old.source (poll_error result) }
+        ensures pieces { LeavesPieces S.answers (length self.new.buffered) self.old.source self.old.pieces self.new.source self.new.pieces }
     {
-        self.poll_frame()
+        let answer = self.poll_frame();
+        self.known();
+        answer
     }
 
     fn poll_frame(&mut self) -> Poll<Result<Option<Frame<PayloadLen>>, FrameStreamError>>
@@ -129,6 +144,7 @@ impl<S: RecvStream> FrameStream<S> {
         ensures asked { Asked S.answers self.old.source self.new.source }
         ensures ended { EndIsTold S.answers self.new.source self.old.is_eos self.new.is_eos }
         ensures first { self.old.is_eos ≡ false → AsksFirst S.answers self.old.source (poll_error result) }
+        ensures pieces { PassesPieces S.answers self.old.source self.old.pieces self.new.source self.new.pieces }
     {
         loop {
             if let Some(answer) = self.read_frame() {
@@ -147,6 +163,7 @@ impl<S: RecvStream> FrameStream<S> {
         ensures asked { Asked S.answers self.old.source self.new.source }
         ensures ended { EndIsTold S.answers self.new.source self.old.is_eos self.new.is_eos }
         ensures first { self.old.is_eos ≡ false → AsksFirst S.answers self.old.source (round_error result) }
+        ensures pieces { PassesPieces S.answers self.old.source self.old.pieces self.new.source self.new.pieces }
     {
         match self.stream.receive() {
             Err(e) => Some(Poll::Ready(Err(e))),
@@ -179,6 +196,7 @@ impl<S: RecvStream> FrameStream<S> {
         ensures asked { Asked S.answers self.old.source self.new.source }
         ensures ended { EndIsTold S.answers self.new.source self.old.is_eos self.new.is_eos }
         ensures first { self.old.is_eos ≡ false → is_open self.old.payload ≡ true → AsksFirst S.answers self.old.source (poll_error result) }
+        ensures pieces { PollsPiece S.answers result self.old self.new }
     {
         self.poll_payload()
     }
@@ -189,6 +207,7 @@ impl<S: RecvStream> FrameStream<S> {
         ensures asked { Asked S.answers self.old.source self.new.source }
         ensures ended { EndIsTold S.answers self.new.source self.old.is_eos self.new.is_eos }
         ensures first { self.old.is_eos ≡ false → is_open self.old.payload ≡ true → AsksFirst S.answers self.old.source (poll_error result) }
+        ensures pieces { PollsPiece S.answers result self.old self.new }
     {
         if !self.has_data() {
             return Poll::Ready(Ok(None));
@@ -227,14 +246,20 @@ impl<S: RecvStream> FrameStream<S> {
         ensures asked { Asked S.answers self.old.source self.new.source }
         ensures ended { EndIsTold S.answers self.new.source self.old.is_eos self.new.is_eos }
         ensures first { self.old.is_eos ≡ false → AsksFirst S.answers self.old.source (error_of result) }
+        ensures pieces { AddsPieces S.answers self.old.source self.old.pieces self.new.source self.new.pieces }
+        ensures end { TellsEnd result self.new.is_eos }
+        ensures joined { self.new.buffered ≡ concat self.new.pieces }
     {
-        self.stream.receive()
+        let received = self.stream.receive();
+        self.stream.known();
+        received
     }
 }
 
 impl<S> FrameStream<S> {
     // Whether all that was read is the last piece of a payload that is longer.
     fn is_cut_short(&self) -> bool
+        ensures is { result ≡ is_cut_short self.now.payload (length self.now.buffered) (length self.now.pieces) }
         ensures short { result ≡ true → IsCutShort (length self.now.buffered) self.now.payload }
         ensures whole { result ≡ false → self.now.buffered ≡ [] → is_open self.now.payload ≡ true → self.now.payload ≡ PayloadLeft.ToEnd }
     {
@@ -251,6 +276,8 @@ impl<S> FrameStream<S> {
     fn take_data(&mut self) -> Result<Option<Bytes>, FrameStreamError>
         requires { is_open self.old.payload ≡ true }
         ensures takes { TakesData result self.old self.new }
+        ensures pieces { IfOk result (λ o. (o, self.new.pieces) ≡ cut self.old.payload self.old.pieces) }
+        ensures err { OnErr result (self.new.pieces ≡ self.old.pieces) }
         ensures source { self.new.source ≡ self.old.source }
         ensures is_eos { self.new.is_eos ≡ self.old.is_eos }
     {
@@ -263,10 +290,7 @@ impl<S> FrameStream<S> {
                 Ok(None) => Ok(None),
                 Err(_) => Err(FrameStreamError::OutOfMemory),
             },
-            PayloadLeft::ToEnd => match self.stream.take_chunk(usize::MAX) {
-                Ok(bytes) => Ok(bytes),
-                Err(_) => Err(FrameStreamError::OutOfMemory),
-            },
+            PayloadLeft::ToEnd => Ok(self.stream.take_first_chunk()),
         }
     }
 }

@@ -1,12 +1,16 @@
 //! A source with a buffer before it.
-ghost use Rattle.std.specs.Prelude.{◌≡◌, ◌<◌, ◌+◌, ◌^◌, ◌++◌, ◌≤◌, ℕ, List, false, true, [], length, MatchOption, IfOk, IfSome, None, OnErr, Err, IsTrue, ◌↔◌};
+ghost use Rattle.std.specs.Prelude.{◌≡◌, nat_le, ◌<◌, ◌+◌, ◌^◌, ◌++◌, ◌≤◌, ℕ, List, false, true, [], length, MatchOption, IfOk, IfSome, None, OnErr, Err, IsTrue, ◌↔◌};
 ghost use Rattle.h3_wire.specs.Source.{Asked, coming};
 ghost use Rattle.std.specs.Borrow.{Lends, sem};
 ghost use Rattle.h3_wire.specs.contracts.stream.BufRecvStream.{the_row};
 ghost use Rattle.h3_wire.specs.Accepting.{TakesNumber};
 ghost use Rattle.h3_wire.specs.Buffering.{left_behind, AnswersFrom, polls_behind, same_behind};
 ghost use Rattle.h3_wire.specs.Known.{Gives};
+ghost use Rattle.h3_wire.specs.Cut.{TellsEnd};
+ghost use Rattle.h3_wire.specs.Given.{AddsPieces};
+ghost use Rattle.h3_wire.specs.Pieces.{IsRest, chunk_of, ending, first_of};
 ghost use Rattle.h3_wire.specs.Tries.{Expects};
+ghost use Rattle.std.specs.List.{concat};
 ghost use Rattle.h3_wire.specs.Streams.{ReadsMore, Tells, Adds, EndIsTold, AsksFirst, stream_error, error_of};
 
 use crate::buf::BufList;
@@ -42,12 +46,13 @@ impl<S> Model for BufRecvStream<S> {
 
     ghost Value = { Buffered S };
 
-    ghost view = { λ s. record { buffered = s.buf.bytes; source = s.stream; is_eos = s.eos } };
+    ghost view = { λ s. record { buffered = s.buf.bytes; pieces = s.buf.pieces; source = s.stream; is_eos = s.eos } };
 }
 
 impl<S> BufRecvStream<S> {
     pub fn new(alloc: Global, stream: S) -> Self
         ensures buffered { result.buffered ≡ [] }
+        ensures pieces { result.pieces ≡ [] }
         ensures source { result.source ≡ stream }
         ensures is_eos { result.is_eos ≡ false }
     {
@@ -84,20 +89,42 @@ impl<S> BufRecvStream<S> {
     pub fn take_chunk(&mut self, max: usize) -> Result<Option<Bytes>, AllocError>
         ensures some { IfOk result (λ o. MatchOption o ((self.old.buffered ≡ []) × (self.new.buffered ≡ []))
             (λ b. (self.old.buffered ≡ b ++ self.new.buffered) × (length b ≤ max) × (0 < max → 0 < length b))) }
-        ensures err { OnErr result (self.new.buffered ≡ self.old.buffered) }
+        ensures pieces { IfOk result (λ o. (o, self.new.pieces) ≡ chunk_of max self.old.pieces) }
+        ensures err { OnErr result ((self.new.buffered ≡ self.old.buffered) × (self.new.pieces ≡ self.old.pieces)) }
         ensures source { self.new.source ≡ self.old.source }
         ensures is_eos { self.new.is_eos ≡ self.old.is_eos }
     {
         self.buf.take_chunk(max)
     }
 
-    // Takes the number at the front of what was read, where it is whole.
-    fn take_number(&mut self) -> Option<u64>
-        ensures takes { TakesNumber result self.old.buffered self.new.buffered }
-        ensures below { IfSome result (λ n. n < 2 ^ 62) }
+    // Takes the first piece.
+    pub(crate) fn take_first_chunk(&mut self) -> Option<Bytes>
+        ensures some { MatchOption result ((self.old.buffered ≡ []) × (self.new.buffered ≡ []))
+            (λ b. (self.old.buffered ≡ b ++ self.new.buffered) × (0 < length b)) }
+        ensures pieces { (result, self.new.pieces) ≡ first_of self.old.pieces }
         ensures source { self.new.source ≡ self.old.source }
         ensures is_eos { self.new.is_eos ≡ self.old.is_eos }
     {
+        self.buf.take_first_chunk()
+    }
+
+    /// The bytes are the pieces joined. This does nothing.
+    pub fn known(&self)
+        ensures { self.now.buffered ≡ concat self.now.pieces }
+    {
+        self.buf.known();
+    }
+
+    // Takes the number at the front of what was read, where it is whole.
+    #[tactic(auto, using(crate::specs::PieceLaws::rest_same))]
+    fn take_number(&mut self) -> Option<u64>
+        ensures takes { TakesNumber result self.old.buffered self.new.buffered }
+        ensures below { IfSome result (λ n. n < 2 ^ 62) }
+        ensures rest { IsRest self.old.pieces self.new.pieces }
+        ensures source { self.new.source ≡ self.old.source }
+        ensures is_eos { self.new.is_eos ≡ self.old.is_eos }
+    {
+        self.buf.known();
         let mut cursor = self.buf.cursor();
         let number = cursor.get_var();
         let position = cursor.position();
@@ -111,7 +138,9 @@ impl<S> BufRecvStream<S> {
     }
 
     // Whether all that was read lies in one piece.
-    pub(crate) fn is_one_piece(&self) -> bool {
+    pub(crate) fn is_one_piece(&self) -> bool
+        ensures { result ≡ nat_le (length self.now.pieces) 1 }
+    {
         self.buf.is_one_piece()
     }
 
@@ -164,6 +193,8 @@ impl<S: RecvStream> BufRecvStream<S> {
         ensures asked { Asked S.answers self.old.source self.new.source }
         ensures ended { EndIsTold S.answers self.new.source self.old.is_eos self.new.is_eos }
         ensures first { self.old.is_eos ≡ false → AsksFirst S.answers self.old.source (error_of result) }
+        ensures pieces { AddsPieces S.answers self.old.source self.old.pieces self.new.source self.new.pieces }
+        ensures end { TellsEnd result self.new.is_eos }
     {
         if self.eos {
             return Ok(Received::End);
@@ -186,6 +217,7 @@ impl<S: RecvStream> BufRecvStream<S> {
         ensures gives { Gives result self.old.buffered self.new.buffered }
         ensures expects { Expects decoder.new self.new.buffered }
         ensures fresh { IfOk result (λ o. IfSome o (λ f. decoder.new.expected ≡ None)) }
+        ensures pieces { self.new.pieces ≡ ending (length self.new.buffered) self.old.pieces }
         ensures source { self.new.source ≡ self.old.source }
         ensures is_eos { self.new.is_eos ≡ self.old.is_eos }
     {

@@ -2,6 +2,7 @@
 ghost use Rattle.std.specs.Prelude.{◌≡◌, ◌<◌, ◌≤◌, None, false, length, IfOk, IfSome};
 ghost use Rattle.h3_wire.specs.Frames.{frame_at, has_head};
 ghost use Rattle.h3_wire.specs.Known.{Gives, Tries};
+ghost use Rattle.h3_wire.specs.Pieces.{IsRest, ending};
 ghost use Rattle.h3_wire.specs.Tries.{Counts, Expects, counted, needed, one_more};
 
 use super::errors::{FrameProtocolError, FrameStreamError};
@@ -21,6 +22,7 @@ pub struct FrameDecoder {
 
 impl Model for FrameDecoder {
     ghost use Rattle.std.specs.Prelude.{◌≤◌};
+    ghost use Rattle.h3_wire.specs.Pieces.{IsRest, ending};
     ghost use Rattle.h3_wire.specs.Tries.{Decoding};
 
     ghost Value = { Decoding };
@@ -94,6 +96,24 @@ impl FrameDecoder {
         ensures expects { Expects self.new src.new.bytes }
         ensures fresh { IfOk result (λ o. IfSome o (λ f. self.new.expected ≡ None)) }
         ensures counts { Counts self.old src.old.bytes result self.new }
+        ensures pieces { src.new.pieces ≡ ending (length src.new.bytes) src.old.pieces }
+    {
+        let answer = self.decode_front(alloc, src);
+        src.known();
+        answer
+    }
+
+    fn decode_front(
+        &mut self,
+        alloc: Global,
+        src: &mut BufList<Bytes>,
+    ) -> Result<Option<Frame<PayloadLen>>, FrameStreamError>
+        requires expects { Expects self.old src.old.bytes }
+        ensures gives { Gives result src.old.bytes src.new.bytes }
+        ensures expects { Expects self.new src.new.bytes }
+        ensures fresh { IfOk result (λ o. IfSome o (λ f. self.new.expected ≡ None)) }
+        ensures counts { Counts self.old src.old.bytes result self.new }
+        ensures rest { IsRest src.old.pieces src.new.pieces }
     {
         loop {
             if src.remaining() < self.needed() {
@@ -117,10 +137,13 @@ impl FrameDecoder {
 }
 
 // Takes the frame at the front, an unknown one too. Anything else takes nothing.
+#[tactic(auto, using(crate::specs::PieceLaws::rest_same))]
 fn try_frame(alloc: Global, src: &mut BufList<Bytes>) -> Tried
     ensures tries { Tries result (frame_at src.old.bytes) src.old.bytes src.new.bytes }
     ensures few { has_head src.old.bytes ≡ false → length src.old.bytes < 16 }
+    ensures rest { IsRest src.old.pieces src.new.pieces }
 {
+    src.known();
     let mut cursor = src.cursor();
     let decoded = Frame::decode(alloc, &mut cursor);
     let position = cursor.position();

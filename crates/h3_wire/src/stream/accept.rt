@@ -2,6 +2,9 @@
 ghost use Rattle.std.specs.Prelude.{◌≡◌, ◌<◌, ◌≤◌, ◌^◌, ◌++◌, ℕ, List, [], false, true, None, length, IsSome};
 ghost use Rattle.std.specs.Borrow.{Lends, sem};
 ghost use Rattle.h3_wire.specs.contracts.stream.accept.AcceptRecvStream.{the_row};
+ghost use Rattle.std.specs.List.{concat};
+ghost use Rattle.h3_wire.specs.Given.{AddsPieces, LeavesPieces, PassesPieces};
+ghost use Rattle.h3_wire.specs.Pieces.{IsRest};
 ghost use Rattle.h3_wire.specs.Source.{Asked};
 ghost use Rattle.h3_wire.specs.Streams.{Adds, EndIsTold, Tells};
 ghost use Rattle.h3_wire.specs.Accepting.{has_id, start_from, all_left, stream_of, resolved, Short, PollsType, type_error};
@@ -54,7 +57,7 @@ impl<S> Model for AcceptRecvStream<S> {
 
     ghost Value = { Accepting S };
 
-    ghost view = { λ s. record { buffered = s.stream.buffered; source = s.stream.source; is_eos = s.stream.is_eos; kind = s.ty; id = s.id } };
+    ghost view = { λ s. record { buffered = s.stream.buffered; pieces = s.stream.pieces; source = s.stream.source; is_eos = s.stream.is_eos; kind = s.ty; id = s.id } };
 
     ghost invariant = { λ s. s.ty ≡ None → s.id ≡ None };
 }
@@ -62,6 +65,7 @@ impl<S> Model for AcceptRecvStream<S> {
 impl<S> AcceptRecvStream<S> {
     pub fn new(alloc: Global, stream: S) -> Self
         ensures buffered { result.buffered ≡ [] }
+        ensures pieces { result.pieces ≡ [] }
         ensures source { result.source ≡ stream }
         ensures is_eos { result.is_eos ≡ false }
         ensures kind { result.kind ≡ None }
@@ -73,6 +77,13 @@ impl<S> AcceptRecvStream<S> {
             id: None,
             alloc,
         }
+    }
+
+    /// The bytes are the pieces joined. This does nothing.
+    pub fn known(&self)
+        ensures { self.now.buffered ≡ concat self.now.pieces }
+    {
+        self.stream.known();
     }
 
     /// Lends the source, so that more can be put into it.
@@ -122,6 +133,7 @@ impl<S> AcceptRecvStream<S> {
         ensures resolved { result ≡ resolved self.new.kind self.new.id }
         ensures short { result ≡ false → start_from self.new.kind self.new.id self.new.buffered ≡ Short }
         ensures fewer { length self.new.buffered ≤ length self.old.buffered }
+        ensures rest { IsRest self.old.pieces self.new.pieces }
         ensures source { self.new.source ≡ self.old.source }
         ensures is_eos { self.new.is_eos ≡ self.old.is_eos }
     {
@@ -132,11 +144,13 @@ impl<S> AcceptRecvStream<S> {
     }
 
     // Takes the type, if it was not read, and answers whether it is there.
+    #[tactic(auto, using(crate::specs::PieceLaws::rest_same))]
     fn take_type(&mut self) -> bool
         ensures same { (more : List ℕ) → start_from self.new.kind self.new.id (self.new.buffered ++ more) ≡ start_from self.old.kind self.old.id (self.old.buffered ++ more) }
         ensures typed { result ≡ true → IsSome self.new.kind }
         ensures short { result ≡ false → (resolved self.new.kind self.new.id ≡ false) × (start_from self.new.kind self.new.id self.new.buffered ≡ Short) }
         ensures fewer { length self.new.buffered ≤ length self.old.buffered }
+        ensures rest { IsRest self.old.pieces self.new.pieces }
         ensures source { self.new.source ≡ self.old.source }
         ensures is_eos { self.new.is_eos ≡ self.old.is_eos }
     {
@@ -151,12 +165,14 @@ impl<S> AcceptRecvStream<S> {
     }
 
     // Takes the id where the type, which was read, has one.
+    #[tactic(auto, using(crate::specs::PieceLaws::rest_same))]
     fn take_id(&mut self) -> bool
         requires { IsSome self.old.kind }
         ensures same { (more : List ℕ) → start_from self.new.kind self.new.id (self.new.buffered ++ more) ≡ start_from self.old.kind self.old.id (self.old.buffered ++ more) }
         ensures resolved { result ≡ resolved self.new.kind self.new.id }
         ensures short { result ≡ false → start_from self.new.kind self.new.id self.new.buffered ≡ Short }
         ensures fewer { length self.new.buffered ≤ length self.old.buffered }
+        ensures rest { IsRest self.old.pieces self.new.pieces }
         ensures source { self.new.source ≡ self.old.source }
         ensures is_eos { self.new.is_eos ≡ self.old.is_eos }
     {
@@ -195,6 +211,21 @@ impl<S: RecvStream> AcceptRecvStream<S> {
         ensures polls { PollsType S.answers result self.new }
         ensures asked { Asked S.answers self.old.source self.new.source }
         ensures ended { EndIsTold S.answers self.new.source self.old.is_eos self.new.is_eos }
+        ensures pieces { LeavesPieces S.answers (length self.new.buffered) self.old.source self.old.pieces self.new.source self.new.pieces }
+    {
+        let answer = self.poll_start();
+        self.known();
+        answer
+    }
+
+    fn poll_start(&mut self) -> Poll<Result<(), PollTypeError>>
+        requires { length (all_left S.rest self.old) < 2 ^ 62 }
+        ensures same { (more : List ℕ) → start_from self.new.kind self.new.id (all_left S.rest self.new ++ more)
+            ≡ start_from self.old.kind self.old.id (all_left S.rest self.old ++ more) }
+        ensures polls { PollsType S.answers result self.new }
+        ensures asked { Asked S.answers self.old.source self.new.source }
+        ensures ended { EndIsTold S.answers self.new.source self.old.is_eos self.new.is_eos }
+        ensures pieces { PassesPieces S.answers self.old.source self.old.pieces self.new.source self.new.pieces }
     {
         loop {
             if self.take_start() {
@@ -222,6 +253,7 @@ impl<S: RecvStream> AcceptRecvStream<S> {
         ensures tells { Tells S.rest S.answers result (stream_of self.old) (stream_of self.new) }
         ensures asked { Asked S.answers self.old.source self.new.source }
         ensures ended { EndIsTold S.answers self.new.source self.old.is_eos self.new.is_eos }
+        ensures pieces { AddsPieces S.answers self.old.source self.old.pieces self.new.source self.new.pieces }
     {
         self.stream.receive()
     }

@@ -1,6 +1,6 @@
 use Rattle.std.proofs.Common.{◌≡◌, arith, ap, sym, ◌∙◌}
 use Rattle.h3_wire.specs.Pieces.{without}
-use Rattle.h3_wire.proofs.PieceLemmas.{without-none}
+use Rattle.h3_wire.specs.PieceLaws.{without-none}
 use Rattle.h3_wire.proofs.buf.BufListBuf.advance.Goals as goal
 
 pub returns-clause-pieces : goal.returns-clause-pieces

@@ -5,5 +5,5 @@ use Rattle.h3_wire.proofs.frame.FrameStream.ask.Goals as goal
 
 pub invariant_of-self : goal.invariant_of-self
 invariant_of-self g c =
-    let more = c.receive.ensures.grows in
+    let more = c.receive-received.ensures.grows in
     (subst (λ l. Expects c.self.inside.decoder l) (sym more.1) (Awaits-more c.self.inside.decoder.expected c.self.inside.decoder.tries c.self.inside.stream.buffered more.0 c.self.invariant.0), c.self.invariant.1)

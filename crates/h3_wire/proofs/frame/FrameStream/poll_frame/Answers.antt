@@ -1,12 +1,14 @@
 use Rattle.std.proofs.Common.{arith, sym, ◌∙◌, ap, refl, subst, inl, inr, None}
 use Rattle.h3_wire.specs.Source.{done, asked_then}
+use Rattle.h3_wire.specs.Given.{passes_then, rest_passes}
+use Rattle.h3_wire.specs.PieceLaws.{rest_same}
 use Rattle.h3_wire.specs.Streams.{AsksFirst, poll_error}
 use Rattle.h3_wire.proofs.Reading.{no_error_first}
 use Rattle.h3_wire.proofs.TakenFrames.{polls_on}
 use Rattle.h3_wire.proofs.frame.FrameStream.poll_frame.Goals as goal
 
 pub loop-answer-init : goal.loop-answer-init
-loop-answer-init g c = record { same = refl; fewer = omega arith; payload = refl; is_eos = refl; first = λ _. inl refl; asked = done _ _ refl }
+loop-answer-init g c = record { same = refl; fewer = omega arith; payload = refl; is_eos = refl; first = λ _. inl refl; pieces = rest_passes g.S.RecvStream.answers _ _ _ _ refl (rest_same _ _ refl); asked = done _ _ refl }
 
 pub returns-in-Some-clause-asked : goal.returns-in-Some-clause-asked
 returns-in-Some-clause-asked g c = asked_then _ _ _ _ c.loop-answer.invariant.asked c.read_frame.ensures.asked
@@ -21,6 +23,7 @@ loop-answer-preserved g c = record {
     | inl same ↦ inr (subst (λ s. AsksFirst g.S.RecvStream.answers s None) same (c.in_default.ensures.first (c.loop-answer.invariant.is_eos ∙ e)))
     | inr a ↦ inr a
   ];
+  pieces = passes_then g.S.RecvStream.answers _ _ _ _ _ _ c.loop-answer.invariant.pieces c.read_frame.ensures.pieces;
   asked = asked_then _ _ _ _ c.loop-answer.invariant.asked c.read_frame.ensures.asked;
 }
 
@@ -29,6 +32,9 @@ returns-in-Some-clause-ended g c = elim c.read_frame.ensures.ended [
   | inl same ↦ inl (same ∙ c.loop-answer.invariant.is_eos)
   | inr told ↦ inr told
 ]
+
+pub returns-in-Some-clause-pieces : goal.returns-in-Some-clause-pieces
+returns-in-Some-clause-pieces g c = passes_then g.S.RecvStream.answers _ _ _ _ _ _ c.loop-answer.invariant.pieces c.read_frame.ensures.pieces
 
 pub returns-in-Some-clause-first : goal.returns-in-Some-clause-first
 returns-in-Some-clause-first g c = λ e. elim (c.loop-answer.invariant.first e) [

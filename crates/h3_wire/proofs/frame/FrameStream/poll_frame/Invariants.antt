@@ -1,5 +1,6 @@
 use Rattle.std.proofs.Common.{◌≡◌, ◌≤◌, ◌⊎◌, length, false, None}
 use Rattle.h3_wire.specs.Source.{Asked, coming}
+use Rattle.h3_wire.specs.Given.{PassesPieces}
 use Rattle.h3_wire.specs.Known.{known}
 use Rattle.h3_wire.specs.Streams.{left, AsksFirst}
 use Rattle.h3_wire.proofs.frame.FrameStream.poll_frame.Given as goal
@@ -12,6 +13,7 @@ invariant-loop-answer g l = record {
   payload : l.self.payload ≡ l.fn.self.payload;
   is_eos : l.self.is_eos ≡ l.fn.self.is_eos;
   first : l.fn.self.is_eos ≡ false → (l.self.source ≡ l.fn.self.source) ⊎ AsksFirst g.S.RecvStream.answers l.fn.self.source None;
+  pieces : PassesPieces g.S.RecvStream.answers l.fn.self.source l.fn.self.pieces l.self.source l.self.pieces;
   asked : Asked g.S.RecvStream.answers l.fn.self.source l.self.source;
 }
 

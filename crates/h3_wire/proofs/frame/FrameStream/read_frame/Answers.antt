@@ -1,5 +1,7 @@
 use Rattle.std.proofs.Common.{◌≡◌, ◌++◌, ℕ, List, [], true, length, arith, sym, ◌∙◌, ap, ap₂, subst, refl, rules}
 use Rattle.h3_wire.specs.Source.{coming}
+use Rattle.h3_wire.specs.Given.{AddsPieces, adds_passes, passes_then, rest_passes}
+use Rattle.h3_wire.specs.PieceLaws.{ending_rest}
 use Rattle.h3_wire.specs.Tries.{Expects}
 use Rattle.h3_wire.specs.TryLaws.{Awaits-more}
 use Rattle.h3_wire.specs.Streams.{Framing, left}
@@ -20,35 +22,35 @@ take_frame-requires g c =
 pub returns-in-Err-take_frame-clause-polls : goal.returns-in-Err-take_frame-clause-polls
 returns-in-Err-take_frame-clause-polls g c =
     let rest = g.S.RecvStream.rest in
-    let new : Framing g.row.S.Denot = record { buffered = c.take_frame.new.self.buffered; source = c.take_frame.new.self.source; is_eos = c.take_frame.new.self.is_eos; payload = c.self.inside.payload } in
+    let new : Framing g.row.S.Denot = record { buffered = c.take_frame.new.self.buffered; pieces = c.take_frame.new.self.pieces; source = c.take_frame.new.self.source; is_eos = c.take_frame.new.self.is_eos; payload = c.self.inside.payload } in
     let t = taken rest c.args.self.now _ new c.receive.new.self c.take_frame.new.self c.self.view_is c.receive.ensures.all c.take_frame.ensures.source c.take_frame.ensures.is_eos refl refl refl in
     polls_error rest g.S.RecvStream.answers c.args.self.now new _ _ c.in-Err-take_frame.e t c.in-Err-take_frame.ensures.gives (ap (λ (x : Framing g.row.S.Denot). x.payload) c.self.view_is)
 
 pub returns-in-Err-take_frame-clause-fewer : goal.returns-in-Err-take_frame-clause-fewer
 returns-in-Err-take_frame-clause-fewer g c =
     let rest = g.S.RecvStream.rest in
-    let new : Framing g.row.S.Denot = record { buffered = c.take_frame.new.self.buffered; source = c.take_frame.new.self.source; is_eos = c.take_frame.new.self.is_eos; payload = c.self.inside.payload } in
+    let new : Framing g.row.S.Denot = record { buffered = c.take_frame.new.self.buffered; pieces = c.take_frame.new.self.pieces; source = c.take_frame.new.self.source; is_eos = c.take_frame.new.self.is_eos; payload = c.self.inside.payload } in
     let t = taken rest c.args.self.now _ new c.receive.new.self c.take_frame.new.self c.self.view_is c.receive.ensures.all c.take_frame.ensures.source c.take_frame.ensures.is_eos refl refl refl in
     taken_fewer rest c.args.self.now new _ _ c.take_frame.result t c.take_frame.ensures.gives
 
 pub returns-in-Ok-Some-clause-polls : goal.returns-in-Ok-Some-clause-polls
 returns-in-Ok-Some-clause-polls g c =
     let rest = g.S.RecvStream.rest in
-    let new : Framing g.row.S.Denot = record { buffered = c.take_frame.new.self.buffered; source = c.take_frame.new.self.source; is_eos = c.take_frame.new.self.is_eos; payload = c.payload_of-self-inside.result } in
+    let new : Framing g.row.S.Denot = record { buffered = c.take_frame.new.self.buffered; pieces = c.take_frame.new.self.pieces; source = c.take_frame.new.self.source; is_eos = c.take_frame.new.self.is_eos; payload = c.payload_of-self-inside.result } in
     let t = taken rest c.args.self.now _ new c.receive.new.self c.take_frame.new.self c.self.view_is c.receive.ensures.all c.take_frame.ensures.source c.take_frame.ensures.is_eos refl refl refl in
     (polls_frame rest c.args.self.now new _ _ c.in-Ok-Some.frame t (rw c.in-Ok-Some.field-0-is at c.in-Ok-Some.ensures.gives), c.payload_of-self-inside.ensures)
 
 pub returns-in-Ok-Some-clause-fewer : goal.returns-in-Ok-Some-clause-fewer
 returns-in-Ok-Some-clause-fewer g c =
     let rest = g.S.RecvStream.rest in
-    let new : Framing g.row.S.Denot = record { buffered = c.take_frame.new.self.buffered; source = c.take_frame.new.self.source; is_eos = c.take_frame.new.self.is_eos; payload = c.payload_of-self-inside.result } in
+    let new : Framing g.row.S.Denot = record { buffered = c.take_frame.new.self.buffered; pieces = c.take_frame.new.self.pieces; source = c.take_frame.new.self.source; is_eos = c.take_frame.new.self.is_eos; payload = c.payload_of-self-inside.result } in
     let t = taken rest c.args.self.now _ new c.receive.new.self c.take_frame.new.self c.self.view_is c.receive.ensures.all c.take_frame.ensures.source c.take_frame.ensures.is_eos refl refl refl in
     taken_fewer rest c.args.self.now new _ _ c.take_frame.result t c.take_frame.ensures.gives
 
 pub returns-in-More-clause-polls : goal.returns-in-More-clause-polls
 returns-in-More-clause-polls g c =
     let rest = g.S.RecvStream.rest in
-    let new : Framing g.row.S.Denot = record { buffered = c.take_frame.new.self.buffered; source = c.take_frame.new.self.source; is_eos = c.take_frame.new.self.is_eos; payload = c.self.inside.payload } in
+    let new : Framing g.row.S.Denot = record { buffered = c.take_frame.new.self.buffered; pieces = c.take_frame.new.self.pieces; source = c.take_frame.new.self.source; is_eos = c.take_frame.new.self.is_eos; payload = c.self.inside.payload } in
     let t = taken rest c.args.self.now _ new c.receive.new.self c.take_frame.new.self c.self.view_is c.receive.ensures.all c.take_frame.ensures.source c.take_frame.ensures.is_eos refl refl refl in
     let less = rw c.in-More.is at c.in-Ok.ensures.tells in
     let here = ap (λ (x : Framing g.row.S.Denot). length (coming x.is_eos (rest x.source))) c.self.view_is in
@@ -58,14 +60,14 @@ returns-in-More-clause-polls g c =
 pub returns-in-More-clause-fewer : goal.returns-in-More-clause-fewer
 returns-in-More-clause-fewer g c =
     let rest = g.S.RecvStream.rest in
-    let new : Framing g.row.S.Denot = record { buffered = c.take_frame.new.self.buffered; source = c.take_frame.new.self.source; is_eos = c.take_frame.new.self.is_eos; payload = c.self.inside.payload } in
+    let new : Framing g.row.S.Denot = record { buffered = c.take_frame.new.self.buffered; pieces = c.take_frame.new.self.pieces; source = c.take_frame.new.self.source; is_eos = c.take_frame.new.self.is_eos; payload = c.self.inside.payload } in
     let t = taken rest c.args.self.now _ new c.receive.new.self c.take_frame.new.self c.self.view_is c.receive.ensures.all c.take_frame.ensures.source c.take_frame.ensures.is_eos refl refl refl in
     taken_fewer rest c.args.self.now new _ _ c.take_frame.result t c.take_frame.ensures.gives
 
 pub returns-in-Nothing-clause-polls : goal.returns-in-Nothing-clause-polls
 returns-in-Nothing-clause-polls g c =
     let rest = g.S.RecvStream.rest in
-    let new : Framing g.row.S.Denot = record { buffered = c.take_frame.new.self.buffered; source = c.take_frame.new.self.source; is_eos = c.take_frame.new.self.is_eos; payload = c.self.inside.payload } in
+    let new : Framing g.row.S.Denot = record { buffered = c.take_frame.new.self.buffered; pieces = c.take_frame.new.self.pieces; source = c.take_frame.new.self.source; is_eos = c.take_frame.new.self.is_eos; payload = c.self.inside.payload } in
     let t = taken rest c.args.self.now _ new c.receive.new.self c.take_frame.new.self c.self.view_is c.receive.ensures.all c.take_frame.ensures.source c.take_frame.ensures.is_eos refl refl refl in
     let gives = rw c.in-Ok-None.field-0-is at c.in-Ok-None.ensures.gives in
     let told = rw c.in-Nothing.is at c.in-Ok.ensures.tells in
@@ -74,13 +76,52 @@ returns-in-Nothing-clause-polls g c =
 pub returns-in-Nothing-clause-fewer : goal.returns-in-Nothing-clause-fewer
 returns-in-Nothing-clause-fewer g c =
     let rest = g.S.RecvStream.rest in
-    let new : Framing g.row.S.Denot = record { buffered = c.take_frame.new.self.buffered; source = c.take_frame.new.self.source; is_eos = c.take_frame.new.self.is_eos; payload = c.self.inside.payload } in
+    let new : Framing g.row.S.Denot = record { buffered = c.take_frame.new.self.buffered; pieces = c.take_frame.new.self.pieces; source = c.take_frame.new.self.source; is_eos = c.take_frame.new.self.is_eos; payload = c.self.inside.payload } in
     let t = taken rest c.args.self.now _ new c.receive.new.self c.take_frame.new.self c.self.view_is c.receive.ensures.all c.take_frame.ensures.source c.take_frame.ensures.is_eos refl refl refl in
     taken_fewer rest c.args.self.now new _ _ c.take_frame.result t c.take_frame.ensures.gives
 
 pub returns-then-remaining-gt0-clause-fewer : goal.returns-then-remaining-gt0-clause-fewer
 returns-then-remaining-gt0-clause-fewer g c =
     let rest = g.S.RecvStream.rest in
-    let new : Framing g.row.S.Denot = record { buffered = c.take_frame.new.self.buffered; source = c.take_frame.new.self.source; is_eos = c.take_frame.new.self.is_eos; payload = c.self.inside.payload } in
+    let new : Framing g.row.S.Denot = record { buffered = c.take_frame.new.self.buffered; pieces = c.take_frame.new.self.pieces; source = c.take_frame.new.self.source; is_eos = c.take_frame.new.self.is_eos; payload = c.self.inside.payload } in
     let t = taken rest c.args.self.now _ new c.receive.new.self c.take_frame.new.self c.self.view_is c.receive.ensures.all c.take_frame.ensures.source c.take_frame.ensures.is_eos refl refl refl in
     taken_fewer rest c.args.self.now new _ _ c.take_frame.result t c.take_frame.ensures.gives
+
+pub returns-in-Err-clause-pieces : goal.returns-in-Err-clause-pieces
+returns-in-Err-clause-pieces g c = adds_passes g.S.RecvStream.answers _ _ _ _ (subst (λ (x : Framing g.row.S.Denot). AddsPieces g.S.RecvStream.answers x.source x.pieces c.receive.new.self.source c.receive.new.self.pieces) c.self.view_is c.receive.ensures.pieces)
+
+pub returns-in-Err-take_frame-clause-pieces : goal.returns-in-Err-take_frame-clause-pieces
+returns-in-Err-take_frame-clause-pieces g c =
+    let answers = g.S.RecvStream.answers in
+    let read = subst (λ (x : Framing g.row.S.Denot). AddsPieces g.S.RecvStream.answers x.source x.pieces c.receive.new.self.source c.receive.new.self.pieces) c.self.view_is c.receive.ensures.pieces in
+    passes_then answers _ _ _ _ _ _ (adds_passes answers _ _ _ _ read) (rest_passes answers _ _ _ _ c.take_frame.ensures.source (ending_rest _ _ _ c.take_frame.ensures.pieces))
+
+pub returns-in-Ok-Some-clause-pieces : goal.returns-in-Ok-Some-clause-pieces
+returns-in-Ok-Some-clause-pieces g c =
+    let answers = g.S.RecvStream.answers in
+    let read = subst (λ (x : Framing g.row.S.Denot). AddsPieces g.S.RecvStream.answers x.source x.pieces c.receive.new.self.source c.receive.new.self.pieces) c.self.view_is c.receive.ensures.pieces in
+    passes_then answers _ _ _ _ _ _ (adds_passes answers _ _ _ _ read) (rest_passes answers _ _ _ _ c.take_frame.ensures.source (ending_rest _ _ _ c.take_frame.ensures.pieces))
+
+pub returns-in-More-clause-pieces : goal.returns-in-More-clause-pieces
+returns-in-More-clause-pieces g c =
+    let answers = g.S.RecvStream.answers in
+    let read = subst (λ (x : Framing g.row.S.Denot). AddsPieces g.S.RecvStream.answers x.source x.pieces c.receive.new.self.source c.receive.new.self.pieces) c.self.view_is c.receive.ensures.pieces in
+    passes_then answers _ _ _ _ _ _ (adds_passes answers _ _ _ _ read) (rest_passes answers _ _ _ _ c.take_frame.ensures.source (ending_rest _ _ _ c.take_frame.ensures.pieces))
+
+pub returns-in-Nothing-clause-pieces : goal.returns-in-Nothing-clause-pieces
+returns-in-Nothing-clause-pieces g c =
+    let answers = g.S.RecvStream.answers in
+    let read = subst (λ (x : Framing g.row.S.Denot). AddsPieces g.S.RecvStream.answers x.source x.pieces c.receive.new.self.source c.receive.new.self.pieces) c.self.view_is c.receive.ensures.pieces in
+    passes_then answers _ _ _ _ _ _ (adds_passes answers _ _ _ _ read) (rest_passes answers _ _ _ _ c.take_frame.ensures.source (ending_rest _ _ _ c.take_frame.ensures.pieces))
+
+pub returns-then-remaining-gt0-clause-pieces : goal.returns-then-remaining-gt0-clause-pieces
+returns-then-remaining-gt0-clause-pieces g c =
+    let answers = g.S.RecvStream.answers in
+    let read = subst (λ (x : Framing g.row.S.Denot). AddsPieces g.S.RecvStream.answers x.source x.pieces c.receive.new.self.source c.receive.new.self.pieces) c.self.view_is c.receive.ensures.pieces in
+    passes_then answers _ _ _ _ _ _ (adds_passes answers _ _ _ _ read) (rest_passes answers _ _ _ _ c.take_frame.ensures.source (ending_rest _ _ _ c.take_frame.ensures.pieces))
+
+pub returns-in-End-clause-pieces : goal.returns-in-End-clause-pieces
+returns-in-End-clause-pieces g c =
+    let answers = g.S.RecvStream.answers in
+    let read = subst (λ (x : Framing g.row.S.Denot). AddsPieces g.S.RecvStream.answers x.source x.pieces c.receive.new.self.source c.receive.new.self.pieces) c.self.view_is c.receive.ensures.pieces in
+    passes_then answers _ _ _ _ _ _ (adds_passes answers _ _ _ _ read) (rest_passes answers _ _ _ _ c.take_frame.ensures.source (ending_rest _ _ _ c.take_frame.ensures.pieces))

@@ -2,7 +2,7 @@ use Rattle.std.proofs.Common.{refl, sym, ap, ◌∙◌, ◌≡◌, false, inl, i
 use Rattle.h3_wire.specs.Source.{done}
 use Rattle.h3_wire.specs.Streams.{Buffered, stream_error}
 use Rattle.h3_wire.specs.declared.quic.Poll.TheVariants.{Ready}
-use Rattle.h3_wire.proofs.Reading.{Reading, reading, error_keeps, error_adds, asks_first, tells_error, read_error}
+use Rattle.h3_wire.proofs.Reading.{Reading, reading, adds_pieces, adds_none, error_keeps, error_adds, asks_first, tells_error, read_error}
 use Rattle.h3_wire.specs.ReadLaws.{apart}
 use Rattle.h3_wire.proofs.stream.BufRecvStream.receive.Goals as goal
 
@@ -36,6 +36,18 @@ returns-in-Pending-clause-asked g c =
 pub returns-in-Pending-clause-first : goal.returns-in-Pending-clause-first
 returns-in-Pending-clause-first g c = λ _. asks_first g.S.RecvStream.answers c.poll_read.result c.args.self.now c.poll_read.new.self _ c.poll_read.ensures (λ e q. absurd (cc))
 
+pub returns-then-self-clause-pieces : goal.returns-then-self-clause-pieces
+returns-then-self-clause-pieces g c = adds_none g.S.RecvStream.answers _ _ _ _ refl refl
+
+pub returns-in-Ready-Ok-true-clause-pieces : goal.returns-in-Ready-Ok-true-clause-pieces
+returns-in-Ready-Ok-true-clause-pieces g c = adds_pieces g.S.RecvStream.rest g.S.RecvStream.answers g.met.S.RecvStream.polls c.poll_read.result _ _ c.poll_read.ensures
+
+pub returns-in-Ready-Ok-false-clause-pieces : goal.returns-in-Ready-Ok-false-clause-pieces
+returns-in-Ready-Ok-false-clause-pieces g c = adds_pieces g.S.RecvStream.rest g.S.RecvStream.answers g.met.S.RecvStream.polls c.poll_read.result _ _ c.poll_read.ensures
+
+pub returns-in-Pending-clause-pieces : goal.returns-in-Pending-clause-pieces
+returns-in-Pending-clause-pieces g c = adds_pieces g.S.RecvStream.rest g.S.RecvStream.answers g.met.S.RecvStream.polls c.poll_read.result _ _ c.poll_read.ensures
+
 pub returns-in-Ready-Err : goal.returns-in-Ready-Err
 returns-in-Ready-Err g c =
     let open_here = sym (ap (λ (b : Buffered g.row.S.Denot). b.is_eos) c.self.view_is) ∙ c.if-self.false in
@@ -49,4 +61,6 @@ returns-in-Ready-Err g c =
       asked = r.asked;
       ended = inl (error_keeps g.S.RecvStream.answers c.in-Ready-Err.e c.args.self.now c.poll_read.new.self here);
       first = λ _. asks_first g.S.RecvStream.answers c.poll_read.result c.args.self.now c.poll_read.new.self _ c.poll_read.ensures (λ e q. ap (λ x. Some x) c.as_stream_error.ensures ∙ ap (λ x. Some (stream_error x)) (read_error c.poll_read.result c.in-Ready-Err.e e (c.in-Ready-Err.is ∙ ap (λ x. Ready x) c.in-Ready-Err.field-0-is) q));
+      pieces = adds_pieces g.S.RecvStream.rest g.S.RecvStream.answers g.met.S.RecvStream.polls c.poll_read.result _ _ c.poll_read.ensures;
+      end = tt;
     }

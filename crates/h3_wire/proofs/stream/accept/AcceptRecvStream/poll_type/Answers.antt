@@ -1,61 +1,6 @@
-use Rattle.std.proofs.Common.{◌≡◌, length, arith, refl, ◌∙◌, ap, inl, inr}
-use Rattle.h3_wire.specs.Source.{done}
-use Rattle.h3_wire.proofs.Accepts.{takes_on, takes_no_more, asks_on, asked_on}
+use Rattle.std.proofs.Common.{ap, sym, length}
+use Rattle.h3_wire.specs.Given.{passes_is}
 use Rattle.h3_wire.proofs.stream.accept.AcceptRecvStream.poll_type.Goals as goal
 
-pub loop-self-init : goal.loop-self-init
-loop-self-init g c = record { same = λ more. refl; fewer = omega arith; is_eos = refl; asked = done _ _ refl }
-
-pub loop-self-preserved : goal.loop-self-preserved
-loop-self-preserved g c =
-    let rest = g.S.RecvStream.rest in
-    let none = takes_no_more rest c.loop-self.self c.take_start.new.self c.take_start.ensures.source c.take_start.ensures.is_eos c.take_start.ensures.fewer in
-    let told = rw c.in-Ok-More.field-0-is at c.in-Ok-More.ensures.tells in
-    record {
-      same = asks_on rest c.args.self.now c.loop-self.self c.take_start.new.self c.ask.new.self c.loop-self.invariant.same
-          (takes_on rest c.loop-self.self c.take_start.new.self c.take_start.ensures.source c.take_start.ensures.is_eos c.take_start.ensures.same) c.ask.ensures.all c.ask.ensures.kind c.ask.ensures.id;
-      fewer = omega (arith, none, c.loop-self.invariant.fewer, ap length c.ask.ensures.all);
-      is_eos = told.1 ∙ c.take_start.ensures.is_eos ∙ c.loop-self.invariant.is_eos;
-      asked = asked_on g.S.RecvStream.answers _ _ _ _ c.loop-self.invariant.asked c.take_start.ensures.source c.ask.ensures.asked;
-    }
-
-pub returns-in-Ok-End-clause-same : goal.returns-in-Ok-End-clause-same
-returns-in-Ok-End-clause-same g c =
-    let rest = g.S.RecvStream.rest in
-    asks_on rest c.args.self.now c.loop-self.self c.take_start.new.self c.ask.new.self c.loop-self.invariant.same
-    (takes_on rest c.loop-self.self c.take_start.new.self c.take_start.ensures.source c.take_start.ensures.is_eos c.take_start.ensures.same) c.ask.ensures.all c.ask.ensures.kind c.ask.ensures.id
-
-pub returns-in-Ok-End-clause-asked : goal.returns-in-Ok-End-clause-asked
-returns-in-Ok-End-clause-asked g c = asked_on g.S.RecvStream.answers _ _ _ _ c.loop-self.invariant.asked c.take_start.ensures.source c.ask.ensures.asked
-
-pub returns-in-Ok-Nothing-clause-same : goal.returns-in-Ok-Nothing-clause-same
-returns-in-Ok-Nothing-clause-same g c =
-    let rest = g.S.RecvStream.rest in
-    asks_on rest c.args.self.now c.loop-self.self c.take_start.new.self c.ask.new.self c.loop-self.invariant.same
-    (takes_on rest c.loop-self.self c.take_start.new.self c.take_start.ensures.source c.take_start.ensures.is_eos c.take_start.ensures.same) c.ask.ensures.all c.ask.ensures.kind c.ask.ensures.id
-
-pub returns-in-Ok-Nothing-clause-asked : goal.returns-in-Ok-Nothing-clause-asked
-returns-in-Ok-Nothing-clause-asked g c = asked_on g.S.RecvStream.answers _ _ _ _ c.loop-self.invariant.asked c.take_start.ensures.source c.ask.ensures.asked
-
-pub returns-in-Err-Quic-clause-same : goal.returns-in-Err-Quic-clause-same
-returns-in-Err-Quic-clause-same g c =
-    let rest = g.S.RecvStream.rest in
-    asks_on rest c.args.self.now c.loop-self.self c.take_start.new.self c.ask.new.self c.loop-self.invariant.same
-    (takes_on rest c.loop-self.self c.take_start.new.self c.take_start.ensures.source c.take_start.ensures.is_eos c.take_start.ensures.same) c.ask.ensures.all c.ask.ensures.kind c.ask.ensures.id
-
-pub returns-in-Err-Quic-clause-asked : goal.returns-in-Err-Quic-clause-asked
-returns-in-Err-Quic-clause-asked g c = asked_on g.S.RecvStream.answers _ _ _ _ c.loop-self.invariant.asked c.take_start.ensures.source c.ask.ensures.asked
-
-pub returns-in-Err : goal.returns-in-Err
-returns-in-Err g c =
-    let rest = g.S.RecvStream.rest in
-    record {
-      same = asks_on rest c.args.self.now c.loop-self.self c.take_start.new.self c.ask.new.self c.loop-self.invariant.same
-          (takes_on rest c.loop-self.self c.take_start.new.self c.take_start.ensures.source c.take_start.ensures.is_eos c.take_start.ensures.same) c.ask.ensures.all c.ask.ensures.kind c.ask.ensures.id;
-      polls = tt;
-      asked = asked_on g.S.RecvStream.answers _ _ _ _ c.loop-self.invariant.asked c.take_start.ensures.source c.ask.ensures.asked;
-      ended = elim c.ask.ensures.ended [
-        | inl same ↦ inl (same ∙ c.take_start.ensures.is_eos ∙ c.loop-self.invariant.is_eos)
-        | inr told ↦ inr told
-      ];
-    }
+pub returns-clause-pieces : goal.returns-clause-pieces
+returns-clause-pieces g c = passes_is g.S.RecvStream.answers _ _ _ _ _ (sym (ap length c.known.ensures)) c.poll_start-answer.ensures.pieces
