@@ -1,5 +1,5 @@
 -- What bytes begin with, as frames (RFC 9114, section 7.1).
-use Rattle.std.specs.Prelude.{◌≡◌, ℕ, zero, suc, ◌<◌, ◌+◌, ◌-◌, ◌==◌, Bool, false, List, [], ◌∷◌, length, take, drop, nat_lt, if◌then◌else◌, Option, Some, None, Result, Ok, Err}
+use Rattle.std.specs.Prelude.{◌≡◌, ℕ, zero, suc, ◌<◌, ◌+◌, ◌-◌, ◌==◌, Bool, false, List, [], ◌∷◌, ◌++◌, length, take, drop, nat_lt, if◌then◌else◌, Option, Some, None, Result, Ok, Err}
 use Rattle.std.specs.List.{list_any}
 use Rattle.std.specs.Option.{is_some}
 use Rattle.h3_coding.specs.Varint.{varint_at}
@@ -92,6 +92,10 @@ abbrev pub TakesMemory : Front → Type 0
 TakesMemory (Whole (frame.Headers section) rest) = Unit {0}
 TakesMemory (Whole (frame.PushPromise p) rest) = Unit {0}
 TakesMemory _ = ⊥
+
+-- some bytes at the front are taken
+abbrev pub TakesFront : List ℕ → List ℕ → Type 0
+TakesFront old new = (taken : List ℕ) × (old ≡ taken ++ new)
 
 -- what a try answers and leaves
 abbrev pub Decodes : Result (Frame PayloadLen) FrameError → Front → List ℕ → Type 0

@@ -1,7 +1,7 @@
 //! How a frame is read (RFC 9114, section 7.1).
-ghost use Rattle.std.specs.Prelude.{◌≡◌, ◌<◌, ◌≤◌, false, [], length, take, drop, IfOk, IfErr, Some};
+ghost use Rattle.std.specs.Prelude.{◌≡◌, ◌<◌, ◌≤◌, false, [], length, take, drop, IfOk, IfErr, OnErr, Some};
 ghost use Rattle.h3_coding.specs.Varint.{varint_at};
-ghost use Rattle.h3_wire.specs.Frames.{frame_at, frame_of, has_head, Decodes, IsNoNumber};
+ghost use Rattle.h3_wire.specs.Frames.{frame_at, frame_of, has_head, Decodes, IsNoNumber, TakesFront};
 ghost use Rattle.h3_wire.specs.declared.proto.frame.FrameError.TheVariants as error;
 
 use super::{Frame, FrameError, FrameType, PayloadLen, PushPromise, Settings};
@@ -23,6 +23,7 @@ impl Frame<PayloadLen> {
     /// PUSH_PROMISE want memory.
     pub fn decode<B: Buf>(alloc: Global, buf: &mut B) -> Result<Self, FrameError>
         ensures decodes { Decodes result (frame_at (B.unread buf.old)) (B.unread buf.new) }
+        ensures front { OnErr result (TakesFront (B.unread buf.old) (B.unread buf.new)) }
         ensures few { has_head (B.unread buf.old) ≡ false → length (B.unread buf.old) < 16 }
         ensures kept { B.kept buf.new ≡ B.kept buf.old }
     {
@@ -52,10 +53,12 @@ impl Frame<PayloadLen> {
 }
 
 // Takes a payload that is one number.
+#[tactic(auto, using(crate::proofs::Fronts::front_within))]
 fn read_number<B: Buf>(buf: &mut B, len: usize) -> Result<VarInt, FrameError>
     requires { len ≤ length (B.unread buf.old) }
     ensures ok { IfOk result (λ n. (varint_at (take len (B.unread buf.old)) ≡ Some (n, [])) × (B.unread buf.new ≡ drop len (B.unread buf.old))) }
     ensures err { IfErr result (λ e. (e ≡ error.Malformed) × IsNoNumber (varint_at (take len (B.unread buf.old)))) }
+    ensures front { OnErr result (TakesFront (B.unread buf.old) (B.unread buf.new)) }
     ensures kept { B.kept buf.new ≡ B.kept buf.old }
 {
     let Some((number, left)) = buf.get_var_within(len) else {
@@ -77,6 +80,7 @@ fn read_payload<B: Buf>(
 ) -> Result<Frame<PayloadLen>, FrameError>
     requires { len ≤ length (B.unread buf.old) }
     ensures decodes { Decodes result (frame_of kind (take len (B.unread buf.old)) (drop len (B.unread buf.old))) (B.unread buf.new) }
+    ensures front { OnErr result (TakesFront (B.unread buf.old) (B.unread buf.new)) }
     ensures kept { B.kept buf.new ≡ B.kept buf.old }
 {
     match kind {

@@ -1,5 +1,6 @@
 use Rattle.std.proofs.Common.{◌≡◌, ◌==◌, true, false, refl, ◌+◌, ◌<◌, ◌≤◌, ◌∙◌, ap, sym, subst}
 use Rattle.std.proofs.lemmas.Bool.{lt-ltb, le-ltb}
+use Rattle.h3_wire.proofs.Fronts.{front_takes, front_then, front_unfinished, on_front}
 use Rattle.h3_wire.specs.FrameLaws.{at_no_kind, at_no_number, at_head}
 use Rattle.h3_wire.specs.Frames.{Unfinished, Decodes, Front}
 use Rattle.h3_wire.proofs.proto.frame.decode.Frame+PayloadLen.decode.Goals as goal
@@ -40,3 +41,15 @@ returns-clause-decodes g c =
     let whole = subst (λ n. number ≤ n) c.remaining-behind.ensures c.if-behind-len.false in
     let here = at_head c.in-Ok.kind number _ _ _ c.in-Ok.ensures.reads c.in-Ok-get_var.ensures.reads ∙ rw (session, plain, le-ltb _ number whole) refl in
     subst (λ (x : Front). Decodes c.read_payload.result x (g.B.Buf.unread c.read_payload.new.buf)) (sym here) c.read_payload.ensures.decodes
+
+pub returns-in_default-clause-front : goal.returns-in_default-clause-front
+returns-in_default-clause-front g c = front_unfinished _ _ _ c.in_default.ensures.err
+
+pub returns-in_default-get_var-clause-front : goal.returns-in_default-get_var-clause-front
+returns-in_default-get_var-clause-front g c = front_then _ _ _ (front_takes _ _ _ c.in-Ok.ensures.ok) (front_unfinished _ _ _ c.in_default-get_var.ensures.err)
+
+pub returns-then-behind-len-clause-front : goal.returns-then-behind-len-clause-front
+returns-then-behind-len-clause-front g c = front_then _ _ _ (front_takes _ _ _ c.in-Ok.ensures.ok) (front_takes _ _ _ c.in-Ok-get_var.ensures.ok)
+
+pub returns-clause-front : goal.returns-clause-front
+returns-clause-front g c = on_front _ _ _ _ (front_then _ _ _ (front_takes _ _ _ c.in-Ok.ensures.ok) (front_takes _ _ _ c.in-Ok-get_var.ensures.ok)) c.read_payload.ensures.front
