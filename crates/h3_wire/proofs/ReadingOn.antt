@@ -1,5 +1,5 @@
 -- What a poll takes of what the bytes read as.
-use Rattle.std.proofs.Common.{◌≡◌, ℕ, ◌<◌, Bool, true, false, List, [], ◌++◌, sym, ◌∙◌, ap, ap₂, subst, refl, append_assoc, Result, Ok, Err, Option, Some, None, nat_lt, zero, suc, arith}
+use Rattle.std.proofs.Common.{◌≡◌, ℕ, ◌<◌, ◌≤◌, length, length-append, Bool, true, false, List, [], ◌++◌, sym, ◌∙◌, ap, ap₂, subst, refl, append_assoc, Result, Ok, Err, Option, Some, None, nat_lt, zero, suc, arith}
 use Rattle.h3_wire.specs.declared.quic.Poll.{Poll}
 use Rattle.h3_wire.specs.declared.quic.Poll.TheVariants.{Ready, Pending}
 use Rattle.h3_wire.specs.declared.proto.frame.PayloadLen.{PayloadLen}
@@ -55,3 +55,13 @@ data_read rest answers (Ready (Err (stream.Quic e))) old new p more = still_ther
 data_read rest answers (Ready (Err stream.UnexpectedEnd)) old new p more = still_there rest old new more p.0 p.3
 data_read rest answers (Ready (Err stream.OutOfMemory)) old new p more = still_there rest old new more p.0 p.1
 data_read rest answers Pending old new p more = still_there rest old new more p.0 p.3
+
+-- no byte is added
+pub data_fewer : {S : Type 0} (rest : S → List ℕ) (answers : S → Answer → S → Type 0) (r : Poll (Result (Option (List ℕ)) FrameStreamError)) (old new : Framing S) → PollsData rest answers r old new → length (left rest new) ≤ length (left rest old)
+data_fewer rest answers (Ready (Ok (Some bytes))) old new p = omega (arith, ap length p.1, length-append bytes (left rest new))
+data_fewer rest answers (Ready (Ok None)) old new p = omega (arith, ap length p.0)
+data_fewer rest answers (Ready (Err (stream.Proto e))) old new p = absurd p
+data_fewer rest answers (Ready (Err (stream.Quic e))) old new p = omega (arith, ap length p.0)
+data_fewer rest answers (Ready (Err stream.UnexpectedEnd)) old new p = omega (arith, ap length p.0)
+data_fewer rest answers (Ready (Err stream.OutOfMemory)) old new p = omega (arith, ap length p.0)
+data_fewer rest answers Pending old new p = omega (arith, ap length p.0)

@@ -196,6 +196,7 @@ impl<S: RecvStream> FrameStream<S> {
         ensures asked { Asked S.answers self.old.source self.new.source }
         ensures ended { EndIsTold S.answers self.new.source self.old.is_eos self.new.is_eos }
         ensures first { self.old.is_eos ≡ false → is_open self.old.payload ≡ true → AsksFirst S.answers self.old.source (poll_error result) }
+        ensures fewer { length (left S.rest self.new) ≤ length (left S.rest self.old) }
         ensures pieces { PollsPiece S.answers result self.old self.new }
     {
         self.poll_payload()

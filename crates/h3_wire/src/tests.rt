@@ -2,4 +2,6 @@
 mod decoder;
 mod feed;
 mod frames;
+mod memory;
+mod pieces;
 mod streams;

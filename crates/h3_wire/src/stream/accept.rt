@@ -211,6 +211,7 @@ impl<S: RecvStream> AcceptRecvStream<S> {
         ensures polls { PollsType S.answers result self.new }
         ensures asked { Asked S.answers self.old.source self.new.source }
         ensures ended { EndIsTold S.answers self.new.source self.old.is_eos self.new.is_eos }
+        ensures fewer { length (all_left S.rest self.new) ≤ length (all_left S.rest self.old) }
         ensures pieces { LeavesPieces S.answers (length self.new.buffered) self.old.source self.old.pieces self.new.source self.new.pieces }
     {
         let answer = self.poll_start();
@@ -225,6 +226,7 @@ impl<S: RecvStream> AcceptRecvStream<S> {
         ensures polls { PollsType S.answers result self.new }
         ensures asked { Asked S.answers self.old.source self.new.source }
         ensures ended { EndIsTold S.answers self.new.source self.old.is_eos self.new.is_eos }
+        ensures fewer { length (all_left S.rest self.new) ≤ length (all_left S.rest self.old) }
         ensures pieces { PassesPieces S.answers self.old.source self.old.pieces self.new.source self.new.pieces }
     {
         loop {

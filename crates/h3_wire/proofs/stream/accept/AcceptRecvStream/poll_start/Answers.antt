@@ -52,9 +52,11 @@ returns-in-Err-Quic-clause-asked g c = asked_on g.S.RecvStream.answers _ _ _ _ c
 pub returns-in-Err : goal.returns-in-Err
 returns-in-Err g c =
     let rest = g.S.RecvStream.rest in
+    let none = takes_no_more g.S.RecvStream.rest c.loop-self.self c.take_start.new.self c.take_start.ensures.source c.take_start.ensures.is_eos c.take_start.ensures.fewer in
     record {
       same = asks_on rest c.args.self.now c.loop-self.self c.take_start.new.self c.ask.new.self c.loop-self.invariant.same
           (takes_on rest c.loop-self.self c.take_start.new.self c.take_start.ensures.source c.take_start.ensures.is_eos c.take_start.ensures.same) c.ask.ensures.all c.ask.ensures.kind c.ask.ensures.id;
+      fewer = omega (arith, none, c.loop-self.invariant.fewer, ap length c.ask.ensures.all);
       polls = tt;
       pieces = passes_then g.S.RecvStream.answers _ _ _ _ _ _ (passes_then g.S.RecvStream.answers _ _ _ _ _ _ c.loop-self.invariant.pieces (rest_passes g.S.RecvStream.answers _ _ _ _ c.take_start.ensures.source c.take_start.ensures.rest)) (adds_passes g.S.RecvStream.answers _ _ _ _ c.ask.ensures.pieces);
       asked = asked_on g.S.RecvStream.answers _ _ _ _ c.loop-self.invariant.asked c.take_start.ensures.source c.ask.ensures.asked;
@@ -75,3 +77,23 @@ returns-in-Err-Quic-clause-pieces g c = passes_then g.S.RecvStream.answers _ _ _
 
 pub returns-then-take_start-clause-pieces : goal.returns-then-take_start-clause-pieces
 returns-then-take_start-clause-pieces g c = passes_then g.S.RecvStream.answers _ _ _ _ _ _ c.loop-self.invariant.pieces (rest_passes g.S.RecvStream.answers _ _ _ _ c.take_start.ensures.source c.take_start.ensures.rest)
+
+pub returns-then-take_start-clause-fewer : goal.returns-then-take_start-clause-fewer
+returns-then-take_start-clause-fewer g c =
+    let none = takes_no_more g.S.RecvStream.rest c.loop-self.self c.take_start.new.self c.take_start.ensures.source c.take_start.ensures.is_eos c.take_start.ensures.fewer in
+    omega (arith, none, c.loop-self.invariant.fewer)
+
+pub returns-in-Ok-End-clause-fewer : goal.returns-in-Ok-End-clause-fewer
+returns-in-Ok-End-clause-fewer g c =
+    let none = takes_no_more g.S.RecvStream.rest c.loop-self.self c.take_start.new.self c.take_start.ensures.source c.take_start.ensures.is_eos c.take_start.ensures.fewer in
+    omega (arith, none, c.loop-self.invariant.fewer, ap length c.ask.ensures.all)
+
+pub returns-in-Ok-Nothing-clause-fewer : goal.returns-in-Ok-Nothing-clause-fewer
+returns-in-Ok-Nothing-clause-fewer g c =
+    let none = takes_no_more g.S.RecvStream.rest c.loop-self.self c.take_start.new.self c.take_start.ensures.source c.take_start.ensures.is_eos c.take_start.ensures.fewer in
+    omega (arith, none, c.loop-self.invariant.fewer, ap length c.ask.ensures.all)
+
+pub returns-in-Err-Quic-clause-fewer : goal.returns-in-Err-Quic-clause-fewer
+returns-in-Err-Quic-clause-fewer g c =
+    let none = takes_no_more g.S.RecvStream.rest c.loop-self.self c.take_start.new.self c.take_start.ensures.source c.take_start.ensures.is_eos c.take_start.ensures.fewer in
+    omega (arith, none, c.loop-self.invariant.fewer, ap length c.ask.ensures.all)
