@@ -31,6 +31,10 @@ int main(int argc, char **argv) {
   section_rows(&responses);
   section_rows(&static_only);
   section_rows(&literal_only);
+  session_rows(&requests, 1, 0.20);
+  session_rows(&responses, 1, 0.34);
+  session_rows(&requests, 50, 0);
+  session_rows(&responses, 50, 0);
   printf("%d rows below their target\n", rows_below());
   return 0;
 }

@@ -31,4 +31,19 @@ uint32_t h3_bench_section_encode(uint64_t rounds, const uint8_t *bytes, size_t l
 /* `bytes` are encoded field sections, as strings; `out` gets their lists. */
 uint32_t h3_bench_section_decode(uint64_t rounds, const uint8_t *bytes, size_t len, uint8_t *out, size_t room,
                                  h3_report *report);
+
+/* A session with a dynamic table, of which `limit` sections may wait: `passes` times all lists, `batch` of which are sent
+ * before they are read and answered. `out` gets each batch: the count of its sections, each of them, the instructions
+ * and the replies, as strings. The report: the fields that came out, and the bytes of sections and instructions. */
+uint32_t h3_bench_exchange(uint64_t rounds, size_t capacity, size_t limit, size_t batch, size_t passes,
+                           const uint8_t *bytes, size_t len, uint8_t *out, size_t room, h3_report *report);
+
+/* One end of a session. `bytes` are steps: their count, and for each 0, a stream, and the number of a list or a section;
+ * or 1 and what the other end wrote beside its sections. The lists of an encoder stand in front of its steps. `out` gets
+ * the count of steps, and for each the section and the instructions that it wrote (empty where it heard); or, of a
+ * decoder, 1 and a list where a section was decoded, else 0, and what it wrote. */
+uint32_t h3_bench_session_encode(uint64_t rounds, size_t capacity, size_t limit, const uint8_t *bytes, size_t len,
+                                 uint8_t *out, size_t room, h3_report *report);
+uint32_t h3_bench_session_decode(uint64_t rounds, size_t capacity, const uint8_t *bytes, size_t len, uint8_t *out,
+                                 size_t room, h3_report *report);
 #endif

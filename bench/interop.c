@@ -1,4 +1,5 @@
 /* nghttp3 reads what we write, and we read what it writes: one line a check, and a sum. */
+#include "interop.h"
 #include "h3_bench.h"
 #include "peer_section.h"
 #include "plain.h"
@@ -8,7 +9,7 @@
 
 static int passed, failed;
 
-static void check(int good, const char *what, const char *more) {
+void check(int good, const char *what, const char *more) {
   printf("%s %s%s%s\n", good ? "ok" : "failed", what, *more ? ": " : "", more);
   if (good)
     passed++;
@@ -107,7 +108,7 @@ static void both_ways(const field_lists *lists) {
 }
 
 static uint64_t seed = 88172645463325252u;
-static uint64_t next_random(void) {
+uint64_t next_random(void) {
   seed ^= seed << 13;
   seed ^= seed >> 7;
   seed ^= seed << 17;
@@ -267,6 +268,8 @@ int main(int argc, char **argv) {
     field_lists lists = load_lists(dir, names[i]);
     both_ways(&lists);
     if (i < 2) changed_sections(&lists, 20000);
+    session_checks(&lists, 4096, 100);
+    session_checks(&lists, 220, 2);
   }
   field_lists lists = random_lists(2000);
   both_ways(&lists);

@@ -14,12 +14,15 @@ void free_pack(pack *of) {
   *of = (pack){0};
 }
 
+void make_room(pack *of, size_t len) {
+  if (of->len + len <= of->room) return;
+  of->room = 2 * (of->len + len) + 64;
+  of->bytes = realloc(of->bytes, of->room);
+  if (!of->bytes) stop("no memory", (long)of->room);
+}
+
 void put_bytes(pack *to, const void *bytes, size_t len) {
-  if (to->len + len > to->room) {
-    to->room = 2 * (to->len + len) + 64;
-    to->bytes = realloc(to->bytes, to->room);
-    if (!to->bytes) stop("no memory", (long)to->room);
-  }
+  make_room(to, len);
   if (len) memcpy(to->bytes + to->len, bytes, len);
   to->len += len;
 }
@@ -91,17 +94,18 @@ field_lists load_lists(const char *dir, const char *name) {
   return all;
 }
 
+void put_list(pack *to, const field_list *list) {
+  put_number(to, list->count);
+  for (size_t j = 0; j < list->count; j++) {
+    put_string(to, list->fields[j].name, list->fields[j].namelen);
+    put_string(to, list->fields[j].value, list->fields[j].valuelen);
+  }
+}
+
 pack pack_lists(const field_lists *all) {
   pack to = {0};
   put_number(&to, all->count);
-  for (size_t i = 0; i < all->count; i++) {
-    const field_list *list = &all->lists[i];
-    put_number(&to, list->count);
-    for (size_t j = 0; j < list->count; j++) {
-      put_string(&to, list->fields[j].name, list->fields[j].namelen);
-      put_string(&to, list->fields[j].value, list->fields[j].valuelen);
-    }
-  }
+  for (size_t i = 0; i < all->count; i++) put_list(&to, &all->lists[i]);
   return to;
 }
 

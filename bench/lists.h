@@ -28,12 +28,16 @@ typedef struct {
 field_lists load_lists(const char *dir, const char *name);
 
 void free_pack(pack *of);
+/* Room for so many bytes more. */
+void make_room(pack *of, size_t len);
 void put_bytes(pack *to, const void *bytes, size_t len);
 void put_number(pack *to, size_t number);
 /* The number that stands there. */
 size_t number_at(const uint8_t *bytes);
 /* A string behind its length. */
 void put_string(pack *to, const uint8_t *bytes, size_t len);
+/* The count of a list's fields, and the name and the value of each. */
+void put_list(pack *to, const field_list *list);
 /* The count of lists; for each the count of its fields; for each of these its name and its value. */
 pack pack_lists(const field_lists *lists);
 /* The count of strings, and all names and values. */

@@ -139,6 +139,16 @@ static void print_allocations(const figures *found, double count) {
          found->allocations[PEER] / count, "-", "a list");
 }
 
+void size_row(const char *row, const char *set, double ours, double peers, double most) {
+  char name[128];
+  snprintf(name, sizeof name, "%s %s", row, set);
+  if (measure_only && !strstr(name, measure_only)) return;
+  int short_of = most > 0 && ours > most;
+  printf("%-28s %-13s %12.3f %12.3f %12s %-8s %8.2f%c\n", "  size", "", ours, peers, "-", "of plain", peers / ours,
+         short_of ? '*' : ' ');
+  below += short_of;
+}
+
 void measure_row(const row_kind *kind, const contender contenders[CONTENDERS], double lists) {
   char name[128];
   snprintf(name, sizeof name, "%s %s", kind->row, kind->set);

@@ -37,6 +37,10 @@ extern const char *measure_only;
  * `work` is NULL for a contender that the row does not have. */
 void measure_row(const row_kind *kind, const contender contenders[CONTENDERS], double lists);
 
+/* Prints how large what is sent is, for ours and nghttp3; 1: as large as the plain bytes. `most`: the target of ours,
+ * 0: none. */
+void size_row(const char *row, const char *set, double ours, double peers, double most);
+
 /* How many rows missed a target. */
 int rows_below(void);
 #endif

@@ -10,7 +10,7 @@ use std::alloc::Global;
 use std::borrow::CowSlice;
 use std::marker::Model;
 
-fn take_number(input: &mut SliceCursor<'_>) -> Result<usize, Failure> {
+pub(crate) fn take_number(input: &mut SliceCursor<'_>) -> Result<usize, Failure> {
     let bytes = input.chunk();
     if bytes.len() < 4 {
         return Err(Failure::Input);
@@ -20,7 +20,7 @@ fn take_number(input: &mut SliceCursor<'_>) -> Result<usize, Failure> {
     Ok(number as usize)
 }
 
-fn take_string<'a>(input: &mut SliceCursor<'a>) -> Result<&'a [u8], Failure> {
+pub(crate) fn take_string<'a>(input: &mut SliceCursor<'a>) -> Result<&'a [u8], Failure> {
     let len = take_number(input)?;
     if len > input.remaining() {
         return Err(Failure::Input);
@@ -101,16 +101,23 @@ fn take_list(alloc: Global, input: &mut SliceCursor<'_>) -> Result<FieldList, Fa
     Ok(FieldList { fields })
 }
 
-/// All lists.
-pub(crate) fn field_lists(alloc: Global, bytes: &[u8]) -> Result<Vec<FieldList>, Failure> {
-    let mut input = SliceCursor::new(bytes);
-    let count = take_number(&mut input)?;
+/// Lists behind their count.
+pub(crate) fn take_lists(
+    alloc: Global,
+    input: &mut SliceCursor<'_>,
+) -> Result<Vec<FieldList>, Failure> {
+    let count = take_number(input)?;
     let mut lists = Vec::new(alloc);
     for _ in 0..count {
-        let list = take_list(alloc, &mut input)?;
+        let list = take_list(alloc, input)?;
         if lists.push(list).is_err() {
             return Err(Failure::Memory);
         }
     }
     Ok(lists)
+}
+
+/// All lists.
+pub(crate) fn field_lists(alloc: Global, bytes: &[u8]) -> Result<Vec<FieldList>, Failure> {
+    take_lists(alloc, &mut SliceCursor::new(bytes))
 }

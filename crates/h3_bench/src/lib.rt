@@ -4,9 +4,12 @@
 //! the counts and the bytes.
 #![tactic(auto)]
 
+mod ends;
+mod exchange;
 mod huffman;
 mod input;
 mod output;
 mod report;
 mod section;
+mod session;
 mod varint;

@@ -1,0 +1,135 @@
+//! The two ends of a session with a dynamic table. Bytes come in any pieces: what is not whole is kept.
+
+use crate::input::FieldList;
+use crate::report::Failure;
+use h3_qpack::{
+    Decoder, DecoderError, DynamicTable, Encoder, HeaderField, SliceCursor, ack_header,
+    set_dynamic_table_size,
+};
+use std::alloc::Global;
+
+/// Keeps the last `left` bytes.
+fn keep_last(bytes: &mut Vec<u8>, left: usize) {
+    let taken = bytes.len().saturating_sub(left);
+    bytes.copy_within(taken.., 0);
+    bytes.truncate(bytes.len() - taken);
+}
+
+/// An encoder, and the start of an instruction that is not whole.
+#[derive(Drop)]
+pub(crate) struct Sender {
+    encoder: Encoder,
+    unread: Vec<u8>,
+}
+
+impl Sender {
+    /// With a table of this capacity, `limit` of whose sections may wait. Appends the capacity's instruction.
+    pub(crate) fn new(
+        alloc: Global,
+        capacity: usize,
+        limit: usize,
+        instructions: &mut Vec<u8>,
+    ) -> Result<Sender, Failure> {
+        let mut table = DynamicTable::new(alloc);
+        if table.set_max_blocked(limit).is_err() {
+            return Err(Failure::Input);
+        }
+        if set_dynamic_table_size(&mut table, instructions, capacity).is_err() {
+            return Err(Failure::Input);
+        }
+        Ok(Sender {
+            encoder: Encoder::from(table),
+            unread: Vec::new(alloc),
+        })
+    }
+
+    /// Appends the list's section, and the instructions to be read before it.
+    pub(crate) fn send(
+        &mut self,
+        stream: u64,
+        list: &FieldList,
+        section: &mut Vec<u8>,
+        instructions: &mut Vec<u8>,
+    ) -> Result<(), Failure> {
+        match self
+            .encoder
+            .encode(stream, section, instructions, list.fields())
+        {
+            Ok(_) => Ok(()),
+            Err(_) => Err(Failure::Memory),
+        }
+    }
+
+    /// Reads what the decoder wrote.
+    pub(crate) fn hear(&mut self, bytes: &[u8]) -> Result<(), Failure> {
+        if self.unread.extend_from_slice(bytes).is_err() {
+            return Err(Failure::Memory);
+        }
+        let mut read = SliceCursor::new(&self.unread);
+        let heard = self.encoder.on_decoder_recv(&mut read);
+        let left = read.remaining();
+        keep_last(&mut self.unread, left);
+        match heard {
+            Ok(()) => Ok(()),
+            Err(_) => Err(Failure::Refused),
+        }
+    }
+}
+
+/// A decoder, and the start of an instruction that is not whole.
+#[derive(Drop)]
+pub(crate) struct Receiver {
+    decoder: Decoder,
+    unread: Vec<u8>,
+}
+
+impl Receiver {
+    /// One that announced this capacity.
+    pub(crate) fn new(alloc: Global, capacity: usize) -> Result<Receiver, Failure> {
+        if capacity >= 1 << 30 {
+            return Err(Failure::Input);
+        }
+        Ok(Receiver {
+            decoder: Decoder::announced(alloc, capacity),
+            unread: Vec::new(alloc),
+        })
+    }
+
+    /// Reads what the encoder wrote beside its sections, and appends the increment for it.
+    pub(crate) fn hear(&mut self, bytes: &[u8], replies: &mut Vec<u8>) -> Result<(), Failure> {
+        if self.unread.extend_from_slice(bytes).is_err() {
+            return Err(Failure::Memory);
+        }
+        let mut read = SliceCursor::new(&self.unread);
+        let heard = self.decoder.on_encoder_recv(&mut read, replies);
+        let left = read.remaining();
+        keep_last(&mut self.unread, left);
+        match heard {
+            Ok(_) => Ok(()),
+            Err(_) => Err(Failure::Refused),
+        }
+    }
+
+    /// Decodes a section, and appends the acknowledgment where it names entries. None: it waits for instructions.
+    pub(crate) fn decode(
+        &mut self,
+        stream: u64,
+        section: &[u8],
+        replies: &mut Vec<u8>,
+    ) -> Result<Option<Vec<HeaderField>>, Failure> {
+        let decoded = match self.decoder.decode_header(&mut SliceCursor::new(section)) {
+            Ok(decoded) => decoded,
+            Err(DecoderError::MissingRefs(_)) => return Ok(None),
+            Err(_) => return Err(Failure::Refused),
+        };
+        if decoded.dyn_ref {
+            if stream >= 1 << 62 {
+                return Err(Failure::Input);
+            }
+            if ack_header(stream, replies).is_err() {
+                return Err(Failure::Memory);
+            }
+        }
+        Ok(Some(decoded.fields))
+    }
+}
