@@ -55,21 +55,22 @@ impl Model for Decoder {
     ghost invariant = { λ d. unwrap_or d.announced (2 ^ 30 - 1) < 2 ^ 30 };
 }
 
-/// A field with copies of the bytes of another.
+/// How many fields get room at first: most sections have no more, and the list of their fields need not grow.
+const FIRST_ROOM: usize = 16;
+
+/// A field with copies of the bytes of another. A static name is not copied.
 pub(crate) fn copy_of(alloc: Global, field: &HeaderField) -> Result<HeaderField, AllocError>
     ensures { IfOk result (λ f. f ≡ field.now) }
 {
-    let name = Vec::from_slice(alloc, field.name())?;
     let value = Vec::from_slice(alloc, field.value())?;
-    Ok(HeaderField::new(CowSlice::Owned(name), CowSlice::Owned(value)))
+    field.with_value(alloc, CowSlice::Owned(value))
 }
 
-/// A field with a copy of the name of another.
+/// A field with the name of another. A static name is not copied.
 fn named_as(alloc: Global, field: &HeaderField, value: Vec<u8>) -> Result<HeaderField, AllocError>
     ensures { IfOk result (λ f. f ≡ record { name = field.now.name; value = value.items }) }
 {
-    let name = Vec::from_slice(alloc, field.name())?;
-    Ok(HeaderField::new(CowSlice::Owned(name), CowSlice::Owned(value)))
+    field.with_value(alloc, CowSlice::Owned(value))
 }
 
 /// The entry at a distance below the base.
@@ -290,6 +291,9 @@ impl Decoder {
             return Err(DecoderError::MissingRefs(count));
         }
         let mut fields = Vec::new(self.alloc);
+        if fields.reserve(ahead.remaining().min(FIRST_ROOM)).is_err() {
+            return Err(DecoderError::OutOfMemory);
+        }
         let mut mem_size: u64 = 0;
         'lines: while ahead.remaining() > 0 {
             let field = match self.take_field(base, &mut ahead) {

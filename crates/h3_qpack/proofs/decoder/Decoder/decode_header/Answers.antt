@@ -34,7 +34,7 @@ returns-in-Err-take_field-clause-err c =
       inserted_is = c.inserted-inserted.ensures.value ∙ ap (λ r. r.table.inserted) c.self.view_is;
       capacity_is = c.unwrap_or-capacity.ensures ∙ ap (unwrap_or c.self.inside.announced) c.capacity.ensures.value ∙ ap count_capacity c.self.view_is;
     } in
-    (refused_line _ _ _ _ _ _ _ _ _ _ c.in-Err-take_field.e begun c.in-Ok-get.ensures c.if-count-inserted.false c.lines.invariant.stands (rw c.remaining.ensures at c.lines-test.true) c.in-Err-take_field.ensures, refl)
+    (refused_line _ _ _ _ _ _ _ _ _ _ c.in-Err-take_field.e begun c.in-Ok-get.ensures c.if-count-inserted.false c.lines.invariant.stands (rw c.remaining-in-lines.ensures at c.lines-test.true) c.in-Err-take_field.ensures, refl)
 
 one_size : (fields items : List Field) (f : Field) (size own next : ℕ) → size ≡ min (2 ^ 64 - 1) (section_size fields) → own ≡ min (2 ^ 64 - 1) (field_size f) → next ≡ min (size + own) (2 ^ 64 - 1)
     → items ≡ fields ++ f ∷ [] → next ≡ min (2 ^ 64 - 1) (section_size items)
@@ -43,7 +43,7 @@ one_size fields items f size own next s o n is = rw is (omega (arith, s, o, n, s
 pub lines-preserved : goal.lines-preserved
 lines-preserved c =
     record {
-      stands = stand_next _ _ _ _ _ c.in-Ok-take_field.field _ _ c.lines.invariant.stands (rw c.remaining.ensures at c.lines-test.true) c.in-Ok-take_field.ensures c.in-Ok-push.ensures.items;
+      stands = stand_next _ _ _ _ _ c.in-Ok-take_field.field _ _ c.lines.invariant.stands (rw c.remaining-in-lines.ensures at c.lines-test.true) c.in-Ok-take_field.ensures c.in-Ok-push.ensures.items;
       sum = one_size _ _ c.in-Ok-take_field.field _ _ _ c.lines.invariant.sum c.mem_size.ensures c.saturating_add-mem_size.ensures c.in-Ok-push.ensures.items;
     }
 
@@ -55,7 +55,7 @@ returns-clause-ok c =
       inserted_is = c.inserted-inserted.ensures.value ∙ ap (λ r. r.table.inserted) c.self.view_is;
       capacity_is = c.unwrap_or-capacity.ensures ∙ ap (unwrap_or c.self.inside.announced) c.capacity.ensures.value ∙ ap count_capacity c.self.view_is;
     } in
-    let end = stand_end _ _ _ _ _ c.lines.invariant.stands (rw c.remaining.ensures at c.lines-test.false) in (
+    let end = stand_end _ _ _ _ _ c.lines.invariant.stands (rw c.remaining-in-lines.ensures at c.lines-test.false) in (
       c.in-Ok-get.found.0,
       record {
         rest = c.decode.new.buf;
