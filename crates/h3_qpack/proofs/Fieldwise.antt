@@ -1,9 +1,11 @@
 -- A field section field by field: what stays as it is written, and what a loop over its fields keeps.
 use Rattle.std.proofs.Common.{◌≡◌, inl, inr, ℕ, ◌+◌, ◌-◌, ◌^◌, ◌<◌, ◌≤◌, List, [], ◌∷◌, ◌++◌, length, take, drop, get_or, min, max, refl, sym, ◌∙◌, ap, subst, arith, flat_map, fold, Result, Ok, Err}
+use Rattle.std.specs.List.{AllByRecursion}
 use Rattle.std.specs.Result.{OnOk}
 use Rattle.std.proofs.lemmas.List.{take_more, take_all, take-append-drop}
 use Rattle.std.proofs.lemmas.List.Sums.{fold_push, sum_by-append, sum_by-cons}
 use Rattle.h3_field.specs.Field.{Field, field_size, section_size}
+use Rattle.h3_field.specs.ReadBack.{IsFieldOfBytes}
 use Rattle.h3_field.specs.Line.{line_bytes}
 use Rattle.h3_field.specs.Instruction.{encoder_bytes}
 use Rattle.h3_qpack.specs.Held.{Held, gone, with_entry}
@@ -15,6 +17,7 @@ use Rattle.h3_qpack.specs.declared.section.Section.{Section}
 use Rattle.h3_qpack.specs.declared.section.Choice.{Choice}
 use Rattle.h3_qpack.specs.declared.section.Choice.TheVariants as choice
 use Rattle.h3_qpack.proofs.Rooms.{gone_with_entry}
+use Rattle.h3_qpack.proofs.Drafts.{All-join}
 use Rattle.h3_qpack.proofs.Drafted.{field_drafted}
 
 -- what follows from two facts of an accepted call
@@ -60,10 +63,11 @@ drafted_after s d start t section f c new next lines more told later h small rul
 -- What a loop over the fields keeps.
 pub record InFields (t : StoredSender) (section : Section) (lines told : List ℕ) (new : StoredSender) (next : Section) (more later : List ℕ) (fields : List Field) (index : ℕ) : Type 0 where
   pub over : IsOver new.table next
+  pub are_bytes : AllByRecursion IsFieldOfBytes (take index fields)
   pub drafted : (s : Sender) (start : List ℕ) → IsDrafted s (draft_of s []) t section lines start told → IsDrafted s (draft_of s (take index fields)) new next more start later
 
 pub in_none : (t : StoredSender) (section : Section) (lines told : List ℕ) (fields : List Field) → IsOver t.table section → InFields t section lines told t section lines told fields 0
-in_none t section lines told fields o = record { over = o; drafted = λ s start h. h }
+in_none t section lines told fields o = record { over = o; are_bytes = tt; drafted = λ s start h. h }
 
 pub draft_more : (s : Sender) (fields : List Field) (index : ℕ) (f : Field) → index < length fields → f ≡ get_or fields index f → draft_of s (take (index + 1) fields) ≡ add_field s (draft_of s (take index fields)) f
 draft_more s fields index f lt is =
@@ -71,12 +75,13 @@ draft_more s fields index f lt is =
     ∙ fold_push (add_field s) (record { inserted = s.inserted; instructions = []; lines = []; references = [] }) (take index fields) f
 
 pub in_more : (t : StoredSender) (section : Section) (lines told : List ℕ) (mid : StoredSender) (between : Section) (m l : List ℕ) (new : StoredSender) (next : Section) (more later : List ℕ) (fields : List Field) (index : ℕ) (f : Field)
-    → InFields t section lines told mid between m l fields index → index < length fields → f ≡ get_or fields index f → IsOver new.table next
+    → InFields t section lines told mid between m l fields index → index < length fields → f ≡ get_or fields index f → IsFieldOfBytes f → IsOver new.table next
     → ((s : Sender) (d : Draft) (start : List ℕ) → IsDrafted s d mid between m start l → IsDrafted s (add_field s d f) new next more start later)
     → InFields t section lines told new next more later fields (index + 1)
-in_more t section lines told mid between m l new next more later fields index f i lt is over step =
+in_more t section lines told mid between m l new next more later fields index f i lt is each over step =
     record {
       over = over;
+      are_bytes = subst (AllByRecursion IsFieldOfBytes) (sym (take_more fields index f lt ∙ ap (λ x. take index fields ++ x ∷ []) (sym is))) (All-join IsFieldOfBytes (take index fields) (f ∷ []) i.are_bytes (each, tt));
       drafted = λ s start h. subst (λ d. IsDrafted s d new next more start later) (sym (draft_more s fields index f lt is)) (step s (draft_of s (take index fields)) start (i.drafted s start h));
     }
 
@@ -86,13 +91,17 @@ pub in_all : (t : StoredSender) (section : Section) (lines told : List ℕ) (new
 in_all t section lines told new next more later fields index i all s start h =
     subst (λ fs. IsDrafted s (draft_of s fs) new next more start later) (take_all index fields all) (i.drafted s start h)
 
+pub all_bytes : (t : StoredSender) (section : Section) (lines told : List ℕ) (new : StoredSender) (next : Section) (more later : List ℕ) (fields : List Field) (index : ℕ)
+    → InFields t section lines told new next more later fields index → length fields ≤ index → AllByRecursion IsFieldOfBytes fields
+all_bytes t section lines told new next more later fields index i all = subst (AllByRecursion IsFieldOfBytes) (take_all index fields all) i.are_bytes
+
 -- a refused field leaves the section cut off behind the fields before it
 pub in_cut_off : (t : StoredSender) (section : Section) (lines told : List ℕ) (new : StoredSender) (next : Section) (more later : List ℕ) (fields : List Field) (index : ℕ)
     → InFields t section lines told new next more later fields index → index ≤ length fields
     → (s : Sender) (start : List ℕ) → IsDrafted s (draft_of s []) t section lines start told → IsCutOff s fields new start later
 in_cut_off t section lines told new next more later fields index i le s start h =
     let d = i.drafted s start h in
-    record { front = index; within = le; stores = d.kept.stores; told_is = d.told_is }
+    record { front = index; within = le; are_bytes = i.are_bytes; stores = d.kept.stores; told_is = d.told_is }
 
 pub in_refused : (t : StoredSender) (section : Section) (lines told : List ℕ) (mid : StoredSender) (between : Section) (m l : List ℕ) (new : StoredSender) (later : List ℕ) (fields : List Field) (index : ℕ)
     → InFields t section lines told mid between m l fields index → index ≤ length fields → new ≡ mid → later ≡ l

@@ -6,6 +6,8 @@ use Rattle.std.proofs.lemmas.List.{map-append, take_all}
 use Rattle.std.proofs.lemmas.List.Elements.{filter-append}
 use Rattle.std.proofs.lemmas.List.Sums.{sum_by-cons}
 use Rattle.h3_field.specs.Field.{Field, field_size, section_size}
+use Rattle.std.specs.List.{AllByRecursion}
+use Rattle.h3_field.specs.ReadBack.{IsFieldOfBytes}
 use Rattle.h3_field.specs.Line.{line_bytes}
 use Rattle.h3_field.specs.Prefix.{prefix_bytes}
 use Rattle.h3_field.specs.PrefixReading.{EncodedPrefix}
@@ -141,8 +143,8 @@ sent_plain s d stream t section k none =
 -- The section and its instructions were written.
 pub section_sent : (s : Sender) (stream : ℕ) (fields : List Field) (t new : StoredSender) (section : Section) (lines before block start told : List ℕ) → IsDrafted s (draft_of s fields) t section lines start told
     → block ≡ before ++ (prefix_bytes t.table.capacity section.newest section.base ++ lines) → new ≡ stored (sent_section s stream fields)
-    → IsSent s stream fields section.newest new before block start told
-section_sent s stream fields t new section lines before block start told h is kept =
+    → AllByRecursion IsFieldOfBytes fields → IsSent s stream fields section.newest new before block start told
+section_sent s stream fields t new section lines before block start told h is kept are_bytes =
     let d = draft_of s fields in
     let capacity : t.table.capacity ≡ s.capacity = ap (λ (u : StoredSender). u.table.capacity) h.kept.stores in
     let prefix : prefix_bytes t.table.capacity section.newest section.base ≡ prefix_bytes s.capacity (required_insert_count d) (length s.inserted) =
@@ -152,12 +154,13 @@ section_sent s stream fields t new section lines before block start told h is ke
     record {
       stores = kept;
       count_is = h.kept.newest;
+      are_bytes = are_bytes;
       block_is = is ∙ ap (λ b. before ++ b) body;
       told_is = h.told_is;
     }
 
 -- A section whose fields are all written is cut off behind the last.
-pub whole_cut_off : (s : Sender) (fields : List Field) (t new : StoredSender) (section : Section) (lines start told : List ℕ) → IsDrafted s (draft_of s fields) t section lines start told → new ≡ t → IsCutOff s fields new start told
-whole_cut_off s fields t new section lines start told h same =
+pub whole_cut_off : (s : Sender) (fields : List Field) (t new : StoredSender) (section : Section) (lines start told : List ℕ) → IsDrafted s (draft_of s fields) t section lines start told → AllByRecursion IsFieldOfBytes fields → new ≡ t → IsCutOff s fields new start told
+whole_cut_off s fields t new section lines start told h are_bytes same =
     let all : take (length fields) fields ≡ fields = take_all (length fields) fields (omega arith) in
-    record { front = length fields; within = omega arith; stores = same ∙ rw all h.kept.stores; told_is = rw all h.told_is }
+    record { front = length fields; within = omega arith; are_bytes = rw all are_bytes; stores = same ∙ rw all h.kept.stores; told_is = rw all h.told_is }

@@ -2,6 +2,7 @@
 use Rattle.std.specs.Prelude.{◌≡◌, ◌⊎◌, ◌<◌, ◌≤◌, ℕ, ◌+◌, ◌-◌, ◌^◌, true, List, [], ◌∷◌, ◌++◌, length, min, max, fold, take, flat_map, nat_lt, if◌then◌else◌, Option, Some, None, option_map, unwrap_or}
 use Rattle.std.specs.List.{AllByRecursion}
 use Rattle.h3_field.specs.Field.{Field, section_size}
+use Rattle.h3_field.specs.ReadBack.{IsFieldOfBytes}
 use Rattle.h3_field.specs.StaticTable.{static_field, static_name}
 use Rattle.h3_field.specs.Line.{FieldLine, line_bytes}
 use Rattle.h3_field.specs.Line.{FieldLine as line}
@@ -137,6 +138,7 @@ pub record IsDrafted (s : Sender) (d : Draft) (t : StoredSender) (section : Sect
 pub record IsCutOff (s : Sender) (fields : List Field) (t : StoredSender) (start told : List ℕ) : Type 0 where
   pub front : ℕ
   pub within : front ≤ length fields
+  pub are_bytes : AllByRecursion IsFieldOfBytes (take front fields)
   pub stores : t ≡ stored (record s { inserted = (draft_of s (take front fields)).inserted })
   pub told_is : told ≡ start ++ flat_map encoder_bytes (draft_of s (take front fields)).instructions
 
@@ -144,5 +146,6 @@ pub record IsCutOff (s : Sender) (fields : List Field) (t : StoredSender) (start
 pub record IsSent (s : Sender) (stream : ℕ) (fields : List Field) (count : ℕ) (t : StoredSender) (before block start told : List ℕ) : Type 0 where
   pub stores : t ≡ stored (sent_section s stream fields)
   pub count_is : count ≡ required_insert_count (draft_of s fields)
+  pub are_bytes : AllByRecursion IsFieldOfBytes fields
   pub block_is : block ≡ before ++ encoded_section s fields
   pub told_is : told ≡ start ++ flat_map encoder_bytes (instructions_for s fields)

@@ -1,6 +1,8 @@
 //! A field section in the midst of its writing: lines and instructions, field by field (RFC 9204, sections 4.3 and 4.5).
 ghost use Rattle.std.specs.Prelude.{◌≡◌, ◌<◌, ◌≤◌, ◌^◌, ◌+◌, ◌-◌, ◌++◌, ◌∷◌, [], List, ℕ, flat_map, length, OnOk, OnErr};
+ghost use Rattle.std.specs.List.{AllByRecursion};
 ghost use Rattle.std.specs.Result.{IsOkUnless};
+ghost use Rattle.h3_field.specs.ReadBack.{IsFieldOfBytes};
 ghost use Rattle.h3_field.specs.Field.{field_size, section_size};
 ghost use Rattle.h3_field.specs.Line.{line_bytes};
 ghost use Rattle.h3_field.specs.Line.FieldLine.{PostBaseField};
@@ -186,10 +188,12 @@ pub(crate) fn put_fields(
     ensures over { OnOk result (IsOver table.new.table section.new) }
     ensures ok { OnOk result ((s : Sender) (start : List ℕ) → IsDrafted s (draft_of s []) table.old section.old lines.old.items start encoder_buf.old.items →
         IsDrafted s (draft_of s fields.now) table.new section.new lines.new.items start encoder_buf.new.items) }
+    ensures bytes { OnOk result (AllByRecursion IsFieldOfBytes fields.now) }
     ensures err { OnErr result ((s : Sender) (start : List ℕ) → IsDrafted s (draft_of s []) table.old section.old lines.old.items start encoder_buf.old.items →
         IsCutOff s fields.now table.new start encoder_buf.new.items) }
 {
     'fields: for field in fields {
+        field.are_bytes();
         put_field(table, section, field, lines, encoder_buf)?;
     }
     Ok(())

@@ -1,6 +1,6 @@
 use Rattle.std.proofs.Common.{arith}
 use Rattle.std.proofs.lemmas.Result.{err_from_is_err_and}
-use Rattle.h3_qpack.proofs.Fieldwise.{in_more, in_all, in_cut_off, in_refused}
+use Rattle.h3_qpack.proofs.Fieldwise.{in_more, in_all, all_bytes, in_cut_off, in_refused}
 use Rattle.h3_qpack.proofs.writing.put_fields.Goals as goal
 
 pub returns-in_err-put_field-clause-err : goal.returns-in_err-put_field-clause-err
@@ -10,8 +10,11 @@ returns-in_err-put_field-clause-err c =
 
 pub fields-preserved : goal.fields-preserved
 fields-preserved c =
-    in_more _ _ _ _ _ _ _ _ _ _ _ _ _ _ _ c.fields.invariant c.fields-test.true c.field-item.is c.in_ok-put_field.ensures.over c.in_ok-put_field.ensures.ok
+    in_more _ _ _ _ _ _ _ _ _ _ _ _ _ _ _ c.fields.invariant c.fields-test.true c.field-item.is c.are_bytes.ensures c.in_ok-put_field.ensures.over c.in_ok-put_field.ensures.ok
 
 pub returns-clause-ok : goal.returns-clause-ok
 returns-clause-ok c =
     λ s start h. in_all _ _ _ _ _ _ _ _ _ _ c.fields.invariant (omega arith) s start h
+
+pub returns-clause-bytes : goal.returns-clause-bytes
+returns-clause-bytes c = all_bytes _ _ _ _ _ _ _ _ _ _ c.fields.invariant (omega arith)

@@ -13,12 +13,12 @@ returns-in_err-put_fields-clause-cut_off c =
 pub returns-in_err-put_section-clause-cut_off : goal.returns-in_err-put_section-clause-cut_off
 returns-in_err-put_section-clause-cut_off c =
     let p = err_from_is_err_and c.from_residual-in_err-put_section.result c.from_residual-in_err-put_section.ensures.1 in
-    rw p.1 (λ s e. whole_cut_off s _ _ _ _ _ _ _ (c.in_ok-put_fields.ensures.ok s _ (begun_drafted s _ _ _ _ (c.self.view_is ∙ e) c.begin-section.ensures.value c.clear.ensures.items)) refl)
+    rw p.1 (λ s e. whole_cut_off s _ _ _ _ _ _ _ (c.in_ok-put_fields.ensures.ok s _ (begun_drafted s _ _ _ _ (c.self.view_is ∙ e) c.begin-section.ensures.value c.clear.ensures.items)) c.in_ok-put_fields.ensures.bytes refl)
 
 pub returns-in_default-clause-cut_off : goal.returns-in_default-clause-cut_off
 returns-in_default-clause-cut_off c =
     let same : c.track.new.self ≡ c.put_fields.new.table = search rules in
-    λ s e. whole_cut_off s _ _ _ _ _ _ _ (c.in_ok-put_fields.ensures.ok s _ (begun_drafted s _ _ _ _ (c.self.view_is ∙ e) c.begin-section.ensures.value c.clear.ensures.items)) same
+    λ s e. whole_cut_off s _ _ _ _ _ _ _ (c.in_ok-put_fields.ensures.ok s _ (begun_drafted s _ _ _ _ (c.self.view_is ∙ e) c.begin-section.ensures.value c.clear.ensures.items)) c.in_ok-put_fields.ensures.bytes same
 
 pub returns-in-Ok-clause-sent : goal.returns-in-Ok-clause-sent
 returns-in-Ok-clause-sent c =
@@ -26,7 +26,7 @@ returns-in-Ok-clause-sent c =
     λ s e.
     let h = c.in_ok-put_fields.ensures.ok s _ (begun_drafted s _ _ _ _ (c.self.view_is ∙ e) c.begin-section.ensures.value c.clear.ensures.items) in
     section_sent s c.args.stream c.args.fields.now _ _ _ _ _ _ _ _ h put
-    (sent_named s _ c.args.stream _ _ _ h.kept c.is_small.ensures c.in_ok-put_fields.ensures.over.newest c.if-section-ne0.true c.in-Ok.ensures.ok)
+    (sent_named s _ c.args.stream _ _ _ h.kept c.is_small.ensures c.in_ok-put_fields.ensures.over.newest c.if-section-ne0.true c.in-Ok.ensures.ok) c.in_ok-put_fields.ensures.bytes
 
 pub returns-else-section-ne0-clause-sent : goal.returns-else-section-ne0-clause-sent
 returns-else-section-ne0-clause-sent c =
@@ -34,4 +34,4 @@ returns-else-section-ne0-clause-sent c =
     λ s e.
     let h = c.in_ok-put_fields.ensures.ok s _ (begun_drafted s _ _ _ _ (c.self.view_is ∙ e) c.begin-section.ensures.value c.clear.ensures.items) in
     section_sent s c.args.stream c.args.fields.now _ _ _ _ _ _ _ _ h put
-    (sent_plain s _ c.args.stream _ _ h.kept c.if-section-ne0.false)
+    (sent_plain s _ c.args.stream _ _ h.kept c.if-section-ne0.false) c.in_ok-put_fields.ensures.bytes
