@@ -1,7 +1,7 @@
 -- A field section field by field: what stays as it is written, and what a loop over its fields keeps.
-use Rattle.std.proofs.Common.{◌≡◌, inl, inr, ℕ, ◌+◌, ◌-◌, ◌^◌, ◌<◌, ◌≤◌, List, [], ◌∷◌, ◌++◌, length, take, drop, get_or, min, max, refl, sym, ◌∙◌, ap, subst, arith, flat_map, fold, Result, Ok, Err}
+use Rattle.std.proofs.Common.{◌≡◌, inl, inr, ℕ, ◌+◌, ◌-◌, ◌^◌, ◌<◌, ◌≤◌, List, [], ◌∷◌, ◌++◌, length, take, drop, get_or, min, max, refl, sym, ◌∙◌, ap, subst, arith, length-append, flat_map, fold, Result, Ok, Err}
 use Rattle.std.specs.List.{AllByRecursion}
-use Rattle.std.specs.Result.{OnOk}
+use Rattle.std.specs.Result.{OnOk, OnErr}
 use Rattle.std.proofs.lemmas.List.{take_more, take_all, take-append-drop}
 use Rattle.std.proofs.lemmas.List.Sums.{fold_push, sum_by-append, sum_by-cons}
 use Rattle.h3_field.specs.Field.{Field, field_size, section_size}
@@ -29,6 +29,11 @@ on_both (Err e) f p q = p
 pub on_four : {T E P Q R S U : Type 0} (r : Result T E) → (P → Q → R → S → U) → OnOk r P → OnOk r Q → OnOk r R → OnOk r S → OnOk r U
 on_four (Ok x) f p q a b = f p q a b
 on_four (Err e) f p q a b = p
+
+-- what is appended or left grows
+pub grown : {T E : Type 0} (P : Type 0) (r : Result T E) (old new more : List ℕ) → OnOk r (new ≡ old ++ more) → OnErr r (P × (new ≡ old)) → length old ≤ length new
+grown P (Ok x) old new more p q = omega (arith, ap length p, length-append old more)
+grown P (Err e) old new more p q = omega (arith, ap length q.1)
 
 -- an entry that is there is named
 naming_over : (h : Held) (section : Section) (number : ℕ) → IsOver h section → gone h < number → number ≤ h.inserted → IsOver h (naming section number)
@@ -63,11 +68,12 @@ drafted_after s d start t section f c new next lines more told later h small rul
 -- What a loop over the fields keeps.
 pub record InFields (t : StoredSender) (section : Section) (lines told : List ℕ) (new : StoredSender) (next : Section) (more later : List ℕ) (fields : List Field) (index : ℕ) : Type 0 where
   pub over : IsOver new.table next
+  pub grown : length told ≤ length later
   pub are_bytes : AllByRecursion IsFieldOfBytes (take index fields)
   pub drafted : (s : Sender) (start : List ℕ) → IsDrafted s (draft_of s []) t section lines start told → IsDrafted s (draft_of s (take index fields)) new next more start later
 
 pub in_none : (t : StoredSender) (section : Section) (lines told : List ℕ) (fields : List Field) → IsOver t.table section → InFields t section lines told t section lines told fields 0
-in_none t section lines told fields o = record { over = o; are_bytes = tt; drafted = λ s start h. h }
+in_none t section lines told fields o = record { over = o; grown = omega arith; are_bytes = tt; drafted = λ s start h. h }
 
 pub draft_more : (s : Sender) (fields : List Field) (index : ℕ) (f : Field) → index < length fields → f ≡ get_or fields index f → draft_of s (take (index + 1) fields) ≡ add_field s (draft_of s (take index fields)) f
 draft_more s fields index f lt is =
@@ -75,12 +81,13 @@ draft_more s fields index f lt is =
     ∙ fold_push (add_field s) (record { inserted = s.inserted; instructions = []; lines = []; references = [] }) (take index fields) f
 
 pub in_more : (t : StoredSender) (section : Section) (lines told : List ℕ) (mid : StoredSender) (between : Section) (m l : List ℕ) (new : StoredSender) (next : Section) (more later : List ℕ) (fields : List Field) (index : ℕ) (f : Field)
-    → InFields t section lines told mid between m l fields index → index < length fields → f ≡ get_or fields index f → IsFieldOfBytes f → IsOver new.table next
+    → InFields t section lines told mid between m l fields index → index < length fields → f ≡ get_or fields index f → IsFieldOfBytes f → IsOver new.table next → length l ≤ length later
     → ((s : Sender) (d : Draft) (start : List ℕ) → IsDrafted s d mid between m start l → IsDrafted s (add_field s d f) new next more start later)
     → InFields t section lines told new next more later fields (index + 1)
-in_more t section lines told mid between m l new next more later fields index f i lt is each over step =
+in_more t section lines told mid between m l new next more later fields index f i lt is each over longer step =
     record {
       over = over;
+      grown = omega (arith, i.grown, longer);
       are_bytes = subst (AllByRecursion IsFieldOfBytes) (sym (take_more fields index f lt ∙ ap (λ x. take index fields ++ x ∷ []) (sym is))) (All-join IsFieldOfBytes (take index fields) (f ∷ []) i.are_bytes (each, tt));
       drafted = λ s start h. subst (λ d. IsDrafted s d new next more start later) (sym (draft_more s fields index f lt is)) (step s (draft_of s (take index fields)) start (i.drafted s start h));
     }

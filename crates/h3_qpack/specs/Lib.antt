@@ -22,4 +22,6 @@ pub mod InstructionAnswers
 pub mod Telling
 pub mod Increments
 pub mod Encodings
+pub mod Exchange
+pub mod SessionInside
 pub mod Worked

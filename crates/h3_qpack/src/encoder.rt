@@ -1,5 +1,5 @@
 //! An encoder with its dynamic table: what it writes, and what it is told of its receiver (RFC 9204, sections 2.1 and 4).
-ghost use Rattle.std.specs.Prelude.{◌≡◌, ◌<◌, ◌^◌, ◌++◌, ℕ, true, false, length, IfOk, IfErr, OnOk, OnErr};
+ghost use Rattle.std.specs.Prelude.{◌≡◌, ◌<◌, ◌≤◌, ◌^◌, ◌++◌, ℕ, true, false, length, IfOk, IfErr, OnOk, OnErr};
 ghost use Rattle.std.specs.Result.{IsOkUnless};
 ghost use Rattle.h3_field.specs.Field.{section_size};
 ghost use Rattle.h3_field.specs.declared.encoder_error.EncoderError.TheVariants.{OutOfMemory};
@@ -181,6 +181,7 @@ impl Encoder {
         ensures memory { IsOkUnless result OutOfMemory }
         ensures sent { IfOk result (λ count. (s : Sender) → self.old ≡ stored s →
             IsSent s stream fields.now count self.new block.old.items block.new.items encoder_buf.old.items encoder_buf.new.items) }
+        ensures grows { length encoder_buf.old.items ≤ length encoder_buf.new.items }
         ensures unwritten { OnErr result (block.new.items ≡ block.old.items) }
         ensures cut_off { OnErr result ((s : Sender) → self.old ≡ stored s → IsCutOff s fields.now self.new encoder_buf.old.items encoder_buf.new.items) }
     {

@@ -1,6 +1,7 @@
 //! QPACK's dynamic table (RFC 9204): what a decoder reads, what an encoder writes, and the law of their sessions.
 #![tactic(auto)]
 
+mod block;
 pub mod decoder;
 pub mod dynamic;
 #[cfg(test)]
@@ -11,6 +12,7 @@ pub mod examples;
 mod increment;
 pub mod laws;
 mod section;
+pub mod session;
 #[cfg(test)]
 mod tests;
 mod tracking;
@@ -23,3 +25,4 @@ pub use h3_field::{
     Decoded, DecoderError, EncoderError, Error, HeaderField, SliceCursor, decode_stateless,
     encode_stateless,
 };
+pub use session::{SessionAnswer, SessionEvent, run};

@@ -165,6 +165,7 @@ fn put_field(
     requires size { field_size field.now < 2 ^ 62 }
     ensures memory { IsOkUnless result OutOfMemory }
     ensures over { OnOk result (IsOver table.new.table section.new) }
+    ensures grows { length encoder_buf.old.items ≤ length encoder_buf.new.items }
     ensures ok { OnOk result ((s : Sender) (d : Draft) (start : List ℕ) → IsDrafted s d table.old section.old lines.old.items start encoder_buf.old.items →
         IsDrafted s (add_field s d field.now) table.new section.new lines.new.items start encoder_buf.new.items) }
     ensures err { OnErr result ((table.new ≡ table.old) × (encoder_buf.new.items ≡ encoder_buf.old.items)) }
@@ -186,6 +187,7 @@ pub(crate) fn put_fields(
     requires size { section_size fields.now < 2 ^ 62 }
     ensures memory { IsOkUnless result OutOfMemory }
     ensures over { OnOk result (IsOver table.new.table section.new) }
+    ensures grows { length encoder_buf.old.items ≤ length encoder_buf.new.items }
     ensures ok { OnOk result ((s : Sender) (start : List ℕ) → IsDrafted s (draft_of s []) table.old section.old lines.old.items start encoder_buf.old.items →
         IsDrafted s (draft_of s fields.now) table.new section.new lines.new.items start encoder_buf.new.items) }
     ensures bytes { OnOk result (AllByRecursion IsFieldOfBytes fields.now) }

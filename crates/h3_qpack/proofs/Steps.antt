@@ -1,0 +1,268 @@
+-- What the events of a session do to what is kept of it.
+use Rattle.std.specs.declared.alloc.Global.{Global}
+use Rattle.std.proofs.Common.{Vec, ◌≡◌, ℕ, zero, suc, ◌+◌, ◌-◌, ◌^◌, ◌<◌, ◌≤◌, Bool, true, false, ◌||◌, List, [], ◌∷◌, ◌++◌, length, take, filter, get_or, flat_map, Some, None, refl, sym, ◌∙◌, ap, subst, arith, if◌then◌else◌, nat_lt, min}
+use Rattle.std.specs.Prelude.{◌==◌, not}
+use Rattle.std.specs.List.{list_any, remove, AllByRecursion}
+use Rattle.std.proofs.lemmas.Grind.{common_steps}
+use Rattle.std.proofs.lemmas.List.{take_more, take_all}
+use Rattle.h3_field.specs.Field.{Field, section_size}
+use Rattle.h3_field.specs.Reading.{Unfinished}
+use Rattle.h3_field.specs.InstructionReading.{instruction, decoder_instruction}
+use Rattle.h3_field.specs.Instruction.{encoder_bytes, decoder_bytes}
+use Rattle.h3_field.specs.Instruction.DecoderInstruction.{Acknowledge, CancelStream}
+use Rattle.h3_field.specs.declared.encoder_error.EncoderError.{EncoderError}
+use Rattle.h3_field.specs.declared.encoder_error.EncoderError.TheVariants as encoder_error
+use Rattle.h3_field.specs.declared.decoder_error.DecoderError.{DecoderError}
+use Rattle.h3_field.specs.declared.decoder_error.DecoderError.TheVariants as decoder_error
+use Rattle.h3_field.specs.declared.error.Error.TheVariants as of
+use Rattle.h3_qpack.specs.Sender.{Sender, told_all}
+use Rattle.h3_qpack.specs.Stored.{StoredSender, stored}
+use Rattle.h3_qpack.specs.Receiver.{Receiver}
+use Rattle.h3_qpack.specs.Meaning.{MeansFields, IsBadSection}
+use Rattle.h3_qpack.specs.SectionAnswers.{IsReason, IsRefusal}
+use Rattle.h3_qpack.specs.Instructions.{HasRead, BeginsBad, BeginsRefused, AreDecoderInstructions}
+use Rattle.h3_qpack.specs.Telling.{HasHeard}
+use Rattle.h3_qpack.specs.Increments.{increment_for}
+use Rattle.h3_qpack.specs.Written.{draft_of}
+use Rattle.h3_qpack.specs.Drafting.{IsCutOff}
+use Rattle.h3_qpack.specs.Exchange.{Stream, EncodedBlock, EncoderReads, Ends, Kept, kept, unread, waiting, arriving, reading, writing, is_given_up, is_of, block_of, without_block_of, IsPlace, HasBlock, IsEvent, Happens, Exchange, Before, Then, start, Encodes, DeliversForth, DeliversBack, Decodes, Cancels, giving_up, refused_section}
+use Rattle.h3_qpack.specs.declared.session.SessionEvent.{SessionEvent}
+use Rattle.h3_qpack.specs.declared.session.SessionAnswer.{SessionAnswer}
+use Rattle.h3_qpack.specs.declared.session.SessionAnswer.TheVariants as answer
+
+neither : (a b : Bool) → (a || b) ≡ false → (a ≡ false) × (b ≡ false)
+neither true b h = cc
+neither false b h = (refl, h)
+
+-- a section that was cut off
+pub encoding_cut : (w : Ends) (k : Kept) (stream : ℕ) (fields : List Field) (encoder : StoredSender) (bytes : List ℕ) (e : EncoderError) → k ≡ kept w
+    → ((s : Sender) → k.encoder ≡ stored s → IsCutOff s fields encoder k.forth.bytes bytes) → length bytes < 2 ^ 63 → e ≡ encoder_error.OutOfMemory
+    → (new : Ends) × Encodes w stream fields (answer.Refused (of.Encoder e)) new × (record k { encoder = encoder; forth = record k.forth { bytes = bytes } } ≡ kept new)
+encoding_cut w k stream fields encoder bytes e same cut few is =
+    let c = cut w.sender (ap (λ (x : Kept). x.encoder) same) in
+    let told : bytes ≡ w.forth.bytes ++ flat_map encoder_bytes (draft_of w.sender (take c.front fields)).instructions =
+    c.told_is ∙ ap (λ bs. bs ++ flat_map encoder_bytes (draft_of w.sender (take c.front fields)).instructions) (ap (λ (x : Kept). x.forth.bytes) same) in (
+      _,
+      (ap of.Encoder is, (c.front, c.within, record { are_bytes = c.are_bytes; few = subst (λ bs. length bs < 2 ^ 63) told few }, refl)),
+      ap (λ (x : Kept). record x { encoder = encoder; forth = record x.forth { bytes = bytes } }) same
+          ∙ ap (λ s. record (kept w) { encoder = s; forth = record w.forth { bytes = bytes } }) c.stores
+          ∙ ap (λ bs. record (kept w) { encoder = stored (record w.sender { inserted = (draft_of w.sender (take c.front fields)).inserted }); forth = record w.forth { bytes = bs } }) told,
+    )
+
+-- bytes came to the decoder
+abbrev pub came : Kept → ℕ → Receiver → ℕ → List ℕ → Kept
+came k count decoder read written =
+    record k { decoder = decoder; forth = record { bytes = k.forth.bytes; arrived = k.forth.arrived + count; read = read }; back = record k.back { bytes = written } }
+
+abbrev forth_new : Ends → ℕ → Receiver → List ℕ → Ends
+forth_new w count decoder left =
+    record w { receiver = decoder; forth = reading (arriving w.forth count) (length left); back = writing w.back (increment_for (decoder.table.inserted - w.receiver.table.inserted)) }
+
+came_kept : (w : Ends) (k : Kept) (count : ℕ) (decoder : Receiver) (left : List ℕ) (read : ℕ) (written : List ℕ) → k ≡ kept w → read ≡ k.forth.arrived + count - length left
+    → written ≡ k.back.bytes ++ increment_for (decoder.table.inserted - k.decoder.table.inserted) → came k count decoder read written ≡ kept (forth_new w count decoder left)
+came_kept w k count decoder left read written same read_is written_is =
+    ap (λ n. came k count decoder n written) read_is ∙ ap (λ bs. came k count decoder (k.forth.arrived + count - length left) bs) written_is
+    ∙ ap (λ (x : Kept). came x count decoder (x.forth.arrived + count - length left) (x.back.bytes ++ increment_for (decoder.table.inserted - x.decoder.table.inserted))) same
+
+pub forth_delivered : (w : Ends) (k : Kept) (count : ℕ) (decoder : Receiver) (left : List ℕ) (read : ℕ) (written : List ℕ) → k ≡ kept w → count ≤ waiting k.forth
+    → HasRead k.decoder decoder (unread (arriving k.forth count)) left → read ≡ k.forth.arrived + count - length left
+    → written ≡ k.back.bytes ++ increment_for (decoder.table.inserted - k.decoder.table.inserted) → instruction left ≡ Unfinished
+    → (new : Ends) × DeliversForth w count answer.Delivered new × (came k count decoder read written ≡ kept new)
+forth_delivered w k count decoder left read written same enough has read_is written_is whole = (
+  forth_new w count decoder left,
+  (
+    record {
+      enough = subst (λ (x : Kept). count ≤ waiting x.forth) same enough;
+      left = left;
+      read = subst (λ (x : Kept). HasRead x.decoder decoder (unread (arriving x.forth count)) left) same has;
+      is = refl;
+    },
+    whole,
+  ),
+  came_kept w k count decoder left read written same read_is written_is,
+)
+
+pub forth_refused : (w : Ends) (k : Kept) (count : ℕ) (decoder : Receiver) (left : List ℕ) (read : ℕ) (written : List ℕ) (e : DecoderError) → k ≡ kept w → count ≤ waiting k.forth
+    → HasRead k.decoder decoder (unread (arriving k.forth count)) left → read ≡ k.forth.arrived + count - length left
+    → written ≡ k.back.bytes ++ increment_for (decoder.table.inserted - k.decoder.table.inserted) → IsReason (BeginsBad decoder left) (λ count. ⊥) e
+    → (new : Ends) × DeliversForth w count (answer.Refused (of.Decoder e)) new × (came k count decoder read written ≡ kept new)
+forth_refused w k count decoder left read written e same enough has read_is written_is reason = (
+  forth_new w count decoder left,
+  (
+    record {
+      enough = subst (λ (x : Kept). count ≤ waiting x.forth) same enough;
+      left = left;
+      read = subst (λ (x : Kept). HasRead x.decoder decoder (unread (arriving x.forth count)) left) same has;
+      is = refl;
+    },
+    reason,
+  ),
+  came_kept w k count decoder left read written same read_is written_is,
+)
+
+-- bytes came to the encoder
+abbrev pub came_back : Kept → ℕ → StoredSender → ℕ → Kept
+came_back k count encoder read = record k { encoder = encoder; back = record { bytes = k.back.bytes; arrived = k.back.arrived + count; read = read } }
+
+record CameBack (w : Ends) (k : Kept) (count : ℕ) (encoder : StoredSender) (left : List ℕ) (read : ℕ) : Type 0 where
+  pub new : Ends
+  pub reads : EncoderReads w count new
+  pub left_is : reads.left ≡ left
+  pub sender : encoder ≡ stored new.sender
+  pub kept_is : came_back k count encoder read ≡ kept new
+
+back_came : (w : Ends) (k : Kept) (count : ℕ) (encoder : StoredSender) (left : List ℕ) (read : ℕ) → k ≡ kept w → count ≤ waiting k.back
+    → HasHeard k.encoder encoder (unread (arriving k.back count)) left → read ≡ k.back.arrived + count - length left → CameBack w k count encoder left read
+back_came w k count encoder left read same enough h read_is =
+    let stores = ap (λ (x : Kept). x.encoder) same in
+    let told = h.told w.sender stores in
+    record {
+      new = record w { sender = told_all w.sender h.instructions; back = reading (arriving w.back count) (length left) };
+      reads = record {
+        enough = subst (λ (x : Kept). count ≤ waiting x.back) same enough;
+        left = left;
+        instructions = h.instructions;
+        split = subst (λ (x : Kept). AreDecoderInstructions (unread (arriving x.back count)) h.instructions left) same h.split;
+        accepted = h.accepted w.sender stores;
+        is = refl;
+      };
+      left_is = refl;
+      sender = told;
+      kept_is = ap (λ n. came_back k count encoder n) read_is ∙ ap (λ (x : Kept). came_back x count encoder (x.back.arrived + count - length left)) same
+          ∙ ap (λ s. came_back (kept w) count s (w.back.arrived + count - length left)) told;
+    }
+
+pub back_delivered : (w : Ends) (k : Kept) (count : ℕ) (encoder : StoredSender) (left : List ℕ) (read : ℕ) → k ≡ kept w → count ≤ waiting k.back
+    → HasHeard k.encoder encoder (unread (arriving k.back count)) left → read ≡ k.back.arrived + count - length left → decoder_instruction left ≡ Unfinished
+    → (new : Ends) × DeliversBack w count answer.Delivered new × (came_back k count encoder read ≡ kept new)
+back_delivered w k count encoder left read same enough h read_is whole =
+    let c = back_came w k count encoder left read same enough h read_is in
+    (c.new, (c.reads, ap decoder_instruction c.left_is ∙ whole), c.kept_is)
+
+pub back_refused : (w : Ends) (k : Kept) (count : ℕ) (encoder : StoredSender) (left : List ℕ) (read : ℕ) (e : EncoderError) → k ≡ kept w → count ≤ waiting k.back
+    → HasHeard k.encoder encoder (unread (arriving k.back count)) left → read ≡ k.back.arrived + count - length left → ((s : Sender) → encoder ≡ stored s → BeginsRefused s left)
+    → (new : Ends) × DeliversBack w count (answer.Refused (of.Encoder e)) new × (came_back k count encoder read ≡ kept new)
+back_refused w k count encoder left read e same enough h read_is refused =
+    let c = back_came w k count encoder left read same enough h read_is in
+    (c.new, (c.reads, subst (BeginsRefused c.new.sender) (sym c.left_is) (refused c.new.sender c.sender)), c.kept_is)
+
+-- a stream is given up
+pub given_up : (w : Ends) (k : Kept) (stream : ℕ) (back canceled : List ℕ) (blocks : List EncodedBlock) → k ≡ kept w → is_given_up k.canceled stream ≡ false
+    → back ≡ k.back.bytes ++ decoder_bytes (CancelStream stream) → canceled ≡ k.canceled ++ stream ∷ [] → blocks ≡ filter (λ b. not (b.stream == stream)) k.blocks
+    → (new : Ends) × Cancels w stream answer.Canceled new × (record k { back = record k.back { bytes = back }; blocks = blocks; canceled = canceled } ≡ kept new)
+given_up w k stream back canceled blocks same alive written more left =
+    let here : is_given_up w.canceled stream ≡ false = subst (λ (x : Kept). is_given_up x.canceled stream ≡ false) same alive in (
+      giving_up w stream,
+      rw here refl,
+      rw (written, more, left) (ap (λ (x : Kept). record x { back = record x.back { bytes = x.back.bytes ++ decoder_bytes (CancelStream stream) }; blocks = filter (λ b. not (b.stream == stream)) x.blocks; canceled = x.canceled ++ stream ∷ [] }) same),
+    )
+
+-- the oldest section of a stream
+none_of : (stream : ℕ) (bs : List EncodedBlock) → list_any (is_of stream) bs ≡ false → block_of stream bs ≡ None
+none_of stream [] h = refl
+none_of stream (b ∷ bs) h = let e = neither (is_of stream b) (list_any (is_of stream) bs) h in rw e.0 (none_of stream bs e.1)
+
+first_of : (stream : ℕ) (bs : List EncodedBlock) (place : ℕ) (b : EncodedBlock) → IsPlace stream bs place → b ≡ get_or bs place b → (block_of stream bs ≡ Some b) × (without_block_of stream bs ≡ remove bs place)
+first_of stream [] place b p is = absurd (omega (arith, p.inside))
+first_of stream (x ∷ bs) zero b p is = let yes : is_of stream x ≡ true = p.here x refl in (rw yes (ap Some (sym is)), rw yes refl)
+first_of stream (x ∷ bs) (suc place) b p is =
+    let e = neither (is_of stream x) (list_any (is_of stream) (take place bs)) p.before in
+    let h = first_of stream bs place b (record { inside = omega (arith, p.inside); before = e.1; here = p.here }) is in
+    (rw e.0 h.0, rw e.0 (ap (λ cs. x ∷ cs) h.1))
+
+has_block : (w : Ends) (k : Kept) (stream place : ℕ) (b : EncodedBlock) → k ≡ kept w → is_given_up k.canceled stream ≡ false → IsPlace stream k.blocks place → b ≡ get_or k.blocks place b
+    → (h : HasBlock w stream) × (h.block ≡ b)
+has_block w k stream place b same alive p is =
+    (record {
+      alive = subst (λ (x : Kept). is_given_up x.canceled stream ≡ false) same alive;
+      block = b;
+      is = subst (λ (x : Kept). block_of stream x.blocks ≡ Some b) same (first_of stream k.blocks place b p is).0;
+    }, refl)
+
+pub decoding_none : (w : Ends) (k : Kept) (stream : ℕ) → k ≡ kept w → is_given_up k.canceled stream ≡ false → list_any (is_of stream) k.blocks ≡ false
+    → (new : Ends) × Decodes w stream answer.NoBlock new × (k ≡ kept new)
+decoding_none w k stream same alive none =
+    (w, (subst (λ (x : Kept). is_given_up x.canceled stream ≡ false) same alive, none_of stream w.blocks (subst (λ (x : Kept). list_any (is_of stream) x.blocks ≡ false) same none), refl), same)
+
+refused : (w : Ends) (stream : ℕ) (h : HasBlock w stream) (e : DecoderError) → IsRefusal w.receiver h.block.bytes e → Decodes w stream (refused_section e) w
+refused w stream h (decoder_error.MissingRefs count) r = (h, r, refl)
+refused w stream h (decoder_error.InvalidInteger x) r = (h, r, refl)
+refused w stream h (decoder_error.InvalidString x) r = (h, r, refl)
+refused w stream h (decoder_error.InvalidIndex x) r = (h, r, refl)
+refused w stream h (decoder_error.DynamicTable x) r = (h, r, refl)
+refused w stream h (decoder_error.InvalidStaticIndex x) r = (h, r, refl)
+refused w stream h (decoder_error.UnknownPrefix x) r = (h, r, refl)
+refused w stream h (decoder_error.HeaderTooLong x) r = (h, r, refl)
+refused w stream h decoder_error.BadBaseIndex r = (h, r, refl)
+refused w stream h decoder_error.UnexpectedEnd r = (h, r, refl)
+refused w stream h decoder_error.BufSize r = (h, r, refl)
+refused w stream h decoder_error.OutOfMemory r = (h, r, refl)
+
+pub decoding_refused : (w : Ends) (k : Kept) (stream place : ℕ) (b : EncodedBlock) (e : DecoderError) (a : SessionAnswer) → k ≡ kept w → is_given_up k.canceled stream ≡ false → IsPlace stream k.blocks place
+    → b ≡ get_or k.blocks place b → IsRefusal k.decoder b.bytes e → a ≡ refused_section e → (new : Ends) × Decodes w stream a new × (k ≡ kept new)
+decoding_refused w k stream place b e a same alive p is reason is_answer =
+    let h = has_block w k stream place b same alive p is in
+    rw is_answer (w, refused w stream h.0 e (subst (λ r. IsRefusal r h.0.block.bytes e) (ap (λ (x : Kept). x.decoder) same) (subst (λ c. IsRefusal k.decoder c.bytes e) (sym h.1) reason)), same)
+
+pub decoding_kept : (w : Ends) (k : Kept) (stream place : ℕ) (b : EncodedBlock) (new : Kept) → k ≡ kept w → is_given_up k.canceled stream ≡ false → IsPlace stream k.blocks place
+    → b ≡ get_or k.blocks place b → new ≡ k → (x : Ends) × Decodes w stream (answer.Refused (of.Decoder decoder_error.OutOfMemory)) x × (new ≡ kept x)
+decoding_kept w k stream place b new same alive p is unchanged =
+    let h = has_block w k stream place b same alive p is in (w, (h.0, tt, refl), unchanged ∙ same)
+
+needed : (count : ℕ) (x : List ℕ) → (if nat_lt 0 count then x else []) ≡ (if count == 0 then [] else x)
+needed count x = by_test (nat_lt 0 count) (count == 0) refl refl
+  where
+    by_test : (a b : Bool) → nat_lt 0 count ≡ a → (count == 0) ≡ b → (if a then x else []) ≡ (if b then [] else x)
+    by_test true true e f = absurd (grind (arith, common_steps))
+    by_test true false e f = refl
+    by_test false true e f = refl
+    by_test false false e f = absurd (grind (arith, common_steps))
+
+pub decoding_done : (w : Ends) (k : Kept) (stream place : ℕ) (b : EncodedBlock) (fields : Vec Field Global) (is_needed : Bool) (back : List ℕ) (blocks : List EncodedBlock) → k ≡ kept w
+    → is_given_up k.canceled stream ≡ false → IsPlace stream k.blocks place → b ≡ get_or k.blocks place b
+    → ((count : ℕ) × MeansFields k.decoder b.bytes count fields.items × (is_needed ≡ nat_lt 0 count)) → back ≡ k.back.bytes ++ (if is_needed then decoder_bytes (Acknowledge stream) else [])
+    → blocks ≡ remove k.blocks place → (x : Ends) × Decodes w stream (answer.Decoded fields) x × (record k { back = record k.back { bytes = back }; blocks = blocks } ≡ kept x)
+decoding_done w k stream place b fields is_needed back blocks same alive p is m written left =
+    let h = has_block w k stream place b same alive p is in
+    let means = subst (λ r. MeansFields r h.0.block.bytes m.0 fields.items) (ap (λ (x : Kept). x.decoder) same) (subst (λ c. MeansFields k.decoder c.bytes m.0 fields.items) (sym h.1) m.1) in
+    let without = (first_of stream k.blocks place b p is).1 in
+    let bytes : back ≡ k.back.bytes ++ (if m.0 == 0 then [] else decoder_bytes (Acknowledge stream)) =
+    written ∙ ap (λ t. k.back.bytes ++ (if t then decoder_bytes (Acknowledge stream) else [])) m.2 ∙ ap (λ bs. k.back.bytes ++ bs) (needed m.0 (decoder_bytes (Acknowledge stream))) in
+    (
+      _,
+      (h.0, m.0, means, refl),
+      ap (λ bs. record k { back = record k.back { bytes = bs }; blocks = blocks }) bytes
+      ∙ ap (λ cs. record k { back = record k.back { bytes = k.back.bytes ++ (if m.0 == 0 then [] else decoder_bytes (Acknowledge stream)) }; blocks = cs }) (left ∙ sym without)
+      ∙ ap (λ (x : Kept). record x { back = record x.back { bytes = x.back.bytes ++ (if m.0 == 0 then [] else decoder_bytes (Acknowledge stream)) }; blocks = without_block_of stream x.blocks }) same,
+    )
+
+-- What a loop over the events keeps.
+pub record HasRun (capacity limit : ℕ) (events : List SessionEvent) (index : ℕ) (answers : List SessionAnswer) (k : Kept) : Type 0 where
+  pub end : Ends
+  pub run : Exchange (start capacity limit) (take index events) answers end
+  pub same : k ≡ kept end
+
+pub run_begun : (capacity limit : ℕ) (events : List SessionEvent) (answers : List SessionAnswer) (k : Kept) → answers ≡ [] → k ≡ kept (start capacity limit) → HasRun capacity limit events 0 answers k
+run_begun capacity limit events answers k none same = rw none (record { end = start capacity limit; run = Before; same = same })
+
+pub run_more : (capacity limit : ℕ) (events : List SessionEvent) (index : ℕ) (answers more : List SessionAnswer) (k new : Kept) (e : SessionEvent) (a : SessionAnswer) → HasRun capacity limit events index answers k
+    → index < length events → e ≡ get_or events index e → IsEvent e → ((w : Ends) → k ≡ kept w → (x : Ends) × Happens w e a x × (new ≡ kept x)) → more ≡ answers ++ a ∷ []
+    → HasRun capacity limit events (index + 1) more new
+run_more capacity limit events index answers more k new e a h lt is small step longer =
+    let s = step h.end h.same in
+    let front : take (index + 1) events ≡ take index events ++ e ∷ [] = take_more events index e lt ∙ ap (λ x. take index events ++ x ∷ []) (sym is) in
+    record {
+      end = s.0;
+      run = subst (λ xs. Exchange (start capacity limit) (take (index + 1) events) xs s.0) (sym longer)
+          (subst (λ es. Exchange (start capacity limit) es (answers ++ a ∷ []) s.0) (sym front) (Then (take index events) answers h.end s.0 e a h.run small s.1));
+      same = s.2;
+    }
+
+pub run_done : (capacity limit : ℕ) (events : List SessionEvent) (index : ℕ) (answers : List SessionAnswer) (k : Kept) → HasRun capacity limit events index answers k → length events ≤ index
+    → (end : Ends) × Exchange (start capacity limit) events answers end
+run_done capacity limit events index answers k h all = (h.end, subst (λ es. Exchange (start capacity limit) es answers h.end) (take_all index events all) h.run)
+
+pub event_at : (events : List SessionEvent) (index : ℕ) (e : SessionEvent) → index < length events → e ≡ get_or events index e → AllByRecursion IsEvent events → IsEvent e
+event_at [] index e lt is h = absurd (omega (arith, lt))
+event_at (x ∷ events) zero e lt is h = subst IsEvent (sym is) h.0
+event_at (x ∷ events) (suc index) e lt is h = event_at events index e (omega (arith, lt)) is h.1
