@@ -7,6 +7,7 @@ use http_header::{HeaderMap, HeaderName, HeaderValue};
 use http_uri::Uri;
 use std::alloc::Global;
 use std::borrow::CowSlice;
+use std::process::Abort;
 use std::str::FromStr;
 use std::test::Fail;
 
@@ -28,11 +29,20 @@ fn read(alloc: Global, fields: &[(&[u8], &[u8])]) -> Result<Header, Fail> {
     Ok(Header::try_from(alloc, list(alloc, fields)?)?)
 }
 
-// The text of the refusal, or `read`.
-fn refusal(alloc: Global, fields: &[(&[u8], &[u8])]) -> Result<String, Fail> {
+// The list makes no header, and the refusal has this text.
+fn is_refused(
+    rt: &impl Abort,
+    alloc: Global,
+    fields: &[(&[u8], &[u8])],
+    wanted: &str,
+) -> Result<(), Fail> {
     match Header::try_from(alloc, list(alloc, fields)?) {
-        Ok(_) => Ok(String::from_str(alloc, "read")?),
-        Err(e) => Ok(e.to_string(alloc)?),
+        Ok(_) => Err(wanted.into()),
+        Err(e) => {
+            let text = e.to_string(alloc)?;
+            assert_eq!(rt; text.as_str(), wanted);
+            Ok(())
+        }
     }
 }
 
@@ -42,6 +52,18 @@ fn target(alloc: Global, fields: &[(&[u8], &[u8])]) -> Result<String, Fail> {
         Ok((_, uri, _, _)) => Ok(uri.to_string(alloc)?),
         Err(e) => Ok(e.to_string(alloc)?),
     }
+}
+
+// The list makes a request for this URI, or is refused with this text.
+fn has_target(
+    rt: &impl Abort,
+    alloc: Global,
+    fields: &[(&[u8], &[u8])],
+    wanted: &str,
+) -> Result<(), Fail> {
+    let text = target(alloc, fields)?;
+    assert_eq!(rt; text.as_str(), wanted);
+    Ok(())
 }
 
 fn push_word(text: &mut String, field: &HeaderField) -> Result<(), Fail> {
@@ -139,130 +161,220 @@ fn the_last_of_repeated_pseudo_fields_stays(rt: HostRuntime) -> Result<(), Fail>
 
 #[test]
 fn names_that_are_refused(rt: HostRuntime) -> Result<(), Fail> {
-    let alloc = rt.alloc();
-    let text = refusal(alloc, &[(b"", b"1")])?;
-    assert_eq!(rt; text.as_str(), "invalid header name: name is empty");
-    let text = refusal(alloc, &[(b"X-", b"1")])?;
-    assert_eq!(rt; text.as_str(), "invalid header name: [88, 45]");
-    let text = refusal(alloc, &[(b"Host", b"a")])?;
-    assert_eq!(rt; text.as_str(), "invalid header name: [72, 111, 115, 116]");
-    let text = refusal(alloc, &[(b":foo", b"1")])?;
-    assert_eq!(rt; text.as_str(), "invalid header name: [58, 102, 111, 111]");
-    let text = refusal(alloc, &[(b":Path", b"/")])?;
-    assert_eq!(rt;
-        text.as_str(),
-        "invalid header name: [58, 80, 97, 116, 104]"
-    );
-    let text = refusal(alloc, &[(b"a b", b"1")])?;
-    assert_eq!(rt; text.as_str(), "invalid header name: [97, 32, 98]");
+    is_refused(
+        &rt,
+        rt.alloc(),
+        &[(b"", b"1")],
+        "invalid header name: name is empty",
+    )?;
+    is_refused(
+        &rt,
+        rt.alloc(),
+        &[(b"X-", b"1")],
+        "invalid header name: [88, 45]",
+    )?;
+    is_refused(
+        &rt,
+        rt.alloc(),
+        &[(b"Host", b"a")],
+        "invalid header name: [72, 111, 115, 116]",
+    )?;
+    is_refused(
+        &rt,
+        rt.alloc(),
+        &[(b":foo", b"1")],
+        "invalid header name: [58, 102, 111, 111]",
+    )?;
+    is_refused(
+        &rt,
+        rt.alloc(),
+        &[(b":Path", b"/")],
+        "invalid header name: [58, 80, 97, 116, 104]",
+    )?;
+    is_refused(
+        &rt,
+        rt.alloc(),
+        &[(b"a b", b"1")],
+        "invalid header name: [97, 32, 98]",
+    )
+}
+
+#[test]
+fn the_first_bad_field_is_told(rt: HostRuntime) -> Result<(), Fail> {
     // a name is judged before its value, and fields in their order
-    let text = refusal(alloc, &[(b"x-a", b"1"), (b"X", b"\n"), (b":status", b"1")])?;
-    assert_eq!(rt; text.as_str(), "invalid header name: [88]");
-    Ok(())
+    is_refused(
+        &rt,
+        rt.alloc(),
+        &[(b"x-a", b"1"), (b"X", b"\n"), (b":status", b"1")],
+        "invalid header name: [88]",
+    )
 }
 
 #[test]
 fn values_that_are_refused(rt: HostRuntime) -> Result<(), Fail> {
-    let alloc = rt.alloc();
-    let text = refusal(alloc, &[(b"x-a", b"\n")])?;
-    assert_eq!(rt; text.as_str(), "invalid header value: \"x-a\" [10]");
-    let text = refusal(alloc, &[(b":method", b"GET"), (b":authority", b"")])?;
-    assert_eq!(rt; text.as_str(), "invalid header value: \":authority\" []");
-    let text = refusal(alloc, &[(b":method", b"")])?;
-    assert_eq!(rt; text.as_str(), "invalid header value: \":method\" []");
-    let text = refusal(alloc, &[(b":scheme", b"a b")])?;
-    assert_eq!(rt;
-        text.as_str(),
-        "invalid header value: \":scheme\" [97, 32, 98]"
-    );
-    let text = refusal(alloc, &[(b":path", b"a")])?;
-    assert_eq!(rt; text.as_str(), "invalid header value: \":path\" [97]");
-    let text = refusal(alloc, &[(b":path", b"")])?;
-    assert_eq!(rt; text.as_str(), "invalid header value: \":path\" []");
-    let text = refusal(alloc, &[(b":status", b"99")])?;
-    assert_eq!(rt; text.as_str(), "invalid header value: \":status\" [57, 57]");
-    let text = refusal(alloc, &[(b":status", b"099")])?;
-    assert_eq!(rt;
-        text.as_str(),
-        "invalid header value: \":status\" [48, 57, 57]"
-    );
-    let text = refusal(alloc, &[(b":protocol", b"websocket")])?;
-    assert_eq!(rt;
-        text.as_str(),
-        "invalid header value: \":protocol\" [119, 101, 98, 115, 111, 99, 107, 101, 116]"
-    );
-    Ok(())
+    is_refused(
+        &rt,
+        rt.alloc(),
+        &[(b"x-a", b"\n")],
+        "invalid header value: \"x-a\" [10]",
+    )?;
+    is_refused(
+        &rt,
+        rt.alloc(),
+        &[(b":method", b"GET"), (b":authority", b"")],
+        "invalid header value: \":authority\" []",
+    )?;
+    is_refused(
+        &rt,
+        rt.alloc(),
+        &[(b":method", b"")],
+        "invalid header value: \":method\" []",
+    )?;
+    is_refused(
+        &rt,
+        rt.alloc(),
+        &[(b":scheme", b"a b")],
+        "invalid header value: \":scheme\" [97, 32, 98]",
+    )
 }
 
 #[test]
-fn parts_of_requests(rt: HostRuntime) -> Result<(), Fail> {
-    let alloc = rt.alloc();
-    let text = target(alloc, &[(b":method", b"GET")])?;
-    assert_eq!(rt; text.as_str(), "missing authority");
-    let text = target(alloc, &[(b":method", b"GET"), (b"host", b"")])?;
-    assert_eq!(rt; text.as_str(), "invalid request");
-    let text = target(alloc, &[(b":method", b"GET"), (b":authority", b"test.com")])?;
-    assert_eq!(rt; text.as_str(), "test.com");
-    let text = target(alloc, &[(b":method", b"GET"), (b"host", b"test.com")])?;
-    assert_eq!(rt; text.as_str(), "test.com");
-    let both: &[(&[u8], &[u8])] = &[
-        (b":method", b"GET"),
-        (b":authority", b"test.com"),
-        (b"host", b"test.com"),
-    ];
-    let text = target(alloc, both)?;
-    assert_eq!(rt; text.as_str(), "test.com");
-    let other: &[(&[u8], &[u8])] = &[
-        (b":method", b"GET"),
-        (b":authority", b"authority.com"),
-        (b"host", b"host.com"),
-    ];
-    let text = target(alloc, other)?;
-    assert_eq!(rt;
-        text.as_str(),
-        "uri and authority field are in contradiction"
-    );
+fn paths_and_statuses_that_are_refused(rt: HostRuntime) -> Result<(), Fail> {
+    is_refused(
+        &rt,
+        rt.alloc(),
+        &[(b":path", b"a")],
+        "invalid header value: \":path\" [97]",
+    )?;
+    is_refused(
+        &rt,
+        rt.alloc(),
+        &[(b":path", b"")],
+        "invalid header value: \":path\" []",
+    )?;
+    is_refused(
+        &rt,
+        rt.alloc(),
+        &[(b":status", b"99")],
+        "invalid header value: \":status\" [57, 57]",
+    )?;
+    is_refused(
+        &rt,
+        rt.alloc(),
+        &[(b":status", b"099")],
+        "invalid header value: \":status\" [48, 57, 57]",
+    )?;
+    is_refused(
+        &rt,
+        rt.alloc(),
+        &[(b":protocol", b"websocket")],
+        "invalid header value: \":protocol\" [119, 101, 98, 115, 111, 99, 107, 101, 116]",
+    )
+}
+
+#[test]
+fn authorities_of_requests(rt: HostRuntime) -> Result<(), Fail> {
+    has_target(
+        &rt,
+        rt.alloc(),
+        &[(b":method", b"GET")],
+        "missing authority",
+    )?;
+    has_target(
+        &rt,
+        rt.alloc(),
+        &[(b":method", b"GET"), (b"host", b"")],
+        "invalid request",
+    )?;
+    has_target(
+        &rt,
+        rt.alloc(),
+        &[(b":method", b"GET"), (b":authority", b"test.com")],
+        "test.com",
+    )?;
+    has_target(
+        &rt,
+        rt.alloc(),
+        &[(b":method", b"GET"), (b"host", b"test.com")],
+        "test.com",
+    )
+}
+
+#[test]
+fn authorities_given_twice(rt: HostRuntime) -> Result<(), Fail> {
+    has_target(
+        &rt,
+        rt.alloc(),
+        &[
+            (b":method", b"GET"),
+            (b":authority", b"test.com"),
+            (b"host", b"test.com"),
+        ],
+        "test.com",
+    )?;
+    has_target(
+        &rt,
+        rt.alloc(),
+        &[
+            (b":method", b"GET"),
+            (b":authority", b"authority.com"),
+            (b"host", b"host.com"),
+        ],
+        "uri and authority field are in contradiction",
+    )?;
     // bytes are compared, so that letter case counts
-    let case: &[(&[u8], &[u8])] = &[
-        (b":method", b"GET"),
-        (b":authority", b"test.com"),
-        (b"host", b"TEST.com"),
-    ];
-    let text = target(alloc, case)?;
-    assert_eq!(rt;
-        text.as_str(),
-        "uri and authority field are in contradiction"
-    );
-    // the authority is judged before the method
-    let text = target(alloc, &[(b":path", b"/")])?;
-    assert_eq!(rt; text.as_str(), "missing authority");
-    let text = target(alloc, &[(b"host", b"")])?;
-    assert_eq!(rt; text.as_str(), "missing method in request headers");
-    let whole: &[(&[u8], &[u8])] = &[
-        (b":method", b"GET"),
-        (b":scheme", b"https"),
-        (b":authority", b"www.example.com"),
-        (b":path", b"/a?b#c"),
-    ];
-    let text = target(alloc, whole)?;
-    assert_eq!(rt; text.as_str(), "https://www.example.com/a?b");
+    has_target(
+        &rt,
+        rt.alloc(),
+        &[
+            (b":method", b"GET"),
+            (b":authority", b"test.com"),
+            (b"host", b"TEST.com"),
+        ],
+        "uri and authority field are in contradiction",
+    )
+}
+
+#[test]
+fn the_authority_is_judged_before_the_method(rt: HostRuntime) -> Result<(), Fail> {
+    has_target(&rt, rt.alloc(), &[(b":path", b"/")], "missing authority")?;
+    has_target(
+        &rt,
+        rt.alloc(),
+        &[(b"host", b"")],
+        "missing method in request headers",
+    )
+}
+
+#[test]
+fn targets_of_requests(rt: HostRuntime) -> Result<(), Fail> {
+    has_target(
+        &rt,
+        rt.alloc(),
+        &[
+            (b":method", b"GET"),
+            (b":scheme", b"https"),
+            (b":authority", b"www.example.com"),
+            (b":path", b"/a?b#c"),
+        ],
+        "https://www.example.com/a?b",
+    )?;
     // a scheme needs a path
-    let text = target(
-        alloc,
+    has_target(
+        &rt,
+        rt.alloc(),
         &[
             (b":method", b"GET"),
             (b":scheme", b"https"),
             (b"host", b"a"),
         ],
-    )?;
-    assert_eq!(rt; text.as_str(), "invalid request");
-    Ok(())
+        "invalid request",
+    )
 }
 
 #[test]
 fn parts_of_responses(rt: HostRuntime) -> Result<(), Fail> {
-    let alloc = rt.alloc();
-    let header = read(alloc, &[(b":status", b"404"), (b"x-a", b"1")])?;
+    let header = read(rt.alloc(), &[(b":status", b"404"), (b"x-a", b"1")])?;
     assert_eq!(rt; header.is_response(), true);
     assert_eq!(rt; header.is_request(), false);
     assert_eq!(rt; header.has_pseudo(), true);
@@ -270,63 +382,86 @@ fn parts_of_responses(rt: HostRuntime) -> Result<(), Fail> {
     let (status, fields) = header.into_response_parts()?;
     assert_eq!(rt; status, StatusCode::NOT_FOUND);
     assert_eq!(rt; fields.len(), 1);
-    let header = read(alloc, &[(b"x-a", b"1")])?;
+    Ok(())
+}
+
+#[test]
+fn a_response_without_a_status(rt: HostRuntime) -> Result<(), Fail> {
+    let header = read(rt.alloc(), &[(b"x-a", b"1")])?;
     assert_eq!(rt; header.has_pseudo(), false);
     assert_eq!(rt; header.status(), None);
-    match header.into_response_parts() {
-        Ok(_) => assert_eq!(rt; true, false),
-        Err(e) => {
-            let text = e.to_string(alloc)?;
-            assert_eq!(rt; text.as_str(), "missing status in response headers");
-        }
-    }
-    let both = read(alloc, &[(b":status", b"200"), (b":method", b"GET")])?;
+    let Err(e) = header.into_response_parts() else {
+        return Err("read".into());
+    };
+    let text = e.to_string(rt.alloc())?;
+    assert_eq!(rt; text.as_str(), "missing status in response headers");
+    Ok(())
+}
+
+#[test]
+fn neither_request_nor_response(rt: HostRuntime) -> Result<(), Fail> {
+    let both = read(rt.alloc(), &[(b":status", b"200"), (b":method", b"GET")])?;
     assert_eq!(rt; both.is_response(), false);
     assert_eq!(rt; both.is_request(), false);
     Ok(())
 }
 
+// The request has these fields.
+fn is_made(
+    rt: &impl Abort,
+    alloc: Global,
+    method: Method,
+    uri: &str,
+    protocol: Option<Protocol>,
+    wanted: &str,
+) -> Result<(), Fail> {
+    let uri = Uri::from_str(alloc, uri)?;
+    let header = Header::request(method, uri, HeaderMap::new(alloc), protocol)?;
+    assert_eq!(rt; header.is_request(), true);
+    let text = words(alloc, &header)?;
+    assert_eq!(rt; text.as_str(), wanted);
+    Ok(())
+}
+
 #[test]
 fn requests_that_are_made(rt: HostRuntime) -> Result<(), Fail> {
-    let alloc = rt.alloc();
-    let uri = Uri::from_str(alloc, "https://www.example.com/")?;
-    let header = Header::request(Method::GET, uri, HeaderMap::new(alloc), None)?;
-    assert_eq!(rt; header.is_request(), true);
-    let text = words(rt.alloc(), &header)?;
-    assert_eq!(rt;
-        text.as_str(),
-        ":method=GET :scheme=https :authority=www.example.com :path=/ "
-    );
-    // the protocol counts for CONNECT alone
-    let uri = Uri::from_str(alloc, "https://a/p")?;
-    let header = Header::request(
-        Method::CONNECT,
-        uri,
-        HeaderMap::new(alloc),
-        Some(Protocol::CONNECT_UDP),
-    )?;
-    let text = words(rt.alloc(), &header)?;
-    assert_eq!(rt;
-        text.as_str(),
-        ":method=CONNECT :scheme=https :authority=a :path=/p :protocol=connect-udp "
-    );
-    let uri = Uri::from_str(alloc, "https://a/p")?;
-    let header = Header::request(
+    is_made(
+        &rt,
+        rt.alloc(),
         Method::GET,
-        uri,
-        HeaderMap::new(alloc),
+        "https://www.example.com/",
+        None,
+        ":method=GET :scheme=https :authority=www.example.com :path=/ ",
+    )
+}
+
+#[test]
+fn the_protocol_counts_for_connect_alone(rt: HostRuntime) -> Result<(), Fail> {
+    is_made(
+        &rt,
+        rt.alloc(),
+        Method::CONNECT,
+        "https://a/p",
         Some(Protocol::CONNECT_UDP),
+        ":method=CONNECT :scheme=https :authority=a :path=/p :protocol=connect-udp ",
     )?;
-    let text = words(rt.alloc(), &header)?;
-    assert_eq!(rt;
-        text.as_str(),
-        ":method=GET :scheme=https :authority=a :path=/p "
-    );
-    // with `host` alone there is no `:authority`, and the scheme is https
-    let mut fields = HeaderMap::new(alloc);
+    is_made(
+        &rt,
+        rt.alloc(),
+        Method::GET,
+        "https://a/p",
+        Some(Protocol::CONNECT_UDP),
+        ":method=GET :scheme=https :authority=a :path=/p ",
+    )
+}
+
+// Without an authority the scheme is https.
+#[test]
+fn a_request_with_host_alone(rt: HostRuntime) -> Result<(), Fail> {
+    let mut fields = HeaderMap::new(rt.alloc());
     let host = HeaderName::from_static("host");
     fields.append(host, HeaderValue::from_static("a"))?;
-    let uri = Uri::from_str(alloc, "/p")?;
+    let uri = Uri::from_str(rt.alloc(), "/p")?;
     let header = Header::request(Method::GET, uri, fields, None)?;
     let text = words(rt.alloc(), &header)?;
     assert_eq!(rt; text.as_str(), ":method=GET :scheme=https :path=/p host=a ");
@@ -341,6 +476,12 @@ fn requests_that_are_refused(rt: HostRuntime) -> Result<(), Fail> {
         Err(HeaderError::MissingAuthority) => {}
         _ => assert_eq!(rt; true, false),
     }
+    Ok(())
+}
+
+#[test]
+fn contradictions_are_refused(rt: HostRuntime) -> Result<(), Fail> {
+    let alloc = rt.alloc();
     let mut fields = HeaderMap::new(alloc);
     let host = HeaderName::from_static("host");
     fields.append(host, HeaderValue::from_static("A"))?;
