@@ -1,7 +1,7 @@
 /* nghttp3 reads what we write, and we read what it writes: one line a check, and a sum. */
 #include "interop.h"
 #include "h3_bench.h"
-#include "peer_section.h"
+#include "peer_session.h"
 #include "plain.h"
 #include <stdio.h>
 #include <stdlib.h>
@@ -39,20 +39,20 @@ static pack ours_of_sections(const pack *sections, size_t room) {
 
 /* The same by nghttp3. */
 static pack peers_of_sections(const pack *sections) {
-  peer_codec codec = peer_codec_new();
+  peer_receiver receiver = peer_receiver_new(0, 0);
   pack lists = {0};
-  size_t count = number_at(sections->bytes), fields = 0;
+  size_t count = number_at(sections->bytes), fields = 0, sum = 0;
   const uint8_t *from = sections->bytes + 4;
   put_number(&lists, count);
   for (size_t i = 0; i < count; i++) {
     size_t len = number_at(from);
-    if (peer_decode_section(&codec, from + 4, len, &fields, &lists) < 0) {
+    if (peer_receive(&receiver, 4 * i, from + 4, len, &fields, &sum, &lists) != PEER_DECODED) {
       free_pack(&lists);
       break;
     }
     from += 4 + len;
   }
-  peer_codec_free(&codec);
+  peer_receiver_free(&receiver);
   return lists;
 }
 
@@ -71,17 +71,17 @@ static pack sections_by_us(const pack *packed) {
 }
 
 static pack sections_by_peer(const field_lists *lists) {
-  peer_codec codec = peer_codec_new();
-  pack sections = {0};
+  peer_sender sender = peer_sender_new(0, 0);
+  pack sections = {0}, section = {0};
   put_number(&sections, lists->count);
   for (size_t i = 0; i < lists->count; i++) {
-    peer_encode_list(&codec, i, &lists->lists[i]);
-    size_t prefix = nghttp3_buf_len(&codec.prefix), lines = nghttp3_buf_len(&codec.lines);
-    put_number(&sections, prefix + lines);
-    put_bytes(&sections, codec.prefix.pos, prefix);
-    put_bytes(&sections, codec.lines.pos, lines);
+    peer_send(&sender, 4 * i, &lists->lists[i]);
+    section.len = 0;
+    put_section(&section, &sender);
+    put_string(&sections, section.bytes, section.len);
   }
-  peer_codec_free(&codec);
+  free_pack(&section);
+  peer_sender_free(&sender);
   return sections;
 }
 

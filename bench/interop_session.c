@@ -146,8 +146,7 @@ static void peer_sends(session *s, peer_sender *sender, size_t to) {
     pack section = {0};
     nghttp3_buf_reset(&sender->instructions);
     peer_send(sender, 4 * s->written, &s->lists->lists[s->written]);
-    put_bytes(&section, sender->prefix.pos, nghttp3_buf_len(&sender->prefix));
-    put_bytes(&section, sender->lines.pos, nghttp3_buf_len(&sender->lines));
+    put_section(&section, sender);
     put_bytes(&s->instructions.bytes, sender->instructions.pos, nghttp3_buf_len(&sender->instructions));
     add_written(s, section.bytes, section.len);
     free_pack(&section);

@@ -30,6 +30,11 @@ void peer_send(peer_sender *sender, size_t stream, const field_list *list) {
   if (status) stop("nghttp3_qpack_encoder_encode", status);
 }
 
+void put_section(pack *to, const peer_sender *sender) {
+  put_bytes(to, sender->prefix.pos, nghttp3_buf_len(&sender->prefix));
+  put_bytes(to, sender->lines.pos, nghttp3_buf_len(&sender->lines));
+}
+
 int peer_sender_hear(peer_sender *sender, const uint8_t *bytes, size_t len) {
   return nghttp3_qpack_encoder_read_decoder(sender->encoder, bytes, len) == (nghttp3_ssize)len;
 }

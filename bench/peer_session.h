@@ -13,6 +13,8 @@ void peer_sender_free(peer_sender *sender);
 /* Encodes the list: the section is `prefix` and then `lines`; what is to be read before it is added to
  * `instructions`. */
 void peer_send(peer_sender *sender, size_t stream, const field_list *list);
+/* Appends the section that was written last. */
+void put_section(pack *to, const peer_sender *sender);
 /* Reads what the decoder wrote. Answers 0 where it is refused. */
 int peer_sender_hear(peer_sender *sender, const uint8_t *bytes, size_t len);
 

@@ -1,6 +1,6 @@
 /* Field sections with no dynamic table. */
 #include "measure.h"
-#include "peer_section.h"
+#include "peer_session.h"
 #include "rows.h"
 #include <stdlib.h>
 
@@ -10,7 +10,8 @@ typedef struct {
   pack our_sections; /* as it wrote them */
   uint8_t *out;
   size_t room;
-  peer_codec codec;
+  peer_sender sender;
+  peer_receiver receiver;
 } section_work;
 
 static void our_encode(void *data, uint64_t rounds) {
@@ -24,7 +25,7 @@ static void our_encode(void *data, uint64_t rounds) {
 static void peer_encode(void *data, uint64_t rounds) {
   section_work *w = data;
   for (; rounds; rounds--)
-    for (size_t i = 0; i < w->lists->count; i++) peer_encode_list(&w->codec, i, &w->lists->lists[i]);
+    for (size_t i = 0; i < w->lists->count; i++) peer_send(&w->sender, 4 * i, &w->lists->lists[i]);
 }
 
 static void our_decode(void *data, uint64_t rounds) {
@@ -44,9 +45,8 @@ static void peer_decode(void *data, uint64_t rounds) {
     size_t fields = 0, bytes = 0;
     for (size_t i = 0; i < w->lists->count; i++) {
       size_t len = number_at(from);
-      long sum = peer_decode_section(&w->codec, from + 4, len, &fields, NULL);
-      if (sum < 0) stop("nghttp3_qpack_decoder_read_request", sum);
-      bytes += (size_t)sum;
+      if (peer_receive(&w->receiver, 4 * i, from + 4, len, &fields, &bytes, NULL) != PEER_DECODED)
+        stop("nghttp3_qpack_decoder_read_request", (long)i);
       from += 4 + len;
     }
     if (fields != w->lists->fields || bytes != w->lists->bytes) stop("nghttp3: other counts", (long)fields);
@@ -54,7 +54,9 @@ static void peer_decode(void *data, uint64_t rounds) {
 }
 
 static section_work prepare(const field_lists *lists) {
-  section_work w = {.lists = lists, .packed = pack_lists(lists), .codec = peer_codec_new()};
+  section_work w = {.lists = lists, .packed = pack_lists(lists)};
+  w.sender = peer_sender_new(0, 0);
+  w.receiver = peer_receiver_new(0, 0);
   w.room = 4 * w.packed.len + 64;
   w.out = malloc(w.room);
   our_encode(&w, 0);
@@ -76,5 +78,6 @@ void section_rows(const field_lists *lists) {
   free_pack(&w.packed);
   free_pack(&w.our_sections);
   free(w.out);
-  peer_codec_free(&w.codec);
+  peer_sender_free(&w.sender);
+  peer_receiver_free(&w.receiver);
 }

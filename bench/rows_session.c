@@ -56,8 +56,7 @@ static void peer_send_batch(peer_sender *sender, const session_work *w, size_t f
     peer_send(sender, 4 * j, &w->lists->lists[j % w->lists->count]);
     pack *section = &sections[j - from];
     section->len = 0;
-    put_bytes(section, sender->prefix.pos, nghttp3_buf_len(&sender->prefix));
-    put_bytes(section, sender->lines.pos, nghttp3_buf_len(&sender->lines));
+    put_section(section, sender);
   }
 }
 
