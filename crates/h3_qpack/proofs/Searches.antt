@@ -1,69 +1,122 @@
--- A search of a table from the newest entry backwards.
-use Rattle.std.proofs.Common.{◌≡◌, ℕ, ◌+◌, ◌-◌, ◌<◌, ◌≤◌, Bool, true, false, List, [], ◌∷◌, ◌++◌, length, take, min, refl, sym, ◌∙◌, ap, arith, Some, None, nat_le, if◌then◌else◌, get_or, add-one}
-use Rattle.std.proofs.Math.Seq.{take-suc, take-length}
-use Rattle.std.proofs.lemmas.List.{length-take-le}
+-- A search of a table's entries along a chain of its index.
+use Rattle.std.proofs.Common.{◌≡◌, ℕ, zero, suc, ◌+◌, ◌<◌, ◌≤◌, Bool, true, false, ◌&&◌, List, [], ◌∷◌, length, refl, sym, ◌∙◌, ap, arith, Some, None, nat_lt, nat_le, map, option_map, slice_get, get_or}
+use Rattle.std.proofs.lemmas.Option.{slice_get-map, slice_get_within, get_or_from_slice_get}
+use Rattle.std.proofs.lemmas.List.{length-map}
 use Rattle.std.proofs.lemmas.Grind.{common_steps}
 use Rattle.h3_field.specs.Field.{Field}
-use Rattle.h3_qpack.specs.Table.{newest_from, or_else}
-use Rattle.h3_qpack.specs.Held.{in_range}
-use Rattle.h3_qpack.proofs.Newest.{newest_from-last, newest_from-front, newest_from-none}
+use Rattle.h3_qpack.specs.Table.{newest_from}
+use Rattle.h3_qpack.specs.Held.{Held, in_range, gone, newest_in}
+use Rattle.h3_qpack.specs.Matches.{matches}
+use Rattle.h3_qpack.specs.Slots.{slot_of, name_slot, field_slot}
+use Rattle.h3_qpack.specs.Index.{IsNewestBelow, IsIndexed}
+use Rattle.h3_qpack.specs.declared.index.Index.{Index}
+use Rattle.h3_qpack.specs.declared.entries.Match.{Match}
+use Rattle.h3_qpack.specs.declared.entries.Match.TheVariants as what
+use Rattle.h3_qpack.proofs.Blocks.{same_bytes, same_field}
 
-above_most : (test : Field → Bool) (above most n : ℕ) (e : Field) → most < n → in_range test above most n e ≡ false
-above_most test above most n e lt = grind (arith, common_steps)
+-- what doesn't pass in a list is not found
+nothing : (test : ℕ → Field → Bool) (first : ℕ) (fs : List Field) → ((i : ℕ) (e : Field) → slice_get fs i ≡ Some e → test (first + i) e ≡ false) → newest_from test first fs ≡ None
+nothing test first [] none = refl
+nothing test first (f ∷ fs) none =
+    let here : first + 0 ≡ first = omega arith in
+    let later = nothing test (first + 1) fs (λ i e at. let same : first + 1 + i ≡ first + suc i = omega arith in rw same (none (suc i) e at)) in
+    rw (later, ap (λ n. test n f) (sym here) ∙ none 0 f refl) refl
 
-not_above : (test : Field → Bool) (above most n : ℕ) (e : Field) → n ≤ above → in_range test above most n e ≡ false
-not_above test above most n e le = grind (arith, common_steps)
+-- what passes, where nothing behind it does, is found
+found : (test : ℕ → Field → Bool) (first : ℕ) (fs : List Field) (place : ℕ) (f : Field) → slice_get fs place ≡ Some f → test (first + place) f ≡ true
+    → ((i : ℕ) (e : Field) → place < i → slice_get fs i ≡ Some e → test (first + i) e ≡ false) → newest_from test first fs ≡ Some (first + place)
+found test first [] place f at passes none = cc
+found test first (g ∷ fs) zero f at passes none =
+    let here : first + 0 ≡ first = omega arith in
+    let same : g ≡ f = ap (λ o. get_or (g ∷ fs) 0 g) at ∙ get_or_from_slice_get (g ∷ fs) 0 f g at in
+    let later = nothing test (first + 1) fs (λ i e is. let step : first + 1 + i ≡ first + suc i = omega arith in rw step (none (suc i) e (omega arith) is)) in
+    rw (later, same, ap (λ n. test n f) (sym here) ∙ passes, here) refl
+found test first (g ∷ fs) (suc place) f at passes none =
+    let step : first + 1 + place ≡ first + suc place = omega arith in
+    let later = found test (first + 1) fs place f at (rw step passes)
+    (λ i e lt is. let same : first + 1 + i ≡ first + suc i = omega arith in rw same (none (suc i) e (omega (arith, lt)) is)) in
+    rw (later, step) refl
 
-inside : (test : Field → Bool) (above most n : ℕ) (e : Field) → above < n → n ≤ most → in_range test above most n e ≡ test e
-inside test above most n e lt le = grind (arith, common_steps)
+-- Entries that match have one slot.
+alike : (what : Match) (f e : Field) → matches what f e ≡ true → slot_of what e ≡ slot_of what f
+alike what.Name f e h = ap name_slot (same_bytes e.name f.name h)
+alike what.Field f e h = ap (λ (g : Field). field_slot (name_slot g.name) g.value) (same_field e f h)
 
--- Entries above the most need no look.
-pub starts : (test : Field → Bool) (above most inserted : ℕ) (fs : List Field) → length fs ≤ inserted
-    → newest_from (in_range test above most) (inserted - length fs + 1) fs
-    ≡ newest_from (in_range test above most) (inserted - length fs + 1) (take (min most inserted - (inserted - length fs)) fs)
-starts test above most inserted fs made = by_order (nat_le most inserted) refl
+-- No entry above the number is one to be found.
+abbrev pub IsPast : Held → Match → Field → ℕ → ℕ → ℕ → Type 0
+IsPast h what f above most number =
+    (i : ℕ) (e : Field) → slice_get h.entries i ≡ Some e → number < gone h + 1 + i → in_range (matches what f) above most (gone h + 1 + i) e ≡ false
+
+-- A search stands at the entry of this number, where it is there.
+pub record StandsAt (h : Held) (what : Match) (f : Field) (above most number : ℕ) : Type 0 where
+  pub below : number < gone h + 1 + length h.entries
+  pub here : (i : ℕ) → number ≡ gone h + 1 + i → slice_get (map (slot_of what) h.entries) i ≡ Some (slot_of what f)
+  pub past : IsPast h what f above most number
+
+-- the next number of the chain below a bound, above which nothing is left
+jump : (h : Held) (what : Match) (f : Field) (above most bound number : ℕ) → IsNewestBelow (gone h) (map (slot_of what) h.entries) (slot_of what f) bound number
+    → bound ≤ gone h + 1 + length h.entries
+    → ((i : ℕ) (e : Field) → slice_get h.entries i ≡ Some e → bound ≤ gone h + 1 + i → in_range (matches what f) above most (gone h + 1 + i) e ≡ false)
+    → StandsAt h what f above most number
+jump h what f above most bound number n le past =
+    record {
+      below = omega (arith, n.below, le);
+      here = n.here;
+      past = λ i e at lt. by_order i e at lt (nat_le bound (gone h + 1 + i)) refl;
+    }
   where
-    all : (k : ℕ) → k ≡ length fs → fs ≡ take k fs
-    all k e = rw e (sym (take-length fs))
+    unmatched : (i : ℕ) (e : Field) (b : Bool) → matches what f e ≡ b → slice_get h.entries i ≡ Some e → number < gone h + 1 + i → gone h + 1 + i < bound → b ≡ false
+    unmatched i e false m at lt below = refl
+    unmatched i e true m at lt below =
+        absurd (omega (arith, lt, n.newest i (slice_get-map (slot_of what) h.entries i ∙ ap (option_map (slot_of what)) at ∙ ap Some (alike what f e m)) below))
 
-    by_order : (b : Bool) → nat_le most inserted ≡ b → newest_from (in_range test above most) (inserted - length fs + 1) fs
-        ≡ newest_from (in_range test above most) (inserted - length fs + 1) (take (min most inserted - (inserted - length fs)) fs)
-    by_order true e =
-        let le : most ≤ inserted = grind (arith, common_steps) in
-        newest_from-front (in_range test above most) _ _ fs (λ n entry far. above_most test above most n entry (omega (arith, far, le)))
-    by_order false e =
-        let lt : inserted < most = grind (arith, common_steps) in
-        ap (newest_from (in_range test above most) (inserted - length fs + 1)) (all _ (omega (arith, lt, made)))
+    and_false : (a b : Bool) → b ≡ false → (a && b) ≡ false
+    and_false true b h = h
+    and_false false b h = refl
 
-pub record AtEntry (fs : List Field) (left : ℕ) (entry : Field) : Type 0 where
-  pub inside : left < length fs
-  pub is : entry ≡ get_or fs left entry
+    by_order : (i : ℕ) (e : Field) → slice_get h.entries i ≡ Some e → number < gone h + 1 + i → (b : Bool) → nat_le bound (gone h + 1 + i) ≡ b
+        → in_range (matches what f) above most (gone h + 1 + i) e ≡ false
+    by_order i e at lt true o = past i e at (grind (arith, common_steps))
+    by_order i e at lt false o =
+        and_false _ (matches what f e) (unmatched i e (matches what f e) refl at lt (grind (arith, common_steps)))
 
-one_more : (fs : List Field) (left : ℕ) (entry : Field) → AtEntry fs left entry → take (left + 1) fs ≡ take left fs ++ entry ∷ []
-one_more fs left entry h = rw add-one (take-suc fs left entry h.inside ∙ ap (λ e. take left fs ++ e ∷ []) (sym h.is))
+pub stands_first : (h : Held) (index : Index) (what : Match) (f : Field) (above most : ℕ) → IsIndexed index (gone h) (map (slot_of what) h.entries) → slot_of what f < 256
+    → StandsAt h what f above most (get_or index.heads.items (slot_of what f) 0)
+stands_first h index what f above most i small =
+    let len = length-map h.entries (slot_of what) in
+    jump h what f above most (gone h + 1 + length (map (slot_of what) h.entries)) _ (i.heads (slot_of what f) small) (omega (arith, len))
+    (λ place e at le. absurd (omega (arith, le, len, slice_get_within h.entries place e at)))
 
-last_one : (test : Field → Bool) (above most first left : ℕ) (fs : List Field) (entry : Field) (passes : Bool) → AtEntry fs left entry
-    → above < first + left → first + left ≤ most → test entry ≡ passes
-    → newest_from (in_range test above most) first (take (left + 1) fs)
-    ≡ or_else (if passes then Some (first + left) else None) (newest_from (in_range test above most) first (take left fs))
-last_one test above most first left fs entry passes h lt le is =
-    let count = length-take-le left fs (omega (arith, h.inside)) in
-    let same = inside test above most (first + left) entry lt le ∙ is in
-    ap (newest_from (in_range test above most) first) (one_more fs left entry h)
-    ∙ newest_from-last (in_range test above most) first (take left fs) entry
-    ∙ ap (λ n. or_else (if in_range test above most (first + n) entry then Some (first + n) else None) (newest_from (in_range test above most) first (take left fs))) count
-    ∙ ap (λ b. or_else (if b then Some (first + left) else None) (newest_from (in_range test above most) first (take left fs))) same
+pub stands_next : (h : Held) (index : Index) (what : Match) (f : Field) (above most number place : ℕ) (e : Field) → IsIndexed index (gone h) (map (slot_of what) h.entries)
+    → StandsAt h what f above most number → number ≡ gone h + 1 + place → slice_get h.entries place ≡ Some e → in_range (matches what f) above most number e ≡ false
+    → StandsAt h what f above most (get_or index.links.items place 0)
+stands_next h index what f above most number place e i s at is fails =
+    jump h what f above most (gone h + 1 + place) _ (i.links place (slot_of what f) (s.here place at)) (omega (arith, at, s.below))
+    (λ j d there le. by_order j d there le (nat_lt number (gone h + 1 + j)) refl)
+  where
+    same : (d : Field) → slice_get h.entries place ≡ Some d → e ≡ d
+    same d there = sym (get_or_from_slice_get h.entries place e e is) ∙ get_or_from_slice_get h.entries place d e there
 
-pub is_found : (test : Field → Bool) (above most first left : ℕ) (fs : List Field) (entry : Field) → AtEntry fs left entry
-    → above < first + left → first + left ≤ most → test entry ≡ true → newest_from (in_range test above most) first (take (left + 1) fs) ≡ Some (first + left)
-is_found test above most first left fs entry h lt le is = last_one test above most first left fs entry true h lt le is
+    by_order : (j : ℕ) (d : Field) → slice_get h.entries j ≡ Some d → gone h + 1 + place ≤ gone h + 1 + j → (b : Bool) → nat_lt number (gone h + 1 + j) ≡ b
+        → in_range (matches what f) above most (gone h + 1 + j) d ≡ false
+    by_order j d there le true o = s.past j d there (grind (arith, common_steps))
+    by_order j d there le false o =
+        let equal : j ≡ place = grind (arith, common_steps) in
+        let number_is : gone h + 1 + j ≡ number = omega (arith, equal, at) in
+        rw (number_is, ← same d (ap (slice_get h.entries) (sym equal) ∙ there)) fails
 
-pub is_passed_over : (test : Field → Bool) (above most first left : ℕ) (fs : List Field) (entry : Field) → AtEntry fs left entry
-    → above < first + left → first + left ≤ most → test entry ≡ false
-    → newest_from (in_range test above most) first (take (left + 1) fs) ≡ newest_from (in_range test above most) first (take left fs)
-is_passed_over test above most first left fs entry h lt le is = last_one test above most first left fs entry false h lt le is
+pub is_found : (h : Held) (what : Match) (f : Field) (above most number place : ℕ) (e : Field) → StandsAt h what f above most number → number ≡ gone h + 1 + place
+    → slice_get h.entries place ≡ Some e → above < number → number ≤ most → matches what f e ≡ true → newest_in h (matches what f) above most ≡ Some number
+is_found h what f above most number place e s at is low high passes =
+    found (in_range (matches what f) above most) (gone h + 1) h.entries place e is (rw (← at) inside) (λ i d lt there. s.past i d there (omega (arith, at, lt))) ∙ ap Some (sym at)
+  where
+    inside : in_range (matches what f) above most number e ≡ true
+    inside = grind (arith, common_steps)
 
-pub is_over : (test : Field → Bool) (above most first left : ℕ) (fs : List Field) → left ≤ length fs → first + left ≤ above + 1
-    → newest_from (in_range test above most) first (take left fs) ≡ None
-is_over test above most first left fs fits le =
-    newest_from-none (in_range test above most) first (take left fs) (λ n e lt. not_above test above most n e (omega (arith, lt, le, length-take-le left fs fits)))
+pub is_nowhere : (h : Held) (what : Match) (f : Field) (above most number : ℕ) → StandsAt h what f above most number → number ≤ above → newest_in h (matches what f) above most ≡ None
+is_nowhere h what f above most number s le =
+    nothing (in_range (matches what f) above most) (gone h + 1) h.entries (λ i e at. by_order i e at (nat_lt number (gone h + 1 + i)) refl)
+  where
+    by_order : (i : ℕ) (e : Field) → slice_get h.entries i ≡ Some e → (b : Bool) → nat_lt number (gone h + 1 + i) ≡ b → in_range (matches what f) above most (gone h + 1 + i) e ≡ false
+    by_order i e at true o = s.past i e at (grind (arith, common_steps))
+    by_order i e at false o = grind (arith, common_steps)

@@ -5,6 +5,8 @@ pub mod WholeInstructions
 pub mod Block
 pub mod Held
 pub mod Matches
+pub mod Slots
+pub mod Index
 pub mod EntriesInside
 pub mod Receiver
 pub mod History

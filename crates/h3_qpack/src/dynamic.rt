@@ -4,6 +4,7 @@ ghost use Rattle.std.specs.List.{list_any};
 ghost use Rattle.h3_field.specs.Field.{Field, field_size};
 ghost use Rattle.h3_qpack.specs.Held.{Held, no_entries, gone, newest_in, with_entry, with_capacity};
 ghost use Rattle.h3_qpack.specs.Matches.{matches};
+ghost use Rattle.h3_qpack.specs.Index.{IsIndexed, HasRoom};
 ghost use Rattle.h3_qpack.specs.Sender.{without_newest};
 ghost use Rattle.h3_qpack.specs.Tracking.{IsLast, is_of, is_free_to, without_oldest_of, without_newest_of};
 ghost use Rattle.h3_qpack.specs.Stored.{StoredSender, MayInsertInto, MayHaveCapacity, IsCapacityRefusal, raised, stored_sent, stored_withdrawn};
@@ -11,6 +12,7 @@ ghost use Rattle.h3_qpack.specs.Drafting.{IsSmall};
 ghost use Rattle.h3_field.specs.declared.dynamic.Error.TheVariants.{MaxBlockedStreamsTooLarge};
 
 use crate::entries::{Entries, MAX_CAPACITY, MOST_INSERTIONS, Match, size_of};
+use crate::index::Index;
 use crate::tracking::{TrackedSection, Tracking};
 use h3_field::HeaderField;
 use h3_field::dynamic::Error;
@@ -25,6 +27,9 @@ const MAX_BLOCKED: usize = 65535;
 #[derive(Drop)]
 pub struct DynamicTable {
     entries: Entries,
+    // of the entries by their names, and by names and values
+    names: Index,
+    fields: Index,
     tracking: Tracking,
     // how many sections may wait at the receiver
     limit: usize,
@@ -69,6 +74,16 @@ fn remove_newest(counts: &mut Vec<usize>, count: usize)
     }
 }
 
+/// Takes memory for one entry more in both.
+fn reserve(names: &mut Index, fields: &mut Index) -> Result<(), AllocError>
+    ensures names { (gone : ℕ) (slots : List ℕ) → IsIndexed names.old gone slots → IsIndexed names.new gone slots }
+    ensures fields { (gone : ℕ) (slots : List ℕ) → IsIndexed fields.old gone slots → IsIndexed fields.new gone slots }
+    ensures ok { OnOk result (HasRoom names.new × HasRoom fields.new) }
+{
+    names.reserve()?;
+    fields.reserve()
+}
+
 impl DynamicTable {
     /// A table of capacity 0, whose sections may not wait.
     pub fn new(alloc: Global) -> DynamicTable
@@ -76,6 +91,8 @@ impl DynamicTable {
     {
         DynamicTable {
             entries: Entries::new(alloc),
+            names: Index::new(alloc),
+            fields: Index::new(alloc),
             tracking: Tracking::new(alloc),
             limit: 0,
             known_received: 0,
@@ -155,7 +172,10 @@ impl DynamicTable {
         ensures value { result ≡ newest_in self.now.table (matches what field.now) above most }
         ensures within { IfSome result (λ n. (above < n) × (n ≤ most) × (n ≤ self.now.table.inserted)) }
     {
-        self.entries.newest(what, field, above, most)
+        match what {
+            Match::Name => self.entries.newest(&self.names, what, field, above, most),
+            Match::Field => self.entries.newest(&self.fields, what, field, above, most),
+        }
     }
 
     /// Sets how many sections may wait at the receiver, at most 65535.
@@ -185,7 +205,10 @@ impl DynamicTable {
         if !self.tracking.is_free_to(after) {
             return Err(Error::MaxTableSizeReached);
         }
+        let count = after - self.entries.gone();
         self.entries.set_capacity(size);
+        self.names.drop_oldest(count);
+        self.fields.drop_oldest(count);
         self.tracking.drop_to(after);
         Ok(())
     }
@@ -231,12 +254,21 @@ impl DynamicTable {
         ensures ok { OnOk result (self.new ≡ record self.old { table = with_entry self.old.table field }) }
         ensures err { OnErr result (self.new ≡ self.old) }
     {
+        reserve(&mut self.names, &mut self.fields)?;
+        let name = Match::Name.slot(&field);
+        let whole = Match::Field.slot(&field);
+        let gone = self.entries.gone();
         self.tracking.add_entry()?;
-        if self.entries.insert(field).is_err() {
+        let Ok(()) = self.entries.insert(field) else {
             self.tracking.remove_entry();
             return Err(AllocError);
-        }
+        };
         self.tracking.drop_to(after);
+        let number = self.entries.inserted();
+        self.names.add(name, number);
+        self.names.drop_oldest(after - gone);
+        self.fields.add(whole, number);
+        self.fields.drop_oldest(after - gone);
         Ok(())
     }
 

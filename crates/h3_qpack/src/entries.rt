@@ -1,12 +1,15 @@
 //! The entries of a dynamic table (RFC 9204, section 3.2): present ones in a ring, each with its number.
-ghost use Rattle.std.specs.Prelude.{◌≡◌, ℕ, ◌+◌, ◌-◌, ◌^◌, ◌<◌, ◌≤◌, List, [], ◌∷◌, ◌++◌, length, min, drop, true, Some, None, IfSome, IfNone, IfOk, OnErr, OnOk};
+ghost use Rattle.std.specs.Prelude.{◌≡◌, ℕ, ◌+◌, ◌-◌, ◌^◌, ◌<◌, ◌≤◌, List, [], ◌∷◌, ◌++◌, length, map, min, drop, true, Some, None, IfSome, IfNone, IfOk, OnErr, OnOk};
 ghost use Rattle.std.specs.Option.{option_copied};
 ghost use Rattle.std.specs.VecDeque.{deque_capacity, deque_len};
 ghost use Rattle.h3_field.specs.Field.{Field, field_size, section_size};
 ghost use Rattle.h3_qpack.specs.Table.{table};
 ghost use Rattle.h3_qpack.specs.Held.{Held, no_entries, gone, entry_at, newest_in, with_entry, with_capacity};
 ghost use Rattle.h3_qpack.specs.Matches.{matches};
+ghost use Rattle.h3_qpack.specs.Slots.{slot_of};
+ghost use Rattle.h3_qpack.specs.Index.{IsIndexed};
 
+use crate::index::{Index, slot_of_field, slot_of_name};
 use h3_field::HeaderField;
 use std::alloc::{AllocError, Global};
 use std::collections::VecDeque;
@@ -37,6 +40,18 @@ pub(crate) enum Match {
 }
 
 impl Match {
+    /// The slot of a field in an index of such matches.
+    pub(crate) fn slot(self, field: &HeaderField) -> usize
+        ensures value { result ≡ slot_of self field.now }
+        ensures below { result < 256 }
+    {
+        let slot = slot_of_name(field.name());
+        match self {
+            Match::Name => slot,
+            Match::Field => slot_of_field(slot, field.value()),
+        }
+    }
+
     fn is_met(self, field: &HeaderField, entry: &HeaderField) -> bool
         ensures { result ≡ matches self field.now entry.now }
     {
@@ -119,6 +134,7 @@ impl Entries {
     pub(crate) fn gone(&self) -> usize
         ensures value { result ≡ gone self.now }
         ensures small { result ≤ self.now.inserted }
+        ensures made { length self.now.entries ≤ self.now.inserted }
     {
         self.inserted - self.fields.len()
     }
@@ -144,29 +160,31 @@ impl Entries {
     }
 
     /// The number of the newest entry that matches the field, of those above one number and up to another. The search
-    /// goes from the newest backwards, and compares lengths before bytes.
+    /// goes along the chain of its slot.
     pub(crate) fn newest(
         &self,
+        index: &Index,
         what: Match,
         field: &HeaderField,
         above: usize,
         most: usize,
     ) -> Option<usize>
-        requires { gone self.now ≤ above }
+        requires indexed { IsIndexed index.now (gone self.now) (map (slot_of what) self.now.entries) }
+        requires above { gone self.now ≤ above }
         ensures value { result ≡ newest_in self.now (matches what field.now) above most }
         ensures within { IfSome result (λ n. (above < n) × (n ≤ most) × (n ≤ self.now.inserted)) }
     {
         let gone = self.inserted - self.fields.len();
-        let lowest = above - gone;
-        let mut left = most.min(self.inserted).saturating_sub(gone);
-        while left > lowest {
-            left -= 1;
-            let Some(entry) = self.fields.get(left) else {
+        let mut number = index.newest(what.slot(field));
+        while number > above {
+            let place = number - gone - 1;
+            let Some(entry) = self.fields.get(place) else {
                 return None;
             };
-            if what.is_met(field, entry) {
-                return Some(gone + left + 1);
+            if number <= most && what.is_met(field, entry) {
+                return Some(number);
             }
+            number = index.older(place);
         }
         None
     }

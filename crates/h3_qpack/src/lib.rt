@@ -10,6 +10,7 @@ pub mod encoder;
 mod entries;
 pub mod examples;
 mod increment;
+mod index;
 pub mod laws;
 mod section;
 pub mod session;

@@ -37,7 +37,7 @@ impl Model for Tracking {
 }
 
 /// Drops so many items from the front.
-fn drop_front(items: &mut VecDeque<usize>, count: usize)
+pub(crate) fn drop_front(items: &mut VecDeque<usize>, count: usize)
     ensures { items.new.items ≡ drop count items.old.items }
 {
     for _done in 0..count {

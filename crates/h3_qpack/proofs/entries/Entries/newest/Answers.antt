@@ -1,64 +1,67 @@
-use Rattle.std.proofs.Common.{◌≡◌, ◌<◌, ◌≤◌, ◌+◌, ◌-◌, ℕ, length, take, min, Some, true, false, Bool, sym, ◌∙◌, ap, arith}
+use Rattle.std.proofs.Common.{◌≡◌, ◌<◌, ◌≤◌, ◌+◌, ◌-◌, ℕ, Bool, false, List, length, slice_get, get_or, Some, sym, ◌∙◌, ap, refl, arith}
+use Rattle.std.proofs.lemmas.Option.{slice_get_read}
+use Rattle.std.proofs.lemmas.Grind.{common_steps}
 use Rattle.h3_field.specs.Field.{Field}
-use Rattle.h3_qpack.specs.Table.{newest_from}
-use Rattle.h3_qpack.specs.Held.{Held, newest_in, in_range, gone}
+use Rattle.h3_qpack.specs.Held.{Held, gone, in_range}
 use Rattle.h3_qpack.specs.Matches.{matches}
-use Rattle.h3_qpack.proofs.Searches.{AtEntry, starts, is_found, is_passed_over, is_over}
-use Rattle.h3_qpack.proofs.entries.Entries.newest.Invariants.{Invariant}
+use Rattle.h3_qpack.specs.Slots.{slot_of}
+use Rattle.h3_qpack.proofs.Searches.{stands_first, stands_next, is_found, is_nowhere}
 use Rattle.h3_qpack.proofs.entries.Entries.newest.Goals as goal
+use Rattle.h3_qpack.proofs.entries.Entries.newest.Goals.{else-number-most-via-then-number-most+else-is_met, else-number-most-via-else-number-most}
 
-begins : (h : Held) (test : Field → Bool) (above most left : ℕ) → length h.entries ≤ h.inserted → left ≡ min most h.inserted - (h.inserted - length h.entries) → Invariant h test above most left
-begins h test above most left made is =
-    record {
-      inside = omega (arith, is, made);
-      within = omega (arith, is, made);
-      same = starts test above most h.inserted h.entries made ∙ ap (λ k. newest_from (in_range test above most) (gone h + 1) (take k h.entries)) (sym is);
-    }
+-- the place of the number's entry
+pub record IsPlace (h : Held) (number place : ℕ) : Type 0 where
+  pub at : number ≡ gone h + 1 + place
+  pub inside : place < length h.entries
 
-pub loop-left-init : goal.loop-left-init
-loop-left-init c =
-    rw (← c.self.view_is) (begins _ (matches c.args.what c.args.field.now) c.args.above c.args.most _ c.self.invariant.made (omega arith))
+place_is : (h : Held) (capacity inserted len above number : ℕ) (items : List Field) → record { capacity = capacity; entries = items; inserted = inserted } ≡ h → len ≡ length items
+    → gone h ≤ above → above < number → number < gone h + 1 + length h.entries → IsPlace h number (number - (inserted - len) - 1)
+place_is h capacity inserted len above number items is len_is low more below =
+    let gone_is : inserted - len ≡ gone h = ap (λ n. inserted - n) len_is ∙ ap (λ (k : Held). k.inserted - length k.entries) is in
+    record { at = omega (arith, gone_is, low, more); inside = omega (arith, gone_is, low, more, below) }
 
-back : (left : ℕ) → 0 < left → left - 1 + 1 ≡ left
-back left h = omega (arith, h)
+entry_is : (h : Held) (capacity inserted place : ℕ) (items : List Field) (e : Field) → record { capacity = capacity; entries = items; inserted = inserted } ≡ h → place < length h.entries
+    → e ≡ get_or items place e → slice_get h.entries place ≡ Some e
+entry_is h capacity inserted place items e is inside read =
+    slice_get_read h.entries (length h.entries) place e refl inside (read ∙ ap (λ (k : Held). get_or k.entries place e) is)
 
-finds : (h : Held) (test : Field → Bool) (above most left : ℕ) (entry : Field) → Invariant h test above most left → above - gone h < left → gone h ≤ above
-    → AtEntry h.entries (left - 1) entry → test entry ≡ true → newest_in h test above most ≡ Some (gone h + (left - 1) + 1)
-finds h test above most left entry i more low at is =
-    let place : gone h + 1 + (left - 1) ≡ gone h + (left - 1) + 1 = omega arith in
-    i.same ∙ ap (λ k. newest_from (in_range test above most) (gone h + 1) (take k h.entries)) (sym (back left (omega (arith, more))))
-    ∙ is_found test above most (gone h + 1) (left - 1) h.entries entry at (omega (arith, more, low)) (omega (arith, more, i.within)) is
-    ∙ ap Some place
+outside : (test : Field → Bool) (above most number : ℕ) (e : Field) → most < number → in_range test above most number e ≡ false
+outside test above most number e far = grind (arith, common_steps, far)
 
-passes : (h : Held) (test : Field → Bool) (above most left : ℕ) (entry : Field) → Invariant h test above most left → above - gone h < left → gone h ≤ above
-    → AtEntry h.entries (left - 1) entry → test entry ≡ false → Invariant h test above most (left - 1)
-passes h test above most left entry i more low at is =
-    record {
-      inside = omega (arith, i.inside);
-      within = omega (arith, i.within);
-      same = i.same ∙ ap (λ k. newest_from (in_range test above most) (gone h + 1) (take k h.entries)) (sym (back left (omega (arith, more))))
-          ∙ is_passed_over test above most (gone h + 1) (left - 1) h.entries entry at (omega (arith, more, low)) (omega (arith, more, i.within)) is;
-    }
+unmet : (test : Field → Bool) (above most number : ℕ) (e : Field) → test e ≡ false → in_range test above most number e ≡ false
+unmet test above most number e fails = grind (arith, common_steps, fails)
+
+pub loop-number-init : goal.loop-number-init
+loop-number-init c =
+    let slot = c.slot.ensures.value in
+    rw (c.newest-number.ensures, slot) (stands_first c.args.self.now c.args.index.now c.args.what c.args.field.now c.args.above c.args.most c.requires.indexed (rw slot at c.slot.ensures.below))
 
 pub returns-then-is_met-clause-value : goal.returns-then-is_met-clause-value
 returns-then-is_met-clause-value c =
-    let i = rw (← c.self.view_is) at c.loop-left.invariant in
-    let low = rw (← c.self.view_is) at c.requires in
-    let at : AtEntry c.self.inside.fields.items (c.loop-left.left - 1) c.in-Some.entry.now = record { inside = omega (arith, i.inside); is = c.in-Some.ensures.lookup } in
-    rw (← c.self.view_is)
-    (ap (λ n. Some (c.self.inside.inserted - n + (c.loop-left.left - 1) + 1)) (c.len.ensures ∙ c.self.inside.fields.ok.0)
-    ∙ sym (finds _ (matches c.args.what c.args.field.now) c.args.above c.args.most c.loop-left.left c.in-Some.entry.now i (omega arith) low at (sym c.is_met.ensures ∙ c.if-is_met.true)))
+    let i = c.loop-number.invariant in
+    let p = place_is c.args.self.now c.self.inside.capacity c.self.inside.inserted c.len.result c.args.above c.loop-number.number c.self.inside.fields.items c.self.view_is (c.len.ensures ∙ c.self.inside.fields.ok.0) c.requires.above c.loop-number-test.true i.below in
+    let e = entry_is c.args.self.now c.self.inside.capacity c.self.inside.inserted _ c.self.inside.fields.items c.in-Some.entry.now c.self.view_is p.inside c.in-Some.ensures.lookup in
+    sym (is_found c.args.self.now c.args.what c.args.field.now c.args.above c.args.most c.loop-number.number _ c.in-Some.entry.now i p.at e c.loop-number-test.true c.if-number-most.true (sym c.is_met.ensures ∙ c.if-is_met.true))
 
-pub loop-left-preserved : goal.loop-left-preserved
-loop-left-preserved c =
-    let i = rw (← c.self.view_is) at c.loop-left.invariant in
-    let low = rw (← c.self.view_is) at c.requires in
-    let at : AtEntry c.self.inside.fields.items (c.loop-left.left - 1) c.in-Some.entry.now = record { inside = omega (arith, i.inside); is = c.in-Some.ensures.lookup } in
-    rw (← c.self.view_is)
-    (passes _ (matches c.args.what c.args.field.now) c.args.above c.args.most c.loop-left.left c.in-Some.entry.now i (omega arith) low at (sym c.is_met.ensures ∙ c.if-is_met.false))
+pub loop-number-smaller : goal.loop-number-smaller
+loop-number-smaller c =
+    let i = c.loop-number.invariant in
+    let p = place_is c.args.self.now c.self.inside.capacity c.self.inside.inserted c.len.result c.args.above c.loop-number.number c.self.inside.fields.items c.self.view_is (c.len.ensures ∙ c.self.inside.fields.ok.0) c.requires.above c.loop-number-test.true i.below in
+    let n = c.requires.indexed.links _ (slot_of c.args.what c.args.field.now) (i.here _ p.at) in
+    omega (arith, c.older-number.ensures, n.below, p.at)
+
+pub loop-number-preserved : goal.loop-number-preserved
+loop-number-preserved c =
+    let i = c.loop-number.invariant in
+    let p = place_is c.args.self.now c.self.inside.capacity c.self.inside.inserted c.len.result c.args.above c.loop-number.number c.self.inside.fields.items c.self.view_is (c.len.ensures ∙ c.self.inside.fields.ok.0) c.requires.above c.loop-number-test.true i.below in
+    let e = entry_is c.args.self.now c.self.inside.capacity c.self.inside.inserted _ c.self.inside.fields.items c.in-Some.entry.now c.self.view_is p.inside c.in-Some.ensures.lookup in
+    let test = matches c.args.what c.args.field.now in
+    let fails : in_range test c.args.above c.args.most c.loop-number.number c.in-Some.entry.now ≡ false =
+    elim c.else-number-most.branch [
+      | else-number-most-via-then-number-most+else-is_met w ↦ unmet test c.args.above c.args.most c.loop-number.number c.in-Some.entry.now (sym w.is_met.ensures ∙ w.if-is_met.false)
+      | else-number-most-via-else-number-most w ↦ outside test c.args.above c.args.most c.loop-number.number c.in-Some.entry.now w.if-number-most.false
+    ] in
+    rw c.older-number.ensures (stands_next c.args.self.now c.args.index.now c.args.what c.args.field.now c.args.above c.args.most c.loop-number.number _ c.in-Some.entry.now c.requires.indexed i p.at e fails)
 
 pub returns-clause-value : goal.returns-clause-value
-returns-clause-value c =
-    let i = rw (← c.self.view_is) at c.loop-left.invariant in
-    let low = rw (← c.self.view_is) at c.requires in
-    rw (← c.self.view_is) (sym (i.same ∙ is_over (matches c.args.what c.args.field.now) c.args.above c.args.most _ c.loop-left.left c.self.inside.fields.items i.inside (omega arith)))
+returns-clause-value c = sym (is_nowhere c.args.self.now c.args.what c.args.field.now c.args.above c.args.most c.loop-number.number c.loop-number.invariant (omega arith))

@@ -1,0 +1,15 @@
+use Rattle.std.proofs.Common.{◌≤◌, arith}
+use Rattle.h3_qpack.specs.declared.entries.Match.TheVariants as what
+use Rattle.h3_qpack.proofs.Indexing.{indexed_with_capacity}
+use Rattle.h3_qpack.proofs.dynamic.DynamicTable.set_max_size.Goals as goal
+
+pub invariant_of-self : goal.invariant_of-self
+invariant_of-self c =
+    let i = c.self.invariant in
+    let g = c.gone.ensures in
+    let h = c.self.inside.entries in
+    let after_is = c.in-Some.ensures.some.0 in
+    let low : c.gone.result ≤ c.in-Some.after = omega (arith, g.value, c.in-Some.ensures.made.0) in
+    let names = indexed_with_capacity h what.Name c.args.size c.in-Some.after c.gone.result c.self.inside.names c.drop_oldest.new.self g.made g.value after_is low i.names c.drop_oldest.ensures in
+    let fields = indexed_with_capacity h what.Field c.args.size c.in-Some.after c.gone.result c.self.inside.fields c.drop_oldest-2.new.self g.made g.value after_is low i.fields c.drop_oldest-2.ensures in
+    rw (c.set_capacity.ensures, c.drop_to.ensures) (record { from = after_is; to = i.to; names = names; fields = fields; few = i.few })
