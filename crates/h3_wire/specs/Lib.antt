@@ -24,3 +24,4 @@ pub mod TryLaws
 pub mod PieceLaws
 pub mod Given
 pub mod Cut
+pub mod Texts

@@ -3,10 +3,12 @@
 ghost use Rattle.std.specs.Prelude.{◌<◌, ◌^◌, length};
 
 use super::feed::{Feed, Last};
-use crate::frame::{FrameStream, FrameStreamError};
+use crate::buf::BufList;
+use crate::frame::{FrameDecoder, FrameStream, FrameStreamError};
 use crate::proto::frame::{Frame, PayloadLen};
 use crate::quic::Poll;
 use crate::stream::BufRecvStream;
+use bytes::Bytes;
 use std::alloc::Global;
 use std::test::Fail;
 
@@ -91,5 +93,33 @@ fn reads_again_after_refused_memory(rt: HostRuntime) -> Result<(), Fail> {
         assert!(rt; seen.bytes.starts_with(b"salutbodyok"));
         assert_eq!(rt; seen.len, 11);
     }
+    Ok(())
+}
+
+// A copy, which is tried twice.
+fn copied(alloc: Global, bytes: &[u8]) -> Result<Bytes, Fail> {
+    if let Ok(copy) = Bytes::copy_from_slice(alloc, bytes) {
+        return Ok(copy);
+    }
+    Ok(Bytes::copy_from_slice(alloc, bytes)?)
+}
+
+#[test]
+fn counts_no_try_without_memory(rt: HostRuntime) -> Result<(), Fail> {
+    let mut buf = BufList::new(rt.alloc());
+    let piece = copied(rt.alloc(), b"\x01\x05salut")?;
+    if let Err(refused) = buf.push(piece) {
+        if buf.push(refused.value).is_err() {
+            return Err("no room".into());
+        }
+    }
+    let mut decoder = FrameDecoder::default();
+    let mut answer = decoder.decode(rt.alloc(), &mut buf);
+    if matches!(&answer, Err(FrameStreamError::OutOfMemory)) {
+        assert_eq!(rt; decoder.tries(), 0);
+        answer = decoder.decode(rt.alloc(), &mut buf);
+    }
+    assert!(rt; matches!(&answer, Ok(Some(Frame::Headers(_)))));
+    assert_eq!(rt; decoder.tries(), 1);
     Ok(())
 }

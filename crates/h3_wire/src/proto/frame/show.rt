@@ -1,5 +1,6 @@
 //! The texts of frames and of their errors.
-ghost use Rattle.std.specs.Prelude.{◌++◌, Some, codes};
+ghost use Rattle.std.specs.Prelude.{Some};
+ghost use Rattle.h3_wire.specs.Texts.{frame_error_text, other_text, read_text, written_text};
 
 use super::{Frame, FrameError, PayloadLen};
 use bytes::Buf;
@@ -8,11 +9,13 @@ use std::error::Error;
 use std::fmt;
 
 impl fmt::Display for FrameError {
+    ghost output = { λ e. Some (frame_error_text e) };
+
     fn fmt<W: fmt::Write>(&self, f: &mut fmt::Formatter<W>) -> fmt::Result {
         match self {
             FrameError::Malformed => f.write_str("frame is malformed"),
-            FrameError::UnsupportedFrame(kind) => write!(f, "frame {kind:#x} is not allowed h3"),
-            FrameError::UnknownFrame(kind) => write!(f, "frame {kind:#x} ignored"),
+            FrameError::UnsupportedFrame(kind) => write!(f, "frame 0x{kind:x} is not allowed h3"),
+            FrameError::UnknownFrame(kind) => write!(f, "frame 0x{kind:x} ignored"),
             FrameError::InvalidFrameValue => f.write_str("frame value is invalid"),
             FrameError::Incomplete(least) => write!(f, "internal error: frame incomplete {least}"),
             FrameError::Settings(e) => write!(f, "invalid settings: {e}"),
@@ -25,36 +28,48 @@ impl fmt::Display for FrameError {
 
 impl Error for FrameError {}
 
+/// A session is printed as its type derives it, of which nothing is said.
 impl fmt::Debug for Frame<PayloadLen> {
+    ghost debug_output = { read_text };
+
     fn fmt<W: fmt::Write>(&self, f: &mut fmt::Formatter<W>) -> fmt::Result {
         match self {
             Frame::Data(len) => write!(f, "Data: {} bytes", len.0),
             Frame::WebTransportStream(session) => write!(f, "WebTransportStream({session:?})"),
-            other => show_other(other, f),
+            other => fmt::Display::fmt(&Other(other), f),
         }
     }
 }
 
-// The text of a frame that has no payload of its own kind.
-fn show_other<B, W: fmt::Write>(frame: &Frame<B>, f: &mut fmt::Formatter<W>) -> fmt::Result {
-    match frame {
-        Frame::Data(_) => f.write_str("Data"),
-        Frame::Headers(section) => write!(f, "Headers({} entries)", section.len()),
-        Frame::Settings(_) => f.write_str("Settings"),
-        Frame::CancelPush(id) => write!(f, "CancelPush({id})"),
-        Frame::PushPromise(promise) => write!(f, "PushPromise({})", VarInt::from(promise.id)),
-        Frame::Goaway(id) => write!(f, "GoAway({id})"),
-        Frame::MaxPushId(id) => write!(f, "MaxPushId({id})"),
-        Frame::WebTransportStream(_) => f.write_str("WebTransportStream()"),
-        Frame::Grease(_) => f.write_str("Grease()"),
+// A frame that has no payload of its own kind.
+#[derive(Drop)]
+struct Other<'a, B>(&'a Frame<B>);
+
+impl<B> fmt::Display for Other<'_, B> {
+    ghost output = { λ o. Some (other_text o.0.now) };
+
+    fn fmt<W: fmt::Write>(&self, f: &mut fmt::Formatter<W>) -> fmt::Result {
+        match self.0 {
+            Frame::Data(_) => f.write_str("Data"),
+            Frame::Headers(section) => write!(f, "Headers({} entries)", section.len()),
+            Frame::Settings(_) => f.write_str("Settings"),
+            Frame::CancelPush(id) => write!(f, "CancelPush({id})"),
+            Frame::PushPromise(promise) => write!(f, "PushPromise({})", VarInt::from(promise.id)),
+            Frame::Goaway(id) => write!(f, "GoAway({id})"),
+            Frame::MaxPushId(id) => write!(f, "MaxPushId({id})"),
+            Frame::WebTransportStream(_) => f.write_str("WebTransportStream()"),
+            Frame::Grease(_) => f.write_str("Grease()"),
+        }
     }
 }
 
 impl<B: Buf> fmt::Debug for Frame<B> {
+    ghost debug_output = { λ f. Some (written_text B.unread f) };
+
     fn fmt<W: fmt::Write>(&self, f: &mut fmt::Formatter<W>) -> fmt::Result {
         match self {
             Frame::Data(data) => write!(f, "Data: {} bytes", data.remaining()),
-            other => show_other(other, f),
+            other => fmt::Display::fmt(&Other(other), f),
         }
     }
 }
