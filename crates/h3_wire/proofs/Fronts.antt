@@ -1,12 +1,12 @@
 -- What a read takes is a front of the bytes.
-use Rattle.std.proofs.Common.{◌≡◌, ◌⊎◌, ℕ, zero, suc, ◌<◌, ◌≤◌, List, [], ◌∷◌, ◌++◌, length, take, drop, arith, refl, sym, ◌∙◌, ap, ap₂, subst, inl, inr, append_assoc, take-append-drop, Option, Some, None, Result, Ok, Err, OnErr}
+use Rattle.std.proofs.Common.{◌≡◌, ℕ, zero, suc, ◌≤◌, List, [], ◌∷◌, ◌++◌, length, take, drop, arith, sym, ◌∙◌, ap, ap₂, subst, inl, inr, append_assoc, take-append-drop, Some, None, Result, Ok, Err, OnErr}
 use Rattle.h3_coding.specs.Encodings.{IsUnfinished, empty, short}
 use Rattle.h3_coding.specs.Reading.{Takes}
 use Rattle.h3_coding.specs.Varint.{varint_at}
 use Rattle.h3_coding.specs.VarintLaws.{begins, cases_number}
 use Rattle.h3_proto.specs.Pairs.{pair_at, split_of}
 use Rattle.h3_proto.specs.PairLaws.{cases_pair, both_at, pair_shorter, split_none, split_pair}
-use Rattle.h3_proto.specs.Settings.{received, left_if, left_in, behind_id, left_of_pair, left_behind, left_of}
+use Rattle.h3_proto.specs.Settings.{received, left_if, behind_id, left_of_pair, left_behind, left_of}
 use Rattle.h3_proto.specs.declared.frame.SettingsError.{SettingsError}
 use Rattle.h3_wire.specs.Frames.{TakesFront}
 

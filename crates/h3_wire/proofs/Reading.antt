@@ -1,15 +1,14 @@
 -- What a read leaves of all the bytes that are left.
-use Rattle.std.proofs.Common.{◌≡◌, ◌⊎◌, inl, inr, ℕ, ◌<◌, Bool, true, false, List, [], ◌∷◌, ◌++◌, length, arith, sym, ◌∙◌, ap, ap₂, subst, refl, append_assoc, append-nil, length-append, Result, Ok, Err, Option, Some, None}
+use Rattle.std.proofs.Common.{◌≡◌, inl, inr, ℕ, ◌<◌, Bool, true, false, List, [], ◌∷◌, ◌++◌, length, arith, sym, ◌∙◌, ap, ap₂, refl, append_assoc, append-nil, length-append, Result, Ok, Err, Option, Some, None}
 use Rattle.h3_wire.specs.declared.quic.Poll.{Poll}
 use Rattle.h3_wire.specs.declared.quic.Poll.TheVariants.{Ready, Pending}
 use Rattle.h3_wire.specs.declared.quic.StreamErrorIncoming.{StreamErrorIncoming}
 use Rattle.h3_wire.specs.declared.quic.StreamErrorIncoming.TheVariants as incoming
 use Rattle.h3_wire.specs.Source.{Answer, Polls, coming, Asked, done, more}
-use Rattle.h3_wire.specs.Given.{Gave, AddsPieces, asked_no_more, gave_once}
+use Rattle.h3_wire.specs.Given.{AddsPieces, asked_no_more, gave_once}
 use Rattle.h3_wire.proofs.PieceLemmas.{with_piece-some}
 use Rattle.h3_wire.specs.Streams.{Buffered, ReadsMore, Tells, AsksFirst, stream_error}
 use Rattle.h3_wire.specs.declared.frame.errors.FrameStreamError.{FrameStreamError}
-use Rattle.h3_wire.specs.declared.frame.errors.FrameStreamError.TheVariants as stream
 
 -- What a read of an open stream leaves.
 pub record Reading {S : Type 0} (rest : S → List ℕ) (answers : S → Answer → S → Type 0) (old new : Buffered S) : Type 0 where

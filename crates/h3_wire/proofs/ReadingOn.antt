@@ -1,19 +1,17 @@
 -- What a poll takes of what the bytes read as.
-use Rattle.std.proofs.Common.{◌≡◌, ℕ, ◌<◌, ◌≤◌, length, length-append, Bool, true, false, List, [], ◌++◌, sym, ◌∙◌, ap, ap₂, subst, refl, append_assoc, Result, Ok, Err, Option, Some, None, nat_lt, zero, suc, arith}
+use Rattle.std.proofs.Common.{◌≡◌, ℕ, ◌≤◌, length, length-append, false, List, ◌++◌, sym, ◌∙◌, ap, ap₂, append_assoc, Result, Ok, Err, Option, Some, None, arith}
 use Rattle.h3_wire.specs.declared.quic.Poll.{Poll}
 use Rattle.h3_wire.specs.declared.quic.Poll.TheVariants.{Ready, Pending}
 use Rattle.h3_wire.specs.declared.proto.frame.PayloadLen.{PayloadLen}
 use Rattle.h3_wire.specs.declared.proto.frame.Frame.{Frame}
 use Rattle.h3_wire.specs.declared.frame.errors.FrameStreamError.{FrameStreamError}
 use Rattle.h3_wire.specs.declared.frame.errors.FrameStreamError.TheVariants as stream
-use Rattle.h3_wire.specs.declared.frame.payload_left.PayloadLeft.{PayloadLeft}
 use Rattle.h3_wire.specs.declared.frame.payload_left.PayloadLeft.TheVariants as payload
 use Rattle.h3_wire.specs.Source.{Answer}
-use Rattle.h3_wire.specs.Frames.{Whole, Refused, frame_at}
 use Rattle.h3_wire.specs.Known.{known, refusal}
 use Rattle.h3_wire.specs.KnownLaws.{known-more, known_known}
-use Rattle.h3_wire.specs.Streams.{Framing, left, is_open, payload_behind, PollsFrame, PollsData, TakesPayload}
-use Rattle.h3_wire.specs.Reads.{Reads, Framed, Refuses, reads, bytes_then}
+use Rattle.h3_wire.specs.Streams.{Framing, left, is_open, PollsFrame, PollsData}
+use Rattle.h3_wire.specs.Reads.{Framed, reads}
 use Rattle.h3_wire.specs.ReadLaws.{closed_is, reads-known, reads-whole, reads-refused, reads-bytes}
 use Rattle.h3_wire.specs.ReadsOn.{reads_on, ReadsFrame, ReadsData}
 use Rattle.h3_wire.proofs.TakenFrames.{whole_behind, refused_behind}

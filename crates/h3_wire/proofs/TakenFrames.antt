@@ -1,8 +1,7 @@
 -- What taking a frame off the buffer says of all the bytes that are left.
-use Rattle.std.proofs.Common.{◌≡◌, ◌⊎◌, ℕ, ◌<◌, ◌≤◌, Bool, true, false, List, [], ◌++◌, length, arith, sym, ◌∙◌, ap, ap₂, subst, refl, append_assoc, append-nil, length-append, Result, Ok, Err, Option, Some, None}
+use Rattle.std.proofs.Common.{◌≡◌, ℕ, ◌<◌, ◌≤◌, List, [], ◌++◌, length, arith, sym, ◌∙◌, ap, ap₂, subst, append-nil, length-append, Result, Ok, Err, Option, Some, None}
 use Rattle.h3_wire.specs.declared.quic.Poll.{Poll}
 use Rattle.h3_wire.specs.declared.quic.Poll.TheVariants.{Ready, Pending}
-use Rattle.h3_wire.specs.declared.stream.Received.TheVariants as received
 use Rattle.h3_wire.specs.declared.proto.frame.PayloadLen.{PayloadLen}
 use Rattle.h3_wire.specs.declared.proto.frame.Frame.{Frame}
 use Rattle.h3_wire.specs.declared.proto.frame.FrameError.{FrameError}
@@ -12,8 +11,8 @@ use Rattle.h3_wire.specs.Source.{Answer, coming}
 use Rattle.h3_wire.specs.Frames.{Front, Whole, Unknown, Refused, Unfinished, frame_at}
 use Rattle.h3_wire.specs.FrameLaws.{IsFinished, with_more, IsShorter, frame_at-more, frame_at-shorter}
 use Rattle.h3_wire.specs.Known.{known, Gives, IsWaiting, refusal}
-use Rattle.h3_wire.specs.KnownLaws.{IsKnown, known-more, known-other, known_is, known_known, known-length}
-use Rattle.h3_wire.specs.Streams.{Buffered, Framing, left, Answered, Tells, PollsFrame, Continues}
+use Rattle.h3_wire.specs.KnownLaws.{IsKnown, known-more, known-other, known_is, known-length}
+use Rattle.h3_wire.specs.Streams.{Buffered, Framing, left, Tells, PollsFrame}
 
 more_known : (x : Front) (more : List ℕ) → IsKnown x → IsKnown (with_more x more)
 more_known (Whole f rest) more h = tt

@@ -1,5 +1,5 @@
 -- What several writes, one behind another, append.
-use Rattle.std.proofs.Common.{◌≡◌, ℕ, ◌<◌, ◌≤◌, ◌^◌, List, [], ◌++◌, length, arith, refl, sym, ◌∙◌, ap, append_assoc, length-append, Result, Ok, Err, OnErr}
+use Rattle.std.proofs.Common.{◌≡◌, ℕ, List, ◌++◌, sym, ◌∙◌, ap, append_assoc, Result, Ok, Err, OnErr}
 use Rattle.h3_coding.specs.Writing.{AppendsFront}
 
 -- what holds whatever the result is

@@ -1,8 +1,8 @@
 -- A one-way stream by its type.
-use Rattle.std.specs.Prelude.{◌≡◌, ◌≢◌, ℕ, false, List, ◌∷◌, [], All, Option, Some, None}
+use Rattle.std.specs.Prelude.{◌≡◌, ◌≢◌, ℕ, false, Some}
 use Rattle.h3_wire.specs.declared.stream.accept.AcceptedRecvStream.{AcceptedRecvStream}
 use Rattle.h3_wire.specs.declared.stream.accept.AcceptedRecvStream.TheVariants as accepted
-use Rattle.h3_wire.specs.Streams.{Buffered, Framing, stream_part, is_open}
+use Rattle.h3_wire.specs.Streams.{Framing, stream_part, is_open}
 use Rattle.h3_wire.specs.Accepting.{Accepting, stream_of}
 
 -- frames are read from here on

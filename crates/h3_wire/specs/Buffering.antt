@@ -1,7 +1,6 @@
 -- A source with a buffer before it is a source.
-use Rattle.std.specs.Prelude.{◌≡◌, ℕ, ◌<◌, Bool, true, false, List, [], ◌∷◌, ◌++◌, length, Result, Ok, Err, Option, Some, None}
+use Rattle.std.specs.Prelude.{◌≡◌, ℕ, ◌<◌, Bool, true, false, List, [], ◌∷◌, ◌++◌, length, Ok, Err, Some, None}
 use Rattle.std.proofs.Common.{refl, sym, ◌∙◌, ap, ap₂, subst, append_assoc}
-use Rattle.h3_wire.specs.declared.quic.Poll.{Poll}
 use Rattle.h3_wire.specs.declared.quic.Poll.TheVariants.{Ready, Pending}
 use Rattle.h3_wire.specs.Source.{Answer, Polls, coming}
 use Rattle.h3_wire.specs.Streams.{Buffered}

@@ -1,8 +1,8 @@
 -- Where a payload is cut into pieces.
-use Rattle.std.specs.Prelude.{◌≡◌, ℕ, Bool, true, false, ◌==◌, ◌&&◌, ◌||◌, List, ◌++◌, length, nat_lt, nat_le, Result, Ok, Err, Option, Some, None}
+use Rattle.std.specs.Prelude.{◌≡◌, ℕ, Bool, true, false, ◌==◌, ◌&&◌, ◌||◌, List, ◌++◌, length, nat_lt, nat_le, Result, Ok, Err, Option, Some}
 use Rattle.std.specs.List.{concat}
 use Rattle.h3_wire.specs.declared.quic.Poll.{Poll}
-use Rattle.h3_wire.specs.declared.quic.Poll.TheVariants.{Ready, Pending}
+use Rattle.h3_wire.specs.declared.quic.Poll.TheVariants.{Ready}
 use Rattle.h3_wire.specs.declared.frame.errors.FrameStreamError.{FrameStreamError}
 use Rattle.h3_wire.specs.declared.frame.errors.FrameStreamError.TheVariants as stream
 use Rattle.h3_wire.specs.declared.frame.payload_left.PayloadLeft.{PayloadLeft}

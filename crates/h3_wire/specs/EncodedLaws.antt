@@ -1,5 +1,5 @@
 -- What was written is read as it was, whatever follows it.
-use Rattle.std.proofs.Common.{◌≡◌, ◌≢◌, ℕ, ◌+◌, ◌*◌, ◌<◌, ◌≤◌, ◌^◌, ◌==◌, Bool, true, false, List, [], ◌∷◌, ◌++◌, length, take, drop, nat_lt, codes, arith, lit<, sym, subst, ◌∙◌, ap, refl, zero, suc, append_assoc, append-nil, length-append, Some}
+use Rattle.std.proofs.Common.{◌≡◌, ◌≢◌, ℕ, ◌<◌, ◌≤◌, ◌^◌, ◌==◌, false, List, [], ◌++◌, length, codes, arith, lit<, sym, subst, ◌∙◌, ap, refl, zero, suc, append_assoc, append-nil, length-append, Some}
 use Rattle.std.proofs.lemmas.List.{take_at, drop_at}
 use Rattle.std.proofs.lemmas.Bool.{le-ltb, ne_eqb}
 use Rattle.h3_coding.specs.Encodings.{IsEncoding, one, two, four, eight, encoding}

@@ -1,11 +1,10 @@
 -- What bytes begin with, as frames (RFC 9114, section 7.1).
-use Rattle.std.specs.Prelude.{◌≡◌, ℕ, zero, suc, ◌<◌, ◌+◌, ◌-◌, ◌==◌, Bool, false, List, [], ◌∷◌, ◌++◌, length, take, drop, nat_lt, if◌then◌else◌, Option, Some, None, Result, Ok, Err}
+use Rattle.std.specs.Prelude.{◌≡◌, ℕ, ◌<◌, ◌+◌, ◌-◌, ◌==◌, Bool, false, List, [], ◌∷◌, ◌++◌, length, take, drop, nat_lt, if◌then◌else◌, Option, Some, None, Result, Ok, Err}
 use Rattle.std.specs.List.{list_any}
 use Rattle.std.specs.Option.{is_some}
 use Rattle.h3_coding.specs.Varint.{varint_at}
 use Rattle.h3_proto.specs.Settings.{settings_of}
 use Rattle.h3_proto.specs.declared.frame.SettingsError.{SettingsError}
-use Rattle.h3_wire.specs.Promise.{Promise}
 use Rattle.h3_wire.specs.declared.proto.frame.PayloadLen.{PayloadLen}
 use Rattle.h3_wire.specs.declared.proto.frame.Frame.{Frame}
 use Rattle.h3_wire.specs.declared.proto.frame.Frame.TheVariants as frame

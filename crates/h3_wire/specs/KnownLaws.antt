@@ -1,10 +1,9 @@
 -- What holds of the frames that bytes begin with, unknown ones left out.
-use Rattle.std.proofs.Common.{◌≡◌, ℕ, ◌+◌, ◌<◌, ◌≤◌, List, [], ◌∷◌, ◌++◌, length, arith, sym, ◌∙◌, ap, subst, refl, inl, inr, ◌⊎◌, zero, suc, append_assoc, append-nil, length-append, Option, Some, None}
-use Rattle.std.specs.Option.{unwrap_or}
+use Rattle.std.proofs.Common.{◌≡◌, ℕ, ◌<◌, ◌≤◌, List, ◌++◌, length, arith, sym, ◌∙◌, ap, subst, refl, inl, inr, ◌⊎◌, zero, suc}
 use Rattle.std.proofs.lemmas.List.{nil_from_length}
 use Rattle.h3_wire.specs.Frames.{Front, Whole, Unknown, Refused, Unfinished, frame_at}
-use Rattle.h3_wire.specs.FrameLaws.{IsFinished, with_more, IsShorter, frame_at-more, frame_at-fewer, frame_at-shorter, frame_at-nil}
-use Rattle.h3_wire.specs.Known.{past_unknown, skipped, known, IsWaiting}
+use Rattle.h3_wire.specs.FrameLaws.{IsFinished, with_more, IsShorter, frame_at-more, frame_at-shorter, frame_at-nil}
+use Rattle.h3_wire.specs.Known.{past_unknown, skipped, known}
 
 -- no unknown frame
 abbrev pub IsKnown : Front → Type 0

@@ -1,6 +1,6 @@
 -- What is seen of bytes that are to be sent.
 use Rattle.std.specs.Prelude.{◌≡◌, ℕ, List, [], ◌++◌, Option, Some, None}
-use Rattle.h3_wire.specs.Encoded.{encoding_of, lent_of, front_of, HasLength}
+use Rattle.h3_wire.specs.Encoded.{encoding_of, lent_of, front_of}
 use Rattle.h3_wire.specs.declared.proto.frame.Frame.{Frame}
 
 -- the bytes that are written, and behind them those that the frame lends

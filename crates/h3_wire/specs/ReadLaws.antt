@@ -1,5 +1,5 @@
 -- What holds of what bytes read as.
-use Rattle.std.proofs.Common.{◌≡◌, ◌⊎◌, Bool, true, false, ℕ, zero, suc, ◌+◌, ◌-◌, ◌<◌, ◌≤◌, ◌^◌, List, [], ◌∷◌, ◌++◌, length, arith, lit<, sym, ◌∙◌, ap, ap₂, subst, refl, inl, inr, append_assoc, length-append}
+use Rattle.std.proofs.Common.{◌≡◌, Bool, true, false, ℕ, zero, suc, ◌<◌, ◌≤◌, ◌^◌, List, [], ◌∷◌, ◌++◌, length, arith, sym, ◌∙◌, ap, subst, refl, inl, inr}
 use Rattle.std.proofs.lemmas.List.{nil_from_length}
 use Rattle.std.proofs.lemmas.Bool.{lt-ltb}
 use Rattle.h3_wire.specs.declared.proto.frame.PayloadLen.{PayloadLen}

@@ -1,7 +1,7 @@
 -- What the calls of a stream of frames take of what all bytes read as, whatever follows them.
-use Rattle.std.specs.Prelude.{◌≡◌, ℕ, List, ◌++◌, Result, Ok, Err, Option, Some, None}
+use Rattle.std.specs.Prelude.{◌≡◌, ℕ, List, ◌++◌, Result, Ok, Err, Option, Some}
 use Rattle.h3_wire.specs.declared.quic.Poll.{Poll}
-use Rattle.h3_wire.specs.declared.quic.Poll.TheVariants.{Ready, Pending}
+use Rattle.h3_wire.specs.declared.quic.Poll.TheVariants.{Ready}
 use Rattle.h3_wire.specs.declared.proto.frame.PayloadLen.{PayloadLen}
 use Rattle.h3_wire.specs.declared.proto.frame.Frame.{Frame}
 use Rattle.h3_wire.specs.declared.frame.errors.FrameStreamError.{FrameStreamError}

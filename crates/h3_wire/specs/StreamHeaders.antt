@@ -1,9 +1,8 @@
 -- What streams begin with, as it is written (RFC 9114, section 6.2), and what is seen of bytes that are to be sent.
-use Rattle.std.specs.Prelude.{◌≡◌, ℕ, List, [], ◌++◌, Option, Some, None}
+use Rattle.std.specs.Prelude.{ℕ, List, ◌++◌}
 use Rattle.h3_coding.specs.Encodings.{encoding}
 use Rattle.h3_proto.specs.Pairs.{payload_of}
-use Rattle.h3_wire.specs.Encoded.{frame_encoding, head_encoding, encoding_of, lent_of, front_of, HasLength}
-use Rattle.h3_wire.specs.declared.proto.frame.Frame.{Frame}
+use Rattle.h3_wire.specs.Encoded.{frame_encoding, head_encoding}
 use Rattle.h3_wire.specs.declared.stream.headers.UniStreamHeader.{UniStreamHeader}
 use Rattle.h3_wire.specs.declared.stream.headers.UniStreamHeader.TheVariants.{Control, WebTransportUni, Encoder, Decoder}
 use Rattle.h3_wire.specs.declared.stream.headers.BidiStreamHeader.{BidiStreamHeader}

@@ -1,5 +1,5 @@
 -- What is seen of a stream, of its frames, and what its calls do.
-use Rattle.std.specs.Prelude.{◌≡◌, ◌⊎◌, ℕ, ◌-◌, ◌<◌, ◌≤◌, nat_lt, Bool, true, false, List, [], ◌∷◌, ◌++◌, length, Result, Ok, Err, Option, Some, None}
+use Rattle.std.specs.Prelude.{◌≡◌, ◌⊎◌, ℕ, ◌-◌, ◌<◌, ◌≤◌, nat_lt, Bool, true, false, List, [], ◌++◌, length, Result, Ok, Err, Option, Some, None}
 use Rattle.h3_wire.specs.declared.quic.Poll.{Poll}
 use Rattle.h3_wire.specs.declared.quic.Poll.TheVariants.{Ready, Pending}
 use Rattle.h3_wire.specs.declared.quic.StreamErrorIncoming.{StreamErrorIncoming}
@@ -15,7 +15,7 @@ use Rattle.h3_wire.specs.declared.stream.Received.{Received}
 use Rattle.h3_wire.specs.declared.stream.Received.TheVariants as received
 use Rattle.h3_wire.specs.Source.{Answer, coming}
 use Rattle.h3_wire.specs.Pieces.{with_piece}
-use Rattle.h3_wire.specs.Frames.{Front, Whole, Refused, frame_at}
+use Rattle.h3_wire.specs.Frames.{Whole, Refused, frame_at}
 use Rattle.h3_wire.specs.Known.{known, refusal, IsWaiting}
 
 -- the bytes that were read and not yet taken, the pieces that they lie in, where the rest comes from, and whether the end

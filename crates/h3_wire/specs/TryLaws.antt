@@ -4,7 +4,7 @@ use Rattle.std.specs.Option.{unwrap_or, is_some}
 use Rattle.std.proofs.lemmas.List.{nil_from_length}
 use Rattle.h3_coding.specs.Varint.{varint_at}
 use Rattle.h3_coding.specs.VarintLaws.{cases_number}
-use Rattle.h3_wire.specs.Frames.{Front, Unfinished, frame_at, is_followed, has_head}
+use Rattle.h3_wire.specs.Frames.{Unfinished, frame_at, is_followed, has_head}
 use Rattle.h3_wire.specs.FrameLaws.{IsFinished, truth_apart, least_of, at_no_kind, at_no_number, frame_at-fewer, frame_at-enough, frame_at-nil}
 use Rattle.h3_wire.specs.Known.{known, IsWaiting}
 use Rattle.h3_wire.specs.KnownLaws.{IsKnown, known-other}

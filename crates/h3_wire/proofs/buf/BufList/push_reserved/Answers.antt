@@ -1,7 +1,7 @@
 use Rattle.std.proofs.Common.{ap, sym, ◌∙◌, ◌++◌, ◌∷◌, [], ◌<◌, length, map, arith}
 use Rattle.std.proofs.lemmas.List.{map-append}
 use Rattle.std.proofs.lemmas.List.Elements.{All-push, All-same}
-use Rattle.h3_wire.specs.Pieces.{Listed, joined}
+use Rattle.h3_wire.specs.Pieces.{joined}
 use Rattle.h3_wire.proofs.PieceLemmas.{joined-push, length-joined-push, with_piece-some}
 use Rattle.h3_wire.proofs.buf.BufList.push_reserved.Goals as goal
 

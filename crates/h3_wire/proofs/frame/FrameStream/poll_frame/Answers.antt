@@ -1,10 +1,9 @@
-use Rattle.std.proofs.Common.{arith, sym, ◌∙◌, ap, refl, subst, inl, inr, None}
+use Rattle.std.proofs.Common.{arith, ◌∙◌, refl, subst, inl, inr, None}
 use Rattle.h3_wire.specs.Source.{done, asked_then}
 use Rattle.h3_wire.specs.Given.{passes_then, rest_passes}
 use Rattle.h3_wire.specs.PieceLaws.{rest_same}
 use Rattle.h3_wire.specs.Streams.{AsksFirst, poll_error}
 use Rattle.h3_wire.proofs.Reading.{no_error_first}
-use Rattle.h3_wire.proofs.TakenFrames.{polls_on}
 use Rattle.h3_wire.proofs.frame.FrameStream.poll_frame.Goals as goal
 
 pub loop-answer-init : goal.loop-answer-init

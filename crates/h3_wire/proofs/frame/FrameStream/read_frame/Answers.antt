@@ -1,12 +1,12 @@
-use Rattle.std.proofs.Common.{◌≡◌, ◌++◌, ℕ, List, [], true, length, arith, sym, ◌∙◌, ap, ap₂, subst, refl, rules}
+use Rattle.std.proofs.Common.{length, arith, sym, ◌∙◌, ap, ap₂, subst, refl}
 use Rattle.h3_wire.specs.Source.{coming}
 use Rattle.h3_wire.specs.Given.{AddsPieces, adds_passes, passes_then, rest_passes}
 use Rattle.h3_wire.specs.PieceLaws.{ending_rest}
 use Rattle.h3_wire.specs.Tries.{Expects}
 use Rattle.h3_wire.specs.TryLaws.{Awaits-more}
-use Rattle.h3_wire.specs.Streams.{Framing, left}
+use Rattle.h3_wire.specs.Streams.{Framing}
 use Rattle.h3_wire.specs.declared.quic.Poll.TheVariants.{Pending}
-use Rattle.h3_wire.proofs.TakenFrames.{taken, Taken, taken_fewer, polls_error, polls_frame, polls_same, polls_end, polls_failed}
+use Rattle.h3_wire.proofs.TakenFrames.{taken, taken_fewer, polls_error, polls_frame, polls_same}
 use Rattle.h3_wire.proofs.frame.FrameStream.read_frame.Goals as goal
 
 pub invariant_of-self : goal.invariant_of-self

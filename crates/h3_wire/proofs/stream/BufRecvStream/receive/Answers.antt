@@ -1,8 +1,8 @@
-use Rattle.std.proofs.Common.{refl, sym, ap, ◌∙◌, ◌≡◌, false, inl, inr, Some}
+use Rattle.std.proofs.Common.{refl, sym, ap, ◌∙◌, inl, Some}
 use Rattle.h3_wire.specs.Source.{done}
 use Rattle.h3_wire.specs.Streams.{Buffered, stream_error}
 use Rattle.h3_wire.specs.declared.quic.Poll.TheVariants.{Ready}
-use Rattle.h3_wire.proofs.Reading.{Reading, reading, adds_pieces, adds_none, error_keeps, error_adds, asks_first, tells_error, read_error}
+use Rattle.h3_wire.proofs.Reading.{reading, adds_pieces, adds_none, error_keeps, error_adds, asks_first, tells_error, read_error}
 use Rattle.h3_wire.specs.ReadLaws.{apart}
 use Rattle.h3_wire.proofs.stream.BufRecvStream.receive.Goals as goal
 

@@ -1,4 +1,4 @@
-use Rattle.std.proofs.Common.{◌≡◌, ◌+◌, ◌≤◌, length, drop}
+use Rattle.std.proofs.Common.{◌≡◌, ◌+◌, ◌≤◌, length}
 use Rattle.h3_wire.specs.Place.{left_at}
 use Rattle.h3_wire.proofs.buf.pieces.CursorBuf.advance.Given as goal
 

@@ -1,4 +1,4 @@
-use Rattle.std.proofs.Common.{◌≡◌, ◌<◌, ◌≤◌, sym, ◌∙◌, refl, subst, length}
+use Rattle.std.proofs.Common.{◌<◌, ◌≤◌, sym, ◌∙◌, refl, subst, length}
 use Rattle.h3_wire.specs.KnownLaws.{unknown_shorter}
 use Rattle.h3_wire.specs.Tries.{Counts, Expects, needed, no_try, finds, passes, finds_less, refuses, wants_memory}
 use Rattle.h3_wire.specs.PieceLaws.{rest_same, rest_then}

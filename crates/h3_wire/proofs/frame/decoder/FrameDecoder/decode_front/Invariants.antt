@@ -1,4 +1,4 @@
-use Rattle.std.proofs.Common.{◌≡◌, ℕ, List, Option, Result, length}
+use Rattle.std.proofs.Common.{◌≡◌, Option, Result, length}
 use Rattle.h3_wire.specs.declared.proto.frame.PayloadLen.{PayloadLen}
 use Rattle.h3_wire.specs.declared.proto.frame.Frame.{Frame}
 use Rattle.h3_wire.specs.declared.frame.errors.FrameStreamError.{FrameStreamError}

@@ -1,4 +1,4 @@
-use Rattle.std.proofs.Common.{◌++◌, ap, sym, subst, ◌∙◌}
+use Rattle.std.proofs.Common.{◌++◌, ap, sym}
 use Rattle.h3_proto.specs.Pairs.{payload_of}
 use Rattle.h3_wire.specs.Encoded.{head_encoding}
 use Rattle.h3_wire.proofs.Writes.{on_err, on_err_then, begins_with, begins_behind}

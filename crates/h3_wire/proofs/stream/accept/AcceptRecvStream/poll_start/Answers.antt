@@ -1,4 +1,4 @@
-use Rattle.std.proofs.Common.{◌≡◌, length, arith, refl, ◌∙◌, ap, inl, inr}
+use Rattle.std.proofs.Common.{length, arith, refl, ◌∙◌, ap, inl, inr}
 use Rattle.h3_wire.specs.Source.{done}
 use Rattle.h3_wire.specs.Given.{passes_then, rest_passes, adds_passes}
 use Rattle.h3_wire.specs.PieceLaws.{rest_same}

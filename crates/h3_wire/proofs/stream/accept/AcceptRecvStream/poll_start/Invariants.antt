@@ -1,8 +1,7 @@
 use Rattle.std.proofs.Common.{◌≡◌, ◌≤◌, ℕ, List, ◌++◌, length}
 use Rattle.h3_wire.specs.Source.{Asked, coming}
-use Rattle.h3_wire.specs.Streams.{Buffered, EndIsTold}
 use Rattle.h3_wire.specs.Given.{PassesPieces}
-use Rattle.h3_wire.specs.Accepting.{Accepting, start_from, stream_of, all_left}
+use Rattle.h3_wire.specs.Accepting.{start_from, all_left}
 use Rattle.h3_wire.proofs.stream.accept.AcceptRecvStream.poll_start.Given as goal
 
 -- more bytes came, and they end no type or id

@@ -1,6 +1,6 @@
-use Rattle.std.proofs.Common.{◌≡◌, ◌≤◌, ◌+◌, ◌-◌, ◌++◌, [], None, min, length, drop, sym, ◌∙◌, ap, subst}
+use Rattle.std.proofs.Common.{◌≡◌, ◌≤◌, ◌+◌, ◌-◌, ◌++◌, [], min, length, drop, sym, ◌∙◌, ap, subst}
 use Rattle.h3_wire.specs.Encoded.{lent_of}
-use Rattle.h3_wire.specs.Outgoing.{Outgoing, all_of, lent}
+use Rattle.h3_wire.specs.Outgoing.{all_of, lent}
 use Rattle.h3_wire.proofs.Passing.{pass, pass_alone}
 use Rattle.h3_wire.proofs.stream.write_buf.WriteBufBuf.advance.Goals as goal
 use Rattle.h3_wire.proofs.stream.write_buf.WriteBufBuf.advance.Goals.{in-Some, in_default}
