@@ -103,19 +103,13 @@ impl Index {
     pub(crate) fn newest(&self, slot: usize) -> usize
         ensures { result ≡ slice_index_or self.now.heads.items slot 0 }
     {
-        match self.heads.get(slot) {
-            Some(number) => *number,
-            None => 0,
-        }
+        self.heads.get(slot).copied().unwrap_or(0)
     }
 
     /// The number of the next older entry of the slot of the entry at a place, as `newest` gives it.
     pub(crate) fn older(&self, place: usize) -> usize
         ensures { result ≡ slice_index_or self.now.links.items place 0 }
     {
-        match self.links.get(place) {
-            Some(number) => *number,
-            None => 0,
-        }
+        self.links.get(place).copied().unwrap_or(0)
     }
 }
