@@ -33,3 +33,4 @@ pub mod SectionAnswer
 pub mod InstructionAnswer
 pub mod ReadBack
 pub mod Decoding
+pub mod ErrorTexts

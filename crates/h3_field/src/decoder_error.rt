@@ -1,5 +1,6 @@
 //! Why a decoder refuses a field section or an instruction.
-ghost use Rattle.std.specs.Prelude.{◌≡◌};
+ghost use Rattle.std.specs.Prelude.{◌≡◌, Some};
+ghost use Rattle.h3_field.specs.ErrorTexts.{decoder_text};
 ghost use Rattle.h3_field.specs.Errors.{decoder_string, decoder_dynamic, decoder_parse};
 ghost use Rattle.h3_field.specs.declared.decoder_error.DecoderError.TheVariants as error;
 
@@ -30,6 +31,8 @@ pub enum DecoderError {
 }
 
 impl fmt::Display for DecoderError {
+    ghost output = { λ e. Some (decoder_text e) };
+
     fn fmt<W: fmt::Write>(&self, f: &mut fmt::Formatter<W>) -> fmt::Result {
         match self {
             DecoderError::InvalidInteger(_) => write!(f, "InvalidInteger"),

@@ -1,5 +1,6 @@
 //! Why a call of the dynamic table is refused.
-ghost use Rattle.std.specs.Prelude.{◌≡◌};
+ghost use Rattle.std.specs.Prelude.{◌≡◌, Some};
+ghost use Rattle.h3_field.specs.ErrorTexts.{dynamic_text};
 ghost use Rattle.h3_field.specs.Errors.{of_address};
 ghost use Rattle.h3_field.specs.declared.dynamic.Error.TheVariants as error;
 
@@ -23,6 +24,8 @@ pub enum Error {
 }
 
 impl fmt::Display for Error {
+    ghost output = { λ e. Some (dynamic_text e) };
+
     fn fmt<W: fmt::Write>(&self, f: &mut fmt::Formatter<W>) -> fmt::Result {
         match self {
             Error::BadRelativeIndex(_) => write!(f, "BadRelativeIndex"),

@@ -1,5 +1,6 @@
 //! Why an encoder refuses a field section or an instruction.
-ghost use Rattle.std.specs.Prelude.{◌≡◌};
+ghost use Rattle.std.specs.Prelude.{◌≡◌, Some};
+ghost use Rattle.h3_field.specs.ErrorTexts.{encoder_text};
 ghost use Rattle.h3_field.specs.Errors.{encoder_string, encoder_dynamic, encoder_parse};
 ghost use Rattle.h3_field.specs.declared.encoder_error.EncoderError.TheVariants as error;
 
@@ -20,6 +21,8 @@ pub enum EncoderError {
 }
 
 impl fmt::Display for EncoderError {
+    ghost output = { λ e. Some (encoder_text e) };
+
     fn fmt<W: fmt::Write>(&self, f: &mut fmt::Formatter<W>) -> fmt::Result {
         match self {
             EncoderError::Insertion(_) => write!(f, "Insertion"),

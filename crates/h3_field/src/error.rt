@@ -1,5 +1,6 @@
 //! The error of either side.
-ghost use Rattle.std.specs.Prelude.{◌≡◌};
+ghost use Rattle.std.specs.Prelude.{◌≡◌, Some};
+ghost use Rattle.h3_field.specs.ErrorTexts.{error_text};
 ghost use Rattle.h3_field.specs.declared.error.Error.TheVariants as error;
 
 use crate::decoder_error::DecoderError;
@@ -14,6 +15,8 @@ pub enum Error {
 }
 
 impl fmt::Display for Error {
+    ghost output = { λ e. Some (error_text e) };
+
     fn fmt<W: fmt::Write>(&self, f: &mut fmt::Formatter<W>) -> fmt::Result {
         match self {
             Error::Encoder(_) => write!(f, "Encoder"),

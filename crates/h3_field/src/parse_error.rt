@@ -1,5 +1,6 @@
 //! Why a line, an instruction or a prefix is refused.
-ghost use Rattle.std.specs.Prelude.{◌≡◌};
+ghost use Rattle.std.specs.Prelude.{◌≡◌, Some};
+ghost use Rattle.h3_field.specs.ErrorTexts.{parse_text};
 ghost use Rattle.h3_field.specs.ShapeAnswer.{of_string};
 ghost use Rattle.h3_field.specs.declared.parse_error.ParseError.TheVariants as error;
 
@@ -22,6 +23,8 @@ pub enum ParseError {
 }
 
 impl fmt::Display for ParseError {
+    ghost output = { λ e. Some (parse_text e) };
+
     fn fmt<W: fmt::Write>(&self, f: &mut fmt::Formatter<W>) -> fmt::Result {
         match self {
             ParseError::Integer(_) => write!(f, "Integer"),

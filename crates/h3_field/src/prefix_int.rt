@@ -1,5 +1,6 @@
 //! Prefixed integers (RFC 9204, section 4.1.1; RFC 7541, section 5.1).
-ghost use Rattle.std.specs.Prelude.{◌≡◌, ◌+◌, ◌-◌, ◌^◌, ◌<◌, ◌≤◌, ℕ, List, ◌++◌, OnOk, OnErr, IfOk, Result, length, MatchOption, ◌*◌, ◌∷◌, take};
+ghost use Rattle.std.specs.Prelude.{◌≡◌, ◌+◌, ◌-◌, ◌^◌, ◌<◌, ◌≤◌, ℕ, List, ◌++◌, OnOk, OnErr, IfOk, Result, length, MatchOption, ◌*◌, ◌∷◌, take, Some};
+ghost use Rattle.h3_field.specs.ErrorTexts.{integer_text};
 ghost use Rattle.h3_field.specs.Integer.{prefixed, ones, groups};
 ghost use Rattle.h3_field.specs.IntegerReading.{integer, integer_limit};
 ghost use Rattle.h3_field.specs.IntegerAnswer.{AnswersInteger};
@@ -18,6 +19,8 @@ pub enum Error {
 }
 
 impl fmt::Display for Error {
+    ghost output = { λ e. Some (integer_text e) };
+
     fn fmt<W: fmt::Write>(&self, f: &mut fmt::Formatter<W>) -> fmt::Result {
         match self {
             Error::Overflow => write!(f, "Overflow"),

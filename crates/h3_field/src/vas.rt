@@ -1,5 +1,6 @@
 //! Numbers of the dynamic table's entries (RFC 9204, sections 3.2.4 to 3.2.6). The first insertion is number 1.
-ghost use Rattle.std.specs.Prelude.{◌≡◌, ◌↔◌, ◌+◌, ◌-◌, ◌^◌, ◌<◌, ◌≤◌, IsTrue, MatchResult};
+ghost use Rattle.std.specs.Prelude.{◌≡◌, ◌↔◌, ◌+◌, ◌-◌, ◌^◌, ◌<◌, ◌≤◌, IsTrue, MatchResult, Some};
+ghost use Rattle.h3_field.specs.ErrorTexts.{address_text};
 ghost use Rattle.h3_field.specs.Addresses.{Names, NamesNone};
 ghost use Rattle.h3_field.specs.declared.vas.Error.TheVariants as error;
 
@@ -21,6 +22,8 @@ pub enum Error {
 }
 
 impl fmt::Display for Error {
+    ghost output = { λ e. Some (address_text e) };
+
     fn fmt<W: fmt::Write>(&self, f: &mut fmt::Formatter<W>) -> fmt::Result {
         match self {
             Error::RelativeIndex(_) => write!(f, "RelativeIndex"),

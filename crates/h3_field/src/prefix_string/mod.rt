@@ -1,6 +1,7 @@
 //! String literals (RFC 9204, section 4.1.2; RFC 7541, section 5.2): as they stand or Huffman coded, behind
 //! their length.
-ghost use Rattle.std.specs.Prelude.{◌≡◌, ◌+◌, ◌*◌, ◌-◌, ◌^◌, ◌<◌, ◌≤◌, ℕ, List, ◌++◌, OnOk, OnErr, Result, length, take};
+ghost use Rattle.std.specs.Prelude.{◌≡◌, ◌+◌, ◌*◌, ◌-◌, ◌^◌, ◌<◌, ◌≤◌, ℕ, List, ◌++◌, OnOk, OnErr, Result, length, take, Some};
+ghost use Rattle.h3_field.specs.ErrorTexts.{string_text};
 ghost use Rattle.std.specs.Result.{IsOkUnless};
 ghost use Rattle.h3_huffman.specs.Huffman.{huffman};
 ghost use Rattle.h3_field.specs.StringLiteral.{string_literal};
@@ -39,6 +40,8 @@ pub enum Error {
 }
 
 impl fmt::Display for Error {
+    ghost output = { λ e. Some (string_text e) };
+
     fn fmt<W: fmt::Write>(&self, f: &mut fmt::Formatter<W>) -> fmt::Result {
         match self {
             Error::UnexpectedEnd => write!(f, "UnexpectedEnd"),

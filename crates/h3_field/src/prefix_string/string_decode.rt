@@ -1,5 +1,6 @@
 //! The bytes of a Huffman encoding, one by one.
-ghost use Rattle.std.specs.Prelude.{◌≡◌, ℕ, List, IfOk};
+ghost use Rattle.std.specs.Prelude.{◌≡◌, ℕ, List, IfOk, Some};
+ghost use Rattle.h3_field.specs.ErrorTexts.{huffman_text};
 ghost use Rattle.std.specs.Iterator.{YieldsFirst, item_count};
 ghost use Rattle.h3_field.specs.Decoding.{DecodesTo};
 
@@ -22,6 +23,8 @@ pub enum Error {
 }
 
 impl fmt::Display for Error {
+    ghost output = { λ e. Some (huffman_text e) };
+
     fn fmt<W: fmt::Write>(&self, f: &mut fmt::Formatter<W>) -> fmt::Result {
         match self {
             Error::MissingBits(_) => write!(f, "MissingBits"),

@@ -1,5 +1,5 @@
 //! The Huffman encoding of a string.
-ghost use Rattle.std.specs.Prelude.{◌≡◌, ◌^◌, ◌<◌, IfOk, length, ℕ, List};
+ghost use Rattle.std.specs.Prelude.{◌≡◌, ◌^◌, ◌<◌, IfOk, length, ℕ, List, Some, codes};
 ghost use Rattle.h3_huffman.specs.Huffman.{huffman};
 
 use std::alloc::Global;
@@ -10,6 +10,8 @@ use std::fmt;
 pub struct Error;
 
 impl fmt::Display for Error {
+    ghost output = { λ e. Some (codes "out of memory") };
+
     fn fmt<W: fmt::Write>(&self, f: &mut fmt::Formatter<W>) -> fmt::Result {
         write!(f, "out of memory")
     }

@@ -1,6 +1,7 @@
 //! The static table (RFC 9204, appendix A). A hash that tells its names apart and one that tells its entries apart
 //! find an entry by one look.
 ghost use Rattle.std.specs.Prelude.{◌≡◌, ◌<◌, ◌≤◌, length, Some, MatchResult, IfSome, slice_get};
+ghost use Rattle.h3_field.specs.ErrorTexts.{static_text};
 ghost use Rattle.h3_field.specs.StaticTable.{static_table, static_field, static_name, NamesEntry};
 ghost use Rattle.h3_field.specs.StaticHash.{name_hash, field_hash};
 ghost use Rattle.h3_field.specs.StaticSlots.{name_slot, name_of, name_start, name_part, field_slot, value_of, value_start, value_part};
@@ -21,6 +22,8 @@ pub enum Error {
 }
 
 impl fmt::Display for Error {
+    ghost output = { λ e. Some (static_text e) };
+
     fn fmt<W: fmt::Write>(&self, f: &mut fmt::Formatter<W>) -> fmt::Result {
         match self {
             Error::Unknown(_) => write!(f, "Unknown"),
