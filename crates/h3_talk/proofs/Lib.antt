@@ -1,3 +1,11 @@
+pub mod Lines
+pub mod Fields
+pub mod Denials
+pub mod Requests
+pub mod Pieces
+pub mod Numbers
+pub mod Scripts
+pub mod ScriptSums
 pub mod Sections
 pub mod Frames
 pub mod Reading
@@ -8,4 +16,3 @@ pub mod Standing
 pub mod Events
 pub mod Pulls
 pub mod Starts
-pub mod Sent
