@@ -99,7 +99,7 @@ lines_name P s fields all =
     (fields_named P s (record { inserted = s.inserted; instructions = []; lines = []; references = [] }) fields (record { longer = omega arith; each = λ none. tt })).each all
 
 -- an entry that is not gone is found where it is held
-still_held : (fs : List Field) (gone number : ℕ) (f : Field) → gone < number → gone ≤ length fs → insertion_at fs number ≡ Some f
+pub still_held : (fs : List Field) (gone number : ℕ) (f : Field) → gone < number → gone ≤ length fs → insertion_at fs number ≡ Some f
     → slice_get (drop gone fs) (number - gone - 1) ≡ Some f
 still_held fs gone zero f lt le h = absurd (omega (arith, lt))
 still_held fs gone (suc n) f lt le h = let same : suc n - gone - 1 ≡ n - gone = omega (arith, lt) in rw same (at fs gone n (omega (arith, lt)) h)

@@ -33,7 +33,7 @@ read_on start mid new bytes left rest h one =
       table = having_read_all-append (Some start) h.instructions (one.i ∷ []) ∙ ap (λ o. having_read_all o (one.i ∷ [])) h.table ∙ one.table;
     }
 
-longer_instruction : (bytes rest more : List ℕ) (i : EncoderInstruction) → HasInstruction bytes i rest → HasInstruction (bytes ++ more) i (rest ++ more)
+pub longer_instruction : (bytes rest more : List ℕ) (i : EncoderInstruction) → HasInstruction bytes i rest → HasInstruction (bytes ++ more) i (rest ++ more)
 longer_instruction bytes rest more i h =
     let stays = instruction_stable bytes more in
     record { form = h.form; whole = rw h.whole at stays; says = h.says }

@@ -26,4 +26,5 @@ pub mod Increments
 pub mod Encodings
 pub mod Exchange
 pub mod SessionInside
+pub mod Expected
 pub mod Worked

@@ -1,0 +1,192 @@
+-- The decoder's stream, which the encoder reads without a refusal.
+use Rattle.std.proofs.Common.{◌≡◌, inl, inr, ℕ, zero, suc, ◌+◌, ◌-◌, ◌<◌, ◌≤◌, Bool, true, false, not, ◌||◌, List, [], ◌∷◌, ◌++◌, length, take, drop, refl, sym, ◌∙◌, ap, subst, arith, length-append, length-drop, append_assoc, flat_map, if◌then◌else◌}
+use Rattle.std.specs.Prelude.{◌==◌}
+use Rattle.std.specs.List.{AllByRecursion, list_any}
+use Rattle.std.proofs.lemmas.Grind.{common_steps, flat_map-append}
+use Rattle.std.proofs.lemmas.List.{take-append-drop, take_at, length-take-le}
+use Rattle.std.proofs.Math.Seq.{drop-append_seam}
+use Rattle.h3_field.specs.Reading.{Whole, Bad}
+use Rattle.h3_field.specs.Instruction.{DecoderInstruction, decoder_bytes}
+use Rattle.h3_field.specs.Instruction.DecoderInstruction.{Acknowledge, CancelStream, Increment}
+use Rattle.h3_field.specs.InstructionReading.{decoder_instruction}
+use Rattle.h3_field.specs.InstructionAnswer.{IsReply}
+use Rattle.h3_field.specs.InstructionLaws.{decoder_instruction_stable}
+use Rattle.h3_field.proofs.ReadBack.{reply_reads_back}
+use Rattle.h3_field.proofs.Sections.{whole_same}
+use Rattle.h3_qpack.specs.Sender.{Sender, Tracked, told, told_all, is_refused}
+use Rattle.h3_qpack.specs.Instructions.{AreDecoderInstructions, NoDecoderInstruction, NextDecoderInstruction, BeginsRefused}
+use Rattle.h3_qpack.specs.Session.{Session, IsSound, tracked_references, acknowledgements, after_decoder_instruction}
+use Rattle.h3_qpack.specs.Exchange.{Stream, unread, waiting, arriving, reading}
+use Rattle.h3_qpack.proofs.Drafts.{All-second}
+use Rattle.h3_qpack.proofs.Sessions.{reply_read}
+use Rattle.h3_qpack.proofs.Forth.{behind_front}
+
+pub record FrontHeard (all : List DecoderInstruction) (n : ℕ) (is : List DecoderInstruction) (left : List ℕ) : Type 0 where
+  pub count : ℕ
+  pub within : count ≤ length all
+  pub are : is ≡ take count all
+  pub fits : length (flat_map decoder_bytes (take count all)) ≤ n
+  pub left_is : left ≡ take (n - length (flat_map decoder_bytes (take count all))) (flat_map decoder_bytes (drop count all))
+
+nothing_heard : (bytes rest : List ℕ) (i : DecoderInstruction) → bytes ≡ [] → decoder_instruction bytes ≡ Whole i rest → ⊥
+nothing_heard bytes rest i e here = let none = rw e at here in cc
+
+first_heard : (j : DecoderInstruction) (all : List DecoderInstruction) (n : ℕ) (bytes rest : List ℕ) (i : DecoderInstruction) → IsReply j → n ≤ length (flat_map decoder_bytes (j ∷ all))
+    → bytes ≡ take n (flat_map decoder_bytes (j ∷ all)) → decoder_instruction bytes ≡ Whole i rest
+    → (i ≡ j) × (length (decoder_bytes j) ≤ n) × (rest ≡ take (n - length (decoder_bytes j)) (flat_map decoder_bytes all))
+first_heard j all n bytes rest i w fits e here =
+    let text = decoder_bytes j ++ flat_map decoder_bytes all in
+    let more = drop n text in
+    let whole : bytes ++ more ≡ text = ap (λ b. b ++ more) e ∙ take-append-drop n text in
+    let stable = decoder_instruction_stable bytes more in
+    let long : decoder_instruction (bytes ++ more) ≡ Whole i (rest ++ more) = rw here at stable in
+    let one = whole_same i j (rest ++ more) (flat_map decoder_bytes all) (sym long ∙ ap decoder_instruction whole ∙ reply_reads_back j (flat_map decoder_bytes all) w) in
+    let sizes : length rest + (length text - n) ≡ length (flat_map decoder_bytes all) = omega (arith, ap length one.1, length-append rest more, length-drop n text) in
+    let place : length rest ≡ n - length (decoder_bytes j) = omega (arith, sizes, fits, length-append (decoder_bytes j) (flat_map decoder_bytes all)) in
+    (
+      one.0,
+      omega (arith, sizes, fits, length-append (decoder_bytes j) (flat_map decoder_bytes all)),
+      sym (take_at rest more (n - length (decoder_bytes j)) place) ∙ ap (take (n - length (decoder_bytes j))) one.1,
+    )
+
+pub front_heard : (all : List DecoderInstruction) (n : ℕ) (bytes left : List ℕ) (is : List DecoderInstruction) → AllByRecursion IsReply all → n ≤ length (flat_map decoder_bytes all)
+    → bytes ≡ take n (flat_map decoder_bytes all) → AreDecoderInstructions bytes is left → FrontHeard all n is left
+front_heard all n bytes left [] w fits e (NoDecoderInstruction b) =
+    let same : n - 0 ≡ n = omega arith in
+    record { count = 0; within = omega arith; are = refl; fits = omega arith; left_is = rw same e }
+front_heard [] n bytes left (i ∷ is) w fits e (NextDecoderInstruction b rest l k ks here others) =
+    let none : n ≡ 0 = omega (arith, fits) in
+    absurd (nothing_heard bytes rest i (e ∙ ap (λ m. take m []) none) here)
+front_heard (j ∷ all) n bytes left (i ∷ is) w fits e (NextDecoderInstruction b rest l k ks here others) =
+    let f = first_heard j all n bytes rest i w.0 fits e here in
+    let later = front_heard all (n - length (decoder_bytes j)) rest left is w.1 (omega (arith, fits, length-append (decoder_bytes j) (flat_map decoder_bytes all))) f.2 others in
+    let sum = length-append (decoder_bytes j) (flat_map decoder_bytes (take later.count all)) in
+    let same : n - length (decoder_bytes j) - length (flat_map decoder_bytes (take later.count all)) ≡ n - length (decoder_bytes j ++ flat_map decoder_bytes (take later.count all)) = omega (arith, sum) in
+    record {
+      count = suc later.count;
+      within = omega (arith, later.within);
+      are = ap (λ x. x ∷ is) f.0 ∙ ap (λ xs. j ∷ xs) later.are;
+      fits = omega (arith, later.fits, f.1, sum);
+      left_is = later.left_is ∙ ap (λ m. take m (flat_map decoder_bytes (drop later.count all))) same;
+    }
+
+take_none : (n : ℕ) → ◌≡◌ {A = List ℕ} (take n []) []
+take_none zero = refl
+take_none (suc n) = refl
+
+nothing_refused : (s : Sender) (bytes : List ℕ) → bytes ≡ [] → BeginsRefused s bytes → ⊥
+nothing_refused s bytes e (inl bad) = let none = rw e at bad in cc
+nothing_refused s bytes e (inr whole) = let none = rw e at whole.2 in cc
+
+-- A front of what was written begins with nothing that is refused, where the first one is accepted.
+none_refused : (all : List DecoderInstruction) (n : ℕ) (s : Sender) → AllByRecursion IsReply all → ((j : DecoderInstruction) (js : List DecoderInstruction) → all ≡ j ∷ js → is_refused s j ≡ false)
+    → BeginsRefused s (take n (flat_map decoder_bytes all)) → ⊥
+none_refused [] n s w next h = nothing_refused s (take n []) (take_none n) h
+none_refused (j ∷ js) n s w next h = by_kind h
+  where
+    text : List ℕ
+    text = decoder_bytes j ++ flat_map decoder_bytes js
+
+    own : decoder_instruction text ≡ Whole j (flat_map decoder_bytes js)
+    own = reply_reads_back j (flat_map decoder_bytes js) w.0
+
+    whole_text : take n text ++ drop n text ≡ text
+    whole_text = take-append-drop n text
+
+    by_kind : BeginsRefused s (take n text) → ⊥
+    by_kind (inl bad) =
+        let stable = decoder_instruction_stable (take n text) (drop n text) in
+        let stays = rw (bad, whole_text, own) at stable in cc
+    by_kind (inr (i, rest, whole, refused)) =
+        let stable = decoder_instruction_stable (take n text) (drop n text) in
+        let stays = rw (whole, whole_text) at stable in
+        let one = whole_same i j (rest ++ drop n text) (flat_map decoder_bytes js) (sym stays ∙ own) in
+        let accepted : is_refused s i ≡ false = ap (is_refused s) one.0 ∙ next j js refl in cc
+
+-- an acknowledgment under way finds a section
+tracked_found : (stream : ℕ) (ts : List Tracked) → 0 < length (tracked_references stream ts) → list_any (λ block. block.stream == stream) ts ≡ true
+tracked_found stream [] h = absurd (omega (arith, h))
+tracked_found stream (t ∷ ts) h = by_test (t.stream == stream) refl h (tracked_found stream ts)
+  where
+    or_right : (a : Bool) → (a || true) ≡ true
+    or_right true = refl
+    or_right false = refl
+
+    by_test : (b : Bool) → (t.stream == stream) ≡ b → 0 < length (if b then t.references ∷ tracked_references stream ts else tracked_references stream ts)
+        → (0 < length (tracked_references stream ts) → list_any (λ block. block.stream == stream) ts ≡ true) → list_any (λ block. block.stream == stream) (t ∷ ts) ≡ true
+    by_test true e h later = rw e refl
+    by_test false e h later = rw (later h) (or_right (t.stream == stream))
+
+accepted_next : (s : Session) (j : DecoderInstruction) (js : List DecoderInstruction) → IsSound s → s.decoder_instructions ≡ j ∷ js → is_refused s.sender j ≡ false
+accepted_next s (Acknowledge stream) js h e =
+    let enough = subst (λ is. acknowledgements stream is ≤ length (tracked_references stream s.sender.tracked)) e (h.acknowledged stream) in
+    let own : ◌≡◌ {A = ℕ} (if stream == stream then 1 else 0) 1 = grind (arith, common_steps) in
+    let found = tracked_found stream s.sender.tracked (omega (arith, enough, own)) in
+    ap not found
+accepted_next s (CancelStream stream) js h e = refl
+accepted_next s (Increment count) js h e = refl
+
+-- the session after so many of the decoder's instructions
+abbrev pub heard_so : Session → ℕ → Session
+heard_so s count = record s { sender = told_all s.sender (take count s.decoder_instructions); decoder_instructions = drop count s.decoder_instructions }
+
+pub heard_sound : (count : ℕ) (s : Session) → IsSound s → IsSound (heard_so s count)
+heard_sound zero s h = h
+heard_sound (suc count) s h = by_list s.decoder_instructions refl (λ t k. heard_sound count t k)
+  where
+    by_list : (is : List DecoderInstruction) → s.decoder_instructions ≡ is → ((t : Session) → IsSound t → IsSound (heard_so t count)) → IsSound (heard_so s (suc count))
+    by_list [] e further =
+        let same : s ≡ heard_so s (suc count) = rw (e, ← e) refl in
+        subst IsSound same h
+    by_list (i ∷ is) e further =
+        let later = further (after_decoder_instruction s i is) (reply_read s i is e h) in
+        let same : heard_so (after_decoder_instruction s i is) count ≡ heard_so s (suc count) =
+        ap (λ js. record s { sender = told_all s.sender (take (suc count) js); decoder_instructions = drop (suc count) js }) (sym e) in
+        subst IsSound same later
+
+-- The stream holds what was read, and then the instructions that are under way.
+pub record Back (t : Stream) (pending : List DecoderInstruction) : Type 0 where
+  pub heard : List ℕ
+  pub told : t.bytes ≡ heard ++ flat_map decoder_bytes pending
+  pub replies : AllByRecursion IsReply pending
+  pub read : t.read ≡ length heard
+  pub before : t.read ≤ t.arrived
+  pub after : t.arrived ≤ length t.bytes
+
+pub record HeardMore (s : Session) (t : Stream) (is : List DecoderInstruction) (left : List ℕ) : Type 0 where
+  pub count : ℕ
+  pub are : is ≡ take count s.decoder_instructions
+  pub back : Back (reading t (length left)) (drop count s.decoder_instructions)
+  pub not_refused : BeginsRefused (told_all s.sender is) left → ⊥
+
+-- More bytes come, and what is whole is read.
+pub back_reads : (s : Session) (t : Stream) (more : ℕ) (is : List DecoderInstruction) (left : List ℕ) → IsSound s → Back t s.decoder_instructions → more ≤ waiting t
+    → AreDecoderInstructions (unread (arriving t more)) is left → HeardMore s (arriving t more) is left
+back_reads s t more is left sound b enough h =
+    let pending = s.decoder_instructions in
+    let n = t.arrived + more - t.read in
+    let split = ap length b.told ∙ length-append b.heard (flat_map decoder_bytes pending) in
+    let here : unread (arriving t more) ≡ take n (flat_map decoder_bytes pending) =
+    ap (λ bs. take n (drop t.read bs)) b.told ∙ ap (λ k. take n (drop k (b.heard ++ flat_map decoder_bytes pending))) b.read ∙ ap (take n) (drop-append_seam b.heard (flat_map decoder_bytes pending)) in
+    let front = front_heard pending n (unread (arriving t more)) left is b.replies (omega (arith, enough, split, b.read, b.after, b.before)) here h in
+    let parts = behind_front decoder_bytes front.count pending in
+    let split_rest = ap length parts ∙ length-append (flat_map decoder_bytes (take front.count pending)) (flat_map decoder_bytes (drop front.count pending)) in
+    let left_len : length left ≡ n - length (flat_map decoder_bytes (take front.count pending)) =
+    ap length front.left_is ∙ length-take-le _ (flat_map decoder_bytes (drop front.count pending)) (omega (arith, enough, split, split_rest, b.read, b.after, b.before)) in
+    let replies : AllByRecursion IsReply (drop front.count pending) = All-second IsReply (take front.count pending) (drop front.count pending) (subst (AllByRecursion IsReply) (sym (take-append-drop front.count pending)) b.replies) in
+    record {
+      count = front.count;
+      are = front.are;
+      back = record {
+        heard = b.heard ++ flat_map decoder_bytes (take front.count pending);
+        told = b.told ∙ ap (λ bs. b.heard ++ bs) parts ∙ sym (append_assoc b.heard (flat_map decoder_bytes (take front.count pending)) (flat_map decoder_bytes (drop front.count pending)));
+        replies = replies;
+        read = omega (arith, left_len, b.read, b.before, front.fits, length-append b.heard (flat_map decoder_bytes (take front.count pending)));
+        before = omega arith;
+        after = omega (arith, enough, b.after);
+      };
+      not_refused = λ refused. none_refused (drop front.count pending) (n - length (flat_map decoder_bytes (take front.count pending))) (told_all s.sender (take front.count pending)) replies
+          (λ j js e. accepted_next (heard_so s front.count) j js (heard_sound front.count s sound) e)
+          (subst (λ js. BeginsRefused (told_all s.sender js) (take (n - length (flat_map decoder_bytes (take front.count pending))) (flat_map decoder_bytes (drop front.count pending)))) front.are
+          (subst (BeginsRefused (told_all s.sender is)) front.left_is refused));
+    }
