@@ -146,7 +146,7 @@ StandFor-take fs n base [] (f ∷ fields) le h = h
 StandFor-take fs n base (l ∷ ls) [] le h = h
 
 -- what holds of each block holds of the oldest
-oldest_holds : (P : UnderWay → Type 0) (stream : ℕ) (blocks : List UnderWay) (b : UnderWay) → AllByRecursion P blocks → oldest stream blocks ≡ Some b → P b
+pub oldest_holds : (P : UnderWay → Type 0) (stream : ℕ) (blocks : List UnderWay) (b : UnderWay) → AllByRecursion P blocks → oldest stream blocks ≡ Some b → P b
 oldest_holds P stream [] b h e = cc
 oldest_holds P stream (x ∷ xs) b h e = by_test (x.stream == stream) h.0 e (λ k. oldest_holds P stream xs b h.1 k)
   where
@@ -226,7 +226,7 @@ greatest_holds P a (x ∷ xs) h = ⊎_elim
     which : (a x : ℕ) → (max a x ≡ a) ⊎ (max a x ≡ x)
     which a x = grind (arith, common_steps)
 
-count_holds : (P : ℕ → Type 0) (names : List ℕ) → 0 < fold max 0 names → AllByRecursion P names → P (fold max 0 names)
+pub count_holds : (P : ℕ → Type 0) (names : List ℕ) → 0 < fold max 0 names → AllByRecursion P names → P (fold max 0 names)
 count_holds P names above h = ⊎_elim (λ e. absurd (omega (arith, e, above))) (λ p. p) (greatest_holds P 0 names h)
 
 -- The encoded count of a block that is tried stands for its count, at whatever moment.

@@ -166,7 +166,7 @@ lines_plain h fs base [] (f ∷ fields) none e = e
 lines_plain h fs base (l ∷ ls) [] none e = e
 
 -- the prefix that is written is read
-prefix_read : (capacity count base : ℕ) (rest : List ℕ) → count < 2 ^ 62 → base < 2 ^ 62 → prefix (prefix_bytes capacity count base ++ rest) ≡ Whole (written_prefix capacity count base) rest
+pub prefix_read : (capacity count base : ℕ) (rest : List ℕ) → count < 2 ^ 62 → base < 2 ^ 62 → prefix (prefix_bytes capacity count base ++ rest) ≡ Whole (written_prefix capacity count base) rest
 prefix_read capacity count base rest few low =
     ap (λ bytes. prefix (bytes ++ rest)) (prefix_is_written capacity count base) ∙ prefix_reads_back (written_prefix capacity count base) rest (encoded_fits (count == 0)) (delta_fits (count == 0))
   where
