@@ -54,7 +54,7 @@ run_is_sound : (s : Session) (events : List SessionEvent) (new : Session) → Is
 run_is_sound s [] new h r = subst IsSound (sym r) h
 run_is_sound s (event ∷ events) new h r = run_is_sound r.0 events new (step_is_sound s event r.0 h r.1) r.2
 
-beginning_is_sound : (capacity limit : ℕ) → IsSound (beginning capacity limit)
+pub beginning_is_sound : (capacity limit : ℕ) → IsSound (beginning capacity limit)
 beginning_is_sound capacity limit =
     record {
       received = omega arith;
