@@ -6,6 +6,11 @@ ghost use Rattle.std.specs.List.{AllByRecursion, list_any};
 ghost use Rattle.h3_field.specs.Field.{section_size};
 ghost use Rattle.h3_qpack.specs.Meaning.{MeansFields};
 ghost use Rattle.h3_qpack.specs.SectionAnswers.{IsRefusal};
+ghost use Rattle.h3_qpack.specs.Sender.{blocks_out};
+ghost use Rattle.h3_qpack.specs.Session as sessions;
+ghost use Rattle.h3_qpack.specs.Session.{IsSound};
+ghost use Rattle.h3_qpack.specs.Schedule.{beginning};
+ghost use Rattle.h3_qpack.specs.Expected.{Expected};
 ghost use Rattle.h3_qpack.specs.Exchange.{Ends, Kept, kept, start, is_given_up, is_of, Encodes, DeliversForth, DeliversBack, Decodes, Cancels, Happens, Exchange, IsEvent, IsPlace, refused_section, IsNoBeginning, IsNoRun};
 
 use crate::block::Block;
@@ -303,6 +308,7 @@ pub fn run(
 ) -> Result<Vec<SessionAnswer>, Error>
     requires { AllByRecursion IsEvent events.now }
     ensures ok { IfOk result (λ answers. (end : Ends) × Exchange (start capacity blocked) events.now answers.items end) }
+    ensures expected { IfOk result (λ answers. (s : sessions.Session) × Expected (beginning capacity blocked) events.now answers.items s × IsSound s × (blocks_out s.sender ≤ blocked)) }
     ensures err { IfErr result (IsNoRun capacity blocked) }
 {
     let mut session = Session::begin(alloc, capacity, blocked)?;
