@@ -10,10 +10,10 @@ use Rattle.h3_qpack.specs.Encodings.{IsWrittenInstruction}
 use Rattle.h3_qpack.specs.History.{IsReadAs}
 use Rattle.h3_qpack.specs.Receiver.{Receiver, announcing, having_read, having_read_all}
 use Rattle.h3_qpack.specs.Instructions.{HasRead, BeginsBad}
-use Rattle.h3_qpack.specs.Exchange.{Stream, unread, waiting, arriving, reading}
+use Rattle.h3_qpack.specs.Exchange.{Stream, opening, unread, waiting, arriving, reading}
 use Rattle.h3_qpack.proofs.Drafts.{All-second}
 use Rattle.h3_qpack.proofs.Hearing.{having_read_all-append}
-use Rattle.h3_qpack.proofs.TablesRead.{receiver_at, opening, AtRead, at_read}
+use Rattle.h3_qpack.proofs.TablesRead.{receiver_at, AtRead, at_read}
 use Rattle.h3_qpack.proofs.FrontsRead.{ReadFront, front_read, no_bad}
 
 pub take_further : {X : Type 0} (k m : ℕ) (xs : List X) → take (k + m) xs ≡ take k xs ++ take m (drop k xs)

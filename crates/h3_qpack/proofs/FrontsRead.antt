@@ -21,7 +21,7 @@ pub record ReadFront (all : List EncoderInstruction) (n : ℕ) (is : List Encode
   pub fits : length (flat_map encoder_bytes (take count all)) ≤ n
   pub left_is : left ≡ take (n - length (flat_map encoder_bytes (take count all))) (flat_map encoder_bytes (drop count all))
 
-nothing_read : (bytes rest : List ℕ) (i : EncoderInstruction) → bytes ≡ [] → HasInstruction bytes i rest → ⊥
+pub nothing_read : (bytes rest : List ℕ) (i : EncoderInstruction) → bytes ≡ [] → HasInstruction bytes i rest → ⊥
 nothing_read bytes rest i e h = let none = rw e at h.whole in cc
 
 -- the first instruction that is read is the first that was written

@@ -31,7 +31,7 @@ use Rattle.h3_qpack.specs.Increments.{increment_for}
 use Rattle.h3_qpack.specs.Encodings.{IsWrittenLine, IsWrittenInstruction, IsWritten, decoder_of}
 use Rattle.h3_qpack.specs.Session.{Session, UnderWay, IsSound, is_canceled, oldest, without_oldest, count_of, encoded, inserted, decoded, after_cancellation}
 use Rattle.h3_qpack.specs.Schedule.{beginning, without_block}
-use Rattle.h3_qpack.specs.Exchange.{Stream, no_bytes, EncodedBlock, Ends, waiting, writing, arriving, reading, start, is_given_up, is_of, block_of, without_block_of, AreHeld, DecoderReads, EncoderReads, HasBlock, Encodes, DeliversForth, DeliversBack, Decodes, Cancels, giving_up, IsEvent, Happens, Exchange, Before, Then}
+use Rattle.h3_qpack.specs.Exchange.{Stream, opening, no_bytes, EncodedBlock, Ends, waiting, writing, arriving, reading, start, is_given_up, is_of, block_of, without_block_of, AreHeld, DecoderReads, EncoderReads, HasBlock, Encodes, DeliversForth, DeliversBack, Decodes, Cancels, giving_up, IsEvent, Happens, Exchange, Before, Then}
 use Rattle.h3_qpack.specs.Expected.{EncodesTo, ReadsInsertions, DeliversInsertions, DeliversReplies, DecodesAs, CancelsAs, Expects, Expected, NoEvent, NextEvent}
 use Rattle.h3_qpack.specs.declared.session.SessionEvent.{SessionEvent}
 use Rattle.h3_qpack.specs.declared.session.SessionEvent.TheVariants as event
@@ -41,7 +41,7 @@ use Rattle.h3_qpack.proofs.Drafts.{All-join}
 use Rattle.h3_qpack.proofs.Schedules.{beginning_is_sound}
 use Rattle.h3_qpack.proofs.Sessions.{block_written, insertions_kept, insertions_read, block_decoded, stream_abandoned}
 use Rattle.h3_qpack.proofs.Decoding.{oldest_holds}
-use Rattle.h3_qpack.proofs.TablesRead.{receiver_at, opening}
+use Rattle.h3_qpack.proofs.TablesRead.{receiver_at}
 use Rattle.h3_qpack.proofs.Forth.{Forth, Further, forth_is, forth_count, forth_reads}
 use Rattle.h3_qpack.proofs.Back.{Back, HeardMore, heard_so, heard_sound, back_reads}
 use Rattle.h3_qpack.proofs.DecodesAgree.{IsDecoderOf, decodes_right, misses_right, none_bad}

@@ -13,6 +13,7 @@ use Rattle.h3_qpack.specs.Block.{insertion_at}
 use Rattle.h3_qpack.specs.Held.{Held, gone, entry_at, has_room, with_entry}
 use Rattle.h3_qpack.specs.History.{History, held, still_at, field_inserted, longer, further, further_all, table_of, IsReadAs}
 use Rattle.h3_qpack.specs.Receiver.{Receiver, announcing, insertion_of, inserting, having_read, having_read_all}
+use Rattle.h3_qpack.specs.Exchange.{opening}
 use Rattle.h3_qpack.specs.WholeInstructions.{is_insertion}
 use Rattle.h3_qpack.proofs.Kept.{held_of, table-end, with_entry-held}
 use Rattle.h3_qpack.proofs.Insertions.{further_all-append}
@@ -23,10 +24,6 @@ use Rattle.h3_qpack.proofs.Encodings.{still_held}
 -- a decoder that has read these insertions, and the capacity before them
 abbrev pub receiver_at : ℕ → List Field → Receiver
 receiver_at capacity inserted = record { announced = Some capacity; table = held (table_of capacity inserted) }
-
--- how the encoder's stream begins
-abbrev pub opening : ℕ → List EncoderInstruction
-opening capacity = if capacity == 0 then [] else SetCapacity capacity ∷ []
 
 held_is : (capacity : ℕ) (fs : List Field) → held (table_of capacity fs) ≡ held_of capacity fs
 held_is capacity fs = ap (λ es. record { capacity = capacity; entries = es; inserted = length fs }) (sym (table-end capacity fs))

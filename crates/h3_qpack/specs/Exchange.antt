@@ -72,6 +72,10 @@ pub record Ends : Type 0 where
   -- the streams that were given up
   pub canceled : List ℕ
 
+-- how an encoder's stream begins
+abbrev pub opening : ℕ → List EncoderInstruction
+opening capacity = if capacity == 0 then [] else SetCapacity capacity ∷ []
+
 -- an encoder and a decoder of that capacity, before anything
 abbrev pub start : ℕ → ℕ → Ends
 start capacity limit =

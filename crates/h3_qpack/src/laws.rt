@@ -1,6 +1,6 @@
 //! Laws over the definitions.
 
-ghost use Rattle.std.specs.Prelude.{◌≡◌, ℕ, ◌+◌, ◌*◌, ◌%◌, ◌<◌, ◌≤◌, false, List, Some};
+ghost use Rattle.std.specs.Prelude.{◌≡◌, ℕ, ◌+◌, ◌*◌, ◌%◌, ◌^◌, ◌<◌, ◌≤◌, false, List, Some};
 ghost use Rattle.std.specs.Prelude.{take, length, [], ◌++◌};
 ghost use Rattle.h3_qpack.specs.Receiver.{Receiver};
 ghost use Rattle.std.specs.Prelude.{flat_map};
@@ -14,6 +14,11 @@ ghost use Rattle.h3_qpack.specs.Encodings.{decoder_of, IsWritten, IsWrittenInstr
 ghost use Rattle.h3_field.specs.Prefix.{most_entries, IsRequiredCount};
 ghost use Rattle.h3_qpack.specs.Session.{Session, UnderWay, oldest, is_canceled, count_of, IsSound, DecodesTo};
 ghost use Rattle.h3_qpack.specs.Schedule.{SessionEvent, SessionRun, beginning};
+ghost use Rattle.h3_qpack.specs.Sender.{blocks_out};
+ghost use Rattle.h3_qpack.specs.Exchange.{Ends, Exchange, start, opening};
+ghost use Rattle.h3_qpack.specs.Expected.{Expected};
+ghost use Rattle.h3_qpack.specs.declared.session.SessionEvent.{SessionEvent as RunEvent};
+ghost use Rattle.h3_qpack.specs.declared.session.SessionAnswer.{SessionAnswer};
 
 /// Over every schedule, what is under way fits what both ends have.
 pub fn every_session_is_sound()
@@ -36,6 +41,21 @@ pub fn every_encoding_means_its_fields()
     ensures { (capacity limit : ℕ) (events : List SessionEvent) (s : Session) (b : UnderWay) → SessionRun (beginning capacity limit) events s →
         oldest b.stream s.blocks ≡ Some b → is_canceled s b.stream ≡ false → count_of b ≤ s.received → IsWritten s b →
         MeansFields (decoder_of s) (encoded_section b.sender b.fields) (count_of b) b.fields }
+{}
+
+/// Every run in bytes is a session, and answers what is expected of it: each decode exactly the fields that were encoded, or
+/// the count that was answered then, which is above the insertions read; and nothing is refused but for want of memory. Where
+/// the bytes of the first n insertions were read, n insertions were.
+pub fn every_run_answers_as_expected()
+    ensures { (capacity limit : ℕ) (events : List RunEvent) (answers : List SessionAnswer) (end : Ends) → capacity < 2 ^ 30 → Exchange (start capacity limit) events answers end →
+        (s : Session) × Expected (beginning capacity limit) events answers s
+        × ((n : ℕ) → n ≤ length s.instructions → length (flat_map encoder_bytes (opening capacity ++ take n s.instructions)) ≤ end.forth.read → n ≤ s.received) }
+{}
+
+/// After any number of events as expected, the session is sound, and at most the limit of its sections wait.
+pub fn every_expected_session_is_sound()
+    ensures { (capacity limit : ℕ) (events : List RunEvent) (answers : List SessionAnswer) (s : Session) → Expected (beginning capacity limit) events answers s →
+        IsSound s × (blocks_out s.sender ≤ limit) }
 {}
 
 /// After any number of the encoder's instructions a decoder's table is the encoder's after as many insertions.
