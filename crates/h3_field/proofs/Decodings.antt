@@ -1,8 +1,6 @@
 -- The items of a decoding.
-use Rattle.std.proofs.Common.{◌≡◌, ℕ, Bool, true, List, [], ◌∷◌, ◌++◌, map, drop, Result, Ok, Err, refl, ap, sym, ◌∙◌, append-nil}
-use Rattle.std.specs.List.{AllByRecursion}
-use Rattle.h3_huffman.specs.Huffman.{huffman}
-use Rattle.h3_huffman.specs.Payload.{IsByte, IsNoPayload}
+use Rattle.std.proofs.Common.{◌≡◌, ℕ, true, List, [], ◌∷◌, ◌++◌, map, Result, Ok, Err, refl, sym, ◌∙◌, append-nil}
+use Rattle.h3_huffman.specs.Payload.{IsNoPayload}
 use Rattle.h3_field.specs.StringReading.{StandsFor, StandsForNone}
 use Rattle.h3_field.specs.Decoding.{DecodesTo, Bytes, NoString}
 use Rattle.h3_field.specs.declared.prefix_string.string_decode.Error.{Error}

@@ -1,12 +1,12 @@
 -- A written section prefix is read back.
-use Rattle.std.proofs.Common.{◌≡◌, ◌⊎◌, ℕ, zero, suc, ◌+◌, ◌-◌, ◌*◌, ◌/◌, ◌%◌, ◌^◌, ◌<◌, ◌≤◌, ◌==◌, nat_lt, Bool, true, false, if◌then◌else◌, List, [], ◌∷◌, ◌++◌, refl, ap, sym, ◌∙◌, arith, inl, inr, append_assoc}
+use Rattle.std.proofs.Common.{◌≡◌, ℕ, zero, suc, ◌+◌, ◌*◌, ◌%◌, ◌<◌, ◌≤◌, ◌==◌, Bool, true, false, List, ◌++◌, refl, arith, inl, inr, append_assoc}
 use Rattle.std.proofs.lemmas.Bool.{lt-ltb, le-ltb, cases_lt, ne_eqb}
 use Rattle.h3_field.specs.Integer.{prefixed}
 use Rattle.h3_field.specs.IntegerReading.{integer_limit}
 use Rattle.h3_field.specs.IntegerLaws.{prefixed_read}
 use Rattle.h3_field.specs.Reading.{Whole}
 use Rattle.h3_field.specs.Prefix.{most_entries, prefix_bytes, IsRequiredCount}
-use Rattle.h3_field.specs.PrefixReading.{EncodedPrefix, prefix, IsPrefix, IsCount, IsBase}
+use Rattle.h3_field.specs.PrefixReading.{EncodedPrefix, prefix, IsPrefix}
 use Rattle.h3_field.specs.PrefixWriting.{written_prefix, encoded_bytes}
 
 reads : (encoded delta : ℕ) (sign : Bool) (rest : List ℕ) → encoded < integer_limit 8 → delta < integer_limit 7 → prefix (encoded_bytes (record { encoded = encoded; is_negative = sign; delta = delta }) ++ rest) ≡ Whole (record { encoded = encoded; is_negative = sign; delta = delta }) rest

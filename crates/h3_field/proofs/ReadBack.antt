@@ -1,17 +1,17 @@
 -- What is written is read back, whatever follows.
-use Rattle.std.proofs.Common.{◌≡◌, ◌⊎◌, ℕ, zero, suc, ◌+◌, ◌-◌, ◌*◌, ◌/◌, ◌%◌, ◌==◌, ◌^◌, ◌<◌, ◌≤◌, nat_le, nat_lt, Bool, true, false, ◌&&◌, if◌then◌else◌, List, [], ◌∷◌, ◌++◌, length, Option, Some, None, refl, ap, sym, ◌∙◌, arith, inl, inr, append_assoc, length-append}
+use Rattle.std.proofs.Common.{◌≡◌, ℕ, ◌+◌, ◌-◌, ◌*◌, ◌^◌, ◌<◌, ◌≤◌, nat_le, true, false, List, [], ◌∷◌, ◌++◌, length, refl, sym, ◌∙◌, arith, inl, inr, append_assoc, length-append}
 use Rattle.std.proofs.lemmas.Bool.{le-leb, lt-leb, lt-ltb, le-ltb, cases_lt, and_parts, leb-true}
 use Rattle.std.proofs.lemmas.Nat.{pow_pos}
 use Rattle.h3_huffman.specs.Huffman.{huffman}
 use Rattle.h3_field.specs.Integer.{prefixed, ones, groups}
 use Rattle.h3_field.specs.IntegerReading.{integer_limit}
 use Rattle.h3_field.specs.StringLiteral.{string_literal}
-use Rattle.h3_field.specs.StringReading.{Payload, StandsFor}
-use Rattle.h3_field.specs.Reading.{Reading, Whole}
+use Rattle.h3_field.specs.StringReading.{StandsFor}
+use Rattle.h3_field.specs.Reading.{Whole}
 use Rattle.h3_field.specs.Shapes.{begins}
 use Rattle.h3_field.specs.Line.{FieldLine, line_bytes}
 use Rattle.h3_field.specs.Line.FieldLine.{StaticField, RelativeField, PostBaseField, StaticName, RelativeName, PostBaseName, Literal}
-use Rattle.h3_field.specs.LineReading.{Indexed, PostBase, Named, PostBaseNamed, LiteralField, line, indexed, post_base, named, post_base_named, literal}
+use Rattle.h3_field.specs.LineReading.{Indexed, PostBase, Named, PostBaseNamed, LiteralField, line, post_base, post_base_named}
 use Rattle.h3_field.specs.LineLaws.{indexed_read, post_base_read, named_read, post_base_named_read, literal_read}
 use Rattle.h3_field.specs.LineAnswer.{IsWritable}
 use Rattle.h3_field.specs.Section.{HasLine}

@@ -1,18 +1,16 @@
 -- A written field section is read back, within the limit.
-use Rattle.std.proofs.Common.{◌≡◌, ◌⊎◌, ℕ, zero, suc, ◌+◌, ◌-◌, ◌*◌, ◌^◌, ◌<◌, ◌≤◌, min, nat_le, nat_lt, Bool, true, false, if◌then◌else◌, cond, List, [], ◌∷◌, ◌++◌, length, flat_map, position, bytes_eq, Option, Some, None, refl, ap, sym, ◌∙◌, arith, inl, inr, append_assoc, append-nil, length-append}
+use Rattle.std.proofs.Common.{◌≡◌, ℕ, suc, ◌+◌, ◌^◌, ◌<◌, ◌≤◌, Bool, true, false, List, [], ◌∷◌, ◌++◌, length, position, bytes_eq, Option, Some, None, refl, ap, sym, ◌∙◌, arith, inl, inr, append_assoc, append-nil, length-append}
 use Rattle.std.specs.List.{AllByRecursion, slice_get, position_or_len}
-use Rattle.std.proofs.lemmas.Bool.{le-leb, lt-leb, lt-ltb, le-ltb, cases_lt, and_parts, leb-true, ltb-true, false≢true}
-use Rattle.std.proofs.lemmas.List.Sums.{sum_by-append, sum_by-cons}
+use Rattle.std.proofs.lemmas.Bool.{le-leb, lt-leb, lt-ltb, le-ltb, cases_lt}
+use Rattle.std.proofs.lemmas.List.Sums.{sum_by-cons}
 use Rattle.h3_field.specs.Field.{Field, field_eq, field_size, section_size}
 use Rattle.h3_field.specs.StaticTable.{static_table, static_field, static_name}
-use Rattle.h3_field.specs.Reading.{Reading, Whole, Unfinished, Bad}
-use Rattle.h3_field.specs.PrefixReading.{EncodedPrefix, prefix}
+use Rattle.h3_field.specs.Reading.{Whole}
+use Rattle.h3_field.specs.PrefixReading.{prefix}
 use Rattle.h3_field.specs.Line.{FieldLine, line_bytes}
-use Rattle.h3_field.specs.Line.FieldLine.{StaticField, StaticName, Literal}
-use Rattle.h3_field.specs.LineReading.{line}
 use Rattle.h3_field.specs.LineAnswer.{IsWritable}
-use Rattle.h3_field.specs.Section.{HasLine, line_field, with_value, literal_line, line_or_literal, static_line, static_lines, section_bytes, Answer, Fields, TooLong, Refused, Answers, End, Next, Passes, BadLine, AnswersSection, Lines, NoPrefix, add_size}
-use Rattle.h3_field.specs.ReadBack.{AreBytes, IsFieldOfBytes, IsLineOfBytes, answer_from}
+use Rattle.h3_field.specs.Section.{HasLine, line_field, literal_line, line_or_literal, static_line, static_lines, section_bytes, Answer, Fields, TooLong, Refused, Answers, End, Next, Passes, BadLine, AnswersSection, Lines, NoPrefix, add_size}
+use Rattle.h3_field.specs.ReadBack.{IsFieldOfBytes, IsLineOfBytes, answer_from}
 use Rattle.h3_field.proofs.StaticEntries.{table_length, same_field, two_ways}
 use Rattle.h3_field.proofs.Sections.{line_one, whole_same}
 use Rattle.h3_field.proofs.ReadBack.{line_reads_back}

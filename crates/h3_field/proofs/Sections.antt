@@ -1,5 +1,5 @@
 -- The steps of reading a field section.
-use Rattle.std.proofs.Common.{◌≡◌, ◌≢◌, ◌⊎◌, ℕ, zero, suc, ◌+◌, ◌-◌, ◌*◌, ◌/◌, ◌%◌, ◌==◌, ◌^◌, ◌<◌, ◌≤◌, nat_le, nat_lt, Bool, true, false, ◌&&◌, if◌then◌else◌, List, [], ◌∷◌, ◌++◌, length, take, drop, slice_index, Option, Some, None, Result, Ok, Err, refl, ap, sym, ◌∙◌, arith, inl, inr}
+use Rattle.std.proofs.Common.{◌≡◌, ℕ, zero, suc, ◌+◌, ◌-◌, ◌*◌, ◌/◌, ◌%◌, ◌^◌, ◌<◌, ◌≤◌, nat_le, Bool, true, false, if◌then◌else◌, List, [], ◌∷◌, length, take, drop, Some, None, Ok, Err, refl, ap, sym, ◌∙◌, arith, inl, inr}
 use Rattle.std.specs.List.{AllByRecursion, slice_get}
 use Rattle.std.proofs.lemmas.Bool.{and_parts, leb-true, le-leb, lt-leb, lt-ltb, le-ltb, cases_lt}
 use Rattle.std.proofs.lemmas.List.{length-drop}
@@ -10,16 +10,15 @@ use Rattle.h3_field.specs.Integer.{ones}
 use Rattle.h3_field.specs.Field.{Field}
 use Rattle.h3_field.specs.Reading.{Reading, Whole, Unfinished, Bad, then_read}
 use Rattle.h3_field.specs.IntegerReading.{integer, integer_limit, groups_reading}
-use Rattle.h3_field.specs.StringReading.{Payload, StandsFor, StandsForNone, string, bytes_reading}
+use Rattle.h3_field.specs.StringReading.{Payload, StandsFor, string, bytes_reading}
 use Rattle.h3_field.specs.Shapes.{begins, index_and_string, two_strings}
 use Rattle.h3_field.specs.Line.{FieldLine}
 use Rattle.h3_field.specs.Line.FieldLine.{StaticField, StaticName}
 use Rattle.h3_field.specs.StaticTable.{static_table, NamesEntry}
 use Rattle.h3_field.proofs.StaticEntries.{table_length}
-use Rattle.h3_field.specs.LineReading.{LineForm, Indexed, PostBase, Named, PostBaseNamed, LiteralField, SaysLine, line, indexed, named, literal, post_base, post_base_named}
-use Rattle.h3_field.specs.ShapeAnswer.{IsRefused}
+use Rattle.h3_field.specs.LineReading.{LineForm, Indexed, PostBase, Named, PostBaseNamed, LiteralField, SaysLine, line, indexed, named, literal}
 use Rattle.h3_field.specs.LineAnswer.{AnswersLine}
-use Rattle.h3_field.specs.Section.{HasLine, line_field, with_value, Answer, Answers, AnswersSection}
+use Rattle.h3_field.specs.Section.{HasLine, line_field, with_value}
 use Rattle.h3_field.specs.SectionAnswer.{HasField, HasNoField, IsReason}
 use Rattle.h3_field.specs.Errors.{decoder_parse}
 use Rattle.h3_field.specs.declared.prefix_int.Error.TheVariants.{Overflow, UnexpectedEnd}

@@ -1,5 +1,4 @@
 -- Which error each error becomes.
-use Rattle.std.specs.Prelude.{ℕ}
 use Rattle.h3_field.specs.declared.prefix_string.Error as string
 use Rattle.h3_field.specs.declared.vas.Error as address
 use Rattle.h3_field.specs.declared.dynamic.Error as dynamic

@@ -1,5 +1,5 @@
 -- What holds of the reading of instructions.
-use Rattle.std.proofs.Common.{◌≡◌, ℕ, ◌%◌, ◌==◌, ◌<◌, ◌≤◌, nat_le, true, List, [], ◌∷◌, ◌++◌, length, refl}
+use Rattle.std.proofs.Common.{◌≡◌, ℕ, ◌%◌, ◌==◌, ◌<◌, nat_le, true, List, [], ◌∷◌, ◌++◌, length, refl}
 use Rattle.h3_huffman.specs.Huffman.{huffman}
 use Rattle.h3_field.specs.Integer.{prefixed}
 use Rattle.h3_field.specs.StringLiteral.{string_literal}

@@ -1,5 +1,5 @@
 -- The prefix of an encoded field section, as it is written.
-use Rattle.std.specs.Prelude.{◌≡◌, ℕ, ◌+◌, ◌*◌, ◌-◌, ◌%◌, Bool, true, false, List, ◌++◌, if◌then◌else◌, ◌==◌, nat_lt}
+use Rattle.std.specs.Prelude.{ℕ, ◌+◌, ◌*◌, ◌-◌, ◌%◌, false, List, ◌++◌, if◌then◌else◌, ◌==◌, nat_lt}
 use Rattle.h3_field.specs.Integer.{prefixed}
 use Rattle.h3_field.specs.Prefix.{most_entries}
 use Rattle.h3_field.specs.PrefixReading.{EncodedPrefix}

@@ -1,12 +1,12 @@
 -- What of written lines, instructions and sections reads back.
-use Rattle.std.specs.Prelude.{◌≡◌, ◌<◌, ◌≤◌, ◌+◌, ◌^◌, ℕ, List, [], ◌∷◌, ◌++◌, length, nat_le, if◌then◌else◌}
+use Rattle.std.specs.Prelude.{◌≡◌, ℕ, List, [], ◌∷◌, ◌++◌, nat_le, if◌then◌else◌}
 use Rattle.std.specs.List.{AllByRecursion}
 use Rattle.h3_huffman.specs.Payload.{IsByte}
 use Rattle.h3_field.specs.Field.{Field}
-use Rattle.h3_field.specs.Reading.{Reading, Whole}
+use Rattle.h3_field.specs.Reading.{Whole}
 use Rattle.h3_field.specs.Line.{FieldLine}
 use Rattle.h3_field.specs.Line.FieldLine.{StaticField, RelativeField, PostBaseField, StaticName, RelativeName, PostBaseName, Literal}
-use Rattle.h3_field.specs.Instruction.{EncoderInstruction, DecoderInstruction}
+use Rattle.h3_field.specs.Instruction.{EncoderInstruction}
 use Rattle.h3_field.specs.Instruction.EncoderInstruction.{SetCapacity, InsertWithStaticName, InsertWithEntryName, InsertLiteral, Duplicate}
 use Rattle.h3_field.specs.InstructionReading.{InstructionForm, Says, instruction}
 use Rattle.h3_field.specs.Section.{Answer, Fields, TooLong, add_size}

@@ -1,5 +1,5 @@
 -- What the readers of a field section answer.
-use Rattle.std.specs.Prelude.{◌≡◌, ◌<◌, ℕ, List, length, Option, Some, Result, Ok, Err}
+use Rattle.std.specs.Prelude.{◌≡◌, ◌<◌, ℕ, List, length, Some, Result, Ok, Err}
 use Rattle.h3_field.specs.Field.{Field}
 use Rattle.h3_field.specs.Line.{FieldLine}
 use Rattle.h3_field.specs.Section.{HasLine, line_field, AnswersSection, TooLong, Refused}

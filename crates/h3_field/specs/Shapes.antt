@@ -1,6 +1,6 @@
 -- What lines and instructions are made of: an integer, an integer and a string, or two strings.
-use Rattle.std.specs.Prelude.{◌≡◌, ◌==◌, ℕ, Bool, true, false, ◌&&◌, nat_le, List, [], ◌∷◌}
-use Rattle.h3_field.specs.Reading.{Reading, Whole, Unfinished, then_read}
+use Rattle.std.specs.Prelude.{ℕ, Bool, true, ◌&&◌, nat_le, List, [], ◌∷◌}
+use Rattle.h3_field.specs.Reading.{Reading, Whole, then_read}
 use Rattle.h3_field.specs.IntegerReading.{integer}
 use Rattle.h3_field.specs.StringReading.{Payload, string}
 

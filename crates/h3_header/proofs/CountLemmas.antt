@@ -1,5 +1,5 @@
 -- How many fields a head has.
-use Rattle.std.proofs.Common.{◌≡◌, ℕ, ◌+◌, List, length, Option, Some, None, option_map, refl, sym, ◌∙◌, ap, ap₂, arith}
+use Rattle.std.proofs.Common.{◌≡◌, ℕ, ◌+◌, List, length, Option, Some, None, option_map, refl, ◌∙◌, ap, ap₂, arith}
 use mir.Val.{bool_byte}
 use Rattle.std.specs.Prelude.{Bool, is_some, codes, ◌++◌}
 use Rattle.std.proofs.lemmas.List.{length-append, length-map}

@@ -1,5 +1,5 @@
 -- The name that the static table gives is the name that was looked up.
-use Rattle.std.proofs.Common.{◌≡◌, ℕ, List, Some, true, bytes_eq, get_or, sym, ap, ◌∙◌}
+use Rattle.std.proofs.Common.{◌≡◌, ℕ, List, Some, bytes_eq, sym, ap, ◌∙◌}
 use Rattle.std.proofs.lemmas.List.Quantifiers.{position-Some}
 use Rattle.std.proofs.lemmas.Option.{get_or_from_slice_get}
 use Rattle.std.proofs.lemmas.Slice.Eq.{bytes_eq-Decides}

@@ -1,12 +1,10 @@
 -- How a list is read field by field.
-use Rattle.std.proofs.Common.{◌≡◌, ℕ, ◌+◌, ◌<◌, ◌≤◌, List, [], ◌∷◌, length, drop, fold, get_or, refl, sym, ap, ◌∙◌, subst, inl, inr}
-use Rattle.std.proofs.lemmas.List.{drop_more, drop_all}
+use Rattle.std.proofs.Common.{◌≡◌, List, [], ◌∷◌, fold, refl, sym, subst, inl, inr}
 use Rattle.h3_field.specs.Field.{Field}
 use Rattle.h3_header.specs.Head.{Head, trailer_head}
 use Rattle.h3_header.specs.Reads.{RefusesName, Accepts, Refuses, AcceptsAll, RefusesOne, with_field, head_of_fields, IsHeadOf}
 use Rattle.h3_header.specs.declared.headers.error.HeaderError.{HeaderError}
 use Rattle.h3_header.specs.declared.headers.error.HeaderError.TheVariants.{InvalidHeaderName, InvalidHeaderValue, InvalidRequest, MissingMethod, MissingStatus, MissingAuthority, ContradictedAuthority, TooManyFields, OutOfMemory}
-use Rattle.h3_header.specs.declared.headers.kind.FieldKind.{FieldKind}
 
 -- what the rest of a list, read into h, says of the whole
 pub record Rest (all rest : List Field) (h : Head) : Type 0 where

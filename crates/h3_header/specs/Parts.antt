@@ -1,5 +1,5 @@
 -- The parts that a `Header` is kept as, and the head that they make.
-use Rattle.std.specs.Prelude.{ℕ, List, None}
+use Rattle.std.specs.Prelude.{List, None}
 use Rattle.http_header.specs.FieldValue.{FieldValue}
 use Rattle.http_header.specs.HeaderMap.{Entries}
 use Rattle.h3_field.specs.Field.{Field}

@@ -1,10 +1,10 @@
 -- What follows from the way in which a field list is read.
-use Rattle.std.specs.Prelude.{◌≡◌, ℕ, ⊤, List, [], ◌∷◌, refl, Option, Some, None, option_map, is_some, ◌||◌}
+use Rattle.std.specs.Prelude.{◌≡◌, ⊤, List, [], ◌∷◌, refl, Option, Some, None, option_map, is_some, ◌||◌}
 use Rattle.std.proofs.Common.{subst, inl, inr, sym, ap, ◌∙◌}
 use Rattle.http_uri.specs.Grammar.{or_slash}
 use Rattle.h3_field.specs.Field.{Field}
-use Rattle.h3_header.specs.Head.{Head, trailer_head, head_fields, is_request, is_response, has_pseudo}
-use Rattle.h3_header.specs.Reads.{kind_of, HasRoomAt, AcceptsAt, RefusesAt, Accepts, Refuses, AcceptsAll, RefusesOne, with_field, head_of_fields, IsHeadOf}
+use Rattle.h3_header.specs.Head.{Head, head_fields, is_request, is_response, has_pseudo}
+use Rattle.h3_header.specs.Reads.{kind_of, HasRoomAt, AcceptsAt, RefusesAt, AcceptsAll, RefusesOne, with_field, IsHeadOf}
 use Rattle.h3_header.specs.ReadsBack.{ReadsBack, as_read}
 use Rattle.h3_header.specs.declared.headers.error.HeaderError.{HeaderError}
 use Rattle.h3_header.specs.declared.headers.error.HeaderError.TheVariants.{InvalidHeaderName, InvalidHeaderValue, InvalidRequest, MissingMethod, MissingStatus, MissingAuthority, ContradictedAuthority, TooManyFields, OutOfMemory}

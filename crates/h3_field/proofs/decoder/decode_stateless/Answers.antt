@@ -1,4 +1,4 @@
-use Rattle.std.proofs.Common.{refl, arith, sym, ◌∙◌, rules}
+use Rattle.std.proofs.Common.{refl, sym}
 use Rattle.h3_field.proofs.Standing.{stand_begin, no_prefix, stand_next, stand_long, stand_end, stand_bad}
 use Rattle.h3_field.proofs.decoder.decode_stateless.Goals as goal
 

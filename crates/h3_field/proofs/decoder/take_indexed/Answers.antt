@@ -1,4 +1,4 @@
-use Rattle.std.proofs.Common.{refl, sym}
+use Rattle.std.proofs.Common.{refl}
 use Rattle.h3_field.specs.LineReading.{indexed}
 use Rattle.h3_field.specs.LineAnswer.{indexed_line}
 use Rattle.h3_field.proofs.Sections.{has_field, no_static, line_indexed, indexed_shortens}

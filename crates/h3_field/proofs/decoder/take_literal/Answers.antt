@@ -1,4 +1,4 @@
-use Rattle.std.proofs.Common.{refl, sym}
+use Rattle.std.proofs.Common.{refl}
 use Rattle.h3_field.specs.LineReading.{literal}
 use Rattle.h3_field.specs.LineAnswer.{literal_line}
 use Rattle.h3_field.proofs.Sections.{has_field, line_literal, literal_shortens}

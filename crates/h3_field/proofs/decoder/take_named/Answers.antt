@@ -1,4 +1,4 @@
-use Rattle.std.proofs.Common.{refl, sym}
+use Rattle.std.proofs.Common.{refl}
 use Rattle.h3_field.specs.LineReading.{named}
 use Rattle.h3_field.specs.LineAnswer.{named_line}
 use Rattle.h3_field.proofs.Sections.{has_field, no_static_name, named_entry, line_named, named_shortens}

@@ -1,4 +1,4 @@
-use Rattle.std.proofs.Common.{arith, refl, sym}
+use Rattle.std.proofs.Common.{arith}
 use Rattle.h3_field.proofs.StaticEntries.{names_entry}
 use Rattle.h3_field.proofs.static_.StaticTable.get_name.Goals as goal
 

@@ -1,4 +1,4 @@
-use Rattle.std.proofs.Common.{ℕ, ◌+◌, ◌-◌, ◌^◌, min, length, ap, ap₂, sym, ◌∙◌, List}
+use Rattle.std.proofs.Common.{ℕ, ◌+◌, min, length, ap, ap₂, sym, ◌∙◌}
 use Rattle.h3_header.specs.Head.{Head, head_fields}
 use Rattle.h3_header.proofs.CountLemmas.{length-head}
 use Rattle.h3_header.proofs.headers.Header.len.Goals as goal

@@ -1,4 +1,4 @@
-use Rattle.std.proofs.Common.{◌≡◌, refl, rules}
+use Rattle.std.proofs.Common.{◌≡◌, rules}
 use Rattle.h3_header.specs.Reads.{kind_of}
 use Rattle.h3_header.specs.declared.headers.kind.FieldKind.TheVariants.{Regular}
 use Rattle.h3_header.proofs.headers.read.read_field.Goals as goal
