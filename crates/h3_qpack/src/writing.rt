@@ -1,5 +1,5 @@
 //! A field section in the midst of its writing: lines and instructions, field by field (RFC 9204, sections 4.3 and 4.5).
-ghost use Rattle.std.specs.Prelude.{◌≡◌, ◌<◌, ◌≤◌, ◌^◌, ◌+◌, ◌-◌, ◌++◌, ◌∷◌, [], List, ℕ, flat_map, length, OnOk, OnErr};
+ghost use Rattle.std.specs.Prelude.{◌≡◌, ◌<◌, ◌≤◌, ◌^◌, ◌+◌, ◌-◌, ◌++◌, ◌∷◌, [], List, ℕ, flat_map, length, IfSome, IfOk, OnOk, OnErr};
 ghost use Rattle.std.specs.List.{AllByRecursion};
 ghost use Rattle.std.specs.Result.{IsOkUnless};
 ghost use Rattle.h3_field.specs.ReadBack.{IsFieldOfBytes};
@@ -8,6 +8,7 @@ ghost use Rattle.h3_field.specs.Line.{line_bytes};
 ghost use Rattle.h3_field.specs.Line.FieldLine.{PostBaseField};
 ghost use Rattle.h3_field.specs.Instruction.{encoder_bytes};
 ghost use Rattle.h3_field.specs.Prefix.{prefix_bytes};
+ghost use Rattle.h3_field.specs.StaticTable.{static_name};
 ghost use Rattle.h3_field.specs.declared.encoder_error.EncoderError.TheVariants.{OutOfMemory};
 ghost use Rattle.h3_qpack.specs.Held.{gone, with_entry};
 ghost use Rattle.h3_qpack.specs.Stored.{MayInsertInto};
@@ -26,15 +27,38 @@ use h3_field::block::{
 use h3_field::static_::StaticTable;
 use h3_field::stream::{Duplicate, InsertWithNameRef, InsertWithoutNameRef};
 use h3_field::{EncoderError, HeaderField};
-use std::alloc::AllocError;
+use std::alloc::{AllocError, Global};
 
-/// Appends the instruction that inserts a field, after which so many entries are gone.
+/// The entry of a field, where its name may be that of the static entry of an index. Such a name is not copied.
+fn entry_of(
+    alloc: Global,
+    field: &HeaderField,
+    static_index: Option<usize>,
+) -> Result<HeaderField, AllocError>
+    requires { static_index ≡ static_name field.now.name }
+    ensures { IfOk result (λ f. f ≡ field.now) }
+{
+    let Some(index) = static_index else {
+        return copy_of(alloc, field);
+    };
+    let Ok(name) = StaticTable::get_name(index) else {
+        return copy_of(alloc, field);
+    };
+    let value = Vec::from_slice(alloc, field.value())?;
+    Ok(HeaderField::with_static_name(name, value))
+}
+
+/// Appends the instruction that inserts a field, after which so many entries are gone. The index is that of the static
+/// entry with its name.
 fn put_insertion(
     table: &DynamicTable,
     field: &HeaderField,
+    static_index: Option<usize>,
     after: usize,
     encoder_buf: &mut Vec<u8>,
 ) -> Result<(), EncoderError>
+    requires index { static_index ≡ static_name field.now.name }
+    requires below { IfSome static_index (λ index. index < 99) }
     requires after { gone table.now.table ≤ after }
     requires size { field_size field.now < 2 ^ 62 }
     ensures memory { IsOkUnless result OutOfMemory }
@@ -46,7 +70,7 @@ fn put_insertion(
         Duplicate(inserted - number).encode(encoder_buf)?;
         return Ok(());
     }
-    if let Some(index) = StaticTable::find_name(field.name()) {
+    if let Some(index) = static_index {
         InsertWithNameRef::write_static(index, field.value(), encoder_buf)?;
         return Ok(());
     }
@@ -79,11 +103,12 @@ fn put_inserted(
     ensures told { OnOk result (encoder_buf.new.items ≡ encoder_buf.old.items ++ encoder_bytes (insertion_for table.old.table after field.now)) }
     ensures err { OnErr result ((table.new ≡ table.old) × (encoder_buf.new.items ≡ encoder_buf.old.items)) }
 {
-    let copy = copy_of(table.alloc(), field)?;
+    let static_index = StaticTable::find_name(field.name());
+    let entry = entry_of(table.alloc(), field, static_index)?;
     IndexedWithPostBase(table.inserted() - base).encode(lines)?;
     let start = encoder_buf.len();
-    put_insertion(table, field, after, encoder_buf)?;
-    if table.insert(copy, after).is_err() {
+    put_insertion(table, field, static_index, after, encoder_buf)?;
+    if table.insert(entry, after).is_err() {
         encoder_buf.truncate(start);
         return Err(EncoderError::OutOfMemory);
     }
