@@ -10,7 +10,7 @@ name_slot name =
 
 abbrev pub field_slot : ℕ → List ℕ → ℕ
 field_slot slot value =
-    (slot + 37 * (length value % 256) + 101 * slice_index value (length value - 1) + 59 * slice_index value (length value - 2)
+    (slot + 37 * (length value % 256) + 101 * slice_index value (length value - 1)
     + 171 * slice_index value (length value - 1 - length value / 6) + 13 * slice_index value (length value / 2)) % 256
 
 -- Fields that match have one slot.

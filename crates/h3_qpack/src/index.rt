@@ -24,7 +24,7 @@ pub(crate) fn slot_of_name(name: &[u8]) -> usize
     (37 * (len % 256) + 101 * last + 59 * middle) % 256
 }
 
-/// The slot of a field: of its name's slot, and of the length and four bytes of its value.
+/// The slot of a field: of its name's slot, and of the length and three bytes of its value.
 pub(crate) fn slot_of_field(name_slot: usize, value: &[u8]) -> usize
     requires { name_slot < 256 }
     ensures value { result ≡ field_slot name_slot value.now }
@@ -35,10 +35,9 @@ pub(crate) fn slot_of_field(name_slot: usize, value: &[u8]) -> usize
         return name_slot;
     }
     let last = value[len - 1] as usize;
-    let before = value[if len == 1 { 0 } else { len - 2 }] as usize;
     let late = value[len - 1 - len / 6] as usize;
     let middle = value[len / 2] as usize;
-    (name_slot + 37 * (len % 256) + 101 * last + 59 * before + 171 * late + 13 * middle) % 256
+    (name_slot + 37 * (len % 256) + 101 * last + 171 * late + 13 * middle) % 256
 }
 
 /// Makes an item for each slot. New ones stand for no entry.
