@@ -42,8 +42,7 @@ first_heard j all n bytes rest i w fits e here =
     let long : decoder_instruction (bytes ++ more) ≡ Whole i (rest ++ more) = rw here at stable in
     let one = whole_same i j (rest ++ more) (flat_map decoder_bytes all) (sym long ∙ ap decoder_instruction whole ∙ reply_reads_back j (flat_map decoder_bytes all) w) in
     let sizes : length rest + (length text - n) ≡ length (flat_map decoder_bytes all) = omega (arith, ap length one.1, length-append rest more, length-drop n text) in
-    let place : length rest ≡ n - length (decoder_bytes j) = omega (arith, sizes, fits, length-append (decoder_bytes j) (flat_map decoder_bytes all)) in
-    (
+    let place : length rest ≡ n - length (decoder_bytes j) = omega (arith, sizes, fits, length-append (decoder_bytes j) (flat_map decoder_bytes all)) in (
       one.0,
       omega (arith, sizes, fits, length-append (decoder_bytes j) (flat_map decoder_bytes all)),
       sym (take_at rest more (n - length (decoder_bytes j)) place) ∙ ap (take (n - length (decoder_bytes j))) one.1,

@@ -114,8 +114,9 @@ forth_reads capacity instructions inserted t r new count more left reads f enoug
           let at : drop (count + front.count) all ≡ j ∷ js = sym (drop_further count front.count all) ∙ e in
           let some = ap length at ∙ refl in
           let next = at_read capacity instructions inserted (count + front.count + 1) reads (omega (arith, inside, length-drop (count + front.count) all, ap length at)) in
-          let one : take (count + front.count + 1) all ≡ take (count + front.count) all ++ j ∷ [] = take_further (count + front.count) 1 all ∙ ap (λ xs. take (count + front.count) all ++ take 1 xs) at in
-          (next.receiver,
-          sym (ap (having_read_all (Some (announcing capacity))) one ∙ having_read_all-append (Some (announcing capacity)) (take (count + front.count) all) (j ∷ []) ∙ ap (λ o. having_read_all o (j ∷ [])) table) ∙ next.reads))
+          let one : take (count + front.count + 1) all ≡ take (count + front.count) all ++ j ∷ [] = take_further (count + front.count) 1 all ∙ ap (λ xs. take (count + front.count) all ++ take 1 xs) at in (
+            next.receiver,
+            sym (ap (having_read_all (Some (announcing capacity))) one ∙ having_read_all-append (Some (announcing capacity)) (take (count + front.count) all) (j ∷ []) ∙ ap (λ o. having_read_all o (j ∷ [])) table) ∙ next.reads,
+          ))
           (subst (BeginsBad new) front.left_is bad);
     }

@@ -36,8 +36,7 @@ first_read j all n bytes rest i w fits e here =
     let own = instruction_reads_back j (flat_map encoder_bytes all) w.0 w.1 w.2 in
     let one = instruction_one text (rest ++ more) (flat_map encoder_bytes all) i j long own in
     let sizes : length rest + (length text - n) ≡ length (flat_map encoder_bytes all) = omega (arith, ap length one.1, length-append rest more, length-drop n text) in
-    let place : length rest ≡ n - length (encoder_bytes j) = omega (arith, sizes, fits, length-append (encoder_bytes j) (flat_map encoder_bytes all)) in
-    (
+    let place : length rest ≡ n - length (encoder_bytes j) = omega (arith, sizes, fits, length-append (encoder_bytes j) (flat_map encoder_bytes all)) in (
       one.0,
       omega (arith, sizes, fits, length-append (encoder_bytes j) (flat_map encoder_bytes all)),
       sym (take_at rest more (n - length (encoder_bytes j)) place) ∙ ap (take (n - length (encoder_bytes j))) one.1,

@@ -148,8 +148,7 @@ encoded_stands capacity w s stream fields count new st size h =
     let block : length (encoded_section s.sender fields) < 2 ^ 63 = subst (λ x. length (encoded_section x fields) < 2 ^ 63) st.sender h.2 in
     let lines = lines_written s.sender fields st.sound.small h.1.are_bytes size
     (omega (arith, block, length-append (prefix_bytes s.sender.capacity (required_insert_count (draft_of s.sender fields)) (length s.sender.inserted)) (flat_map line_bytes (draft_of s.sender fields).lines))) in
-    let one : UnderWay = record { stream = stream; fields = fields; sender = s.sender } in
-    (
+    let one : UnderWay = record { stream = stream; fields = fields; sender = s.sender } in (
       encoded s stream fields,
       (refl, h.0 ∙ ap (λ x. required_insert_count (draft_of x fields)) st.sender),
       subst (λ x. Stands capacity x (encoded s stream fields)) (sym h.3) (record {
@@ -176,8 +175,7 @@ cut_stands capacity w s stream fields e new st size h =
     let bytes : length (w.forth.bytes ++ flat_map encoder_bytes (instructions_for s.sender front)) < 2 ^ 63 =
     subst (λ x. length (w.forth.bytes ++ flat_map encoder_bytes (instructions_for x front)) < 2 ^ 63) st.sender (subst (λ (x : Ends). length x.forth.bytes < 2 ^ 63) h.1.3 h.1.2.few) in
     let told = instructions_written s.sender front st.sound.small h.1.2.are_bytes (omega (arith, size, sum_by-take-le field_size fields h.1.0))
-    (omega (arith, bytes, length-append w.forth.bytes (flat_map encoder_bytes (instructions_for s.sender front)))) in
-    (
+    (omega (arith, bytes, length-append w.forth.bytes (flat_map encoder_bytes (instructions_for s.sender front)))) in (
       without_block s front,
       (h.0, (h.1.0, h.1.1, refl)),
       subst (λ x. Stands capacity x (without_block s front)) (sym h.1.3) (record {
@@ -303,8 +301,7 @@ back_step : (capacity : ℕ) (w : Ends) (s : Session) (more : ℕ) (new : Ends) 
     → (count : ℕ) × Stands capacity new (heard_so s count) × (BeginsRefused new.sender d.left → ⊥)
 back_step capacity w s more new st d =
     let b = back_reads s w.back more d.instructions d.left st.sound st.back d.enough d.split in
-    let sender : new.sender ≡ told_all s.sender d.instructions = ap (λ (x : Ends). x.sender) d.is ∙ ap (λ x. told_all x d.instructions) st.sender in
-    (
+    let sender : new.sender ≡ told_all s.sender d.instructions = ap (λ (x : Ends). x.sender) d.is ∙ ap (λ x. told_all x d.instructions) st.sender in (
       b.count,
       subst (λ x. Stands capacity x (heard_so s b.count)) (sym d.is) (record {
         sound = heard_sound b.count s st.sound;
@@ -416,8 +413,7 @@ decoded_stands : (capacity : ℕ) (w : Ends) (s : Session) (stream : ℕ) (field
     → (t : Session) × DecodesAs s stream (answer.Decoded fields) t × Stands capacity new t
 decoded_stands capacity w s stream fields new st few h =
     let k = tried capacity w s stream st h.0 in
-    let right = decodes_right s k.block w.receiver h.1 fields.items st.sound k.decoder k.is k.alive k.written (subst (λ c. MeansFields w.receiver c.bytes h.1 fields.items) k.encoded_is h.2) in
-    (
+    let right = decodes_right s k.block w.receiver h.1 fields.items st.sound k.decoder k.is k.alive k.written (subst (λ c. MeansFields w.receiver c.bytes h.1 fields.items) k.encoded_is h.2) in (
       decoded s k.block,
       (k.alive_there, (k.block, k.is_there, right.fields_are, right.came, refl)),
       subst (λ x. Stands capacity x (decoded s k.block)) (sym h.3) (record {
@@ -499,13 +495,12 @@ given_up_stands capacity w s stream st few =
     }
 
 pub cancels_stands : (capacity : ℕ) (w : Ends) (s : Session) (stream : ℕ) (a : SessionAnswer) (new : Ends) → Stands capacity w s → stream < 2 ^ 62 → Cancels w stream a new → (t : Session) × CancelsAs s stream a t × Stands capacity new t
-cancels_stands capacity w s stream answer.Canceled new st few h =
-    (
-      (if is_canceled s stream then s else after_cancellation s stream),
-      refl,
-      subst (λ x. Stands capacity x (if is_canceled s stream then s else after_cancellation s stream)) (sym h)
+cancels_stands capacity w s stream answer.Canceled new st few h = (
+  (if is_canceled s stream then s else after_cancellation s stream),
+  refl,
+  subst (λ x. Stands capacity x (if is_canceled s stream then s else after_cancellation s stream)) (sym h)
       (subst (λ b. Stands capacity (if b then w else giving_up w stream) (if is_canceled s stream then s else after_cancellation s stream)) (sym (st.canceled stream)) (by_test (is_canceled s stream))),
-    )
+)
   where
     by_test : (b : Bool) → Stands capacity (if b then w else giving_up w stream) (if b then s else after_cancellation s stream)
     by_test true = st

@@ -172,12 +172,14 @@ first_of stream (x ∷ bs) (suc place) b p is =
 
 has_block : (w : Ends) (k : Kept) (stream place : ℕ) (b : EncodedBlock) → k ≡ kept w → is_given_up k.canceled stream ≡ false → IsPlace stream k.blocks place → b ≡ get_or k.blocks place b
     → (h : HasBlock w stream) × (h.block ≡ b)
-has_block w k stream place b same alive p is =
-    (record {
-      alive = subst (λ (x : Kept). is_given_up x.canceled stream ≡ false) same alive;
-      block = b;
-      is = subst (λ (x : Kept). block_of stream x.blocks ≡ Some b) same (first_of stream k.blocks place b p is).0;
-    }, refl)
+has_block w k stream place b same alive p is = (
+  record {
+    alive = subst (λ (x : Kept). is_given_up x.canceled stream ≡ false) same alive;
+    block = b;
+    is = subst (λ (x : Kept). block_of stream x.blocks ≡ Some b) same (first_of stream k.blocks place b p is).0;
+  },
+  refl,
+)
 
 pub decoding_none : (w : Ends) (k : Kept) (stream : ℕ) → k ≡ kept w → is_given_up k.canceled stream ≡ false → list_any (is_of stream) k.blocks ≡ false
     → (new : Ends) × Decodes w stream answer.NoBlock new × (k ≡ kept new)
@@ -227,13 +229,12 @@ decoding_done w k stream place b fields is_needed back blocks same alive p is m 
     let means = subst (λ r. MeansFields r h.0.block.bytes m.0 fields.items) (ap (λ (x : Kept). x.decoder) same) (subst (λ c. MeansFields k.decoder c.bytes m.0 fields.items) (sym h.1) m.1) in
     let without = (first_of stream k.blocks place b p is).1 in
     let bytes : back ≡ k.back.bytes ++ (if m.0 == 0 then [] else decoder_bytes (Acknowledge stream)) =
-    written ∙ ap (λ t. k.back.bytes ++ (if t then decoder_bytes (Acknowledge stream) else [])) m.2 ∙ ap (λ bs. k.back.bytes ++ bs) (needed m.0 (decoder_bytes (Acknowledge stream))) in
-    (
+    written ∙ ap (λ t. k.back.bytes ++ (if t then decoder_bytes (Acknowledge stream) else [])) m.2 ∙ ap (λ bs. k.back.bytes ++ bs) (needed m.0 (decoder_bytes (Acknowledge stream))) in (
       _,
       (h.0, m.0, means, refl),
       ap (λ bs. record k { back = record k.back { bytes = bs }; blocks = blocks }) bytes
-      ∙ ap (λ cs. record k { back = record k.back { bytes = k.back.bytes ++ (if m.0 == 0 then [] else decoder_bytes (Acknowledge stream)) }; blocks = cs }) (left ∙ sym without)
-      ∙ ap (λ (x : Kept). record x { back = record x.back { bytes = x.back.bytes ++ (if m.0 == 0 then [] else decoder_bytes (Acknowledge stream)) }; blocks = without_block_of stream x.blocks }) same,
+          ∙ ap (λ cs. record k { back = record k.back { bytes = k.back.bytes ++ (if m.0 == 0 then [] else decoder_bytes (Acknowledge stream)) }; blocks = cs }) (left ∙ sym without)
+          ∙ ap (λ (x : Kept). record x { back = record x.back { bytes = x.back.bytes ++ (if m.0 == 0 then [] else decoder_bytes (Acknowledge stream)) }; blocks = without_block_of stream x.blocks }) same,
     )
 
 -- What a loop over the events keeps.

@@ -12,6 +12,8 @@ pub mod examples;
 mod increment;
 mod index;
 pub mod laws;
+#[cfg(test)]
+mod run_tests;
 mod section;
 pub mod session;
 #[cfg(test)]

@@ -8,11 +8,10 @@ pub events-init : goal.events-init
 events-init c = (run_begun _ _ _ _ _ (search rules) (search rules), search rules)
 
 pub events-preserved : goal.events-preserved
-events-preserved c =
-    (
-      run_more _ _ _ _ _ _ _ _ _ _ c.events.invariant.0 c.events-test.true c.event-item.is (event_at _ _ _ c.events-test.true c.event-item.is c.requires) c.step-answer.ensures c.push_reserved.ensures.items,
-      omega (arith, c.events.invariant.1, c.events-test.true, c.push_reserved.ensures.len, c.push_reserved.ensures.capacity),
-    )
+events-preserved c = (
+  run_more _ _ _ _ _ _ _ _ _ _ c.events.invariant.0 c.events-test.true c.event-item.is (event_at _ _ _ c.events-test.true c.event-item.is c.requires) c.step-answer.ensures c.push_reserved.ensures.items,
+  omega (arith, c.events.invariant.1, c.events-test.true, c.push_reserved.ensures.len, c.push_reserved.ensures.capacity),
+)
 
 pub returns-clause-expected : goal.returns-clause-expected
 returns-clause-expected c =
