@@ -12,7 +12,7 @@ use Rattle.h3_qpack.specs.Session.{Session}
 use Rattle.h3_qpack.specs.Exchange.{Ends, opening}
 use Rattle.h3_qpack.proofs.Drafts.{All-second}
 use Rattle.h3_qpack.proofs.FrontsRead.{nothing_read}
-use Rattle.h3_qpack.proofs.Forth.{take_further}
+use Rattle.h3_qpack.proofs.EncoderStreams.{take_further}
 use Rattle.h3_qpack.proofs.Runs.{Stands}
 
 some_bytes : (i : EncoderInstruction) → IsWrittenInstruction i → 0 < length (encoder_bytes i)
@@ -28,7 +28,7 @@ some_more (i ∷ is) zero w above some = absurd (omega (arith, above))
 some_more (i ∷ is) (suc n) w above some = omega (arith, some_bytes i w.0, length-append (encoder_bytes i) (flat_map encoder_bytes (take n is)))
 
 pub bytes_read : (capacity : ℕ) (w : Ends) (s : Session) (n : ℕ) → Stands capacity w s → n ≤ length s.instructions
-    → length (flat_map encoder_bytes (opening capacity ++ take n s.instructions)) ≤ w.forth.read → n ≤ s.received
+    → length (flat_map encoder_bytes (opening capacity ++ take n s.instructions)) ≤ w.encoder_stream.read → n ≤ s.received
 bytes_read capacity w s n st within came = by_order (nat_le n s.received) refl
   where
     all : List EncoderInstruction
@@ -49,6 +49,6 @@ bytes_read capacity w s n st within came = by_order (nat_le n s.received) refl
         let front : opening capacity ++ take n s.instructions ≡ take st.count all ++ take more rest =
         sym (take-append-add (opening capacity) s.instructions n) ∙ ap (λ k. take k all) (sym place) ∙ take_further st.count more all in
         let size = ap (λ is. length (flat_map encoder_bytes is)) front ∙ ap length (flat_map-append encoder_bytes (take st.count all) (take more rest)) ∙ length-append (flat_map encoder_bytes (take st.count all)) (flat_map encoder_bytes (take more rest)) in
-        let written = All-second IsWrittenInstruction (take st.count all) rest (subst (AllByRecursion IsWrittenInstruction) (sym (take-append-drop st.count all)) st.forth.written) in
+        let written = All-second IsWrittenInstruction (take st.count all) rest (subst (AllByRecursion IsWrittenInstruction) (sym (take-append-drop st.count all)) st.encoder_stream.written) in
         let some = some_more rest more written (omega (arith, far, st.received)) (omega (arith, far, st.received, within, length-drop st.count all, length-append (opening capacity) s.instructions)) in
-        absurd (omega (arith, size, some, came, st.forth.read))
+        absurd (omega (arith, size, some, came, st.encoder_stream.read))

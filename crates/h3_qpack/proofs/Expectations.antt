@@ -17,7 +17,7 @@ use Rattle.h3_qpack.specs.declared.session.SessionAnswer.TheVariants as answer
 use Rattle.h3_qpack.proofs.Schedules.{beginning_is_sound}
 use Rattle.h3_qpack.proofs.Sessions.{block_written, insertions_kept, insertions_read, block_decoded, stream_abandoned}
 use Rattle.h3_qpack.proofs.Decoding.{oldest_holds}
-use Rattle.h3_qpack.proofs.Back.{heard_so, heard_sound}
+use Rattle.h3_qpack.proofs.DecoderStreams.{heard_so, heard_sound}
 
 -- A sound session with the limit of another.
 record Keeps (s t : Session) : Type 0 where

@@ -31,7 +31,7 @@ use Rattle.h3_qpack.specs.Increments.{increment_for}
 use Rattle.h3_qpack.specs.Encodings.{IsWrittenLine, IsWrittenInstruction, IsWritten, decoder_of}
 use Rattle.h3_qpack.specs.Session.{Session, UnderWay, IsSound, is_canceled, oldest, without_oldest, count_of, encoded, inserted, decoded, after_cancellation}
 use Rattle.h3_qpack.specs.Schedule.{beginning, without_block}
-use Rattle.h3_qpack.specs.Exchange.{Stream, opening, no_bytes, EncodedBlock, Ends, waiting, writing, arriving, reading, start, is_given_up, is_of, block_of, without_block_of, AreHeld, DecoderReads, EncoderReads, HasBlock, Encodes, DeliversForth, DeliversBack, Decodes, Cancels, giving_up, IsEvent, Happens, Exchange, Before, Then}
+use Rattle.h3_qpack.specs.Exchange.{Stream, opening, no_bytes, EncodedBlock, Ends, waiting, writing, arriving, reading, start, is_given_up, is_of, block_of, without_block_of, AreHeld, DecoderReads, EncoderReads, HasBlock, Encodes, DeliversToDecoder, DeliversToEncoder, Decodes, Cancels, giving_up, IsEvent, Happens, Exchange, Before, Then}
 use Rattle.h3_qpack.specs.Expected.{EncodesTo, ReadsInsertions, DeliversInsertions, DeliversReplies, DecodesAs, CancelsAs, Expects, Expected, NoEvent, NextEvent}
 use Rattle.h3_qpack.specs.declared.session.SessionEvent.{SessionEvent}
 use Rattle.h3_qpack.specs.declared.session.SessionEvent.TheVariants as event
@@ -42,8 +42,8 @@ use Rattle.h3_qpack.proofs.Schedules.{beginning_is_sound}
 use Rattle.h3_qpack.proofs.Sessions.{block_written, insertions_kept, insertions_read, block_decoded, stream_abandoned}
 use Rattle.h3_qpack.proofs.Decoding.{oldest_holds}
 use Rattle.h3_qpack.proofs.TablesRead.{receiver_at}
-use Rattle.h3_qpack.proofs.Forth.{Forth, Further, forth_is, forth_count, forth_reads}
-use Rattle.h3_qpack.proofs.Back.{Back, HeardMore, heard_so, heard_sound, back_reads}
+use Rattle.h3_qpack.proofs.EncoderStreams.{EncoderStream, Further, encoder_stream_is, encoder_stream_count, encoder_stream_reads}
+use Rattle.h3_qpack.proofs.DecoderStreams.{DecoderStream, HeardMore, heard_so, heard_sound, decoder_stream_reads}
 use Rattle.h3_qpack.proofs.DecodesAgree.{IsDecoderOf, decodes_right, misses_right, none_bad}
 use Rattle.h3_qpack.proofs.Writable.{lines_written, instructions_written}
 
@@ -61,9 +61,9 @@ pub record Stands (capacity : ℕ) (w : Ends) (s : Session) : Type 0 where
   pub sender : w.sender ≡ s.sender
   pub capacity_is : s.sender.capacity ≡ capacity
   pub count : ℕ
-  pub forth : Forth capacity s.instructions w.forth w.receiver count
+  pub encoder_stream : EncoderStream capacity s.instructions w.encoder_stream w.receiver count
   pub received : s.received ≡ count - length (opening capacity)
-  pub back : Back w.back s.decoder_instructions
+  pub decoder_stream : DecoderStream w.decoder_stream s.decoder_instructions
   pub blocks : w.blocks ≡ map encoded_block s.blocks
   pub written : AllByRecursion (IsRunBlock capacity) s.blocks
   pub canceled : (stream : ℕ) → is_given_up w.canceled stream ≡ is_canceled s stream
@@ -72,9 +72,9 @@ reads_as : (capacity : ℕ) (w : Ends) (s : Session) → Stands capacity w s →
 reads_as capacity w s st = subst (λ c. IsReadAs c c s.instructions s.sender.inserted) st.capacity_is st.sound.read
 
 -- more instructions are written
-forth_more : (capacity : ℕ) (is more : List EncoderInstruction) (t : Stream) (r : Receiver) (count : ℕ) → Forth capacity is t r count → AllByRecursion IsWrittenInstruction more
-    → Forth capacity (is ++ more) (writing t (flat_map encoder_bytes more)) r count
-forth_more capacity is more t r count f w =
+encoder_stream_more : (capacity : ℕ) (is more : List EncoderInstruction) (t : Stream) (r : Receiver) (count : ℕ) → EncoderStream capacity is t r count → AllByRecursion IsWrittenInstruction more
+    → EncoderStream capacity (is ++ more) (writing t (flat_map encoder_bytes more)) r count
+encoder_stream_more capacity is more t r count f w =
     let all = opening capacity ++ is in
     let longer : opening capacity ++ (is ++ more) ≡ all ++ more = sym (append_assoc (opening capacity) is more) in
     let front : take count (opening capacity ++ (is ++ more)) ≡ take count all = ap (take count) longer ∙ take-append-le count all more f.within in
@@ -89,8 +89,8 @@ forth_more capacity is more t r count f w =
     }
 
 -- one more of the decoder's instructions is written, or none
-back_more : (t : Stream) (is : List DecoderInstruction) (i : DecoderInstruction) → Back t is → IsReply i → Back (writing t (decoder_bytes i)) (is ++ i ∷ [])
-back_more t is i b w =
+decoder_stream_more : (t : Stream) (is : List DecoderInstruction) (i : DecoderInstruction) → DecoderStream t is → IsReply i → DecoderStream (writing t (decoder_bytes i)) (is ++ i ∷ [])
+decoder_stream_more t is i b w =
     record {
       heard = b.heard;
       told = ap (λ bs. bs ++ decoder_bytes i) b.told ∙ append_assoc b.heard (flat_map decoder_bytes is) (decoder_bytes i)
@@ -101,8 +101,8 @@ back_more t is i b w =
       after = omega (arith, b.after, length-append t.bytes (decoder_bytes i));
     }
 
-back_same : (t : Stream) (is : List DecoderInstruction) → Back t is → Back (writing t []) is
-back_same t is b =
+decoder_stream_same : (t : Stream) (is : List DecoderInstruction) → DecoderStream t is → DecoderStream (writing t []) is
+decoder_stream_same t is b =
     record { heard = b.heard; told = append-nil t.bytes ∙ b.told; replies = b.replies; read = b.read; before = b.before; after = omega (arith, b.after, length-append t.bytes ([])) }
 
 -- before anything
@@ -113,8 +113,8 @@ groups_few (suc k) n = grind (arith, common_steps, groups_few k (n / 128))
 capacity_few : (capacity : ℕ) → length (encoder_bytes (SetCapacity capacity)) < 2 ^ 63
 capacity_few capacity = grind (arith, common_steps, groups_few 9 (capacity - (2 ^ 5 - 1)))
 
-begun_forth : (capacity : ℕ) → capacity < 2 ^ 30 → Forth capacity [] (writing no_bytes (if capacity == 0 then [] else encoder_bytes (SetCapacity capacity))) (announcing capacity) 0
-begun_forth capacity small =
+begun_encoder_stream : (capacity : ℕ) → capacity < 2 ^ 30 → EncoderStream capacity [] (writing no_bytes (if capacity == 0 then [] else encoder_bytes (SetCapacity capacity))) (announcing capacity) 0
+begun_encoder_stream capacity small =
     let b = by_test (capacity == 0) in
     record { told = b.1; written = b.0; within = omega arith; read = refl; before = omega arith; after = omega arith; receiver = refl }
   where
@@ -130,9 +130,9 @@ begun_stands capacity limit small =
       sender = refl;
       capacity_is = refl;
       count = 0;
-      forth = begun_forth capacity small;
+      encoder_stream = begun_encoder_stream capacity small;
       received = omega arith;
-      back = record { heard = []; told = refl; replies = tt; read = refl; before = omega arith; after = omega arith };
+      decoder_stream = record { heard = []; told = refl; replies = tt; read = refl; before = omega arith; after = omega arith };
       blocks = refl;
       written = tt;
       canceled = λ stream. refl;
@@ -142,9 +142,9 @@ begun_stands capacity limit small =
 encoded_stands : (capacity : ℕ) (w : Ends) (s : Session) (stream : ℕ) (fields : List Field) (count : ℕ) (new : Ends) → Stands capacity w s → section_size fields < 2 ^ 62 → Encodes w stream fields (answer.Encoded count) new
     → (t : Session) × EncodesTo s stream fields (answer.Encoded count) t × Stands capacity new t
 encoded_stands capacity w s stream fields count new st size h =
-    let held : length (w.forth.bytes ++ flat_map encoder_bytes (instructions_for s.sender fields)) < 2 ^ 63 =
-    subst (λ x. length (w.forth.bytes ++ flat_map encoder_bytes (instructions_for x fields)) < 2 ^ 63) st.sender (subst (λ (x : Ends). length x.forth.bytes < 2 ^ 63) h.3 h.1.few) in
-    let told = instructions_written s.sender fields st.sound.small h.1.are_bytes size (omega (arith, held, length-append w.forth.bytes (flat_map encoder_bytes (instructions_for s.sender fields)))) in
+    let held : length (w.encoder_stream.bytes ++ flat_map encoder_bytes (instructions_for s.sender fields)) < 2 ^ 63 =
+    subst (λ x. length (w.encoder_stream.bytes ++ flat_map encoder_bytes (instructions_for x fields)) < 2 ^ 63) st.sender (subst (λ (x : Ends). length x.encoder_stream.bytes < 2 ^ 63) h.3 h.1.few) in
+    let told = instructions_written s.sender fields st.sound.small h.1.are_bytes size (omega (arith, held, length-append w.encoder_stream.bytes (flat_map encoder_bytes (instructions_for s.sender fields)))) in
     let block : length (encoded_section s.sender fields) < 2 ^ 63 = subst (λ x. length (encoded_section x fields) < 2 ^ 63) st.sender h.2 in
     let lines = lines_written s.sender fields st.sound.small h.1.are_bytes size
     (omega (arith, block, length-append (prefix_bytes s.sender.capacity (required_insert_count (draft_of s.sender fields)) (length s.sender.inserted)) (flat_map line_bytes (draft_of s.sender fields).lines))) in
@@ -156,10 +156,10 @@ encoded_stands capacity w s stream fields count new st size h =
         sender = ap (λ x. sent_section x stream fields) st.sender;
         capacity_is = st.capacity_is;
         count = st.count;
-        forth = subst (λ x. Forth capacity (s.instructions ++ instructions_for s.sender fields) (writing w.forth (flat_map encoder_bytes (instructions_for x fields))) w.receiver st.count) (sym st.sender)
-            (forth_more capacity s.instructions (instructions_for s.sender fields) w.forth w.receiver st.count st.forth told);
+        encoder_stream = subst (λ x. EncoderStream capacity (s.instructions ++ instructions_for s.sender fields) (writing w.encoder_stream (flat_map encoder_bytes (instructions_for x fields))) w.receiver st.count) (sym st.sender)
+            (encoder_stream_more capacity s.instructions (instructions_for s.sender fields) w.encoder_stream w.receiver st.count st.encoder_stream told);
         received = st.received;
-        back = st.back;
+        decoder_stream = st.decoder_stream;
         blocks = ap (λ bs. bs ++ record { stream = stream; bytes = encoded_section w.sender fields } ∷ []) st.blocks
             ∙ ap (λ x. map encoded_block s.blocks ++ record { stream = stream; bytes = encoded_section x fields } ∷ []) st.sender ∙ sym (map-append encoded_block s.blocks (one ∷ []));
         written = All-join (IsRunBlock capacity) s.blocks (one ∷ []) st.written (record { lines = lines; base = st.sound.small; capacity_is = st.capacity_is }, tt);
@@ -172,10 +172,10 @@ cut_stands : (capacity : ℕ) (w : Ends) (s : Session) (stream : ℕ) (fields : 
     → (t : Session) × EncodesTo s stream fields (answer.Refused e) t × Stands capacity new t
 cut_stands capacity w s stream fields e new st size h =
     let front = take h.1.0 fields in
-    let bytes : length (w.forth.bytes ++ flat_map encoder_bytes (instructions_for s.sender front)) < 2 ^ 63 =
-    subst (λ x. length (w.forth.bytes ++ flat_map encoder_bytes (instructions_for x front)) < 2 ^ 63) st.sender (subst (λ (x : Ends). length x.forth.bytes < 2 ^ 63) h.1.3 h.1.2.few) in
+    let bytes : length (w.encoder_stream.bytes ++ flat_map encoder_bytes (instructions_for s.sender front)) < 2 ^ 63 =
+    subst (λ x. length (w.encoder_stream.bytes ++ flat_map encoder_bytes (instructions_for x front)) < 2 ^ 63) st.sender (subst (λ (x : Ends). length x.encoder_stream.bytes < 2 ^ 63) h.1.3 h.1.2.few) in
     let told = instructions_written s.sender front st.sound.small h.1.2.are_bytes (omega (arith, size, sum_by-take-le field_size fields h.1.0))
-    (omega (arith, bytes, length-append w.forth.bytes (flat_map encoder_bytes (instructions_for s.sender front)))) in (
+    (omega (arith, bytes, length-append w.encoder_stream.bytes (flat_map encoder_bytes (instructions_for s.sender front)))) in (
       without_block s front,
       (h.0, (h.1.0, h.1.1, refl)),
       subst (λ x. Stands capacity x (without_block s front)) (sym h.1.3) (record {
@@ -183,10 +183,10 @@ cut_stands capacity w s stream fields e new st size h =
         sender = ap (λ (x : Sender). record x { inserted = (draft_of x front).inserted }) st.sender;
         capacity_is = st.capacity_is;
         count = st.count;
-        forth = subst (λ x. Forth capacity (s.instructions ++ instructions_for s.sender front) (writing w.forth (flat_map encoder_bytes (instructions_for x front))) w.receiver st.count) (sym st.sender)
-            (forth_more capacity s.instructions (instructions_for s.sender front) w.forth w.receiver st.count st.forth told);
+        encoder_stream = subst (λ x. EncoderStream capacity (s.instructions ++ instructions_for s.sender front) (writing w.encoder_stream (flat_map encoder_bytes (instructions_for x front))) w.receiver st.count) (sym st.sender)
+            (encoder_stream_more capacity s.instructions (instructions_for s.sender front) w.encoder_stream w.receiver st.count st.encoder_stream told);
         received = st.received;
-        back = st.back;
+        decoder_stream = st.decoder_stream;
         blocks = st.blocks;
         written = st.written;
         canceled = st.canceled;
@@ -211,50 +211,50 @@ zero_of n e = grind (arith, common_steps)
 abbrev told_more : Session → ℕ → Session
 told_more s count = if count == 0 then s else inserted s count
 
-forth_step : (capacity : ℕ) (w : Ends) (s : Session) (more : ℕ) (new : Ends) → Stands capacity w s → (d : DecoderReads w more new)
+encoder_stream_step : (capacity : ℕ) (w : Ends) (s : Session) (more : ℕ) (new : Ends) → Stands capacity w s → (d : DecoderReads w more new)
     → (t : Session) × ReadsInsertions s t × Stands capacity new t × (BeginsBad new.receiver d.left → ⊥)
-forth_step capacity w s more new st d =
+encoder_stream_step capacity w s more new st d =
     let reads = reads_as capacity w s st in
-    let f = forth_reads capacity s.instructions s.sender.inserted w.forth w.receiver new.receiver st.count more d.left reads st.forth d.enough d.read in
+    let f = encoder_stream_reads capacity s.instructions s.sender.inserted w.encoder_stream w.receiver new.receiver st.count more d.left reads st.encoder_stream d.enough d.read in
     let opened = length (opening capacity) in
     let gained = (st.count + f.more - opened) - (st.count - opened) in
-    let before = forth_count capacity s.instructions s.sender.inserted w.forth w.receiver st.count reads st.forth in
-    let after = forth_count capacity s.instructions s.sender.inserted (reading (arriving w.forth more) (length d.left)) new.receiver (st.count + f.more) reads f.forth in
+    let before = encoder_stream_count capacity s.instructions s.sender.inserted w.encoder_stream w.receiver st.count reads st.encoder_stream in
+    let after = encoder_stream_count capacity s.instructions s.sender.inserted (reading (arriving w.encoder_stream more) (length d.left)) new.receiver (st.count + f.more) reads f.encoder_stream in
     let gained_is : new.receiver.table.inserted - w.receiver.table.inserted ≡ gained = omega (arith, before, after) in
-    let within : s.received + gained ≤ length s.sender.inserted = omega (arith, st.received, f.forth.within, reads.one_each, length-append (opening capacity) s.instructions) in
+    let within : s.received + gained ≤ length s.sender.inserted = omega (arith, st.received, f.encoder_stream.within, reads.one_each, length-append (opening capacity) s.instructions) in
     let few : gained < 2 ^ 62 = omega (arith, within, st.sound.small) in
     let received : s.received + gained ≡ st.count + f.more - opened = omega (arith, st.received) in
-    let written : new.back ≡ writing w.back (increment_for gained) = ap (λ (x : Ends). x.back) d.is ∙ ap (λ n. writing w.back (increment_for n)) gained_is in
-    let forth : Forth capacity s.instructions new.forth new.receiver (st.count + f.more) = subst (λ t. Forth capacity s.instructions t new.receiver (st.count + f.more)) (sym (ap (λ (x : Ends). x.forth) d.is)) f.forth in
-    let choice = by_test gained (gained == 0) refl st few within (st.count + f.more) forth received written (ap (λ (x : Ends). x.sender) d.is) (ap (λ (x : Ends). x.blocks) d.is) (ap (λ (x : Ends). x.canceled) d.is) in
+    let written : new.decoder_stream ≡ writing w.decoder_stream (increment_for gained) = ap (λ (x : Ends). x.decoder_stream) d.is ∙ ap (λ n. writing w.decoder_stream (increment_for n)) gained_is in
+    let encoder_stream : EncoderStream capacity s.instructions new.encoder_stream new.receiver (st.count + f.more) = subst (λ t. EncoderStream capacity s.instructions t new.receiver (st.count + f.more)) (sym (ap (λ (x : Ends). x.encoder_stream) d.is)) f.encoder_stream in
+    let choice = by_test gained (gained == 0) refl st few within (st.count + f.more) encoder_stream received written (ap (λ (x : Ends). x.sender) d.is) (ap (λ (x : Ends). x.blocks) d.is) (ap (λ (x : Ends). x.canceled) d.is) in
     (told_more s gained, (gained, within, refl), choice, f.not_bad)
   where
-    by_test : (gained : ℕ) (b : Bool) → (gained == 0) ≡ b → Stands capacity w s → gained < 2 ^ 62 → s.received + gained ≤ length s.sender.inserted → (count : ℕ) → Forth capacity s.instructions new.forth new.receiver count
-        → s.received + gained ≡ count - length (opening capacity) → new.back ≡ writing w.back (increment_for gained) → new.sender ≡ w.sender → new.blocks ≡ w.blocks → new.canceled ≡ w.canceled
+    by_test : (gained : ℕ) (b : Bool) → (gained == 0) ≡ b → Stands capacity w s → gained < 2 ^ 62 → s.received + gained ≤ length s.sender.inserted → (count : ℕ) → EncoderStream capacity s.instructions new.encoder_stream new.receiver count
+        → s.received + gained ≡ count - length (opening capacity) → new.decoder_stream ≡ writing w.decoder_stream (increment_for gained) → new.sender ≡ w.sender → new.blocks ≡ w.blocks → new.canceled ≡ w.canceled
         → Stands capacity new (told_more s gained)
-    by_test gained true e st few within count forth received written sender blocks canceled =
+    by_test gained true e st few within count encoder_stream received written sender blocks canceled =
         let none = zero_of gained e in
         rw e (record {
           sound = st.sound;
           sender = sender ∙ st.sender;
           capacity_is = st.capacity_is;
           count = count;
-          forth = forth;
+          encoder_stream = encoder_stream;
           received = omega (arith, received, none);
-          back = subst (λ t. Back t s.decoder_instructions) (sym (rw e at written)) (back_same w.back s.decoder_instructions st.back);
+          decoder_stream = subst (λ t. DecoderStream t s.decoder_instructions) (sym (rw e at written)) (decoder_stream_same w.decoder_stream s.decoder_instructions st.decoder_stream);
           blocks = blocks ∙ st.blocks;
           written = st.written;
           canceled = λ stream. ap (λ cs. is_given_up cs stream) canceled ∙ st.canceled stream;
         })
-    by_test gained false e st few within count forth received written sender blocks canceled =
+    by_test gained false e st few within count encoder_stream received written sender blocks canceled =
         rw e (record {
           sound = insertions_read s gained within st.sound;
           sender = sender ∙ st.sender;
           capacity_is = st.capacity_is;
           count = count;
-          forth = forth;
+          encoder_stream = encoder_stream;
           received = received;
-          back = subst (λ t. Back t (s.decoder_instructions ++ Increment gained ∷ [])) (sym (rw e at written)) (back_more w.back s.decoder_instructions (Increment gained) st.back few);
+          decoder_stream = subst (λ t. DecoderStream t (s.decoder_instructions ++ Increment gained ∷ [])) (sym (rw e at written)) (decoder_stream_more w.decoder_stream s.decoder_instructions (Increment gained) st.decoder_stream few);
           blocks = blocks ∙ st.blocks;
           written = st.written;
           canceled = λ stream. ap (λ cs. is_given_up cs stream) canceled ∙ st.canceled stream;
@@ -275,17 +275,17 @@ only_memory bad decoder_error.BadBaseIndex h none = absurd (none h)
 only_memory bad decoder_error.UnexpectedEnd h none = absurd (none h)
 only_memory bad decoder_error.BufSize h none = absurd (none h)
 
-pub forth_stands : (capacity : ℕ) (w : Ends) (s : Session) (more : ℕ) (a : SessionAnswer) (new : Ends) → Stands capacity w s → DeliversForth w more a new → (t : Session) × DeliversInsertions s a t × Stands capacity new t
-forth_stands capacity w s more (answer.Short most) new st h = (s, refl, subst (λ x. Stands capacity x s) (sym h.2) st)
-forth_stands capacity w s more answer.Delivered new st h = let f = forth_step capacity w s more new st h.0 in (f.0, f.1, f.2)
-forth_stands capacity w s more (answer.Refused (of.Decoder e)) new st h =
-    let f = forth_step capacity w s more new st h.0 in (f.0, (ap of.Decoder (only_memory (BeginsBad new.receiver h.0.left) e h.1 f.3), f.1), f.2)
-forth_stands capacity w s more (answer.Refused (of.Encoder e)) new st h = absurd h
-forth_stands capacity w s more (answer.Encoded count) new st h = absurd h
-forth_stands capacity w s more (answer.Decoded fs) new st h = absurd h
-forth_stands capacity w s more (answer.Missing count) new st h = absurd h
-forth_stands capacity w s more answer.NoBlock new st h = absurd h
-forth_stands capacity w s more answer.Canceled new st h = absurd h
+pub encoder_stream_stands : (capacity : ℕ) (w : Ends) (s : Session) (more : ℕ) (a : SessionAnswer) (new : Ends) → Stands capacity w s → DeliversToDecoder w more a new → (t : Session) × DeliversInsertions s a t × Stands capacity new t
+encoder_stream_stands capacity w s more (answer.Short most) new st h = (s, refl, subst (λ x. Stands capacity x s) (sym h.2) st)
+encoder_stream_stands capacity w s more answer.Delivered new st h = let f = encoder_stream_step capacity w s more new st h.0 in (f.0, f.1, f.2)
+encoder_stream_stands capacity w s more (answer.Refused (of.Decoder e)) new st h =
+    let f = encoder_stream_step capacity w s more new st h.0 in (f.0, (ap of.Decoder (only_memory (BeginsBad new.receiver h.0.left) e h.1 f.3), f.1), f.2)
+encoder_stream_stands capacity w s more (answer.Refused (of.Encoder e)) new st h = absurd h
+encoder_stream_stands capacity w s more (answer.Encoded count) new st h = absurd h
+encoder_stream_stands capacity w s more (answer.Decoded fs) new st h = absurd h
+encoder_stream_stands capacity w s more (answer.Missing count) new st h = absurd h
+encoder_stream_stands capacity w s more answer.NoBlock new st h = absurd h
+encoder_stream_stands capacity w s more answer.Canceled new st h = absurd h
 
 -- the encoder reads more
 told_capacity : (s : Sender) (i : DecoderInstruction) → (told s i).capacity ≡ s.capacity
@@ -297,10 +297,10 @@ told_all_capacity : (s : Sender) (is : List DecoderInstruction) → (told_all s 
 told_all_capacity s [] = refl
 told_all_capacity s (i ∷ is) = told_all_capacity (told s i) is ∙ told_capacity s i
 
-back_step : (capacity : ℕ) (w : Ends) (s : Session) (more : ℕ) (new : Ends) → Stands capacity w s → (d : EncoderReads w more new)
+decoder_stream_step : (capacity : ℕ) (w : Ends) (s : Session) (more : ℕ) (new : Ends) → Stands capacity w s → (d : EncoderReads w more new)
     → (count : ℕ) × Stands capacity new (heard_so s count) × (BeginsRefused new.sender d.left → ⊥)
-back_step capacity w s more new st d =
-    let b = back_reads s w.back more d.instructions d.left st.sound st.back d.enough d.split in
+decoder_stream_step capacity w s more new st d =
+    let b = decoder_stream_reads s w.decoder_stream more d.instructions d.left st.sound st.decoder_stream d.enough d.split in
     let sender : new.sender ≡ told_all s.sender d.instructions = ap (λ (x : Ends). x.sender) d.is ∙ ap (λ x. told_all x d.instructions) st.sender in (
       b.count,
       subst (λ x. Stands capacity x (heard_so s b.count)) (sym d.is) (record {
@@ -308,9 +308,9 @@ back_step capacity w s more new st d =
         sender = ap (λ x. told_all x d.instructions) st.sender ∙ ap (told_all s.sender) b.are;
         capacity_is = told_all_capacity s.sender (take b.count s.decoder_instructions) ∙ st.capacity_is;
         count = st.count;
-        forth = st.forth;
+        encoder_stream = st.encoder_stream;
         received = st.received;
-        back = b.back;
+        decoder_stream = b.decoder_stream;
         blocks = st.blocks;
         written = st.written;
         canceled = st.canceled;
@@ -318,16 +318,16 @@ back_step capacity w s more new st d =
       λ refused. b.not_refused (subst (λ x. BeginsRefused x d.left) sender refused),
     )
 
-pub back_stands : (capacity : ℕ) (w : Ends) (s : Session) (more : ℕ) (a : SessionAnswer) (new : Ends) → Stands capacity w s → DeliversBack w more a new → (t : Session) × DeliversReplies s a t × Stands capacity new t
-back_stands capacity w s more (answer.Short most) new st h = (s, refl, subst (λ x. Stands capacity x s) (sym h.2) st)
-back_stands capacity w s more answer.Delivered new st h = let b = back_step capacity w s more new st h.0 in (heard_so s b.0, (b.0, refl), b.1)
-back_stands capacity w s more (answer.Refused (of.Encoder e)) new st h = let b = back_step capacity w s more new st h.0 in absurd (b.2 h.1)
-back_stands capacity w s more (answer.Refused (of.Decoder e)) new st h = absurd h
-back_stands capacity w s more (answer.Encoded count) new st h = absurd h
-back_stands capacity w s more (answer.Decoded fs) new st h = absurd h
-back_stands capacity w s more (answer.Missing count) new st h = absurd h
-back_stands capacity w s more answer.NoBlock new st h = absurd h
-back_stands capacity w s more answer.Canceled new st h = absurd h
+pub decoder_stream_stands : (capacity : ℕ) (w : Ends) (s : Session) (more : ℕ) (a : SessionAnswer) (new : Ends) → Stands capacity w s → DeliversToEncoder w more a new → (t : Session) × DeliversReplies s a t × Stands capacity new t
+decoder_stream_stands capacity w s more (answer.Short most) new st h = (s, refl, subst (λ x. Stands capacity x s) (sym h.2) st)
+decoder_stream_stands capacity w s more answer.Delivered new st h = let b = decoder_stream_step capacity w s more new st h.0 in (heard_so s b.0, (b.0, refl), b.1)
+decoder_stream_stands capacity w s more (answer.Refused (of.Encoder e)) new st h = let b = decoder_stream_step capacity w s more new st h.0 in absurd (b.2 h.1)
+decoder_stream_stands capacity w s more (answer.Refused (of.Decoder e)) new st h = absurd h
+decoder_stream_stands capacity w s more (answer.Encoded count) new st h = absurd h
+decoder_stream_stands capacity w s more (answer.Decoded fs) new st h = absurd h
+decoder_stream_stands capacity w s more (answer.Missing count) new st h = absurd h
+decoder_stream_stands capacity w s more answer.NoBlock new st h = absurd h
+decoder_stream_stands capacity w s more answer.Canceled new st h = absurd h
 
 -- the stream's oldest section
 record BlockAt (stream : ℕ) (blocks : List UnderWay) (c : EncodedBlock) : Type 0 where
@@ -386,7 +386,7 @@ record Tried (capacity : ℕ) (w : Ends) (s : Session) (stream : ℕ) (c : Encod
   decoder : IsDecoderOf s w.receiver
 
 decoder_is : (capacity : ℕ) (w : Ends) (s : Session) → Stands capacity w s → IsDecoderOf s w.receiver
-decoder_is capacity w s st = by_case (forth_is capacity s.instructions s.sender.inserted w.forth w.receiver st.count (reads_as capacity w s st) st.forth)
+decoder_is capacity w s st = by_case (encoder_stream_is capacity s.instructions s.sender.inserted w.encoder_stream w.receiver st.count (reads_as capacity w s st) st.encoder_stream)
   where
     by_case : ((st.count ≡ 0) × (w.receiver ≡ announcing capacity)) ⊎ (w.receiver ≡ receiver_at capacity (take (st.count - length (opening capacity)) s.sender.inserted)) → IsDecoderOf s w.receiver
     by_case (inl none) = inr (omega (arith, st.received, none.0), none.1 ∙ ap announcing (sym st.capacity_is))
@@ -421,19 +421,19 @@ decoded_stands capacity w s stream fields new st few h =
         sender = st.sender;
         capacity_is = st.capacity_is;
         count = st.count;
-        forth = st.forth;
+        encoder_stream = st.encoder_stream;
         received = st.received;
-        back = subst (λ n. Back (writing w.back (if n == 0 then [] else decoder_bytes (Acknowledge stream))) (decoded s k.block).decoder_instructions) (sym right.count_is)
-            (subst (λ n. Back (writing w.back (if count_of k.block == 0 then [] else decoder_bytes (Acknowledge n))) (decoded s k.block).decoder_instructions) k.of_stream (by_test (count_of k.block == 0) k.block.stream (omega (arith, few, k.of_stream))));
+        decoder_stream = subst (λ n. DecoderStream (writing w.decoder_stream (if n == 0 then [] else decoder_bytes (Acknowledge stream))) (decoded s k.block).decoder_instructions) (sym right.count_is)
+            (subst (λ n. DecoderStream (writing w.decoder_stream (if count_of k.block == 0 then [] else decoder_bytes (Acknowledge n))) (decoded s k.block).decoder_instructions) k.of_stream (by_test (count_of k.block == 0) k.block.stream (omega (arith, few, k.of_stream))));
         blocks = ap (without_block_of stream) st.blocks ∙ without_same stream s.blocks ∙ ap (λ n. map encoded_block (without_oldest n s.blocks)) (sym k.of_stream);
         written = All-without (IsRunBlock capacity) k.block.stream s.blocks st.written;
         canceled = st.canceled;
       }),
     )
   where
-    by_test : (b : Bool) (n : ℕ) → n < 2 ^ 62 → Back (writing w.back (if b then [] else decoder_bytes (Acknowledge n))) (s.decoder_instructions ++ (if b then [] else Acknowledge n ∷ []))
-    by_test true n small = subst (Back (writing w.back [])) (sym (append-nil s.decoder_instructions)) (back_same w.back s.decoder_instructions st.back)
-    by_test false n small = back_more w.back s.decoder_instructions (Acknowledge n) st.back small
+    by_test : (b : Bool) (n : ℕ) → n < 2 ^ 62 → DecoderStream (writing w.decoder_stream (if b then [] else decoder_bytes (Acknowledge n))) (s.decoder_instructions ++ (if b then [] else Acknowledge n ∷ []))
+    by_test true n small = subst (DecoderStream (writing w.decoder_stream [])) (sym (append-nil s.decoder_instructions)) (decoder_stream_same w.decoder_stream s.decoder_instructions st.decoder_stream)
+    by_test false n small = decoder_stream_more w.decoder_stream s.decoder_instructions (Acknowledge n) st.decoder_stream small
 
 pub decodes_stands : (capacity : ℕ) (w : Ends) (s : Session) (stream : ℕ) (a : SessionAnswer) (new : Ends) → Stands capacity w s → stream < 2 ^ 62 → Decodes w stream a new → (t : Session) × DecodesAs s stream a t × Stands capacity new t
 decodes_stands capacity w s stream answer.Canceled new st few h = (s, (sym (st.canceled stream) ∙ h.0, refl), subst (λ x. Stands capacity x s) (sym h.1) st)
@@ -486,9 +486,9 @@ given_up_stands capacity w s stream st few =
       sender = st.sender;
       capacity_is = st.capacity_is;
       count = st.count;
-      forth = st.forth;
+      encoder_stream = st.encoder_stream;
       received = st.received;
-      back = back_more w.back s.decoder_instructions (CancelStream stream) st.back few;
+      decoder_stream = decoder_stream_more w.decoder_stream s.decoder_instructions (CancelStream stream) st.decoder_stream few;
       blocks = ap (λ bs. filter (λ c. not (c.stream == stream)) bs) st.blocks ∙ filter_same stream s.blocks;
       written = All-filter (IsRunBlock capacity) (λ b. not (b.stream == stream)) s.blocks st.written;
       canceled = λ other. list_any-append (λ n. n == other) w.canceled (stream ∷ []) ∙ ap (λ b. b || ((stream == other) || false)) (st.canceled other) ∙ or_turned (is_canceled s other) (stream == other);
@@ -516,8 +516,8 @@ cancels_stands capacity w s stream answer.NoBlock new st few h = absurd h
 -- one event
 event_stands : (capacity : ℕ) (w : Ends) (s : Session) (e : SessionEvent) (a : SessionAnswer) (new : Ends) → Stands capacity w s → IsEvent e → Happens w e a new → (t : Session) × Expects s e a t × Stands capacity new t
 event_stands capacity w s (event.Encode stream fields) a new st small h = encodes_stands capacity w s stream fields.items a new st small.1 h
-event_stands capacity w s (event.EncoderBytes count) a new st small h = forth_stands capacity w s count a new st h
-event_stands capacity w s (event.DecoderBytes count) a new st small h = back_stands capacity w s count a new st h
+event_stands capacity w s (event.EncoderBytes count) a new st small h = encoder_stream_stands capacity w s count a new st h
+event_stands capacity w s (event.DecoderBytes count) a new st small h = decoder_stream_stands capacity w s count a new st h
 event_stands capacity w s (event.Decode stream) a new st small h = decodes_stands capacity w s stream a new st small h
 event_stands capacity w s (event.Cancel stream) a new st small h = cancels_stands capacity w s stream a new st small h
 

@@ -25,7 +25,7 @@ use Rattle.h3_qpack.specs.Telling.{HasHeard}
 use Rattle.h3_qpack.specs.Increments.{increment_for}
 use Rattle.h3_qpack.specs.Written.{draft_of}
 use Rattle.h3_qpack.specs.Drafting.{IsCutOff}
-use Rattle.h3_qpack.specs.Exchange.{Stream, EncodedBlock, EncoderReads, Ends, Kept, kept, unread, waiting, arriving, reading, writing, is_given_up, is_of, block_of, without_block_of, IsPlace, HasBlock, IsEvent, Happens, Exchange, Before, Then, start, Encodes, DeliversForth, DeliversBack, Decodes, Cancels, giving_up, refused_section}
+use Rattle.h3_qpack.specs.Exchange.{Stream, EncodedBlock, EncoderReads, Ends, Kept, kept, unread, waiting, arriving, reading, writing, is_given_up, is_of, block_of, without_block_of, IsPlace, HasBlock, IsEvent, Happens, Exchange, Before, Then, start, Encodes, DeliversToDecoder, DeliversToEncoder, Decodes, Cancels, giving_up, refused_section}
 use Rattle.h3_qpack.specs.declared.session.SessionEvent.{SessionEvent}
 use Rattle.h3_qpack.specs.declared.session.SessionAnswer.{SessionAnswer}
 use Rattle.h3_qpack.specs.declared.session.SessionAnswer.TheVariants as answer
@@ -36,45 +36,45 @@ neither false b h = (refl, h)
 
 -- a section that was cut off
 pub encoding_cut : (w : Ends) (k : Kept) (stream : ℕ) (fields : List Field) (encoder : StoredSender) (bytes : List ℕ) (e : EncoderError) → k ≡ kept w
-    → ((s : Sender) → k.encoder ≡ stored s → IsCutOff s fields encoder k.forth.bytes bytes) → length bytes < 2 ^ 63 → e ≡ encoder_error.OutOfMemory
-    → (new : Ends) × Encodes w stream fields (answer.Refused (of.Encoder e)) new × (record k { encoder = encoder; forth = record k.forth { bytes = bytes } } ≡ kept new)
+    → ((s : Sender) → k.encoder ≡ stored s → IsCutOff s fields encoder k.encoder_stream.bytes bytes) → length bytes < 2 ^ 63 → e ≡ encoder_error.OutOfMemory
+    → (new : Ends) × Encodes w stream fields (answer.Refused (of.Encoder e)) new × (record k { encoder = encoder; encoder_stream = record k.encoder_stream { bytes = bytes } } ≡ kept new)
 encoding_cut w k stream fields encoder bytes e same cut few is =
     let c = cut w.sender (ap (λ (x : Kept). x.encoder) same) in
-    let told : bytes ≡ w.forth.bytes ++ flat_map encoder_bytes (draft_of w.sender (take c.front fields)).instructions =
-    c.told_is ∙ ap (λ bs. bs ++ flat_map encoder_bytes (draft_of w.sender (take c.front fields)).instructions) (ap (λ (x : Kept). x.forth.bytes) same) in (
+    let told : bytes ≡ w.encoder_stream.bytes ++ flat_map encoder_bytes (draft_of w.sender (take c.front fields)).instructions =
+    c.told_is ∙ ap (λ bs. bs ++ flat_map encoder_bytes (draft_of w.sender (take c.front fields)).instructions) (ap (λ (x : Kept). x.encoder_stream.bytes) same) in (
       _,
       (ap of.Encoder is, (c.front, c.within, record { are_bytes = c.are_bytes; few = subst (λ bs. length bs < 2 ^ 63) told few }, refl)),
-      ap (λ (x : Kept). record x { encoder = encoder; forth = record x.forth { bytes = bytes } }) same
-          ∙ ap (λ s. record (kept w) { encoder = s; forth = record w.forth { bytes = bytes } }) c.stores
-          ∙ ap (λ bs. record (kept w) { encoder = stored (record w.sender { inserted = (draft_of w.sender (take c.front fields)).inserted }); forth = record w.forth { bytes = bs } }) told,
+      ap (λ (x : Kept). record x { encoder = encoder; encoder_stream = record x.encoder_stream { bytes = bytes } }) same
+          ∙ ap (λ s. record (kept w) { encoder = s; encoder_stream = record w.encoder_stream { bytes = bytes } }) c.stores
+          ∙ ap (λ bs. record (kept w) { encoder = stored (record w.sender { inserted = (draft_of w.sender (take c.front fields)).inserted }); encoder_stream = record w.encoder_stream { bytes = bs } }) told,
     )
 
 -- bytes came to the decoder
 abbrev pub came : Kept → ℕ → Receiver → ℕ → List ℕ → Kept
 came k count decoder read written =
-    record k { decoder = decoder; forth = record { bytes = k.forth.bytes; arrived = k.forth.arrived + count; read = read }; back = record k.back { bytes = written } }
+    record k { decoder = decoder; encoder_stream = record { bytes = k.encoder_stream.bytes; arrived = k.encoder_stream.arrived + count; read = read }; decoder_stream = record k.decoder_stream { bytes = written } }
 
-abbrev forth_new : Ends → ℕ → Receiver → List ℕ → Ends
-forth_new w count decoder left =
-    record w { receiver = decoder; forth = reading (arriving w.forth count) (length left); back = writing w.back (increment_for (decoder.table.inserted - w.receiver.table.inserted)) }
+abbrev encoder_stream_new : Ends → ℕ → Receiver → List ℕ → Ends
+encoder_stream_new w count decoder left =
+    record w { receiver = decoder; encoder_stream = reading (arriving w.encoder_stream count) (length left); decoder_stream = writing w.decoder_stream (increment_for (decoder.table.inserted - w.receiver.table.inserted)) }
 
-came_kept : (w : Ends) (k : Kept) (count : ℕ) (decoder : Receiver) (left : List ℕ) (read : ℕ) (written : List ℕ) → k ≡ kept w → read ≡ k.forth.arrived + count - length left
-    → written ≡ k.back.bytes ++ increment_for (decoder.table.inserted - k.decoder.table.inserted) → came k count decoder read written ≡ kept (forth_new w count decoder left)
+came_kept : (w : Ends) (k : Kept) (count : ℕ) (decoder : Receiver) (left : List ℕ) (read : ℕ) (written : List ℕ) → k ≡ kept w → read ≡ k.encoder_stream.arrived + count - length left
+    → written ≡ k.decoder_stream.bytes ++ increment_for (decoder.table.inserted - k.decoder.table.inserted) → came k count decoder read written ≡ kept (encoder_stream_new w count decoder left)
 came_kept w k count decoder left read written same read_is written_is =
-    ap (λ n. came k count decoder n written) read_is ∙ ap (λ bs. came k count decoder (k.forth.arrived + count - length left) bs) written_is
-    ∙ ap (λ (x : Kept). came x count decoder (x.forth.arrived + count - length left) (x.back.bytes ++ increment_for (decoder.table.inserted - x.decoder.table.inserted))) same
+    ap (λ n. came k count decoder n written) read_is ∙ ap (λ bs. came k count decoder (k.encoder_stream.arrived + count - length left) bs) written_is
+    ∙ ap (λ (x : Kept). came x count decoder (x.encoder_stream.arrived + count - length left) (x.decoder_stream.bytes ++ increment_for (decoder.table.inserted - x.decoder.table.inserted))) same
 
-pub forth_delivered : (w : Ends) (k : Kept) (count : ℕ) (decoder : Receiver) (left : List ℕ) (read : ℕ) (written : List ℕ) → k ≡ kept w → count ≤ waiting k.forth
-    → HasRead k.decoder decoder (unread (arriving k.forth count)) left → read ≡ k.forth.arrived + count - length left
-    → written ≡ k.back.bytes ++ increment_for (decoder.table.inserted - k.decoder.table.inserted) → instruction left ≡ Unfinished
-    → (new : Ends) × DeliversForth w count answer.Delivered new × (came k count decoder read written ≡ kept new)
-forth_delivered w k count decoder left read written same enough has read_is written_is whole = (
-  forth_new w count decoder left,
+pub encoder_stream_delivered : (w : Ends) (k : Kept) (count : ℕ) (decoder : Receiver) (left : List ℕ) (read : ℕ) (written : List ℕ) → k ≡ kept w → count ≤ waiting k.encoder_stream
+    → HasRead k.decoder decoder (unread (arriving k.encoder_stream count)) left → read ≡ k.encoder_stream.arrived + count - length left
+    → written ≡ k.decoder_stream.bytes ++ increment_for (decoder.table.inserted - k.decoder.table.inserted) → instruction left ≡ Unfinished
+    → (new : Ends) × DeliversToDecoder w count answer.Delivered new × (came k count decoder read written ≡ kept new)
+encoder_stream_delivered w k count decoder left read written same enough has read_is written_is whole = (
+  encoder_stream_new w count decoder left,
   (
     record {
-      enough = subst (λ (x : Kept). count ≤ waiting x.forth) same enough;
+      enough = subst (λ (x : Kept). count ≤ waiting x.encoder_stream) same enough;
       left = left;
-      read = subst (λ (x : Kept). HasRead x.decoder decoder (unread (arriving x.forth count)) left) same has;
+      read = subst (λ (x : Kept). HasRead x.decoder decoder (unread (arriving x.encoder_stream count)) left) same has;
       is = refl;
     },
     whole,
@@ -82,17 +82,17 @@ forth_delivered w k count decoder left read written same enough has read_is writ
   came_kept w k count decoder left read written same read_is written_is,
 )
 
-pub forth_refused : (w : Ends) (k : Kept) (count : ℕ) (decoder : Receiver) (left : List ℕ) (read : ℕ) (written : List ℕ) (e : DecoderError) → k ≡ kept w → count ≤ waiting k.forth
-    → HasRead k.decoder decoder (unread (arriving k.forth count)) left → read ≡ k.forth.arrived + count - length left
-    → written ≡ k.back.bytes ++ increment_for (decoder.table.inserted - k.decoder.table.inserted) → IsReason (BeginsBad decoder left) (λ count. ⊥) e
-    → (new : Ends) × DeliversForth w count (answer.Refused (of.Decoder e)) new × (came k count decoder read written ≡ kept new)
-forth_refused w k count decoder left read written e same enough has read_is written_is reason = (
-  forth_new w count decoder left,
+pub encoder_stream_refused : (w : Ends) (k : Kept) (count : ℕ) (decoder : Receiver) (left : List ℕ) (read : ℕ) (written : List ℕ) (e : DecoderError) → k ≡ kept w → count ≤ waiting k.encoder_stream
+    → HasRead k.decoder decoder (unread (arriving k.encoder_stream count)) left → read ≡ k.encoder_stream.arrived + count - length left
+    → written ≡ k.decoder_stream.bytes ++ increment_for (decoder.table.inserted - k.decoder.table.inserted) → IsReason (BeginsBad decoder left) (λ count. ⊥) e
+    → (new : Ends) × DeliversToDecoder w count (answer.Refused (of.Decoder e)) new × (came k count decoder read written ≡ kept new)
+encoder_stream_refused w k count decoder left read written e same enough has read_is written_is reason = (
+  encoder_stream_new w count decoder left,
   (
     record {
-      enough = subst (λ (x : Kept). count ≤ waiting x.forth) same enough;
+      enough = subst (λ (x : Kept). count ≤ waiting x.encoder_stream) same enough;
       left = left;
-      read = subst (λ (x : Kept). HasRead x.decoder decoder (unread (arriving x.forth count)) left) same has;
+      read = subst (λ (x : Kept). HasRead x.decoder decoder (unread (arriving x.encoder_stream count)) left) same has;
       is = refl;
     },
     reason,
@@ -101,60 +101,60 @@ forth_refused w k count decoder left read written e same enough has read_is writ
 )
 
 -- bytes came to the encoder
-abbrev pub came_back : Kept → ℕ → StoredSender → ℕ → Kept
-came_back k count encoder read = record k { encoder = encoder; back = record { bytes = k.back.bytes; arrived = k.back.arrived + count; read = read } }
+abbrev pub came_to_encoder : Kept → ℕ → StoredSender → ℕ → Kept
+came_to_encoder k count encoder read = record k { encoder = encoder; decoder_stream = record { bytes = k.decoder_stream.bytes; arrived = k.decoder_stream.arrived + count; read = read } }
 
-record CameBack (w : Ends) (k : Kept) (count : ℕ) (encoder : StoredSender) (left : List ℕ) (read : ℕ) : Type 0 where
+record CameToEncoder (w : Ends) (k : Kept) (count : ℕ) (encoder : StoredSender) (left : List ℕ) (read : ℕ) : Type 0 where
   pub new : Ends
   pub reads : EncoderReads w count new
   pub left_is : reads.left ≡ left
   pub sender : encoder ≡ stored new.sender
-  pub kept_is : came_back k count encoder read ≡ kept new
+  pub kept_is : came_to_encoder k count encoder read ≡ kept new
 
-back_came : (w : Ends) (k : Kept) (count : ℕ) (encoder : StoredSender) (left : List ℕ) (read : ℕ) → k ≡ kept w → count ≤ waiting k.back
-    → HasHeard k.encoder encoder (unread (arriving k.back count)) left → read ≡ k.back.arrived + count - length left → CameBack w k count encoder left read
-back_came w k count encoder left read same enough h read_is =
+decoder_stream_came : (w : Ends) (k : Kept) (count : ℕ) (encoder : StoredSender) (left : List ℕ) (read : ℕ) → k ≡ kept w → count ≤ waiting k.decoder_stream
+    → HasHeard k.encoder encoder (unread (arriving k.decoder_stream count)) left → read ≡ k.decoder_stream.arrived + count - length left → CameToEncoder w k count encoder left read
+decoder_stream_came w k count encoder left read same enough h read_is =
     let stores = ap (λ (x : Kept). x.encoder) same in
     let told = h.told w.sender stores in
     record {
-      new = record w { sender = told_all w.sender h.instructions; back = reading (arriving w.back count) (length left) };
+      new = record w { sender = told_all w.sender h.instructions; decoder_stream = reading (arriving w.decoder_stream count) (length left) };
       reads = record {
-        enough = subst (λ (x : Kept). count ≤ waiting x.back) same enough;
+        enough = subst (λ (x : Kept). count ≤ waiting x.decoder_stream) same enough;
         left = left;
         instructions = h.instructions;
-        split = subst (λ (x : Kept). AreDecoderInstructions (unread (arriving x.back count)) h.instructions left) same h.split;
+        split = subst (λ (x : Kept). AreDecoderInstructions (unread (arriving x.decoder_stream count)) h.instructions left) same h.split;
         accepted = h.accepted w.sender stores;
         is = refl;
       };
       left_is = refl;
       sender = told;
-      kept_is = ap (λ n. came_back k count encoder n) read_is ∙ ap (λ (x : Kept). came_back x count encoder (x.back.arrived + count - length left)) same
-          ∙ ap (λ s. came_back (kept w) count s (w.back.arrived + count - length left)) told;
+      kept_is = ap (λ n. came_to_encoder k count encoder n) read_is ∙ ap (λ (x : Kept). came_to_encoder x count encoder (x.decoder_stream.arrived + count - length left)) same
+          ∙ ap (λ s. came_to_encoder (kept w) count s (w.decoder_stream.arrived + count - length left)) told;
     }
 
-pub back_delivered : (w : Ends) (k : Kept) (count : ℕ) (encoder : StoredSender) (left : List ℕ) (read : ℕ) → k ≡ kept w → count ≤ waiting k.back
-    → HasHeard k.encoder encoder (unread (arriving k.back count)) left → read ≡ k.back.arrived + count - length left → decoder_instruction left ≡ Unfinished
-    → (new : Ends) × DeliversBack w count answer.Delivered new × (came_back k count encoder read ≡ kept new)
-back_delivered w k count encoder left read same enough h read_is whole =
-    let c = back_came w k count encoder left read same enough h read_is in
+pub decoder_stream_delivered : (w : Ends) (k : Kept) (count : ℕ) (encoder : StoredSender) (left : List ℕ) (read : ℕ) → k ≡ kept w → count ≤ waiting k.decoder_stream
+    → HasHeard k.encoder encoder (unread (arriving k.decoder_stream count)) left → read ≡ k.decoder_stream.arrived + count - length left → decoder_instruction left ≡ Unfinished
+    → (new : Ends) × DeliversToEncoder w count answer.Delivered new × (came_to_encoder k count encoder read ≡ kept new)
+decoder_stream_delivered w k count encoder left read same enough h read_is whole =
+    let c = decoder_stream_came w k count encoder left read same enough h read_is in
     (c.new, (c.reads, ap decoder_instruction c.left_is ∙ whole), c.kept_is)
 
-pub back_refused : (w : Ends) (k : Kept) (count : ℕ) (encoder : StoredSender) (left : List ℕ) (read : ℕ) (e : EncoderError) → k ≡ kept w → count ≤ waiting k.back
-    → HasHeard k.encoder encoder (unread (arriving k.back count)) left → read ≡ k.back.arrived + count - length left → ((s : Sender) → encoder ≡ stored s → BeginsRefused s left)
-    → (new : Ends) × DeliversBack w count (answer.Refused (of.Encoder e)) new × (came_back k count encoder read ≡ kept new)
-back_refused w k count encoder left read e same enough h read_is refused =
-    let c = back_came w k count encoder left read same enough h read_is in
+pub decoder_stream_refused : (w : Ends) (k : Kept) (count : ℕ) (encoder : StoredSender) (left : List ℕ) (read : ℕ) (e : EncoderError) → k ≡ kept w → count ≤ waiting k.decoder_stream
+    → HasHeard k.encoder encoder (unread (arriving k.decoder_stream count)) left → read ≡ k.decoder_stream.arrived + count - length left → ((s : Sender) → encoder ≡ stored s → BeginsRefused s left)
+    → (new : Ends) × DeliversToEncoder w count (answer.Refused (of.Encoder e)) new × (came_to_encoder k count encoder read ≡ kept new)
+decoder_stream_refused w k count encoder left read e same enough h read_is refused =
+    let c = decoder_stream_came w k count encoder left read same enough h read_is in
     (c.new, (c.reads, subst (BeginsRefused c.new.sender) (sym c.left_is) (refused c.new.sender c.sender)), c.kept_is)
 
 -- a stream is given up
-pub given_up : (w : Ends) (k : Kept) (stream : ℕ) (back canceled : List ℕ) (blocks : List EncodedBlock) → k ≡ kept w → is_given_up k.canceled stream ≡ false
-    → back ≡ k.back.bytes ++ decoder_bytes (CancelStream stream) → canceled ≡ k.canceled ++ stream ∷ [] → blocks ≡ filter (λ b. not (b.stream == stream)) k.blocks
-    → (new : Ends) × Cancels w stream answer.Canceled new × (record k { back = record k.back { bytes = back }; blocks = blocks; canceled = canceled } ≡ kept new)
-given_up w k stream back canceled blocks same alive written more left =
+pub given_up : (w : Ends) (k : Kept) (stream : ℕ) (decoder_stream canceled : List ℕ) (blocks : List EncodedBlock) → k ≡ kept w → is_given_up k.canceled stream ≡ false
+    → decoder_stream ≡ k.decoder_stream.bytes ++ decoder_bytes (CancelStream stream) → canceled ≡ k.canceled ++ stream ∷ [] → blocks ≡ filter (λ b. not (b.stream == stream)) k.blocks
+    → (new : Ends) × Cancels w stream answer.Canceled new × (record k { decoder_stream = record k.decoder_stream { bytes = decoder_stream }; blocks = blocks; canceled = canceled } ≡ kept new)
+given_up w k stream decoder_stream canceled blocks same alive written more left =
     let here : is_given_up w.canceled stream ≡ false = subst (λ (x : Kept). is_given_up x.canceled stream ≡ false) same alive in (
       giving_up w stream,
       rw here refl,
-      rw (written, more, left) (ap (λ (x : Kept). record x { back = record x.back { bytes = x.back.bytes ++ decoder_bytes (CancelStream stream) }; blocks = filter (λ b. not (b.stream == stream)) x.blocks; canceled = x.canceled ++ stream ∷ [] }) same),
+      rw (written, more, left) (ap (λ (x : Kept). record x { decoder_stream = record x.decoder_stream { bytes = x.decoder_stream.bytes ++ decoder_bytes (CancelStream stream) }; blocks = filter (λ b. not (b.stream == stream)) x.blocks; canceled = x.canceled ++ stream ∷ [] }) same),
     )
 
 -- the oldest section of a stream
@@ -220,21 +220,21 @@ needed count x = by_test (nat_lt 0 count) (count == 0) refl refl
     by_test false true e f = refl
     by_test false false e f = absurd (grind (arith, common_steps))
 
-pub decoding_done : (w : Ends) (k : Kept) (stream place : ℕ) (b : EncodedBlock) (fields : Vec Field Global) (is_needed : Bool) (back : List ℕ) (blocks : List EncodedBlock) → k ≡ kept w
+pub decoding_done : (w : Ends) (k : Kept) (stream place : ℕ) (b : EncodedBlock) (fields : Vec Field Global) (is_needed : Bool) (decoder_stream : List ℕ) (blocks : List EncodedBlock) → k ≡ kept w
     → is_given_up k.canceled stream ≡ false → IsPlace stream k.blocks place → b ≡ get_or k.blocks place b
-    → ((count : ℕ) × MeansFields k.decoder b.bytes count fields.items × (is_needed ≡ nat_lt 0 count)) → back ≡ k.back.bytes ++ (if is_needed then decoder_bytes (Acknowledge stream) else [])
-    → blocks ≡ remove k.blocks place → (x : Ends) × Decodes w stream (answer.Decoded fields) x × (record k { back = record k.back { bytes = back }; blocks = blocks } ≡ kept x)
-decoding_done w k stream place b fields is_needed back blocks same alive p is m written left =
+    → ((count : ℕ) × MeansFields k.decoder b.bytes count fields.items × (is_needed ≡ nat_lt 0 count)) → decoder_stream ≡ k.decoder_stream.bytes ++ (if is_needed then decoder_bytes (Acknowledge stream) else [])
+    → blocks ≡ remove k.blocks place → (x : Ends) × Decodes w stream (answer.Decoded fields) x × (record k { decoder_stream = record k.decoder_stream { bytes = decoder_stream }; blocks = blocks } ≡ kept x)
+decoding_done w k stream place b fields is_needed decoder_stream blocks same alive p is m written left =
     let h = has_block w k stream place b same alive p is in
     let means = subst (λ r. MeansFields r h.0.block.bytes m.0 fields.items) (ap (λ (x : Kept). x.decoder) same) (subst (λ c. MeansFields k.decoder c.bytes m.0 fields.items) (sym h.1) m.1) in
     let without = (first_of stream k.blocks place b p is).1 in
-    let bytes : back ≡ k.back.bytes ++ (if m.0 == 0 then [] else decoder_bytes (Acknowledge stream)) =
-    written ∙ ap (λ t. k.back.bytes ++ (if t then decoder_bytes (Acknowledge stream) else [])) m.2 ∙ ap (λ bs. k.back.bytes ++ bs) (needed m.0 (decoder_bytes (Acknowledge stream))) in (
+    let bytes : decoder_stream ≡ k.decoder_stream.bytes ++ (if m.0 == 0 then [] else decoder_bytes (Acknowledge stream)) =
+    written ∙ ap (λ t. k.decoder_stream.bytes ++ (if t then decoder_bytes (Acknowledge stream) else [])) m.2 ∙ ap (λ bs. k.decoder_stream.bytes ++ bs) (needed m.0 (decoder_bytes (Acknowledge stream))) in (
       _,
       (h.0, m.0, means, refl),
-      ap (λ bs. record k { back = record k.back { bytes = bs }; blocks = blocks }) bytes
-          ∙ ap (λ cs. record k { back = record k.back { bytes = k.back.bytes ++ (if m.0 == 0 then [] else decoder_bytes (Acknowledge stream)) }; blocks = cs }) (left ∙ sym without)
-          ∙ ap (λ (x : Kept). record x { back = record x.back { bytes = x.back.bytes ++ (if m.0 == 0 then [] else decoder_bytes (Acknowledge stream)) }; blocks = without_block_of stream x.blocks }) same,
+      ap (λ bs. record k { decoder_stream = record k.decoder_stream { bytes = bs }; blocks = blocks }) bytes
+          ∙ ap (λ cs. record k { decoder_stream = record k.decoder_stream { bytes = k.decoder_stream.bytes ++ (if m.0 == 0 then [] else decoder_bytes (Acknowledge stream)) }; blocks = cs }) (left ∙ sym without)
+          ∙ ap (λ (x : Kept). record x { decoder_stream = record x.decoder_stream { bytes = x.decoder_stream.bytes ++ (if m.0 == 0 then [] else decoder_bytes (Acknowledge stream)) }; blocks = without_block_of stream x.blocks }) same,
     )
 
 -- What a loop over the events keeps.

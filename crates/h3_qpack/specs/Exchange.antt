@@ -64,9 +64,9 @@ pub record EncodedBlock : Type 0 where
 pub record Ends : Type 0 where
   pub sender : Sender
   pub receiver : Receiver
-  -- from the encoder to the decoder, and back
-  pub forth : Stream
-  pub back : Stream
+  -- from the encoder to the decoder, and from the decoder to the encoder (RFC 9204, section 4.2)
+  pub encoder_stream : Stream
+  pub decoder_stream : Stream
   -- the oldest first
   pub blocks : List EncodedBlock
   -- the streams that were given up
@@ -82,8 +82,8 @@ start capacity limit =
     record {
       sender = record no_table { capacity = capacity; limit = limit };
       receiver = announcing capacity;
-      forth = writing no_bytes (if capacity == 0 then [] else encoder_bytes (SetCapacity capacity));
-      back = no_bytes;
+      encoder_stream = writing no_bytes (if capacity == 0 then [] else encoder_bytes (SetCapacity capacity));
+      decoder_stream = no_bytes;
       blocks = [];
       canceled = [];
     }
@@ -92,13 +92,13 @@ start capacity limit =
 pub record Kept : Type 0 where
   pub encoder : StoredSender
   pub decoder : Receiver
-  pub forth : Stream
-  pub back : Stream
+  pub encoder_stream : Stream
+  pub decoder_stream : Stream
   pub blocks : List EncodedBlock
   pub canceled : List ℕ
 
 abbrev pub kept : Ends → Kept
-kept w = record { encoder = stored w.sender; decoder = w.receiver; forth = w.forth; back = w.back; blocks = w.blocks; canceled = w.canceled }
+kept w = record { encoder = stored w.sender; decoder = w.receiver; encoder_stream = w.encoder_stream; decoder_stream = w.decoder_stream; blocks = w.blocks; canceled = w.canceled }
 
 -- streams and sizes that a writer takes
 abbrev pub IsEvent : SessionEvent → Type 0
@@ -127,51 +127,51 @@ pub record AreHeld (fields : List Field) (bytes : List ℕ) : Type 0 where
 -- The section is written, or cut off behind some of its fields for want of memory.
 abbrev pub Encodes : Ends → ℕ → List Field → SessionAnswer → Ends → Type 0
 Encodes w stream fields (answer.Encoded count) new =
-    (count ≡ required_insert_count (draft_of w.sender fields)) × AreHeld fields new.forth.bytes × (length (encoded_section w.sender fields) < 2 ^ 63)
+    (count ≡ required_insert_count (draft_of w.sender fields)) × AreHeld fields new.encoder_stream.bytes × (length (encoded_section w.sender fields) < 2 ^ 63)
     × (new ≡ record w {
       sender = sent_section w.sender stream fields;
-      forth = writing w.forth (flat_map encoder_bytes (instructions_for w.sender fields));
+      encoder_stream = writing w.encoder_stream (flat_map encoder_bytes (instructions_for w.sender fields));
       blocks = w.blocks ++ record { stream = stream; bytes = encoded_section w.sender fields } ∷ [];
     })
 Encodes w stream fields (answer.Refused e) new =
     (e ≡ of.Encoder encoder_error.OutOfMemory)
-    × ((front : ℕ) × (front ≤ length fields) × AreHeld (take front fields) new.forth.bytes × (new ≡ record w {
+    × ((front : ℕ) × (front ≤ length fields) × AreHeld (take front fields) new.encoder_stream.bytes × (new ≡ record w {
       sender = record w.sender { inserted = (draft_of w.sender (take front fields)).inserted };
-      forth = writing w.forth (flat_map encoder_bytes (instructions_for w.sender (take front fields)));
+      encoder_stream = writing w.encoder_stream (flat_map encoder_bytes (instructions_for w.sender (take front fields)));
     }))
 Encodes w stream fields other new = ⊥
 
 -- So many bytes more came to the decoder, which read the whole instructions and left the rest.
 pub record DecoderReads (w : Ends) (count : ℕ) (new : Ends) : Type 0 where
-  pub enough : count ≤ waiting w.forth
+  pub enough : count ≤ waiting w.encoder_stream
   pub left : List ℕ
-  pub read : HasRead w.receiver new.receiver (unread (arriving w.forth count)) left
+  pub read : HasRead w.receiver new.receiver (unread (arriving w.encoder_stream count)) left
   pub is : new ≡ record w {
     receiver = new.receiver;
-    forth = reading (arriving w.forth count) (length left);
-    back = writing w.back (increment_for (new.receiver.table.inserted - w.receiver.table.inserted));
+    encoder_stream = reading (arriving w.encoder_stream count) (length left);
+    decoder_stream = writing w.decoder_stream (increment_for (new.receiver.table.inserted - w.receiver.table.inserted));
   }
 
-abbrev pub DeliversForth : Ends → ℕ → SessionAnswer → Ends → Type 0
-DeliversForth w count (answer.Short most) new = (most ≡ waiting w.forth) × (most < count) × (new ≡ w)
-DeliversForth w count answer.Delivered new = (d : DecoderReads w count new) × (instruction d.left ≡ Unfinished)
-DeliversForth w count (answer.Refused (of.Decoder e)) new = (d : DecoderReads w count new) × IsReason (BeginsBad new.receiver d.left) (λ count. ⊥) e
-DeliversForth w count other new = ⊥
+abbrev pub DeliversToDecoder : Ends → ℕ → SessionAnswer → Ends → Type 0
+DeliversToDecoder w count (answer.Short most) new = (most ≡ waiting w.encoder_stream) × (most < count) × (new ≡ w)
+DeliversToDecoder w count answer.Delivered new = (d : DecoderReads w count new) × (instruction d.left ≡ Unfinished)
+DeliversToDecoder w count (answer.Refused (of.Decoder e)) new = (d : DecoderReads w count new) × IsReason (BeginsBad new.receiver d.left) (λ count. ⊥) e
+DeliversToDecoder w count other new = ⊥
 
 -- So many bytes more came to the encoder, which read the whole instructions and left the rest.
 pub record EncoderReads (w : Ends) (count : ℕ) (new : Ends) : Type 0 where
-  pub enough : count ≤ waiting w.back
+  pub enough : count ≤ waiting w.decoder_stream
   pub left : List ℕ
   pub instructions : List DecoderInstruction
-  pub split : AreDecoderInstructions (unread (arriving w.back count)) instructions left
+  pub split : AreDecoderInstructions (unread (arriving w.decoder_stream count)) instructions left
   pub accepted : AreAccepted w.sender instructions
-  pub is : new ≡ record w { sender = told_all w.sender instructions; back = reading (arriving w.back count) (length left) }
+  pub is : new ≡ record w { sender = told_all w.sender instructions; decoder_stream = reading (arriving w.decoder_stream count) (length left) }
 
-abbrev pub DeliversBack : Ends → ℕ → SessionAnswer → Ends → Type 0
-DeliversBack w count (answer.Short most) new = (most ≡ waiting w.back) × (most < count) × (new ≡ w)
-DeliversBack w count answer.Delivered new = (d : EncoderReads w count new) × (decoder_instruction d.left ≡ Unfinished)
-DeliversBack w count (answer.Refused (of.Encoder e)) new = (d : EncoderReads w count new) × BeginsRefused new.sender d.left
-DeliversBack w count other new = ⊥
+abbrev pub DeliversToEncoder : Ends → ℕ → SessionAnswer → Ends → Type 0
+DeliversToEncoder w count (answer.Short most) new = (most ≡ waiting w.decoder_stream) × (most < count) × (new ≡ w)
+DeliversToEncoder w count answer.Delivered new = (d : EncoderReads w count new) × (decoder_instruction d.left ≡ Unfinished)
+DeliversToEncoder w count (answer.Refused (of.Encoder e)) new = (d : EncoderReads w count new) × BeginsRefused new.sender d.left
+DeliversToEncoder w count other new = ⊥
 
 -- The stream's oldest section is decoded and acknowledged where it names entries, or is left.
 pub record HasBlock (w : Ends) (stream : ℕ) : Type 0 where
@@ -184,7 +184,7 @@ Decodes w stream answer.Canceled new = (is_given_up w.canceled stream ≡ true) 
 Decodes w stream answer.NoBlock new = (is_given_up w.canceled stream ≡ false) × (block_of stream w.blocks ≡ None) × (new ≡ w)
 Decodes w stream (answer.Decoded fields) new =
     (b : HasBlock w stream) × (count : ℕ) × MeansFields w.receiver b.block.bytes count fields.items
-    × (new ≡ record w { blocks = without_block_of stream w.blocks; back = writing w.back (if count == 0 then [] else decoder_bytes (Acknowledge stream)) })
+    × (new ≡ record w { blocks = without_block_of stream w.blocks; decoder_stream = writing w.decoder_stream (if count == 0 then [] else decoder_bytes (Acknowledge stream)) })
 Decodes w stream (answer.Missing count) new = (b : HasBlock w stream) × IsMissing w.receiver b.block.bytes count × (new ≡ w)
 Decodes w stream (answer.Refused (of.Decoder e)) new = (b : HasBlock w stream) × IsReason (IsBadSection w.receiver b.block.bytes) (λ count. ⊥) e × (new ≡ w)
 Decodes w stream other new = ⊥
@@ -193,7 +193,7 @@ Decodes w stream other new = ⊥
 abbrev pub giving_up : Ends → ℕ → Ends
 giving_up w stream =
     record w {
-      back = writing w.back (decoder_bytes (CancelStream stream));
+      decoder_stream = writing w.decoder_stream (decoder_bytes (CancelStream stream));
       blocks = filter (λ b. not (b.stream == stream)) w.blocks;
       canceled = w.canceled ++ stream ∷ [];
     }
@@ -205,8 +205,8 @@ Cancels w stream other new = ⊥
 
 abbrev pub Happens : Ends → SessionEvent → SessionAnswer → Ends → Type 0
 Happens w (event.Encode stream fields) a new = Encodes w stream fields.items a new
-Happens w (event.EncoderBytes count) a new = DeliversForth w count a new
-Happens w (event.DecoderBytes count) a new = DeliversBack w count a new
+Happens w (event.EncoderBytes count) a new = DeliversToDecoder w count a new
+Happens w (event.DecoderBytes count) a new = DeliversToEncoder w count a new
 Happens w (event.Decode stream) a new = Decodes w stream a new
 Happens w (event.Cancel stream) a new = Cancels w stream a new
 

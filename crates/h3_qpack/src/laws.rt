@@ -49,7 +49,7 @@ pub fn every_encoding_means_its_fields()
 pub fn every_run_answers_as_expected()
     ensures { (capacity limit : ℕ) (events : List RunEvent) (answers : List SessionAnswer) (end : Ends) → capacity < 2 ^ 30 → Exchange (start capacity limit) events answers end →
         (s : Session) × Expected (beginning capacity limit) events answers s
-        × ((n : ℕ) → n ≤ length s.instructions → length (flat_map encoder_bytes (opening capacity ++ take n s.instructions)) ≤ end.forth.read → n ≤ s.received) }
+        × ((n : ℕ) → n ≤ length s.instructions → length (flat_map encoder_bytes (opening capacity ++ take n s.instructions)) ≤ end.encoder_stream.read → n ≤ s.received) }
 {}
 
 /// After any number of events as expected, the session is sound, and at most the limit of its sections wait.

@@ -11,7 +11,7 @@ ghost use Rattle.h3_qpack.specs.Session as sessions;
 ghost use Rattle.h3_qpack.specs.Session.{IsSound};
 ghost use Rattle.h3_qpack.specs.Schedule.{beginning};
 ghost use Rattle.h3_qpack.specs.Expected.{Expected};
-ghost use Rattle.h3_qpack.specs.Exchange.{Ends, Kept, kept, start, is_given_up, is_of, Encodes, DeliversForth, DeliversBack, Decodes, Cancels, Happens, Exchange, IsEvent, IsPlace, refused_section, IsNoBeginning, IsNoRun};
+ghost use Rattle.h3_qpack.specs.Exchange.{Ends, Kept, kept, start, is_given_up, is_of, Encodes, DeliversToDecoder, DeliversToEncoder, Decodes, Cancels, Happens, Exchange, IsEvent, IsPlace, refused_section, IsNoBeginning, IsNoRun};
 
 use crate::block::Block;
 use crate::{Decoder, DynamicTable, Encoder, ack_header, set_dynamic_table_size, stream_canceled};
@@ -56,7 +56,7 @@ pub enum SessionAnswer {
 
 /// The bytes of one direction, and how many of them came and were read.
 #[derive(Drop)]
-pub(crate) struct Pipe {
+pub(crate) struct ByteStream {
     pub bytes: Vec<u8>,
     pub arrived: usize,
     pub read: usize,
@@ -68,8 +68,8 @@ pub(crate) struct Session {
     alloc: Global,
     encoder: Encoder,
     decoder: Decoder,
-    forth: Pipe,
-    back: Pipe,
+    encoder_stream: ByteStream,
+    decoder_stream: ByteStream,
     blocks: Vec<Block>,
     canceled: Vec<u64>,
 }
@@ -163,7 +163,7 @@ impl Session {
         let mut block = Vec::new(self.alloc);
         match self
             .encoder
-            .encode(stream, &mut block, &mut self.forth.bytes, fields)
+            .encode(stream, &mut block, &mut self.encoder_stream.bytes, fields)
         {
             Ok(count) => {
                 self.blocks.push_reserved(Block::new(stream, block));
@@ -174,19 +174,24 @@ impl Session {
     }
 
     /// More bytes come to the decoder, and what is whole is read.
-    fn deliver_forth(&mut self, count: usize) -> SessionAnswer
-        ensures { (w : Ends) → self.old ≡ kept w → (new : Ends) × DeliversForth w count result new × (self.new ≡ kept new) }
+    fn deliver_to_decoder(&mut self, count: usize) -> SessionAnswer
+        ensures { (w : Ends) → self.old ≡ kept w → (new : Ends) × DeliversToDecoder w count result new × (self.new ≡ kept new) }
     {
-        let waiting = self.forth.bytes.len() - self.forth.arrived;
+        let waiting = self.encoder_stream.bytes.len() - self.encoder_stream.arrived;
         if count > waiting {
             return SessionAnswer::Short(waiting);
         }
-        self.forth.arrived += count;
-        let mut cursor = SliceCursor::new(&self.forth.bytes[self.forth.read..self.forth.arrived]);
+        self.encoder_stream.arrived += count;
+        let mut cursor = SliceCursor::new(
+            &self.encoder_stream.bytes[self.encoder_stream.read..self.encoder_stream.arrived],
+        );
         let outcome = self
             .decoder
-            .on_encoder_recv(&mut cursor, &mut self.back.bytes);
-        self.forth.read = self.forth.arrived.saturating_sub(cursor.remaining());
+            .on_encoder_recv(&mut cursor, &mut self.decoder_stream.bytes);
+        self.encoder_stream.read = self
+            .encoder_stream
+            .arrived
+            .saturating_sub(cursor.remaining());
         let Err(e) = outcome else {
             return SessionAnswer::Delivered;
         };
@@ -194,17 +199,22 @@ impl Session {
     }
 
     /// More bytes come to the encoder, and what is whole is read.
-    fn deliver_back(&mut self, count: usize) -> SessionAnswer
-        ensures { (w : Ends) → self.old ≡ kept w → (new : Ends) × DeliversBack w count result new × (self.new ≡ kept new) }
+    fn deliver_to_encoder(&mut self, count: usize) -> SessionAnswer
+        ensures { (w : Ends) → self.old ≡ kept w → (new : Ends) × DeliversToEncoder w count result new × (self.new ≡ kept new) }
     {
-        let waiting = self.back.bytes.len() - self.back.arrived;
+        let waiting = self.decoder_stream.bytes.len() - self.decoder_stream.arrived;
         if count > waiting {
             return SessionAnswer::Short(waiting);
         }
-        self.back.arrived += count;
-        let mut cursor = SliceCursor::new(&self.back.bytes[self.back.read..self.back.arrived]);
+        self.decoder_stream.arrived += count;
+        let mut cursor = SliceCursor::new(
+            &self.decoder_stream.bytes[self.decoder_stream.read..self.decoder_stream.arrived],
+        );
         let outcome = self.encoder.on_decoder_recv(&mut cursor);
-        self.back.read = self.back.arrived.saturating_sub(cursor.remaining());
+        self.decoder_stream.read = self
+            .decoder_stream
+            .arrived
+            .saturating_sub(cursor.remaining());
         let Err(e) = outcome else {
             return SessionAnswer::Delivered;
         };
@@ -226,7 +236,7 @@ impl Session {
             Ok(decoded) => decoded,
             Err(e) => return refusal(e),
         };
-        let Ok(()) = acknowledge(names_entries, stream, &mut self.back.bytes) else {
+        let Ok(()) = acknowledge(names_entries, stream, &mut self.decoder_stream.bytes) else {
             return SessionAnswer::Refused(Error::Decoder(DecoderError::OutOfMemory));
         };
         self.blocks.remove(place);
@@ -244,7 +254,7 @@ impl Session {
         if self.canceled.reserve(1).is_err() {
             return SessionAnswer::Refused(Error::Decoder(DecoderError::OutOfMemory));
         }
-        if stream_canceled(stream, &mut self.back.bytes).is_err() {
+        if stream_canceled(stream, &mut self.decoder_stream.bytes).is_err() {
             return SessionAnswer::Refused(Error::Decoder(DecoderError::OutOfMemory));
         }
         self.canceled.push_reserved(stream);
@@ -259,8 +269,8 @@ impl Session {
     {
         match event {
             SessionEvent::Encode(stream, fields) => self.encode(*stream, fields.as_slice()),
-            SessionEvent::EncoderBytes(count) => self.deliver_forth(*count),
-            SessionEvent::DecoderBytes(count) => self.deliver_back(*count),
+            SessionEvent::EncoderBytes(count) => self.deliver_to_decoder(*count),
+            SessionEvent::DecoderBytes(count) => self.deliver_to_encoder(*count),
             SessionEvent::Decode(stream) => self.decode(*stream),
             SessionEvent::Cancel(stream) => self.cancel(*stream),
         }
@@ -282,12 +292,12 @@ impl Session {
             alloc,
             encoder: Encoder::from(table),
             decoder: Decoder::announced(alloc, capacity),
-            forth: Pipe {
+            encoder_stream: ByteStream {
                 bytes,
                 arrived: 0,
                 read: 0,
             },
-            back: Pipe {
+            decoder_stream: ByteStream {
                 bytes: Vec::new(alloc),
                 arrived: 0,
                 read: 0,

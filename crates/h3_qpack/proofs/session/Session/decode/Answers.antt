@@ -18,10 +18,10 @@ returns-in-Err c = λ w e.
 
 pub returns-in_default-acknowledge : goal.returns-in_default-acknowledge
 returns-in_default-acknowledge c = λ w e.
-    let same : c.acknowledge.new.out.items ≡ c.self.inside.back.bytes.items = search rules in
+    let same : c.acknowledge.new.out.items ≡ c.self.inside.decoder_stream.bytes.items = search rules in
     decoding_kept w _ c.args.stream c.in-Some.place _ _ (c.self.view_is ∙ e) (sym c.is_given_up.ensures ∙ c.if-is_given_up.false) c.in-Some.ensures.some c.index.ensures (rw same refl)
 
 pub returns : goal.returns
 returns c = λ w e.
-    let written : c.acknowledge.new.out.items ≡ c.self.inside.back.bytes.items ++ (if c.in-Ok.decoded.1 then decoder_bytes (Acknowledge c.args.stream) else []) = search rules in
+    let written : c.acknowledge.new.out.items ≡ c.self.inside.decoder_stream.bytes.items ++ (if c.in-Ok.decoded.1 then decoder_bytes (Acknowledge c.args.stream) else []) = search rules in
     decoding_done w _ c.args.stream c.in-Some.place _ c.in-Ok.decoded.0 c.in-Ok.decoded.1 _ _ (c.self.view_is ∙ e) (sym c.is_given_up.ensures ∙ c.if-is_given_up.false) c.in-Some.ensures.some c.index.ensures c.in-Ok.ensures.ok written c.remove.ensures.items

@@ -42,7 +42,7 @@ pub drop_front : {X : Type 0} (bytes_of : X → List ℕ) (k : ℕ) (xs : List X
 drop_front bytes_of k xs = ap (drop (length (flat_map bytes_of (take k xs)))) (behind_front bytes_of k xs) ∙ drop-append_seam (flat_map bytes_of (take k xs)) (flat_map bytes_of (drop k xs))
 
 -- The stream holds the instructions, of which so many are read, and the decoder is what they make of it.
-pub record Forth (capacity : ℕ) (instructions : List EncoderInstruction) (t : Stream) (r : Receiver) (count : ℕ) : Type 0 where
+pub record EncoderStream (capacity : ℕ) (instructions : List EncoderInstruction) (t : Stream) (r : Receiver) (count : ℕ) : Type 0 where
   pub told : t.bytes ≡ flat_map encoder_bytes (opening capacity ++ instructions)
   pub written : AllByRecursion IsWrittenInstruction (opening capacity ++ instructions)
   pub within : count ≤ length (opening capacity ++ instructions)
@@ -55,15 +55,15 @@ some_one : {X : Type 0} (x y : X) → ◌≡◌ {A = Option X} (Some x) (Some y)
 some_one x y e = ap (λ o. unwrap_or o x) e
 
 -- what the decoder is
-pub forth_is : (capacity : ℕ) (instructions : List EncoderInstruction) (inserted : List Field) (t : Stream) (r : Receiver) (count : ℕ) → IsReadAs capacity capacity instructions inserted → Forth capacity instructions t r count
+pub encoder_stream_is : (capacity : ℕ) (instructions : List EncoderInstruction) (inserted : List Field) (t : Stream) (r : Receiver) (count : ℕ) → IsReadAs capacity capacity instructions inserted → EncoderStream capacity instructions t r count
     → ((count ≡ 0) × (r ≡ announcing capacity)) ⊎ (r ≡ receiver_at capacity (take (count - length (opening capacity)) inserted))
-forth_is capacity instructions inserted t r count reads f =
+encoder_stream_is capacity instructions inserted t r count reads f =
     let a = at_read capacity instructions inserted count reads f.within in
     subst (λ q. ((count ≡ 0) × (q ≡ announcing capacity)) ⊎ (q ≡ receiver_at capacity (take (count - length (opening capacity)) inserted))) (some_one a.receiver r (sym a.reads ∙ f.receiver)) a.is
 
-pub forth_count : (capacity : ℕ) (instructions : List EncoderInstruction) (inserted : List Field) (t : Stream) (r : Receiver) (count : ℕ) → IsReadAs capacity capacity instructions inserted → Forth capacity instructions t r count
+pub encoder_stream_count : (capacity : ℕ) (instructions : List EncoderInstruction) (inserted : List Field) (t : Stream) (r : Receiver) (count : ℕ) → IsReadAs capacity capacity instructions inserted → EncoderStream capacity instructions t r count
     → r.table.inserted ≡ count - length (opening capacity)
-forth_count capacity instructions inserted t r count reads f = by_case (forth_is capacity instructions inserted t r count reads f)
+encoder_stream_count capacity instructions inserted t r count reads f = by_case (encoder_stream_is capacity instructions inserted t r count reads f)
   where
     by_case : ((count ≡ 0) × (r ≡ announcing capacity)) ⊎ (r ≡ receiver_at capacity (take (count - length (opening capacity)) inserted)) → r.table.inserted ≡ count - length (opening capacity)
     by_case (inl none) = omega (arith, none.0, ap (λ (q : Receiver). q.table.inserted) none.1)
@@ -73,13 +73,13 @@ forth_count capacity instructions inserted t r count reads f = by_case (forth_is
 
 pub record Further (capacity : ℕ) (instructions : List EncoderInstruction) (t : Stream) (r : Receiver) (count : ℕ) (left : List ℕ) : Type 0 where
   pub more : ℕ
-  pub forth : Forth capacity instructions t r (count + more)
+  pub encoder_stream : EncoderStream capacity instructions t r (count + more)
   pub not_bad : BeginsBad r left → ⊥
 
 -- More bytes come, and what is whole is read.
-pub forth_reads : (capacity : ℕ) (instructions : List EncoderInstruction) (inserted : List Field) (t : Stream) (r new : Receiver) (count more : ℕ) (left : List ℕ) → IsReadAs capacity capacity instructions inserted
-    → Forth capacity instructions t r count → more ≤ waiting t → HasRead r new (unread (arriving t more)) left → Further capacity instructions (reading (arriving t more) (length left)) new count left
-forth_reads capacity instructions inserted t r new count more left reads f enough h =
+pub encoder_stream_reads : (capacity : ℕ) (instructions : List EncoderInstruction) (inserted : List Field) (t : Stream) (r new : Receiver) (count more : ℕ) (left : List ℕ) → IsReadAs capacity capacity instructions inserted
+    → EncoderStream capacity instructions t r count → more ≤ waiting t → HasRead r new (unread (arriving t more)) left → Further capacity instructions (reading (arriving t more) (length left)) new count left
+encoder_stream_reads capacity instructions inserted t r new count more left reads f enough h =
     let all = opening capacity ++ instructions in
     let rest = drop count all in
     let n = t.arrived + more - t.read in
@@ -99,7 +99,7 @@ forth_reads capacity instructions inserted t r new count more left reads f enoug
     ∙ ap (λ o. having_read_all o (take front.count rest)) f.receiver ∙ ap (having_read_all (Some r)) (sym front.are) ∙ h.table in
     record {
       more = front.count;
-      forth = record {
+      encoder_stream = record {
         told = f.told;
         written = f.written;
         within = inside;

@@ -19,7 +19,7 @@ use Rattle.h3_qpack.specs.Session.{Session, IsSound, tracked_references, acknowl
 use Rattle.h3_qpack.specs.Exchange.{Stream, unread, waiting, arriving, reading}
 use Rattle.h3_qpack.proofs.Drafts.{All-second}
 use Rattle.h3_qpack.proofs.Sessions.{reply_read}
-use Rattle.h3_qpack.proofs.Forth.{behind_front}
+use Rattle.h3_qpack.proofs.EncoderStreams.{behind_front}
 
 pub record FrontHeard (all : List DecoderInstruction) (n : ℕ) (is : List DecoderInstruction) (left : List ℕ) : Type 0 where
   pub count : ℕ
@@ -144,7 +144,7 @@ heard_sound (suc count) s h = by_list s.decoder_instructions refl (λ t k. heard
         subst IsSound same later
 
 -- The stream holds what was read, and then the instructions that are under way.
-pub record Back (t : Stream) (pending : List DecoderInstruction) : Type 0 where
+pub record DecoderStream (t : Stream) (pending : List DecoderInstruction) : Type 0 where
   pub heard : List ℕ
   pub told : t.bytes ≡ heard ++ flat_map decoder_bytes pending
   pub replies : AllByRecursion IsReply pending
@@ -155,13 +155,13 @@ pub record Back (t : Stream) (pending : List DecoderInstruction) : Type 0 where
 pub record HeardMore (s : Session) (t : Stream) (is : List DecoderInstruction) (left : List ℕ) : Type 0 where
   pub count : ℕ
   pub are : is ≡ take count s.decoder_instructions
-  pub back : Back (reading t (length left)) (drop count s.decoder_instructions)
+  pub decoder_stream : DecoderStream (reading t (length left)) (drop count s.decoder_instructions)
   pub not_refused : BeginsRefused (told_all s.sender is) left → ⊥
 
 -- More bytes come, and what is whole is read.
-pub back_reads : (s : Session) (t : Stream) (more : ℕ) (is : List DecoderInstruction) (left : List ℕ) → IsSound s → Back t s.decoder_instructions → more ≤ waiting t
+pub decoder_stream_reads : (s : Session) (t : Stream) (more : ℕ) (is : List DecoderInstruction) (left : List ℕ) → IsSound s → DecoderStream t s.decoder_instructions → more ≤ waiting t
     → AreDecoderInstructions (unread (arriving t more)) is left → HeardMore s (arriving t more) is left
-back_reads s t more is left sound b enough h =
+decoder_stream_reads s t more is left sound b enough h =
     let pending = s.decoder_instructions in
     let n = t.arrived + more - t.read in
     let split = ap length b.told ∙ length-append b.heard (flat_map decoder_bytes pending) in
@@ -176,7 +176,7 @@ back_reads s t more is left sound b enough h =
     record {
       count = front.count;
       are = front.are;
-      back = record {
+      decoder_stream = record {
         heard = b.heard ++ flat_map decoder_bytes (take front.count pending);
         told = b.told ∙ ap (λ bs. b.heard ++ bs) parts ∙ sym (append_assoc b.heard (flat_map decoder_bytes (take front.count pending)) (flat_map decoder_bytes (drop front.count pending)));
         replies = replies;
