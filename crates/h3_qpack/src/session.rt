@@ -188,10 +188,8 @@ impl Session {
         let outcome = self
             .decoder
             .on_encoder_recv(&mut cursor, &mut self.decoder_stream.bytes);
-        self.encoder_stream.read = self
-            .encoder_stream
-            .arrived
-            .saturating_sub(cursor.remaining());
+        let arrived = self.encoder_stream.arrived;
+        self.encoder_stream.read = arrived.saturating_sub(cursor.remaining());
         let Err(e) = outcome else {
             return SessionAnswer::Delivered;
         };
@@ -211,10 +209,8 @@ impl Session {
             &self.decoder_stream.bytes[self.decoder_stream.read..self.decoder_stream.arrived],
         );
         let outcome = self.encoder.on_decoder_recv(&mut cursor);
-        self.decoder_stream.read = self
-            .decoder_stream
-            .arrived
-            .saturating_sub(cursor.remaining());
+        let arrived = self.decoder_stream.arrived;
+        self.decoder_stream.read = arrived.saturating_sub(cursor.remaining());
         let Err(e) = outcome else {
             return SessionAnswer::Delivered;
         };
