@@ -1,5 +1,4 @@
-use Rattle.std.proofs.Common.{◌≡◌, ◌∙◌, ap, sym}
-use Rattle.h3_field.specs.Field.{Field}
+use Rattle.std.proofs.Common.{◌∙◌, sym}
 use Rattle.h3_qpack.proofs.StaticNames.{static_name_is}
 use Rattle.h3_qpack.proofs.writing.entry_of.Goals as goal
 
