@@ -27,4 +27,5 @@ pub mod Encodings
 pub mod Exchange
 pub mod SessionInside
 pub mod Expected
+pub mod Views
 pub mod Worked

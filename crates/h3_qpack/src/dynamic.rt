@@ -1,8 +1,9 @@
 //! The dynamic table with what its sender goes by (RFC 9204, sections 2.1 and 3.2).
-ghost use Rattle.std.specs.Prelude.{◌≡◌, ℕ, ◌+◌, ◌-◌, ◌^◌, ◌<◌, ◌≤◌, List, [], ◌∷◌, ◌++◌, length, min, max, true, false, filter, nat_lt, IfSome, IfNone, ◌==◌, IfOk, IfErr, OnErr, OnOk};
+ghost use Rattle.std.specs.Prelude.{◌≡◌, ℕ, ◌+◌, ◌-◌, ◌^◌, ◌<◌, ◌≤◌, List, [], ◌∷◌, ◌++◌, length, min, max, true, false, None, filter, nat_lt, IfSome, IfNone, ◌==◌, IfOk, IfErr, OnErr, OnOk};
 ghost use Rattle.std.specs.List.{list_any};
+ghost use Rattle.std.specs.Option.{option_copied};
 ghost use Rattle.h3_field.specs.Field.{Field, field_size};
-ghost use Rattle.h3_qpack.specs.Held.{Held, no_entries, gone, newest_in, with_entry, with_capacity};
+ghost use Rattle.h3_qpack.specs.Held.{Held, no_entries, gone, entry_at, newest_in, with_entry, with_capacity};
 ghost use Rattle.h3_qpack.specs.Matches.{matches};
 ghost use Rattle.h3_qpack.specs.Index.{IsIndexed, HasRoom};
 ghost use Rattle.h3_qpack.specs.Sender.{without_newest};
@@ -14,6 +15,7 @@ ghost use Rattle.h3_field.specs.declared.dynamic.Error.TheVariants.{MaxBlockedSt
 use crate::entries::{Entries, MAX_CAPACITY, MOST_INSERTIONS, Match, size_of};
 use crate::index::Index;
 use crate::tracking::{TrackedSection, Tracking};
+use crate::view::DynamicTableDecoder;
 use h3_field::HeaderField;
 use h3_field::dynamic::Error;
 use std::alloc::{AllocError, Global};
@@ -150,6 +152,21 @@ impl DynamicTable {
         ensures { result ≡ self.now.limit }
     {
         self.limit
+    }
+
+    /// The entry of that number, where it is there.
+    pub(crate) fn get(&self, number: usize) -> Option<&HeaderField>
+        ensures value { option_copied result ≡ entry_at self.now.table number }
+        ensures beyond { (n : ℕ) → 2 ^ 62 ≤ n → entry_at self.now.table n ≡ None }
+    {
+        self.entries.get(number)
+    }
+
+    /// The table as the lines of a section with this base name its entries.
+    pub fn decoder(&self, base: usize) -> DynamicTableDecoder<'_>
+        ensures { result ≡ record { table = self.now.table; base = base } }
+    {
+        DynamicTableDecoder::new(self, base)
     }
 
     /// It does nothing: a proof that needs the fact calls it.

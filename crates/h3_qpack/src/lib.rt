@@ -19,6 +19,7 @@ pub mod session;
 #[cfg(test)]
 mod tests;
 mod tracking;
+pub mod view;
 mod writing;
 
 pub use decoder::{Decoder, ack_header, stream_canceled};
@@ -29,3 +30,4 @@ pub use h3_field::{
     encode_stateless,
 };
 pub use session::{SessionAnswer, SessionEvent, run};
+pub use view::DynamicTableDecoder;
