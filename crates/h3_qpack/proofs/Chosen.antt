@@ -1,21 +1,18 @@
 -- Each choice made by what is kept is that of the sender's rule.
-use Rattle.std.proofs.Common.{◌≡◌, ℕ, ◌+◌, ◌-◌, ◌^◌, ◌<◌, ◌≤◌, Bool, true, false, List, [], ◌∷◌, ◌++◌, length, min, max, map, refl, sym, ◌∙◌, ap, subst, arith, nat_lt, if◌then◌else◌, Option, Some, None, unwrap_or, option_map, flat_map, bytes_eq}
-use Rattle.std.proofs.lemmas.Grind.{common_steps}
-use Rattle.h3_field.specs.Field.{Field, field_eq}
-use Rattle.h3_field.specs.StaticTable.{static_field, static_name}
+use Rattle.std.proofs.Common.{◌≡◌, ℕ, ◌-◌, ◌^◌, ◌<◌, Bool, true, false, [], ◌∷◌, length, min, refl, sym, ◌∙◌, ap, subst, nat_lt, if◌then◌else◌, Some, None}
+use Rattle.h3_field.specs.Field.{Field}
 use Rattle.h3_field.specs.Line.{FieldLine as line}
-use Rattle.h3_qpack.specs.Table.{dropped}
-use Rattle.h3_qpack.specs.Held.{Held, gone, newest_in, with_entry}
+use Rattle.h3_qpack.specs.Held.{gone, newest_in}
 use Rattle.h3_qpack.specs.Matches.{matches}
 use Rattle.h3_qpack.specs.Sender.{Sender, blocks_out}
-use Rattle.h3_qpack.specs.Stored.{StoredSender, stored, stored_section, MayInsertInto}
-use Rattle.h3_qpack.specs.Written.{Draft, add_line, add_inserted, add_literal, add_field, entry_name_line, found, found_name, remaining, dropped_by, is_insertable, insertion}
-use Rattle.h3_qpack.specs.Drafting.{IsKept, IsNowhere, IsLiteral, IsChosen, older, named, most_usable, insertion_for}
+use Rattle.h3_qpack.specs.Stored.{StoredSender, MayInsertInto}
+use Rattle.h3_qpack.specs.Written.{Draft, add_line, add_inserted, add_field, entry_name_line, found, found_name, dropped_by, is_insertable, insertion}
+use Rattle.h3_qpack.specs.Drafting.{IsKept, IsChosen, older, named, most_usable, insertion_for}
 use Rattle.h3_qpack.specs.declared.entries.Match.TheVariants as what
 use Rattle.h3_qpack.specs.declared.section.Section.{Section}
 use Rattle.h3_qpack.specs.declared.section.Choice.{Choice}
 use Rattle.h3_qpack.specs.declared.section.Choice.TheVariants as choice
-use Rattle.h3_qpack.proofs.Kept.{held_of, with_entry-held}
+use Rattle.h3_qpack.proofs.Kept.{held_of}
 use Rattle.h3_qpack.proofs.Choices.{usable_to, found_held, found_name_held, remaining_held, NameEntries, insertable_held, held_insertable}
 
 -- the draft with a field as it was chosen

@@ -2,10 +2,10 @@
 use Rattle.std.proofs.Common.{◌≡◌, inl, inr, ℕ, zero, suc, ◌+◌, ◌-◌, ◌<◌, ◌≤◌, Bool, true, false, not, ◌||◌, List, [], ◌∷◌, ◌++◌, length, take, drop, refl, sym, ◌∙◌, ap, subst, arith, length-append, length-drop, append_assoc, flat_map, if◌then◌else◌}
 use Rattle.std.specs.Prelude.{◌==◌}
 use Rattle.std.specs.List.{AllByRecursion, list_any}
-use Rattle.std.proofs.lemmas.Grind.{common_steps, flat_map-append}
+use Rattle.std.proofs.lemmas.Grind.{common_steps}
 use Rattle.std.proofs.lemmas.List.{take-append-drop, take_at, length-take-le}
 use Rattle.std.proofs.Math.Seq.{drop-append_seam}
-use Rattle.h3_field.specs.Reading.{Whole, Bad}
+use Rattle.h3_field.specs.Reading.{Whole}
 use Rattle.h3_field.specs.Instruction.{DecoderInstruction, decoder_bytes}
 use Rattle.h3_field.specs.Instruction.DecoderInstruction.{Acknowledge, CancelStream, Increment}
 use Rattle.h3_field.specs.InstructionReading.{decoder_instruction}
@@ -13,7 +13,7 @@ use Rattle.h3_field.specs.InstructionAnswer.{IsReply}
 use Rattle.h3_field.specs.InstructionLaws.{decoder_instruction_stable}
 use Rattle.h3_field.proofs.ReadBack.{reply_reads_back}
 use Rattle.h3_field.proofs.Sections.{whole_same}
-use Rattle.h3_qpack.specs.Sender.{Sender, Tracked, told, told_all, is_refused}
+use Rattle.h3_qpack.specs.Sender.{Sender, Tracked, told_all, is_refused}
 use Rattle.h3_qpack.specs.Instructions.{AreDecoderInstructions, NoDecoderInstruction, NextDecoderInstruction, BeginsRefused}
 use Rattle.h3_qpack.specs.Session.{Session, IsSound, tracked_references, acknowledgements, after_decoder_instruction}
 use Rattle.h3_qpack.specs.Exchange.{Stream, unread, waiting, arriving, reading}

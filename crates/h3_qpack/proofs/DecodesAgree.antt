@@ -1,13 +1,11 @@
 -- What a decoder that read an encoder's instructions answers to its sections.
-use Rattle.std.proofs.Common.{◌≡◌, ◌⊎◌, inl, inr, ℕ, zero, suc, ◌+◌, ◌-◌, ◌*◌, ◌%◌, ◌^◌, ◌<◌, ◌≤◌, Bool, true, false, List, [], ◌∷◌, ◌++◌, length, take, drop, refl, sym, ◌∙◌, ap, subst, arith, length-append, Option, Some, None, nat_lt, nat_le, flat_map, max, fold}
-use Rattle.std.specs.List.{AllByRecursion}
+use Rattle.std.proofs.Common.{◌≡◌, ◌⊎◌, inl, inr, ℕ, ◌^◌, ◌<◌, ◌≤◌, Bool, true, false, List, [], ◌∷◌, length, take, refl, sym, ◌∙◌, ap, subst, arith, length-append, Some, nat_lt, nat_le, flat_map}
 use Rattle.std.proofs.lemmas.Grind.{common_steps}
 use Rattle.std.proofs.lemmas.List.{length-take-le}
 use Rattle.h3_field.specs.Field.{Field}
 use Rattle.h3_field.specs.Line.{FieldLine, line_bytes}
 use Rattle.h3_field.specs.Line.FieldLine.{StaticField, RelativeField, PostBaseField, StaticName, RelativeName, PostBaseName, Literal}
 use Rattle.h3_field.specs.Section.{AreLines, NoLine, NextLine, HasLine}
-use Rattle.h3_field.specs.Prefix.{most_entries}
 use Rattle.h3_field.specs.PrefixReading.{IsPrefix}
 use Rattle.h3_field.specs.PrefixWriting.{written_prefix}
 use Rattle.h3_field.proofs.PrefixReadBack.{prefix_is_read}

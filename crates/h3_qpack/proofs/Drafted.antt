@@ -1,5 +1,5 @@
 -- A field section under way: what is kept and written goes with the draft, field by field.
-use Rattle.std.proofs.Common.{◌≡◌, inl, inr, ℕ, ◌+◌, ◌-◌, ◌^◌, ◌<◌, ◌≤◌, List, [], ◌∷◌, ◌++◌, length, min, max, map, refl, sym, ◌∙◌, ap, subst, arith, append-nil, flat_map, fold}
+use Rattle.std.proofs.Common.{◌≡◌, ℕ, ◌+◌, ◌-◌, ◌^◌, ◌<◌, ◌≤◌, List, [], ◌∷◌, ◌++◌, length, min, max, map, refl, sym, ◌∙◌, ap, subst, append-nil, flat_map, fold}
 use Rattle.std.specs.List.{AllByRecursion}
 use Rattle.std.proofs.lemmas.List.{flat_map_more}
 use Rattle.std.proofs.lemmas.List.Sums.{fold_push}
@@ -10,7 +10,7 @@ use Rattle.h3_field.specs.Instruction.{encoder_bytes}
 use Rattle.h3_qpack.specs.Held.{gone, with_entry}
 use Rattle.h3_qpack.specs.Sender.{Sender, Tracked}
 use Rattle.h3_qpack.specs.Stored.{StoredSender, stored, stored_section, least}
-use Rattle.h3_qpack.specs.Written.{Draft, add_line, add_inserted, add_field, entry_name_line, dropped_by, insertion, required_insert_count}
+use Rattle.h3_qpack.specs.Written.{Draft, add_line, add_inserted, add_field, entry_name_line, dropped_by, insertion}
 use Rattle.h3_qpack.specs.Drafting.{IsKept, IsDrafted, IsSmall, IsChosen, IsPossible, line_for, section_after, kept_after, instructions_after, naming, oldest_of}
 use Rattle.h3_qpack.specs.declared.section.Section.{Section}
 use Rattle.h3_qpack.specs.declared.section.Choice.{Choice}

@@ -1,5 +1,5 @@
 -- The encoder's stream, which the decoder reads without a refusal.
-use Rattle.std.proofs.Common.{◌≡◌, ◌⊎◌, inl, inr, ℕ, zero, suc, ◌+◌, ◌-◌, ◌<◌, ◌≤◌, List, [], ◌∷◌, ◌++◌, length, take, drop, Option, Some, None, unwrap_or, refl, sym, ◌∙◌, ap, subst, arith, length-append, length-drop, flat_map}
+use Rattle.std.proofs.Common.{◌≡◌, ◌⊎◌, inl, inr, ℕ, zero, suc, ◌+◌, ◌-◌, ◌≤◌, List, [], ◌∷◌, ◌++◌, length, take, drop, Option, Some, unwrap_or, refl, sym, ◌∙◌, ap, subst, arith, length-append, length-drop, flat_map}
 use Rattle.std.specs.List.{AllByRecursion}
 use Rattle.std.proofs.lemmas.List.{take-append-drop, length-take-le}
 use Rattle.std.proofs.lemmas.Grind.{flat_map-append}
@@ -8,13 +8,13 @@ use Rattle.h3_field.specs.Field.{Field}
 use Rattle.h3_field.specs.Instruction.{EncoderInstruction, encoder_bytes}
 use Rattle.h3_qpack.specs.Encodings.{IsWrittenInstruction}
 use Rattle.h3_qpack.specs.History.{IsReadAs}
-use Rattle.h3_qpack.specs.Receiver.{Receiver, announcing, having_read, having_read_all}
+use Rattle.h3_qpack.specs.Receiver.{Receiver, announcing, having_read_all}
 use Rattle.h3_qpack.specs.Instructions.{HasRead, BeginsBad}
 use Rattle.h3_qpack.specs.Exchange.{Stream, opening, unread, waiting, arriving, reading}
 use Rattle.h3_qpack.proofs.Drafts.{All-second}
 use Rattle.h3_qpack.proofs.Hearing.{having_read_all-append}
-use Rattle.h3_qpack.proofs.TablesRead.{receiver_at, AtRead, at_read}
-use Rattle.h3_qpack.proofs.FrontsRead.{ReadFront, front_read, no_bad}
+use Rattle.h3_qpack.proofs.TablesRead.{receiver_at, at_read}
+use Rattle.h3_qpack.proofs.FrontsRead.{front_read, no_bad}
 
 pub take_further : {X : Type 0} (k m : ℕ) (xs : List X) → take (k + m) xs ≡ take k xs ++ take m (drop k xs)
 take_further zero m xs = let same : 0 + m ≡ m = omega arith in rw same refl

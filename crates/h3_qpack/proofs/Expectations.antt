@@ -1,14 +1,13 @@
 -- What is expected of a run keeps its session sound.
-use Rattle.std.proofs.Common.{◌≡◌, ℕ, ◌+◌, ◌^◌, ◌<◌, ◌≤◌, Bool, true, false, List, [], ◌∷◌, ◌++◌, length, take, Option, Some, None, unwrap_or, refl, sym, ◌∙◌, ap, subst, arith, if◌then◌else◌}
+use Rattle.std.proofs.Common.{◌≡◌, ℕ, ◌≤◌, Bool, true, false, List, [], ◌∷◌, take, Some, unwrap_or, refl, sym, ◌∙◌, ap, subst, arith, if◌then◌else◌}
 use Rattle.std.specs.Prelude.{◌==◌}
 use Rattle.std.proofs.lemmas.Grind.{common_steps}
 use Rattle.h3_field.specs.Field.{Field}
 use Rattle.h3_field.specs.Instruction.{DecoderInstruction}
 use Rattle.h3_field.specs.Instruction.DecoderInstruction.{Acknowledge, CancelStream, Increment}
-use Rattle.h3_field.specs.declared.error.Error.TheVariants as of
 use Rattle.h3_qpack.specs.Sender.{Sender, told, told_all, blocks_out}
-use Rattle.h3_qpack.specs.Session.{Session, UnderWay, IsSound, is_canceled, oldest, encoded, inserted, decoded, after_cancellation}
-use Rattle.h3_qpack.specs.Schedule.{beginning, without_block}
+use Rattle.h3_qpack.specs.Session.{Session, UnderWay, IsSound, is_canceled, oldest, inserted, after_cancellation}
+use Rattle.h3_qpack.specs.Schedule.{beginning}
 use Rattle.h3_qpack.specs.Expected.{EncodesTo, ReadsInsertions, DeliversInsertions, DeliversReplies, DecodesAs, CancelsAs, Expects, Expected, NoEvent, NextEvent}
 use Rattle.h3_qpack.specs.declared.session.SessionEvent.{SessionEvent}
 use Rattle.h3_qpack.specs.declared.session.SessionEvent.TheVariants as event
@@ -16,8 +15,7 @@ use Rattle.h3_qpack.specs.declared.session.SessionAnswer.{SessionAnswer}
 use Rattle.h3_qpack.specs.declared.session.SessionAnswer.TheVariants as answer
 use Rattle.h3_qpack.proofs.Schedules.{beginning_is_sound}
 use Rattle.h3_qpack.proofs.Sessions.{block_written, insertions_kept, insertions_read, block_decoded, stream_abandoned}
-use Rattle.h3_qpack.proofs.Decoding.{oldest_holds}
-use Rattle.h3_qpack.proofs.DecoderStreams.{heard_so, heard_sound}
+use Rattle.h3_qpack.proofs.DecoderStreams.{heard_sound}
 
 -- A sound session with the limit of another.
 record Keeps (s t : Session) : Type 0 where

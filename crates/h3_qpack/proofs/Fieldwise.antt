@@ -1,5 +1,5 @@
 -- A field section field by field: what stays as it is written, and what a loop over its fields keeps.
-use Rattle.std.proofs.Common.{◌≡◌, inl, inr, ℕ, ◌+◌, ◌-◌, ◌^◌, ◌<◌, ◌≤◌, List, [], ◌∷◌, ◌++◌, length, take, drop, get_or, min, max, refl, sym, ◌∙◌, ap, subst, arith, length-append, flat_map, fold, Result, Ok, Err}
+use Rattle.std.proofs.Common.{◌≡◌, inr, ℕ, ◌+◌, ◌<◌, ◌≤◌, List, [], ◌∷◌, ◌++◌, length, take, drop, get_or, sym, ◌∙◌, ap, subst, arith, length-append, flat_map, Result, Ok, Err}
 use Rattle.std.specs.List.{AllByRecursion}
 use Rattle.std.specs.Result.{OnOk, OnErr}
 use Rattle.std.proofs.lemmas.List.{take_more, take_all, take-append-drop}
@@ -8,7 +8,7 @@ use Rattle.h3_field.specs.Field.{Field, field_size, section_size}
 use Rattle.h3_field.specs.ReadBack.{IsFieldOfBytes}
 use Rattle.h3_field.specs.Line.{line_bytes}
 use Rattle.h3_field.specs.Instruction.{encoder_bytes}
-use Rattle.h3_qpack.specs.Held.{Held, gone, with_entry}
+use Rattle.h3_qpack.specs.Held.{Held, gone}
 use Rattle.h3_qpack.specs.Sender.{Sender}
 use Rattle.h3_qpack.specs.Stored.{StoredSender}
 use Rattle.h3_qpack.specs.Written.{Draft, add_field, draft_of}

@@ -1,10 +1,9 @@
 -- Instructions that were written, of which only a front came.
-use Rattle.std.proofs.Common.{◌≡◌, inl, inr, ℕ, zero, suc, ◌+◌, ◌-◌, ◌<◌, ◌≤◌, List, [], ◌∷◌, ◌++◌, length, take, drop, Some, None, refl, sym, ◌∙◌, ap, subst, arith, length-append, length-drop, flat_map}
+use Rattle.std.proofs.Common.{◌≡◌, inl, inr, ℕ, zero, suc, ◌+◌, ◌-◌, ◌≤◌, List, [], ◌∷◌, ◌++◌, length, take, drop, Some, None, refl, sym, ◌∙◌, ap, subst, arith, length-append, length-drop, flat_map}
 use Rattle.std.specs.List.{AllByRecursion}
 use Rattle.std.proofs.lemmas.List.{take-append-drop, take_at}
-use Rattle.h3_field.specs.Reading.{Whole, Unfinished, Bad}
 use Rattle.h3_field.specs.Instruction.{EncoderInstruction, encoder_bytes}
-use Rattle.h3_field.specs.InstructionReading.{InstructionForm, Says, instruction}
+use Rattle.h3_field.specs.InstructionReading.{Says}
 use Rattle.h3_field.specs.InstructionLaws.{instruction_stable}
 use Rattle.h3_field.specs.ReadBack.{HasInstruction}
 use Rattle.h3_field.proofs.ReadBack.{instruction_reads_back, instruction_one}

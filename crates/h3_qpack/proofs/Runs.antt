@@ -1,14 +1,14 @@
 -- Every run in bytes is a session: what it answers is what is expected.
 use Rattle.std.specs.declared.alloc.Global.{Global}
-use Rattle.std.proofs.Common.{Vec, ◌≡◌, ◌⊎◌, inl, inr, ℕ, zero, suc, ◌+◌, ◌-◌, ◌/◌, ◌^◌, ◌<◌, ◌≤◌, Bool, true, false, ◌||◌, List, [], ◌∷◌, ◌++◌, length, take, drop, map, filter, cond, Option, Some, None, unwrap_or, refl, sym, ◌∙◌, ap, subst, arith, length-append, append_assoc, append-nil, nat_lt, flat_map, if◌then◌else◌}
+use Rattle.std.proofs.Common.{Vec, ◌≡◌, ◌⊎◌, inl, inr, ℕ, zero, suc, ◌+◌, ◌-◌, ◌/◌, ◌^◌, ◌<◌, ◌≤◌, Bool, true, false, ◌||◌, List, [], ◌∷◌, ◌++◌, length, take, map, filter, cond, Some, None, unwrap_or, refl, sym, ◌∙◌, ap, subst, arith, length-append, append_assoc, append-nil, flat_map, if◌then◌else◌}
 use Rattle.std.specs.Prelude.{◌==◌, not}
-use Rattle.std.specs.List.{AllByRecursion, list_any}
+use Rattle.std.specs.List.{AllByRecursion}
 use Rattle.std.proofs.lemmas.Grind.{common_steps, flat_map-append}
 use Rattle.std.proofs.lemmas.List.{map-append, take-append-le}
 use Rattle.std.proofs.lemmas.List.Folds.{list_any-append}
 use Rattle.std.proofs.lemmas.List.Sums.{sum_by-take-le}
 use Rattle.h3_field.specs.Field.{Field, field_size, section_size}
-use Rattle.h3_field.specs.Integer.{prefixed, groups}
+use Rattle.h3_field.specs.Integer.{groups}
 use Rattle.h3_field.specs.Line.{line_bytes}
 use Rattle.h3_field.specs.Prefix.{prefix_bytes}
 use Rattle.h3_field.specs.Instruction.{EncoderInstruction, encoder_bytes, DecoderInstruction, decoder_bytes}
@@ -17,7 +17,6 @@ use Rattle.h3_field.specs.Instruction.DecoderInstruction.{Acknowledge, CancelStr
 use Rattle.h3_field.specs.InstructionAnswer.{IsReply}
 use Rattle.h3_field.specs.declared.decoder_error.DecoderError.{DecoderError}
 use Rattle.h3_field.specs.declared.decoder_error.DecoderError.TheVariants as decoder_error
-use Rattle.h3_field.specs.declared.encoder_error.EncoderError.TheVariants as encoder_error
 use Rattle.h3_field.specs.declared.error.Error.{Error}
 use Rattle.h3_field.specs.declared.error.Error.TheVariants as of
 use Rattle.h3_qpack.specs.Sender.{Sender, told, told_all}
@@ -28,10 +27,10 @@ use Rattle.h3_qpack.specs.Meaning.{MeansFields, IsMissing, IsBadSection}
 use Rattle.h3_qpack.specs.SectionAnswers.{IsReason}
 use Rattle.h3_qpack.specs.Instructions.{BeginsBad, BeginsRefused}
 use Rattle.h3_qpack.specs.Increments.{increment_for}
-use Rattle.h3_qpack.specs.Encodings.{IsWrittenLine, IsWrittenInstruction, IsWritten, decoder_of}
+use Rattle.h3_qpack.specs.Encodings.{IsWrittenLine, IsWrittenInstruction, IsWritten}
 use Rattle.h3_qpack.specs.Session.{Session, UnderWay, IsSound, is_canceled, oldest, without_oldest, count_of, encoded, inserted, decoded, after_cancellation}
 use Rattle.h3_qpack.specs.Schedule.{beginning, without_block}
-use Rattle.h3_qpack.specs.Exchange.{Stream, opening, no_bytes, EncodedBlock, Ends, waiting, writing, arriving, reading, start, is_given_up, is_of, block_of, without_block_of, AreHeld, DecoderReads, EncoderReads, HasBlock, Encodes, DeliversToDecoder, DeliversToEncoder, Decodes, Cancels, giving_up, IsEvent, Happens, Exchange, Before, Then}
+use Rattle.h3_qpack.specs.Exchange.{Stream, opening, no_bytes, EncodedBlock, Ends, writing, arriving, reading, start, is_given_up, block_of, without_block_of, DecoderReads, EncoderReads, HasBlock, Encodes, DeliversToDecoder, DeliversToEncoder, Decodes, Cancels, giving_up, IsEvent, Happens, Exchange, Before, Then}
 use Rattle.h3_qpack.specs.Expected.{EncodesTo, ReadsInsertions, DeliversInsertions, DeliversReplies, DecodesAs, CancelsAs, Expects, Expected, NoEvent, NextEvent}
 use Rattle.h3_qpack.specs.declared.session.SessionEvent.{SessionEvent}
 use Rattle.h3_qpack.specs.declared.session.SessionEvent.TheVariants as event
@@ -42,8 +41,8 @@ use Rattle.h3_qpack.proofs.Schedules.{beginning_is_sound}
 use Rattle.h3_qpack.proofs.Sessions.{block_written, insertions_kept, insertions_read, block_decoded, stream_abandoned}
 use Rattle.h3_qpack.proofs.Decoding.{oldest_holds}
 use Rattle.h3_qpack.proofs.TablesRead.{receiver_at}
-use Rattle.h3_qpack.proofs.EncoderStreams.{EncoderStream, Further, encoder_stream_is, encoder_stream_count, encoder_stream_reads}
-use Rattle.h3_qpack.proofs.DecoderStreams.{DecoderStream, HeardMore, heard_so, heard_sound, decoder_stream_reads}
+use Rattle.h3_qpack.proofs.EncoderStreams.{EncoderStream, encoder_stream_is, encoder_stream_count, encoder_stream_reads}
+use Rattle.h3_qpack.proofs.DecoderStreams.{DecoderStream, heard_so, heard_sound, decoder_stream_reads}
 use Rattle.h3_qpack.proofs.DecodesAgree.{IsDecoderOf, decodes_right, misses_right, none_bad}
 use Rattle.h3_qpack.proofs.Writable.{lines_written, instructions_written}
 

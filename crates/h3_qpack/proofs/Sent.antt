@@ -1,5 +1,5 @@
 -- A field section that is written whole: what is kept of it.
-use Rattle.std.proofs.Common.{◌≡◌, ◌⊎◌, inl, inr, ℕ, ◌+◌, ◌-◌, ◌^◌, ◌<◌, ◌≤◌, Bool, true, false, List, [], ◌∷◌, ◌++◌, length, take, min, max, map, filter, fold, refl, sym, ◌∙◌, ap, subst, arith, append-nil, append_assoc, flat_map, nat_lt, if◌then◌else◌}
+use Rattle.std.proofs.Common.{◌≡◌, ◌⊎◌, inl, inr, ℕ, ◌-◌, ◌^◌, ◌<◌, ◌≤◌, Bool, true, false, List, [], ◌∷◌, ◌++◌, length, take, min, max, map, filter, fold, refl, sym, ◌∙◌, ap, arith, append-nil, append_assoc, nat_lt, if◌then◌else◌}
 use Rattle.std.specs.Prelude.{◌==◌}
 use Rattle.std.proofs.lemmas.Grind.{common_steps}
 use Rattle.std.proofs.lemmas.List.{map-append, take_all}
@@ -8,18 +8,15 @@ use Rattle.std.proofs.lemmas.List.Sums.{sum_by-cons}
 use Rattle.h3_field.specs.Field.{Field, field_size, section_size}
 use Rattle.std.specs.List.{AllByRecursion}
 use Rattle.h3_field.specs.ReadBack.{IsFieldOfBytes}
-use Rattle.h3_field.specs.Line.{line_bytes}
 use Rattle.h3_field.specs.Prefix.{prefix_bytes}
 use Rattle.h3_field.specs.PrefixReading.{EncodedPrefix}
 use Rattle.h3_field.specs.PrefixWriting.{written_prefix, encoded_bytes}
 use Rattle.h3_field.proofs.PrefixReadBack.{prefix_is_written}
-use Rattle.h3_qpack.specs.Held.{Held, gone}
-use Rattle.h3_qpack.specs.Sender.{Sender, Tracked, blocks_out}
+use Rattle.h3_qpack.specs.Sender.{Sender, Tracked}
 use Rattle.h3_qpack.specs.Stored.{StoredSender, stored, stored_section, stored_sent, least}
 use Rattle.h3_qpack.specs.Written.{Draft, draft_of, required_insert_count, encoded_section, sent_section}
 use Rattle.h3_qpack.specs.Drafting.{IsKept, IsDrafted, IsOver, IsSmall, IsSent, IsCutOff, begun, oldest_of}
 use Rattle.h3_qpack.specs.declared.section.Section.{Section}
-use Rattle.h3_qpack.specs.declared.tracking.TrackedSection.{TrackedSection}
 use Rattle.h3_qpack.proofs.Telling.{waiting_counted}
 
 -- a section that names an entry is over a table that can have one

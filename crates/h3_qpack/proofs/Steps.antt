@@ -1,11 +1,11 @@
 -- What the events of a session do to what is kept of it.
 use Rattle.std.specs.declared.alloc.Global.{Global}
-use Rattle.std.proofs.Common.{Vec, ◌≡◌, ℕ, zero, suc, ◌+◌, ◌-◌, ◌^◌, ◌<◌, ◌≤◌, Bool, true, false, ◌||◌, List, [], ◌∷◌, ◌++◌, length, take, filter, get_or, flat_map, Some, None, refl, sym, ◌∙◌, ap, subst, arith, if◌then◌else◌, nat_lt, min}
+use Rattle.std.proofs.Common.{Vec, ◌≡◌, ℕ, zero, suc, ◌+◌, ◌-◌, ◌^◌, ◌<◌, ◌≤◌, Bool, true, false, ◌||◌, List, [], ◌∷◌, ◌++◌, length, take, filter, get_or, flat_map, Some, None, refl, sym, ◌∙◌, ap, subst, arith, if◌then◌else◌, nat_lt}
 use Rattle.std.specs.Prelude.{◌==◌, not}
 use Rattle.std.specs.List.{list_any, remove, AllByRecursion}
 use Rattle.std.proofs.lemmas.Grind.{common_steps}
 use Rattle.std.proofs.lemmas.List.{take_more, take_all}
-use Rattle.h3_field.specs.Field.{Field, section_size}
+use Rattle.h3_field.specs.Field.{Field}
 use Rattle.h3_field.specs.Reading.{Unfinished}
 use Rattle.h3_field.specs.InstructionReading.{instruction, decoder_instruction}
 use Rattle.h3_field.specs.Instruction.{encoder_bytes, decoder_bytes}
@@ -18,14 +18,14 @@ use Rattle.h3_field.specs.declared.error.Error.TheVariants as of
 use Rattle.h3_qpack.specs.Sender.{Sender, told_all}
 use Rattle.h3_qpack.specs.Stored.{StoredSender, stored}
 use Rattle.h3_qpack.specs.Receiver.{Receiver}
-use Rattle.h3_qpack.specs.Meaning.{MeansFields, IsBadSection}
+use Rattle.h3_qpack.specs.Meaning.{MeansFields}
 use Rattle.h3_qpack.specs.SectionAnswers.{IsReason, IsRefusal}
 use Rattle.h3_qpack.specs.Instructions.{HasRead, BeginsBad, BeginsRefused, AreDecoderInstructions}
 use Rattle.h3_qpack.specs.Telling.{HasHeard}
 use Rattle.h3_qpack.specs.Increments.{increment_for}
 use Rattle.h3_qpack.specs.Written.{draft_of}
 use Rattle.h3_qpack.specs.Drafting.{IsCutOff}
-use Rattle.h3_qpack.specs.Exchange.{Stream, EncodedBlock, EncoderReads, Ends, Kept, kept, unread, waiting, arriving, reading, writing, is_given_up, is_of, block_of, without_block_of, IsPlace, HasBlock, IsEvent, Happens, Exchange, Before, Then, start, Encodes, DeliversToDecoder, DeliversToEncoder, Decodes, Cancels, giving_up, refused_section}
+use Rattle.h3_qpack.specs.Exchange.{EncodedBlock, EncoderReads, Ends, Kept, kept, unread, waiting, arriving, reading, writing, is_given_up, is_of, block_of, without_block_of, IsPlace, HasBlock, IsEvent, Happens, Exchange, Before, Then, start, Encodes, DeliversToDecoder, DeliversToEncoder, Decodes, Cancels, giving_up, refused_section}
 use Rattle.h3_qpack.specs.declared.session.SessionEvent.{SessionEvent}
 use Rattle.h3_qpack.specs.declared.session.SessionAnswer.{SessionAnswer}
 use Rattle.h3_qpack.specs.declared.session.SessionAnswer.TheVariants as answer

@@ -1,20 +1,18 @@
 -- A decoder that reads what an encoder wrote has the encoder's table after as many insertions.
-use Rattle.std.proofs.Common.{◌≡◌, ◌⊎◌, inl, inr, ℕ, zero, suc, ◌+◌, ◌-◌, ◌^◌, ◌<◌, ◌≤◌, Bool, true, false, ◌&&◌, List, [], ◌∷◌, ◌++◌, length, take, drop, max, Option, Some, None, refl, sym, ◌∙◌, ap, subst, arith, length-append, length-drop, append-nil, nat_lt, nat_le, if◌then◌else◌, unwrap_or, slice_get, get_or}
+use Rattle.std.proofs.Common.{◌≡◌, ◌⊎◌, inl, inr, ℕ, zero, suc, ◌+◌, ◌-◌, ◌^◌, ◌<◌, ◌≤◌, Bool, true, false, ◌&&◌, List, [], ◌∷◌, ◌++◌, length, take, drop, max, Option, Some, None, refl, sym, ◌∙◌, ap, arith, length-drop, nat_lt, nat_le, if◌then◌else◌, unwrap_or, get_or}
 use Rattle.std.specs.Prelude.{◌==◌}
 use Rattle.std.proofs.lemmas.Grind.{common_steps}
 use Rattle.std.proofs.lemmas.List.{take_more, length-take-le}
 use Rattle.h3_field.specs.Field.{Field, field_size}
 use Rattle.h3_field.specs.Section.{with_value}
-use Rattle.h3_field.specs.StaticTable.{static_table}
 use Rattle.h3_field.specs.Instruction.{EncoderInstruction}
 use Rattle.h3_field.specs.Instruction.EncoderInstruction.{SetCapacity, InsertWithStaticName, InsertWithEntryName, InsertLiteral, Duplicate}
 use Rattle.h3_qpack.specs.Table.{dropped}
 use Rattle.h3_qpack.specs.Block.{insertion_at}
-use Rattle.h3_qpack.specs.Held.{Held, gone, entry_at, has_room, with_entry}
+use Rattle.h3_qpack.specs.Held.{entry_at, with_entry}
 use Rattle.h3_qpack.specs.History.{History, held, still_at, field_inserted, longer, further, further_all, table_of, IsReadAs}
 use Rattle.h3_qpack.specs.Receiver.{Receiver, announcing, insertion_of, inserting, having_read, having_read_all}
 use Rattle.h3_qpack.specs.Exchange.{opening}
-use Rattle.h3_qpack.specs.WholeInstructions.{is_insertion}
 use Rattle.h3_qpack.proofs.Kept.{held_of, table-end, with_entry-held}
 use Rattle.h3_qpack.proofs.Insertions.{further_all-append}
 use Rattle.h3_qpack.proofs.Hearing.{having_read_all-append}

@@ -1,10 +1,9 @@
 -- What the events of a run are expected to answer, told by the fields that were encoded and by how many insertions were read:
 -- no byte and no table is in it.
-use Rattle.std.specs.Prelude.{◌≡◌, ◌<◌, ◌≤◌, ℕ, ◌+◌, Bool, true, false, List, [], ◌∷◌, ◌++◌, length, take, drop, if◌then◌else◌, ◌==◌, Some, None}
+use Rattle.std.specs.Prelude.{◌≡◌, ◌<◌, ◌≤◌, ℕ, ◌+◌, true, false, List, [], ◌∷◌, ◌++◌, length, take, drop, if◌then◌else◌, ◌==◌, Some, None}
 use Rattle.h3_field.specs.Field.{Field}
 use Rattle.h3_field.specs.declared.encoder_error.EncoderError.TheVariants as encoder_error
 use Rattle.h3_field.specs.declared.decoder_error.DecoderError.TheVariants as decoder_error
-use Rattle.h3_field.specs.declared.error.Error.{Error}
 use Rattle.h3_field.specs.declared.error.Error.TheVariants as of
 use Rattle.h3_qpack.specs.Sender.{told_all}
 use Rattle.h3_qpack.specs.Session.{Session, UnderWay, is_canceled, count_of, encoded, inserted, oldest, decoded, after_cancellation}

@@ -1,4 +1,4 @@
-use Rattle.std.proofs.Common.{◌≡◌, ◌<◌, ◌^◌, ◌++◌, ◌∷◌, [], sym, rules, arith}
+use Rattle.std.proofs.Common.{◌<◌, ◌^◌, rules, arith}
 use Rattle.h3_qpack.proofs.Runs.{run_as_expected}
 use Rattle.h3_qpack.proofs.Expectations.{expected_sound}
 use Rattle.h3_qpack.proofs.Steps.{run_begun, run_more, run_done, event_at}

@@ -1,6 +1,6 @@
 use Rattle.std.proofs.Common.{arith}
 use Rattle.std.proofs.lemmas.Result.{err_from_is_err_and}
-use Rattle.h3_qpack.proofs.Fieldwise.{in_more, in_all, all_bytes, in_cut_off, in_refused}
+use Rattle.h3_qpack.proofs.Fieldwise.{in_more, in_all, all_bytes, in_refused}
 use Rattle.h3_qpack.proofs.writing.put_fields.Goals as goal
 
 pub returns-in_err-put_field-clause-err : goal.returns-in_err-put_field-clause-err

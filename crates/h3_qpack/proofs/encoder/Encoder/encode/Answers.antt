@@ -1,7 +1,6 @@
 use Rattle.std.proofs.Common.{◌≡◌, ◌∙◌, ◌++◌, refl, rules}
 use Rattle.std.proofs.lemmas.Result.{err_from_is_err_and}
 use Rattle.h3_field.specs.Prefix.{prefix_bytes}
-use Rattle.h3_qpack.specs.Stored.{stored_sent}
 use Rattle.h3_qpack.proofs.Sent.{begun_drafted, whole_cut_off, section_sent, sent_named, sent_plain}
 use Rattle.h3_qpack.proofs.encoder.Encoder.encode.Goals as goal
 

@@ -1,9 +1,9 @@
-use Rattle.std.proofs.Common.{◌≡◌, ◌∙◌, ◌++◌, sym, false, rules}
+use Rattle.std.proofs.Common.{◌≡◌, ◌∙◌, ◌++◌, sym, rules}
 use Rattle.std.specs.Prelude.{◌==◌, not}
 use Rattle.std.proofs.lemmas.Fn.{filter_same}
 use Rattle.h3_field.specs.Instruction.{decoder_bytes}
 use Rattle.h3_field.specs.Instruction.DecoderInstruction.{CancelStream}
-use Rattle.h3_qpack.specs.Exchange.{EncodedBlock, is_given_up}
+use Rattle.h3_qpack.specs.Exchange.{EncodedBlock}
 use Rattle.h3_qpack.proofs.Steps.{given_up}
 use Rattle.h3_qpack.proofs.session.Session.cancel.Goals as goal
 
