@@ -214,3 +214,44 @@ script_read most i end text lines before setup events is all h some =
 -- what an index past the end gives
 abbrev pub nothing : Bor (List ℕ)
 nothing = record { ref_ptr = (0, 0); now = [] }
+
+-- a line behind others is an event's where all are
+event_of : (before rest : List (List ℕ)) (line : List ℕ) (events : List Event) → SayEvents (before ++ line ∷ rest) events → (event : Event) × SaysEvent line event
+event_of [] rest line [] h = absurd h
+event_of [] rest line (e ∷ events) h = (e, h.0)
+event_of (b ∷ before) rest line [] h = absurd h
+event_of (b ∷ before) rest line (e ∷ events) h = event_of before rest line events h.1
+
+said_parts : (before after : List (List ℕ)) → said (before ++ after) ≡ said before ++ said after
+said_parts [] after = refl
+said_parts (b ∷ before) after = one_more (not (is_skipped b)) b (said (before ++ after)) (said before) (said after) (said_parts before after)
+
+said_kept : (line : List ℕ) (after : List (List ℕ)) → is_skipped line ≡ false → said (line ∷ after) ≡ line ∷ said after
+said_kept line after h = rw h refl
+
+said_at : (lines before after : List (List ℕ)) (line : List ℕ) → lines ≡ before ++ line ∷ after → is_skipped line ≡ false → said lines ≡ said before ++ line ∷ said after
+said_at lines before after line is kept = ap said is ∙ said_parts before (line ∷ after) ∙ ap (λ t. said before ++ t) (said_kept line after kept)
+
+first_says : (before after : List (List ℕ)) (line : List ℕ) (setup : Setup) (events : List Event) → before ≡ [] → SaysSoFar (before ++ line ∷ after) (Some setup) events → SaysSetup line setup
+first_says [] after line setup events e h = h.0
+first_says (b ∷ before) after line setup events e h = cc
+
+later_says : (before after : List (List ℕ)) (line : List ℕ) (setup : Setup) (events : List Event) → 0 < length before → SaysSoFar (before ++ line ∷ after) (Some setup) events → (event : Event) × SaysEvent line event
+later_says [] after line setup events some h = absurd (omega (arith, some))
+later_says (b ∷ before) after line setup events some h = event_of before after line events h.1
+
+not_refused_at : (most : ℕ) (text : List ℕ) (setup : Setup) (events : List Event) (before after : List (List ℕ)) (line : List ℕ) → IsScript most text setup events
+    → lines_of text ≡ before ++ line ∷ after → IsRefused most before line → ⊥
+not_refused_at most text setup events before after line s is (TooFar far) =
+    let len = λ (l : List ℕ). length l + 1 in
+    omega (arith, far, s.within, pieces_length 10 text, ap lines_length is, sum_by-append len before (line ∷ after), sum_by-cons len line after)
+not_refused_at most text setup events before after line s is (NoSetup none kept refutes) =
+    refutes setup (first_says (said before) (said after) line setup events none (subst (λ ls. SaysSoFar ls (Some setup) events) (said_at (lines_of text) before after line is kept) s.says))
+not_refused_at most text setup events before after line s is (NoEvent some kept refutes) =
+    let e = later_says (said before) (said after) line setup events some (subst (λ ls. SaysSoFar ls (Some setup) events) (said_at (lines_of text) before after line is kept) s.says) in
+    refutes e.0 e.1
+
+-- no script has a line that is refused
+pub not_refused : (most : ℕ) (text : List ℕ) (setup : Setup) (events : List Event) (number : ℕ) → IsScript most text setup events → RefusesLine most text number → ⊥
+not_refused most text setup events number s (At before after line is place begin refused) = not_refused_at most text setup events before after line s is refused
+not_refused most text setup events number s (Nothing none one) = subst (λ ls. SaysSoFar ls (Some setup) events) none s.says

@@ -4,6 +4,7 @@ ghost use Rattle.h3_talk.specs.Script.{IsScript, RefusesScript};
 
 mod error;
 mod head;
+mod laws;
 mod line;
 mod pieces;
 mod words;
