@@ -168,8 +168,9 @@ impl Encoder {
     }
 
     /// Appends an encoded field section to `block`, and the instructions for it to `encoder_buf`, and answers its required
-    /// insert count. The section is tracked under its stream where it names entries. Where memory is refused, `block` is as
-    /// it was, and `encoder_buf` gained whole instructions, those of the insertions that were made.
+    /// insert count (RFC 9204, sections 2.1 and 4.5). The sizes of the fields sum to less than 2^62. The section is tracked
+    /// under its stream where it names entries. Refused is only memory: then `block` is as it was, and `encoder_buf` gained
+    /// whole instructions, those of the insertions that were made.
     pub fn encode(
         &mut self,
         stream: u64,

@@ -11,7 +11,7 @@ fn field(name: &'static [u8], value: &'static [u8]) -> HeaderField {
     HeaderField::new(CowSlice::Borrowed(name), CowSlice::Borrowed(value))
 }
 
-/// A request for https://www.example.com on a stream: two fields of the static table, and one that is inserted.
+/// A request for https://www.example.com/sample/path on a stream: two fields of the static table, and two that are inserted.
 fn request(alloc: Global, stream: u64) -> Result<SessionEvent, Fail>
     requires { stream < 2 ^ 62 }
     ensures { IfOk result IsEvent }
@@ -20,9 +20,11 @@ fn request(alloc: Global, stream: u64) -> Result<SessionEvent, Fail>
         field(b":method", b"GET"),
         field(b":scheme", b"https"),
         field(b":authority", b"www.example.com"),
+        field(b":path", b"/sample/path"),
     ]?;
     let first = fields[0].mem_size().saturating_add(fields[1].mem_size());
-    if first.saturating_add(fields[2].mem_size()) > 1000 {
+    let last = fields[2].mem_size().saturating_add(fields[3].mem_size());
+    if first.saturating_add(last) > 1000 {
         return Err(Fail::from("size"));
     }
     Ok(SessionEvent::Encode(stream, fields))
@@ -47,16 +49,17 @@ fn decodes_what_came(rt: HostRuntime) -> Result<(), Fail> {
     let events = [
         request(rt.alloc(), 0)?,
         SessionEvent::Decode(0),
-        SessionEvent::EncoderBytes(17),
+        SessionEvent::EncoderBytes(20),
+        SessionEvent::EncoderBytes(9),
+        SessionEvent::EncoderBytes(8),
         SessionEvent::Decode(0),
         SessionEvent::Decode(0),
-        SessionEvent::DecoderBytes(3),
     ];
     let answers = run(rt.alloc(), 220, 2, &events).map_err(|_| "refused")?;
-    // the increment and the acknowledgment are 2 bytes
-    let expected = [(0, 1), (4, 1), (1, 0), (3, 3), (5, 0), (2, 2)];
-    assert_eq!(rt; answers.len(), 6);
-    for i in 0..6 {
+    // the instructions are 28 bytes
+    let expected = [(0, 2), (4, 2), (1, 0), (2, 8), (1, 0), (3, 4), (5, 0)];
+    assert_eq!(rt; answers.len(), 7);
+    for i in 0..7 {
         assert_eq!(rt; told(&answers[i]), expected[i]);
     }
     Ok(())
@@ -73,7 +76,7 @@ fn decodes_nothing_of_a_canceled_stream(rt: HostRuntime) -> Result<(), Fail> {
         SessionEvent::DecoderBytes(1),
     ];
     let answers = run(rt.alloc(), 220, 2, &events).map_err(|_| "refused")?;
-    let expected = [(0, 1), (6, 0), (6, 0), (6, 0), (1, 0), (2, 0)];
+    let expected = [(0, 2), (6, 0), (6, 0), (6, 0), (1, 0), (2, 0)];
     assert_eq!(rt; answers.len(), 6);
     for i in 0..6 {
         assert_eq!(rt; told(&answers[i]), expected[i]);

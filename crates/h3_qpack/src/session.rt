@@ -304,8 +304,9 @@ impl Session {
     }
 }
 
-/// Drives one encoder and one decoder over the events, one after the other, and answers each. Refused are limits that the
-/// table refuses, and the room for the answers, which is taken first.
+/// Drives one encoder and one decoder over the events, one after the other, and answers each. Streams are below 2^62, and the
+/// sizes of a section's fields sum to less. Refused are a limit above 65535, a capacity above 2^30 - 1, and the room for the
+/// answers, which is taken first.
 pub fn run(
     alloc: Global,
     capacity: usize,
