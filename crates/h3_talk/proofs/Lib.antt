@@ -6,6 +6,7 @@ pub mod Pieces
 pub mod Numbers
 pub mod Scripts
 pub mod ScriptSums
+pub mod Unique
 pub mod Sections
 pub mod Frames
 pub mod Reading
