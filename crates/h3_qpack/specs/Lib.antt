@@ -28,4 +28,5 @@ pub mod Exchange
 pub mod SessionInside
 pub mod Expected
 pub mod Views
+pub mod EncoderView
 pub mod Worked

@@ -9,9 +9,10 @@ ghost use Rattle.h3_qpack.specs.Index.{IsIndexed, HasRoom};
 ghost use Rattle.h3_qpack.specs.Sender.{without_newest};
 ghost use Rattle.h3_qpack.specs.Tracking.{IsLast, is_of, is_free_to, without_oldest_of, without_newest_of};
 ghost use Rattle.h3_qpack.specs.Stored.{StoredSender, MayInsertInto, MayHaveCapacity, IsCapacityRefusal, raised, stored_sent, stored_withdrawn};
-ghost use Rattle.h3_qpack.specs.Drafting.{IsSmall};
+ghost use Rattle.h3_qpack.specs.Drafting.{begun, IsOver, IsSmall};
 ghost use Rattle.h3_field.specs.declared.dynamic.Error.TheVariants.{MaxBlockedStreamsTooLarge};
 
+use crate::encoder_view::DynamicTableEncoder;
 use crate::entries::{Entries, MAX_CAPACITY, MOST_INSERTIONS, Match, size_of};
 use crate::index::Index;
 use crate::tracking::{TrackedSection, Tracking};
@@ -167,6 +168,17 @@ impl DynamicTable {
         ensures { result ≡ record { table = self.now.table; base = base } }
     {
         DynamicTableDecoder::new(self, base)
+    }
+
+    /// The table with a section of this stream under way, which is then committed or released.
+    pub fn encoder(&mut self, stream: u64) -> DynamicTableEncoder<'_>
+        ensures same_reference { result.table.ghost_name ≡ self.entry.ghost_name }
+        ensures table { result.table.now ≡ self.old }
+        ensures stream { result.stream ≡ stream }
+        ensures section { result.section ≡ begun self.old }
+        ensures over { IsOver self.old.table result.section }
+    {
+        DynamicTableEncoder::new(self, stream)
     }
 
     /// It does nothing: a proof that needs the fact calls it.

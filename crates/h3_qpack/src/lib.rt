@@ -7,6 +7,7 @@ pub mod dynamic;
 #[cfg(test)]
 mod encode_tests;
 pub mod encoder;
+pub mod encoder_view;
 mod entries;
 pub mod examples;
 mod increment;
@@ -25,6 +26,7 @@ mod writing;
 pub use decoder::{Decoder, ack_header, stream_canceled};
 pub use dynamic::DynamicTable;
 pub use encoder::{Encoder, set_dynamic_table_size};
+pub use encoder_view::{DynamicInsertionResult, DynamicLookupResult, DynamicTableEncoder};
 pub use h3_field::{
     Decoded, DecoderError, EncoderError, Error, HeaderField, SliceCursor, decode_stateless,
     encode_stateless,

@@ -58,7 +58,7 @@ impl Section {
     }
 
     /// The greatest number that a line may name, of those up to a number.
-    fn most_usable(&self, table: &DynamicTable, number: usize) -> usize
+    pub(crate) fn most_usable(&self, table: &DynamicTable, number: usize) -> usize
         ensures { result ≡ most_usable table.now self.now number }
     {
         if self.may_wait {

@@ -30,7 +30,7 @@ use h3_field::{EncoderError, HeaderField};
 use std::alloc::{AllocError, Global};
 
 /// The entry of a field, where its name may be that of the static entry of an index. Such a name is not copied.
-fn entry_of(
+pub(crate) fn entry_of(
     alloc: Global,
     field: &HeaderField,
     static_index: Option<usize>,
