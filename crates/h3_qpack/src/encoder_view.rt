@@ -33,7 +33,10 @@ pub enum DynamicLookupResult {
 #[derive(Copy, Clone, PartialEq, Eq, Debug)]
 pub enum DynamicInsertionResult {
     /// With a literal name and value.
-    Inserted { postbase: usize, absolute: usize },
+    Inserted {
+        postbase: usize,
+        absolute: usize,
+    },
     /// As a copy of the entry at a distance below the newest.
     Duplicated {
         relative: usize,
@@ -249,6 +252,5 @@ impl<'a> DynamicTableEncoder<'a> {
     /// Ends a section that is not sent. It is not tracked, and its insertions stay.
     pub fn release(self)
         ensures { self.exit.0.now ≡ self.entry.table.now }
-    {
-    }
+    {}
 }

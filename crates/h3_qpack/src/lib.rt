@@ -8,6 +8,8 @@ pub mod dynamic;
 mod encode_tests;
 pub mod encoder;
 pub mod encoder_view;
+#[cfg(test)]
+mod encoder_view_tests;
 mod entries;
 pub mod examples;
 mod increment;
