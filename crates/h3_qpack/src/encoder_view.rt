@@ -102,7 +102,8 @@ fn insertion_of(
 }
 
 /// A table, with a section of one stream under way: what its lines name and what is inserted for it. The section is
-/// tracked once it is committed, and else it is released.
+/// tracked once it is committed, and else it is released. Each call requires that what the section names is in the table, which
+/// `DynamicTable::encoder` ensures and each call keeps.
 #[derive(Drop)]
 pub struct DynamicTableEncoder<'a> {
     table: &'a mut DynamicTable,

@@ -1,3 +1,4 @@
+ghost use Rattle.std.specs.Prelude.{◌≡◌};
 ghost use Rattle.h3_qpack.specs.Drafting.{IsOver};
 
 use crate::{
@@ -17,6 +18,13 @@ fn new_table(alloc: Global) -> Result<DynamicTable, Fail> {
     table.set_max_blocked(1).map_err(|_| "limit")?;
     table.set_max_size(220).map_err(|_| "capacity")?;
     Ok(table)
+}
+
+/// Begins a section and releases it, which leaves the table as it was.
+fn begin_and_release(table: &mut DynamicTable)
+    ensures { table.new ≡ table.old }
+{
+    table.encoder(0).release();
 }
 
 /// Inserts a field, and tells how.
@@ -79,6 +87,7 @@ fn inserts_in_the_shortest_way(rt: HostRuntime) -> Result<(), Fail> {
 #[test]
 fn names_what_it_finds(rt: HostRuntime) -> Result<(), Fail> {
     let mut table = new_table(rt.alloc())?;
+    begin_and_release(&mut table);
     let mut view = table.encoder(4);
     insert(&mut view, b"custom-key", b"custom-value")?;
     // inserted, and not older than the section
