@@ -1,5 +1,5 @@
 -- What a section names is there, after an insertion through the encoder's view of the table.
-use Rattle.std.proofs.Common.{◌≡◌, ℕ, ◌+◌, ◌≤◌, sym, ◌∙◌, ap}
+use Rattle.std.proofs.Common.{◌≡◌, ℕ, ◌+◌, ◌≤◌, ◌∙◌, ap}
 use Rattle.h3_field.specs.Field.{Field}
 use Rattle.h3_qpack.specs.Held.{gone, with_entry}
 use Rattle.h3_qpack.specs.Stored.{StoredSender, MayInsertInto}
