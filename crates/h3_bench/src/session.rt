@@ -57,10 +57,7 @@ fn sender_steps<'a>(
     Ok(steps)
 }
 
-fn receiver_steps<'a>(
-    alloc: Global,
-    bytes: &'a [u8],
-) -> Result<Vec<Step<'a, &'a [u8]>>, Failure> {
+fn receiver_steps<'a>(alloc: Global, bytes: &'a [u8]) -> Result<Vec<Step<'a, &'a [u8]>>, Failure> {
     let mut input = SliceCursor::new(bytes);
     let count = take_number(&mut input)?;
     let mut steps = Vec::new(alloc);
@@ -152,11 +149,7 @@ fn receive_all(
 
 /// What a decoder gives and writes in a session, for each step: 1 and a list where it decoded a section, else 0; and
 /// what it wrote.
-fn received(
-    alloc: Global,
-    capacity: usize,
-    steps: &[Step<'_, &[u8]>],
-) -> Result<Vec<u8>, Failure> {
+fn received(alloc: Global, capacity: usize, steps: &[Step<'_, &[u8]>]) -> Result<Vec<u8>, Failure> {
     let mut packed = Vec::new(alloc);
     let mut replies = Vec::new(alloc);
     let mut receiver = Receiver::new(alloc, capacity)?;
