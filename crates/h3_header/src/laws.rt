@@ -1,7 +1,10 @@
 //! Laws on headers and their field lists, each the contract of a function.
-ghost use Rattle.std.specs.Prelude.{◌≡◌, IfOk, IfErr};
-ghost use Rattle.h3_header.specs.Head.{head_fields};
-ghost use Rattle.h3_header.specs.Reads.{head_of_fields};
+ghost use Rattle.std.specs.Prelude.{◌≡◌, IfOk, IfErr, List, [], Some};
+ghost use Rattle.h3_field.specs.Field.{Field};
+ghost use Rattle.h3_header.specs.Head.{Head, head_fields, trailer_head};
+ghost use Rattle.h3_header.specs.HeadRead.{HeadRefusal, IsHead, IsNone, head_of, told};
+ghost use Rattle.h3_header.specs.Reads.{IsHeadOf, RefusesOne, head_of_fields};
+ghost use Rattle.h3_header.specs.declared.headers.error.HeaderError.{HeaderError};
 ghost use Rattle.h3_header.specs.ReadsBack.{ReadsBack, as_read};
 
 use crate::headers::{Header, HeaderError};
@@ -27,4 +30,11 @@ pub fn round_trip(alloc: Global, header: &Header) -> Result<Header, HeaderError>
         return Err(HeaderError::OutOfMemory);
     };
     Header::try_from(alloc, fields)
+}
+
+/// What a field list is read as is a value: its head, or the first refusal.
+pub fn lists_are_their_value()
+    ensures head { (fields : List Field) (h : Head) → IsHeadOf fields h → head_of fields ≡ IsHead h }
+    ensures refused { (fields : List Field) (e : HeaderError) (why : HeadRefusal) → RefusesOne (trailer_head []) fields e → told e ≡ Some why → head_of fields ≡ IsNone why }
+{
 }
