@@ -1,5 +1,5 @@
 -- Each call is answered by what a request stream sees, or changes nothing of that.
-use Rattle.std.proofs.Common.{◌≡◌, ℕ, ◌+◌, Bool, true, false, ◌||◌, List, [], ◌∷◌, refl, sym, ◌∙◌, ap, subst}
+use Rattle.std.proofs.Common.{◌≡◌, ℕ, ◌+◌, Bool, true, false, ◌||◌, List, [], ◌∷◌, length, refl, sym, ◌∙◌, ap, subst}
 use Rattle.std.specs.Prelude.{Option, Some, None, if◌then◌else◌, ◌==◌, nat_lt, is_some, unwrap_or, not}
 use Rattle.h3_proto.specs.declared.stream.Side.{Side}
 use Rattle.h3_proto.specs.declared.stream.Side.TheVariants.{Client, Server}
@@ -19,7 +19,7 @@ use Rattle.h3_connection.specs.Endpoint.{EndpointHistory, Kind, kind_of, new_end
 use Rattle.h3_connection.specs.Endpoint.Kind.{Request, ServerOpened, OwnUnidirectional, PeerUnidirectional}
 use Rattle.h3_connection.specs.Control.{Found}
 use Rattle.h3_connection.specs.Delivering.{opened_at, unidirectional_at, incoming_at, opened, with_incoming, taken, refusal_at, server_opened_refusal, bytes_at, end_at, reset_at, kept, with_end, give_up, given_up_once, request_refusal}
-use Rattle.h3_connection.specs.Sending.{does, first_of, open_refusal, advance_at, pull_at, pull_unless, pull_request, pull_peer, pulled, within_limit, if_too_many, after_answer, cancel_refusal, closed_or, sent_bytes}
+use Rattle.h3_connection.specs.Sending.{does, first_of, open_refusal, advance_at, pull_at, pull_unless, pull_request, pull_peer, pulled, within_limit, if_too_many, after_answer, cancel_refusal, closed_or, sent_bytes, counted}
 use Rattle.h3_connection.specs.CallLists.{Call, Result, called, endpoint_after, done, was_pulled}
 use Rattle.h3_connection.specs.CallLists.Call.{OpenRequest, SendHead, SendBody, SendTrailer, Finish, Reset, Goaway, Advance, Outgoing, Deliver, DeliverEnd, DeliverReset, PullStream, Cancel, Show}
 use Rattle.h3_connection.specs.CallLists.Result.{Done, Opened}
@@ -318,8 +318,8 @@ open_step T id e s b = go (open_refusal e) refl
         (sight_same T id e new s b.sight (opened_other e n id None ne) o.decoding o.unidirectional)) refl
 
 -- calls that neither receive nor open
-quiet_body : (e : EndpointHistory) (id : ℕ) (bytes : List ℕ) → Quiet e (sent_bytes e id bytes)
-quiet_body e id [] = still e
+quiet_body : (e : EndpointHistory) (id : ℕ) (bytes : List ℕ) → Quiet e (counted (sent_bytes e id bytes) (length bytes))
+quiet_body e id [] = shut e _ refl refl refl refl refl refl refl
 quiet_body e id (byte ∷ bytes) = shut e _ refl refl refl refl refl refl refl
 
 quiet_advance : (e : EndpointHistory) (id count : ℕ) (at : Option Out) → Quiet e (advance_at e id count at)

@@ -1,5 +1,5 @@
 -- No call changes the side or what was announced.
-use Rattle.std.proofs.Common.{◌≡◌, ℕ, Bool, true, false, List, [], ◌∷◌, refl, ◌∙◌}
+use Rattle.std.proofs.Common.{◌≡◌, ℕ, Bool, true, false, List, [], ◌∷◌, length, refl, ◌∙◌}
 use Rattle.std.specs.Prelude.{Option, Some, None}
 use Rattle.h3_connection.specs.declared.event.Refusal.{Refusal}
 use Rattle.h3_connection.specs.declared.event.Pull.{Pull}
@@ -14,7 +14,7 @@ use Rattle.h3_connection.specs.Endpoint.{EndpointHistory, Kind, kind_of}
 use Rattle.h3_connection.specs.Endpoint.Kind.{Request, ServerOpened, OwnUnidirectional, PeerUnidirectional}
 use Rattle.h3_connection.specs.Control.{Found, read_control, read_encoder, read_decoder}
 use Rattle.h3_connection.specs.Delivering.{opened_at, opened, taken, closed_by, heard_as, unless_second, read_unidirectional, unidirectional_at, with_unidirectional, bytes_at, end_at, reset_at}
-use Rattle.h3_connection.specs.Sending.{does, after_answer, pull_at, pull_unless, pull_request, pull_peer, advance_at, sent_bytes}
+use Rattle.h3_connection.specs.Sending.{does, after_answer, pull_at, pull_unless, pull_request, pull_peer, advance_at, sent_bytes, counted}
 use Rattle.h3_connection.specs.CallLists.{Call, Result, called, done, was_pulled}
 use Rattle.h3_connection.specs.CallLists.Call.{OpenRequest, SendHead, SendBody, SendTrailer, Finish, Reset, Goaway, Advance, Outgoing, Deliver, DeliverEnd, DeliverReset, PullStream, Cancel, Show}
 use Rattle.h3_connection.proofs.Quiet.{Quiet, quiet_control, quiet_decoder}
@@ -108,8 +108,8 @@ pull_on e q None ServerOpened = itself e
 pull_on e q None OwnUnidirectional = itself e
 pull_on e q None PeerUnidirectional = peer_on e q (stream_at e.unidirectional q)
 
-body_on : (e : EndpointHistory) (id : ℕ) (bytes : List ℕ) → SameSetup e (sent_bytes e id bytes)
-body_on e id [] = itself e
+body_on : (e : EndpointHistory) (id : ℕ) (bytes : List ℕ) → SameSetup e (counted (sent_bytes e id bytes) (length bytes))
+body_on e id [] = record { side = refl; announced = refl }
 body_on e id (byte ∷ bytes) = record { side = refl; announced = refl }
 
 advance_on : (e : EndpointHistory) (id count : ℕ) (at : Option Out) → SameSetup e (advance_at e id count at)

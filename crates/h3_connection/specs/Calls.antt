@@ -70,6 +70,8 @@ pub record SameRest (old new : EndpointState) : Type 0 where
   pub encoding : new.encoding ≡ old.encoding
   pub own : new.own ≡ old.own
   pub last_goaway : new.last_goaway ≡ old.last_goaway
+  pub kept : new.kept ≡ old.kept
+  pub sent : new.sent ≡ old.sent
   pub unidirectional : AllSame old.unidirectional new.unidirectional
 
 -- nothing has changed

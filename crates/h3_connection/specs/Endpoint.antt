@@ -10,6 +10,7 @@ use Rattle.h3_connection.specs.declared.setup.Announced.{Announced}
 use Rattle.h3_connection.specs.OwnIds.{other, control_id, encoder_id, decoder_id, is_own}
 use Rattle.h3_proto.specs.declared.stream.Side.{Side}
 use Rattle.h3_connection.specs.StreamSets.{Streams, stream_at}
+use Rattle.h3_connection.specs.Arrivals.{Arrival}
 use Rattle.h3_connection.specs.Incoming.{Incoming}
 use Rattle.h3_connection.specs.PeerReading.{Peer, nothing_read}
 use Rattle.h3_connection.specs.Listeners.{Decoding}
@@ -46,6 +47,10 @@ pub record EndpointHistory : Type 0 where
   pub sender : Sender
   pub decoder_unread : List ℕ
   pub own : Own
+  -- what came and was stored, and was not read because memory was refused; in order
+  pub kept : List Arrival
+  -- what it was handed to send: the bytes of names, values and bodies, and 64 for each field and each call
+  pub sent : ℕ
 
 abbrev pub new_endpoint : Side → Announced → EndpointHistory
 new_endpoint side announced =
@@ -65,6 +70,8 @@ new_endpoint side announced =
       sender = no_table;
       decoder_unread = [];
       own = record { goaways = []; control_taken = 0; instructions = []; encoder_taken = 0; replies = []; decoder_taken = 0 };
+      kept = [];
+      sent = 0;
     }
 
 -- What an id is to an endpoint, by its two low bits.

@@ -9,6 +9,7 @@ pub mod Lasts
 pub mod PeerReading
 pub mod Listeners
 pub mod StreamSets
+pub mod Arrivals
 pub mod Skipping
 pub mod Incoming
 pub mod Pulling
@@ -17,8 +18,11 @@ pub mod Outgoing
 pub mod Endpoint
 pub mod Control
 pub mod Delivering
+pub mod Sections
 pub mod Sending
 pub mod State
+pub mod Keeping
+pub mod PartReading
 pub mod Calls
 pub mod Answers
 pub mod CallLists

@@ -1,7 +1,8 @@
 -- Calls of a sender, and the pulls and cancellations of a receiver, with their refusals in order.
-use Rattle.std.specs.Prelude.{ℕ, ◌+◌, ◌%◌, ◌^◌, ◌-◌, Bool, true, false, not, ◌&&◌, ◌||◌, List, [], ◌∷◌, ◌++◌, if◌then◌else◌, ◌==◌, nat_lt, nat_le, Option, Some, None, is_some, unwrap_or}
+use Rattle.std.specs.Prelude.{ℕ, ◌+◌, ◌%◌, ◌^◌, ◌-◌, Bool, true, false, not, ◌&&◌, ◌||◌, List, [], ◌∷◌, ◌++◌, length, if◌then◌else◌, ◌==◌, nat_lt, nat_le, Option, Some, None, is_some, unwrap_or}
 use Rattle.h3_field.specs.Field.{Field, section_size}
-use Rattle.h3_qpack.specs.Written.{encoded_section, instructions_for, sent_section}
+use Rattle.h3_qpack.specs.Written.{sent_section}
+use Rattle.h3_connection.specs.Sections.{encoded_section, instructions_for}
 use Rattle.h3_proto.specs.Settings.{value_of}
 use Rattle.h3_connection.specs.Pulling.{is_client, is_for, is_interim}
 use Rattle.h3_connection.specs.Lasts.{last_id}
@@ -97,12 +98,21 @@ with_outgoing e id o = record e { outgoing = set_stream e.outgoing id o }
 abbrev pub appended : EndpointHistory → ℕ → OwnPart → EndpointHistory
 appended e id part = with_outgoing e id (record (outgoing_at e id) { parts = (outgoing_at e id).parts ++ part ∷ [] })
 
--- a section goes out: its block on the stream, its instructions on the encoder stream
+-- the bytes of names and values, and 64 for each field
+abbrev pub fields_cost : List Field → ℕ
+fields_cost [] = 0
+fields_cost (f ∷ fields) = length f.name + length f.value + 64 + fields_cost fields
+
+-- one more call was accepted, with so many bytes to send
+abbrev pub counted : EndpointHistory → ℕ → EndpointHistory
+counted e cost = record e { sent = e.sent + cost + 64 }
+
+-- a section goes out: its bytes on the stream, its instructions on the encoder stream
 abbrev pub encoded : EndpointHistory → ℕ → List Field → EndpointHistory
 encoded e id fields =
     record e {
       sender = sent_section e.sender id fields;
-      own = record e.own { instructions = e.own.instructions ++ instructions_for e.sender fields };
+      own = record e.own { instructions = e.own.instructions ++ instructions_for e.sender id fields };
     }
 
 -- a head with a status from 100 to 199 is not the last one
@@ -110,17 +120,19 @@ abbrev pub head_part : Head → List ℕ → OwnPart
 head_part head section = if is_interim head.status then OwnInterim section else OwnHead section
 
 abbrev pub send_head : EndpointHistory → ℕ → Head → Option Refusal × EndpointHistory
-send_head e id head = does (head_refusal e id head) e (appended (encoded e id (head_fields head)) id (head_part head (encoded_section e.sender (head_fields head))))
+send_head e id head = does (head_refusal e id head) e (
+    counted (appended (encoded e id (head_fields head)) id (head_part head (encoded_section e.sender id (head_fields head)))) (fields_cost (head_fields head)))
 
 abbrev pub sent_bytes : EndpointHistory → ℕ → List ℕ → EndpointHistory
 sent_bytes e id [] = e
 sent_bytes e id (byte ∷ bytes) = appended e id (OwnBody (byte ∷ bytes))
 
 abbrev pub send_body : EndpointHistory → ℕ → List ℕ → Option Refusal × EndpointHistory
-send_body e id bytes = does (body_refusal e id) e (sent_bytes e id bytes)
+send_body e id bytes = does (body_refusal e id) e (counted (sent_bytes e id bytes) (length bytes))
 
 abbrev pub send_trailer : EndpointHistory → ℕ → Head → Option Refusal × EndpointHistory
-send_trailer e id head = does (trailer_refusal e id head) e (appended (encoded e id (head_fields head)) id (OwnTrailer (encoded_section e.sender (head_fields head))))
+send_trailer e id head = does (trailer_refusal e id head) e (
+    counted (appended (encoded e id (head_fields head)) id (OwnTrailer (encoded_section e.sender id (head_fields head)))) (fields_cost (head_fields head)))
 
 abbrev pub finish : EndpointHistory → ℕ → Option Refusal × EndpointHistory
 finish e id = does (finish_refusal e id) e (with_outgoing e id (record (outgoing_at e id) { is_finished = true }))

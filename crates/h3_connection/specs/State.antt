@@ -16,6 +16,7 @@ use Rattle.h3_connection.specs.Unidirectional.{Unidirectional}
 use Rattle.h3_connection.specs.Outgoing.{Outgoing, OwnPart, is_unsent, last_is_trailer, part_bytes, part_bytes_waiting}
 use Rattle.h3_connection.specs.OwnIds.{control_id, encoder_id, decoder_id}
 use Rattle.h3_connection.specs.PeerReading.{Peer}
+use Rattle.h3_connection.specs.Arrivals.{Arrival}
 use Rattle.h3_connection.specs.StreamSets.{Streams, HaveDistinctIds, stream_at}
 use Rattle.h3_connection.specs.Endpoint.{EndpointHistory, goaway_encoding, own_waiting, is_read_as}
 use Rattle.h3_connection.specs.declared.setup.Announced.{Announced}
@@ -60,6 +61,8 @@ pub record EndpointState : Type 0 where
   pub encoding : Encoding
   pub own : OwnState
   pub last_goaway : Option ℕ
+  pub kept : List Arrival
+  pub sent : ℕ
 
 abbrev pub place_of : List OwnPart → SendPlace
 place_of parts = if is_unsent parts then NothingSent else (if last_is_trailer parts then TrailerSent else HeadSent)
@@ -114,6 +117,8 @@ pub record StandsFor (s : EndpointState) (e : EndpointHistory) : Type 0 where
   pub decoder_unread : s.encoding.unread ≡ e.decoder_unread
   pub own : OwnStands s.own e
   pub last_goaway : s.last_goaway ≡ last_id e.own.goaways
+  pub kept : s.kept ≡ e.kept
+  pub sent : s.sent ≡ e.sent
 
 -- how many bytes of a stream are not read
 abbrev pub unread_in : Option RequestState → Option Unidirectional → ℕ

@@ -40,3 +40,16 @@ pub fn each_stream_is_isolated()
         answers_to_view side own id calls ≡ fold_seen side own id (first_sight side own) (view_of side own id calls) }
     ensures equal_views { (side : Side) (own : Announced) (id : ℕ) → IsIsolated side own id }
 {}
+
+ghost use Rattle.h3_connection.specs.Arrivals.{BytesCame, EndCame, ResetCame};
+ghost use Rattle.h3_connection.specs.Delivering.{deliver, deliver_end, deliver_reset};
+ghost use Rattle.h3_connection.specs.Keeping.{arrives, pulls};
+ghost use Rattle.h3_connection.specs.Sending.{pull};
+
+/// Where nothing is kept, what comes and what is pulled are the plain calls.
+pub fn nothing_kept_is_plain()
+    ensures bytes { (e : EndpointHistory) (id : ℕ) (bytes : List ℕ) → e.kept ≡ [] → arrives e (BytesCame id bytes) ≡ deliver e id bytes }
+    ensures end { (e : EndpointHistory) (id : ℕ) → e.kept ≡ [] → arrives e (EndCame id) ≡ deliver_end e id }
+    ensures reset { (e : EndpointHistory) (id code : ℕ) → e.kept ≡ [] → arrives e (ResetCame id code) ≡ deliver_reset e id code }
+    ensures pulled { (e : EndpointHistory) (id : ℕ) → e.kept ≡ [] → pulls e id ≡ pull e id }
+{}
