@@ -8,7 +8,7 @@ use Rattle.std.specs.Map.{lookup}
 use Rattle.std.specs.BTreeMap.{is_at}
 use Rattle.std.specs.Ordering.{nat_cmp}
 use Rattle.h3_proto.specs.declared.stream.Side.{Side}
-use Rattle.h3_qpack.specs.Stored.{stored}
+use Rattle.h3_qpack.specs.EncoderState.{encoder_state}
 use Rattle.h3_connection.specs.Incoming.{Incoming}
 use Rattle.h3_connection.specs.Lasts.{last_id}
 use Rattle.h3_connection.specs.Listeners.{Decoding, Encoding}
@@ -113,7 +113,7 @@ pub record StandsFor (s : EndpointState) (e : EndpointHistory) : Type 0 where
   pub decoder_on : s.decoder_on ≡ e.decoder_on
   pub peer : s.peer ≡ e.peer
   pub decoding : s.decoding ≡ e.decoding
-  pub sender : s.encoding.sender ≡ stored e.sender
+  pub encoder : s.encoding.encoder ≡ encoder_state e.encoder
   pub decoder_unread : s.encoding.unread ≡ e.decoder_unread
   pub own : OwnStands s.own e
   pub last_goaway : s.last_goaway ≡ last_id e.own.goaways
