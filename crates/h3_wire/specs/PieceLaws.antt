@@ -1,11 +1,11 @@
 -- What holds of pieces whose first bytes are passed.
-use Rattle.std.proofs.Common.{◌≡◌, ℕ, zero, suc, ◌+◌, ◌-◌, ◌<◌, ◌≤◌, List, [], ◌∷◌, ◌++◌, length, drop, arith, refl, sym, ◌∙◌, ap, inl, inr, length-append, if◌then◌else◌}
+use Rattle.std.proofs.Common.{◌≡◌, ℕ, zero, suc, ◌+◌, ◌-◌, ◌<◌, ◌≤◌, List, [], ◌∷◌, ◌++◌, length, take, drop, arith, refl, sym, subst, ◌∙◌, ap, inl, inr, length-append, if◌then◌else◌, Option, Some, None}
 use Rattle.std.specs.List.{concat}
-use Rattle.std.proofs.lemmas.List.{drop-append-le, drop_all, drop-drop, length-drop}
+use Rattle.std.proofs.lemmas.List.{drop-append-le, drop_all, drop-drop, length-drop, length-take}
 use Rattle.std.proofs.lemmas.List.Folds.{concat-append}
-use Rattle.std.proofs.lemmas.Bool.{cases_lt, lt-ltb, le-ltb}
+use Rattle.std.proofs.lemmas.Bool.{cases_lt, lt-ltb, le-ltb, lt-leb, le-leb}
 use Rattle.std.proofs.Math.Seq.{drop-append-add}
-use Rattle.h3_wire.specs.Pieces.{without, IsRest, ending}
+use Rattle.h3_wire.specs.Pieces.{without, first_size, chunk_of, IsRest, ending}
 
 pub without-none : (pieces : List (List ℕ)) → without 0 pieces ≡ pieces
 without-none [] = refl
@@ -91,3 +91,41 @@ pub rest_is : (size : ℕ) (all new : List (List ℕ)) → size ≡ length (conc
 rest_is size all new e a =
     let there = ap length (ap concat a.2 ∙ concat-without a.0 all) ∙ length-drop a.0 (concat all) in
     a.2 ∙ ap (λ n. without n all) (omega (arith, e, there, a.1))
+
+pub first_within : (pieces : List (List ℕ)) → first_size pieces ≤ length (concat pieces)
+first_within [] = omega arith
+first_within (p ∷ pieces) = omega (arith, length-append p (concat pieces))
+
+-- where the first piece goes so far, its first bytes are so many
+pub chunk_size : (size : ℕ) (pieces others : List (List ℕ)) (front : List ℕ) → size ≤ first_size pieces → (Some front, others) ≡ chunk_of size pieces → length front ≡ size
+chunk_size size [] others front h e = let none : Some front ≡ None = ap (λ (x : Option (List ℕ) × List (List ℕ)). x.0) e in absurd (cc)
+chunk_size size (p ∷ pieces) others front h e = elim (cases_lt size (length p)) [
+  | inl more ↦
+      let cut : (Some front, others) ≡ (Some (take size p), drop size p ∷ pieces) = e ∙ ap (λ b. if b then (Some p, pieces) else (Some (take size p), drop size p ∷ pieces)) (lt-leb (length p) size more) in
+      let same : Some front ≡ Some (take size p) = ap (λ (x : Option (List ℕ) × List (List ℕ)). x.0) cut in
+      let is : front ≡ take size p = cc in
+      ap length is ∙ omega (arith, length-take size p, more)
+  | inr all ↦
+      let whole : (Some front, others) ≡ (Some p, pieces) = e ∙ ap (λ b. if b then (Some p, pieces) else (Some (take size p), drop size p ∷ pieces)) (le-leb (length p) size all) in
+      let same : Some front ≡ Some p = ap (λ (x : Option (List ℕ) × List (List ℕ)). x.0) whole in
+      let is : front ≡ p = cc in
+      ap length is ∙ omega (arith, h, all)
+]
+
+-- behind some bytes of the first piece the others are left
+pub chunk_rest : (size : ℕ) (pieces others : List (List ℕ)) (front : List ℕ) → 0 < size → 0 < length front → (Some front, others) ≡ chunk_of size pieces → IsRest pieces others
+chunk_rest size [] others front n some e = let none : Some front ≡ None = ap (λ (x : Option (List ℕ) × List (List ℕ)). x.0) e in absurd (cc)
+chunk_rest size (p ∷ pieces) others front n some e = elim (cases_lt size (length p)) [
+  | inl more ↦
+      let cut : (Some front, others) ≡ (Some (take size p), drop size p ∷ pieces) = e ∙ ap (λ b. if b then (Some p, pieces) else (Some (take size p), drop size p ∷ pieces)) (lt-leb (length p) size more) in
+      let behind : others ≡ drop size p ∷ pieces = ap (λ (x : Option (List ℕ) × List (List ℕ)). x.1) cut in
+      (size, omega (arith, more, length-append p (concat pieces)), behind ∙ sym (without-within size p pieces n more))
+  | inr all ↦
+      let whole : (Some front, others) ≡ (Some p, pieces) = e ∙ ap (λ b. if b then (Some p, pieces) else (Some (take size p), drop size p ∷ pieces)) (le-leb (length p) size all) in
+      let same : Some front ≡ Some p = ap (λ (x : Option (List ℕ) × List (List ℕ)). x.0) whole in
+      let is : front ≡ p = cc in
+      let behind : others ≡ pieces = ap (λ (x : Option (List ℕ) × List (List ℕ)). x.1) whole in
+      let here : 0 < length p = subst (λ l. 0 < length l) is some in
+      let none : length p - length p ≡ 0 = omega arith in
+      (length p, omega (arith, length-append p (concat pieces)), behind ∙ sym (without-past (length p) p pieces here (omega arith) ∙ ap (λ k. without k pieces) none ∙ without-none pieces))
+]
