@@ -31,7 +31,8 @@ front_of_number v n h short = elim (cases_number (take n (encoding v))) [
       let all : Some (v, []) ≡ Some (k.0, k.1 ++ drop n (encoding v)) =
       sym (alone_number v h) ∙ ap varint_at (sym (take-append-drop n (encoding v))) ∙ reads_more k.0 (take n (encoding v)) k.1 (drop n (encoding v)) k.2 in
       let none : [] ≡ k.1 ++ drop n (encoding v) = ap behind_number all in
-      absurd (omega (arith, ap length none, length-append k.1 (drop n (encoding v)), length-drop n (encoding v)))
+      let size : 0 ≡ length (k.1 ++ drop n (encoding v)) = ap length none in
+      absurd (omega (arith, size, length-append k.1 (drop n (encoding v)), length-drop n (encoding v)))
 ]
 
 -- a front that goes past its first part
