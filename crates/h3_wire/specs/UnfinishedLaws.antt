@@ -69,9 +69,10 @@ front_of_frame kind payload n h k session plain short = elim (cases_lt n (length
       let few : j < length payload = omega (arith, short, past, length-append (head_encoding kind (length payload)) payload) in
       let less : length (take j payload) < length payload = omega (arith, few, length-take j payload) in
       let front = past_first n (head_encoding kind (length payload)) payload past in
-      let here = ap frame_at front ∙ written_head kind (length payload) (take j payload) h k in
-      (length (head_encoding kind (length payload) ++ take j payload) - length (take j payload) + length payload,
-       here ∙ rw (session, plain, lt-ltb (length (take j payload)) (length payload) less) refl)
+      let here = ap frame_at front ∙ written_head kind (length payload) (take j payload) h k in (
+        length (head_encoding kind (length payload) ++ take j payload) - length (take j payload) + length payload,
+        here ∙ rw (session, plain, lt-ltb (length (take j payload)) (length payload) less) refl,
+      )
 ]
 
 of_number : (kind id n : ℕ) → kind < 2 ^ 62 → id < 2 ^ 62 → (kind == 0x41) ≡ false → (kind == 0) ≡ false → n < length (frame_encoding kind (encoding id)) → IsUnfinishedFront (take n (frame_encoding kind (encoding id)))

@@ -85,7 +85,9 @@ impl FrameDecoder {
 
     /// Takes the next known frame, of DATA the head alone, and the unknown ones before it. Without
     /// a whole frame, and at an error, only unknown frames are taken. Where a call answered no
-    /// frame, the next one must find the bytes that it left, and may find more behind them.
+    /// frame, the next one must find the bytes that it left, and may find more behind them. After
+    /// want of memory the call can be made again; a frame that was refused stays at the front and
+    /// is refused again.
     pub fn decode(
         &mut self,
         alloc: Global,
