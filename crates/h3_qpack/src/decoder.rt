@@ -1,5 +1,5 @@
 //! A decoder with its dynamic table (RFC 9204, sections 2.2 and 4).
-ghost use Rattle.std.specs.Prelude.{◌≡◌, ◌≤◌, ◌<◌, ◌^◌, ℕ, ◌+◌, ◌-◌, [], true, false, length, min, nat_lt, Some, None, MatchResult, unwrap_or, IfOk, IfErr, OnOk, OnErr, ◌++◌};
+ghost use Rattle.std.specs.Prelude.{◌≡◌, ◌≤◌, ◌<◌, ◌^◌, ℕ, ◌+◌, ◌-◌, [], true, false, length, min, nat_lt, drop, Some, None, MatchResult, unwrap_or, IfOk, IfErr, OnOk, OnErr, ◌++◌};
 ghost use Rattle.h3_field.specs.Instruction.{decoder_bytes};
 ghost use Rattle.h3_field.specs.Instruction.DecoderInstruction.{Acknowledge, CancelStream};
 ghost use Rattle.h3_field.specs.Reading.{Unfinished};
@@ -471,13 +471,14 @@ impl Decoder {
 
     /// Reads an encoder's instructions, and writes one increment where some of them inserted. It answers the insertions
     /// so far. An instruction that is not whole, or is refused, is left unread; those before it stand, and the increment
-    /// counts them.
+    /// counts them. What is left unread is an end of what was there.
     pub fn on_encoder_recv(
         &mut self,
         read: &mut SliceCursor<'_>,
         write: &mut Vec<u8>,
     ) -> Result<usize, DecoderError>
         ensures read { HasRead self.old self.new read.old read.new }
+        ensures rest { read.new ≡ drop (length read.old - length read.new) read.old }
         ensures ok { IfOk result (λ n. (n ≡ self.new.table.inserted) × (instruction read.new ≡ Unfinished)) }
         ensures err { IfErr result (IsReason (BeginsBad self.new read.new) (λ count. ⊥)) }
         ensures increment { write.new.items ≡ write.old.items ++ increment_for (self.new.table.inserted - self.old.table.inserted) }

@@ -1,5 +1,5 @@
 //! An encoder with its dynamic table: what it writes, and what it is told of its receiver (RFC 9204, sections 2.1 and 4).
-ghost use Rattle.std.specs.Prelude.{◌≡◌, ◌<◌, ◌≤◌, ◌^◌, ◌++◌, ℕ, true, false, length, IfOk, IfErr, OnOk, OnErr};
+ghost use Rattle.std.specs.Prelude.{◌≡◌, ◌<◌, ◌≤◌, ◌^◌, ◌++◌, ◌-◌, ℕ, true, false, length, drop, IfOk, IfErr, OnOk, OnErr};
 ghost use Rattle.std.specs.Result.{IsOkUnless};
 ghost use Rattle.h3_field.specs.Field.{section_size};
 ghost use Rattle.h3_field.specs.declared.encoder_error.EncoderError.TheVariants.{OutOfMemory};
@@ -149,9 +149,10 @@ impl Encoder {
 
     /// Reads a decoder's instructions: the whole ones at the front, up to the first that is refused. One that is not
     /// whole, or is refused, is left unread; those before it stand. Refused are an integer out of range, and an
-    /// acknowledgment of a stream without a tracked section.
+    /// acknowledgment of a stream without a tracked section. What is left unread is an end of what was there.
     pub fn on_decoder_recv(&mut self, read: &mut SliceCursor<'_>) -> Result<(), EncoderError>
         ensures heard { HasHeard self.old self.new read.old read.new }
+        ensures rest { read.new ≡ drop (length read.old - length read.new) read.old }
         ensures ok { OnOk result (decoder_instruction read.new ≡ Unfinished) }
         ensures err { IfErr result (λ e. ((s : Sender) → self.new ≡ stored s → BeginsRefused s read.new) × IsReplyRefusal (decoder_instruction read.new) e) }
     {

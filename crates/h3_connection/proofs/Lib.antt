@@ -1,0 +1,15 @@
+pub mod StringValues
+pub mod FormValues
+pub mod Shorter
+pub mod HearingLaws
+pub mod DecodedLaws
+pub mod Ends
+pub mod Cuts
+pub mod Quiet
+pub mod Seen
+pub mod SeenEncoder
+pub mod SameSetups
+pub mod Isolated
+pub mod Fronts
+pub mod Brought
+pub mod Distinct

@@ -1,0 +1,225 @@
+-- Calls of a sender, and the pulls and cancellations of a receiver, with their refusals in order.
+use Rattle.std.specs.Prelude.{ℕ, ◌+◌, ◌%◌, ◌^◌, ◌-◌, Bool, true, false, not, ◌&&◌, ◌||◌, List, [], ◌∷◌, ◌++◌, length, if◌then◌else◌, ◌==◌, nat_lt, nat_le, Option, Some, None, is_some, unwrap_or}
+use Rattle.h3_field.specs.Field.{Field, section_size}
+use Rattle.h3_qpack.specs.Written.{sent_section}
+use Rattle.h3_connection.specs.Sections.{encoded_section, instructions_for}
+use Rattle.h3_proto.specs.Settings.{value_of}
+use Rattle.h3_connection.specs.Pulling.{is_client, is_for, is_interim}
+use Rattle.h3_connection.specs.Lasts.{last_id}
+use Rattle.h3_header.specs.Head.{Head, head_fields, has_pseudo}
+use Rattle.h3_connection.specs.OwnIds.{control_id, encoder_id, decoder_id, other}
+use Rattle.h3_proto.specs.declared.stream.Side.{Side}
+use Rattle.h3_connection.specs.declared.event.Refusal.{Refusal}
+use Rattle.h3_connection.specs.declared.event.Refusal.TheVariants as refusal
+use Rattle.h3_connection.specs.declared.event.Pull.{Pull}
+use Rattle.h3_connection.specs.declared.event.Pull.TheVariants as answer
+use Rattle.h3_connection.specs.declared.event.Fault.{Fault}
+use Rattle.h3_connection.specs.declared.event.Fault.TheVariants as fault
+use Rattle.h3_connection.specs.declared.event.StreamFault.TheVariants as stream_fault
+use Rattle.h3_connection.specs.Codes.{decompression_failed}
+use Rattle.h3_connection.specs.StreamSets.{stream_at, set_stream}
+use Rattle.h3_connection.specs.Incoming.{Incoming}
+use Rattle.h3_connection.specs.Pulling.{Pulled, pull_stream}
+use Rattle.h3_connection.specs.Unidirectional.{Unidirectional, pull_unidirectional}
+use Rattle.h3_connection.specs.Outgoing.{Outgoing, OwnPart, nothing_sent, takes_head, takes_body, takes_end, is_sent_off}
+use Rattle.h3_connection.specs.Outgoing.OwnPart.{OwnInterim, OwnHead, OwnBody, OwnTrailer}
+use Rattle.h3_connection.specs.Endpoint.{EndpointHistory, Kind, Own, replied, kind_of, is_critical_id, heads_waiting}
+use Rattle.h3_connection.specs.Endpoint.Kind.{Request, PeerUnidirectional}
+use Rattle.h3_connection.specs.Delivering.{with_incoming, with_unidirectional, give_up, incoming_at, opened_at}
+
+-- the first refusal whose test holds
+abbrev pub first_of : List (Bool × Refusal) → Option Refusal
+first_of [] = None
+first_of (rule ∷ rules) = if rule.0 then Some rule.1 else first_of rules
+
+-- a refusal with nothing changed, or the endpoint after success
+abbrev pub does : Option Refusal → EndpointHistory → EndpointHistory → Option Refusal × EndpointHistory
+does (Some r) old new = (Some r, old)
+does None old new = (None, new)
+
+abbrev pub closed_or : Option ℕ → Option Refusal → Option Refusal
+closed_or (Some code) refused = Some (refusal.Closed code)
+closed_or None refused = refused
+
+-- after a connection fault nothing is done
+abbrev pub unless_closed : EndpointHistory → Option Refusal → Option Refusal
+unless_closed e refused = closed_or e.closed refused
+
+abbrev pub going_away : Option ℕ → Option Refusal → Option Refusal
+going_away None later = later
+going_away (Some id) later = Some (refusal.GoingAway id)
+
+abbrev pub open_refusal : EndpointHistory → Option Refusal
+open_refusal e = unless_closed e (
+    if not (is_client e.side) then Some refusal.NotClient else
+    going_away (last_id e.peer.goaways) (if nat_le (2 ^ 62) e.next_id then Some refusal.IdsUsedUp else None))
+
+abbrev pub open_request : EndpointHistory → Option Refusal × EndpointHistory
+open_request e = does (open_refusal e) e (record (opened_at e e.next_id None) { next_id = e.next_id + 4 })
+
+abbrev pub outgoing_at : EndpointHistory → ℕ → Outgoing
+outgoing_at e id = unwrap_or (stream_at e.outgoing id) nothing_sent
+
+abbrev pub is_open : EndpointHistory → ℕ → Bool
+is_open e id = is_some (stream_at e.outgoing id)
+
+-- the peer's section size, unknown until its settings come
+abbrev pub is_too_large : Option (List (ℕ × ℕ)) → List Field → Bool
+is_too_large None fields = false
+is_too_large (Some pairs) fields = nat_lt (unwrap_or (value_of 6 pairs) (2 ^ 62 - 1)) (section_size fields)
+
+abbrev pub head_refusal : EndpointHistory → ℕ → Head → Option Refusal
+head_refusal e id head = unless_closed e (first_of (
+    (not (is_open e id), refusal.NotOpen) ∷
+    (not (takes_head (outgoing_at e id)), refusal.OutOfOrder) ∷
+    (not (is_for (other e.side) head), refusal.WrongSide) ∷
+    (is_too_large e.peer.settings (head_fields head), refusal.TooLarge (section_size (head_fields head))) ∷ []))
+
+abbrev pub body_refusal : EndpointHistory → ℕ → Option Refusal
+body_refusal e id = unless_closed e (first_of (
+    (not (is_open e id), refusal.NotOpen) ∷
+    (not (takes_body (outgoing_at e id)), refusal.OutOfOrder) ∷ []))
+
+abbrev pub trailer_refusal : EndpointHistory → ℕ → Head → Option Refusal
+trailer_refusal e id head = unless_closed e (first_of (
+    (not (is_open e id), refusal.NotOpen) ∷
+    (not (takes_body (outgoing_at e id)), refusal.OutOfOrder) ∷
+    (has_pseudo head, refusal.PseudoInTrailer) ∷
+    (is_too_large e.peer.settings (head_fields head), refusal.TooLarge (section_size (head_fields head))) ∷ []))
+
+abbrev pub finish_refusal : EndpointHistory → ℕ → Option Refusal
+finish_refusal e id = unless_closed e (first_of (
+    (not (is_open e id), refusal.NotOpen) ∷
+    (not (takes_end (outgoing_at e id)), refusal.OutOfOrder) ∷ []))
+
+abbrev pub with_outgoing : EndpointHistory → ℕ → Outgoing → EndpointHistory
+with_outgoing e id o = record e { outgoing = set_stream e.outgoing id o }
+
+abbrev pub appended : EndpointHistory → ℕ → OwnPart → EndpointHistory
+appended e id part = with_outgoing e id (record (outgoing_at e id) { parts = (outgoing_at e id).parts ++ part ∷ [] })
+
+-- the bytes of names and values, and 64 for each field
+abbrev pub fields_cost : List Field → ℕ
+fields_cost [] = 0
+fields_cost (f ∷ fields) = length f.name + length f.value + 64 + fields_cost fields
+
+-- one more call was accepted, with so many bytes to send
+abbrev pub counted : EndpointHistory → ℕ → EndpointHistory
+counted e cost = record e { sent = e.sent + cost + 64 }
+
+-- a section goes out: its bytes on the stream, its instructions on the encoder stream
+abbrev pub encoded : EndpointHistory → ℕ → List Field → EndpointHistory
+encoded e id fields =
+    record e {
+      sender = sent_section e.sender id fields;
+      own = record e.own { instructions = e.own.instructions ++ instructions_for e.sender id fields };
+    }
+
+-- a head with a status from 100 to 199 is not the last one
+abbrev pub head_part : Head → List ℕ → OwnPart
+head_part head section = if is_interim head.status then OwnInterim section else OwnHead section
+
+abbrev pub send_head : EndpointHistory → ℕ → Head → Option Refusal × EndpointHistory
+send_head e id head = does (head_refusal e id head) e (
+    counted (appended (encoded e id (head_fields head)) id (head_part head (encoded_section e.sender id (head_fields head)))) (fields_cost (head_fields head)))
+
+abbrev pub sent_bytes : EndpointHistory → ℕ → List ℕ → EndpointHistory
+sent_bytes e id [] = e
+sent_bytes e id (byte ∷ bytes) = appended e id (OwnBody (byte ∷ bytes))
+
+abbrev pub send_body : EndpointHistory → ℕ → List ℕ → Option Refusal × EndpointHistory
+send_body e id bytes = does (body_refusal e id) e (counted (sent_bytes e id bytes) (length bytes))
+
+abbrev pub send_trailer : EndpointHistory → ℕ → Head → Option Refusal × EndpointHistory
+send_trailer e id head = does (trailer_refusal e id head) e (
+    counted (appended (encoded e id (head_fields head)) id (OwnTrailer (encoded_section e.sender id (head_fields head)))) (fields_cost (head_fields head)))
+
+abbrev pub finish : EndpointHistory → ℕ → Option Refusal × EndpointHistory
+finish e id = does (finish_refusal e id) e (with_outgoing e id (record (outgoing_at e id) { is_finished = true }))
+
+abbrev pub reset_refusal : EndpointHistory → ℕ → Option Refusal
+reset_refusal e id = unless_closed e (first_of (
+    (is_critical_id e id, refusal.Critical) ∷
+    (not (is_open e id), refusal.NotOpen) ∷
+    (is_sent_off (outgoing_at e id), refusal.Ended) ∷ []))
+
+abbrev pub reset : EndpointHistory → ℕ → Option Refusal × EndpointHistory
+reset e id = does (reset_refusal e id) e (with_outgoing e id (record (outgoing_at e id) { is_reset = true; is_finished = false }))
+
+abbrev pub raised : ℕ → Option ℕ → Option Refusal
+raised id None = None
+raised id (Some earlier) = if nat_lt earlier id then Some (refusal.Raised earlier) else None
+
+abbrev pub goaway_refusal : EndpointHistory → ℕ → Option Refusal
+goaway_refusal e id = unless_closed e (
+    if not (is_client e.side) && not (id % 4 == 0) then Some refusal.NotRequestId else raised id (last_id e.own.goaways))
+
+abbrev pub goaway : EndpointHistory → ℕ → Option Refusal × EndpointHistory
+goaway e id = does (goaway_refusal e id) e (record e { own = record e.own { goaways = e.own.goaways ++ id ∷ [] } })
+
+-- so many bytes of what waits are taken
+abbrev pub own_advanced : Own → Side → ℕ → ℕ → Own
+own_advanced own side id count =
+    if id == control_id side then record own { control_taken = own.control_taken + count } else (
+    if id == encoder_id side then record own { encoder_taken = own.encoder_taken + count } else (
+    if id == decoder_id side then record own { decoder_taken = own.decoder_taken + count } else own))
+
+abbrev pub advance_at : EndpointHistory → ℕ → ℕ → Option Outgoing → EndpointHistory
+advance_at e id count (Some o) = with_outgoing e id (record o { taken = o.taken + count })
+advance_at e id count None = record e { own = own_advanced e.own e.side id count }
+
+abbrev pub advance : EndpointHistory → ℕ → ℕ → EndpointHistory
+advance e id count = advance_at e id count (stream_at e.outgoing id)
+
+abbrev pub cancel_refusal : EndpointHistory → ℕ → Option Refusal
+cancel_refusal e id = unless_closed e (first_of (
+    (is_critical_id e id, refusal.Critical) ∷
+    (not (is_some (stream_at e.incoming id)), refusal.NotOpen) ∷
+    ((incoming_at e id).is_over || is_some (incoming_at e id).fault, refusal.Ended) ∷ []))
+
+abbrev pub cancel : EndpointHistory → ℕ → Option Refusal × EndpointHistory
+cancel e id = does (cancel_refusal e id) e (give_up e id (incoming_at e id) stream_fault.Canceled)
+
+-- A connection fault closes the endpoint, and any other answer does not.
+abbrev pub after_fault : Fault → EndpointHistory → Pull × EndpointHistory
+after_fault (fault.Connection code) e = (answer.Fault (fault.Connection code), record e { closed = Some code })
+after_fault f e = (answer.Fault f, e)
+
+abbrev pub after_answer : Pull → EndpointHistory → Pull × EndpointHistory
+after_answer (answer.Fault f) e = after_fault f e
+after_answer given e = (given, e)
+
+-- One stream too many would wait.
+abbrev pub if_too_many : Bool → Pulled → Pulled
+if_too_many true p = record p { answer = answer.Fault (fault.Connection decompression_failed); incoming = record p.incoming { waits_for = 0 } }
+if_too_many false p = p
+
+abbrev pub within_limit : EndpointHistory → ℕ → Pulled → Pulled
+within_limit e id p = if_too_many (nat_lt e.announced.limits.blocked (heads_waiting e.decoding.receiver (set_stream e.incoming id p.incoming))) p
+
+abbrev pub pulled : EndpointHistory → ℕ → Pulled → Pull × EndpointHistory
+pulled e id p = after_answer p.answer (replied (with_incoming e id p.incoming) p.replies)
+
+abbrev pub pull_request : EndpointHistory → ℕ → Option Incoming → Pull × EndpointHistory
+pull_request e id None = ((if is_client e.side then answer.NoMessages else answer.Pending), e)
+pull_request e id (Some i) = pulled e id (within_limit e id (pull_stream e.side e.announced id e.decoding.receiver i))
+
+abbrev pub pulled_unidirectional : EndpointHistory → ℕ → Pull × Unidirectional → Pull × EndpointHistory
+pulled_unidirectional e id (given, o) = (given, with_unidirectional e id o)
+
+abbrev pub pull_peer : EndpointHistory → ℕ → Option Unidirectional → Pull × EndpointHistory
+pull_peer e id None = (answer.Pending, e)
+pull_peer e id (Some o) = pulled_unidirectional e id (pull_unidirectional o o.role)
+
+abbrev pub pull_at : EndpointHistory → ℕ → Kind → Pull × EndpointHistory
+pull_at e id Request = pull_request e id (stream_at e.incoming id)
+pull_at e id PeerUnidirectional = pull_peer e id (stream_at e.unidirectional id)
+pull_at e id _ = (answer.NoMessages, e)
+
+abbrev pub pull_unless : Option ℕ → EndpointHistory → Pull × EndpointHistory → Pull × EndpointHistory
+pull_unless (Some code) e later = (answer.Fault (fault.Connection code), e)
+pull_unless None e later = later
+
+-- What comes next on a stream.
+abbrev pub pull : EndpointHistory → ℕ → Pull × EndpointHistory
+pull e id = pull_unless e.closed e (pull_at e id (kind_of e.side id))

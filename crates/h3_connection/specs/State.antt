@@ -1,0 +1,136 @@
+-- What an endpoint stores, and which histories that stands for.
+use Rattle.std.specs.Prelude.{if◌then◌else◌, ◌≡◌, ℕ, ◌+◌, Bool, List, [], length, Option, Some, None, option_map, ◌≤◌, flat_map, ◌++◌, false}
+use Rattle.h3_coding.specs.Encodings.{encoding}
+use Rattle.h3_wire.specs.StreamHeaders.{control_encoding}
+use Rattle.h3_field.specs.Instruction.{encoder_bytes, decoder_bytes}
+use Rattle.std.specs.List.{concat}
+use Rattle.std.specs.Map.{lookup}
+use Rattle.std.specs.BTreeMap.{is_at}
+use Rattle.std.specs.Ordering.{nat_cmp}
+use Rattle.h3_proto.specs.declared.stream.Side.{Side}
+use Rattle.h3_qpack.specs.Stored.{stored}
+use Rattle.h3_connection.specs.Incoming.{Incoming}
+use Rattle.h3_connection.specs.Lasts.{last_id}
+use Rattle.h3_connection.specs.Listeners.{Decoding, Encoding}
+use Rattle.h3_connection.specs.Unidirectional.{Unidirectional}
+use Rattle.h3_connection.specs.Outgoing.{Outgoing, OwnPart, is_unsent, last_is_trailer, part_bytes, part_bytes_waiting}
+use Rattle.h3_connection.specs.OwnIds.{control_id, encoder_id, decoder_id}
+use Rattle.h3_connection.specs.PeerReading.{Peer}
+use Rattle.h3_connection.specs.Arrivals.{Arrival}
+use Rattle.h3_connection.specs.StreamSets.{Streams, HaveDistinctIds, stream_at}
+use Rattle.h3_connection.specs.Endpoint.{EndpointHistory, goaway_encoding, own_waiting, is_read_as}
+use Rattle.h3_connection.specs.declared.setup.Announced.{Announced}
+use Rattle.h3_connection.specs.declared.place.SendPlace.{SendPlace}
+use Rattle.h3_connection.specs.declared.place.SendPlace.TheVariants.{NothingSent, HeadSent, TrailerSent}
+
+-- the waiting bytes of a request stream, and where its message is
+pub record OutgoingState : Type 0 where
+  pub bytes : List ℕ
+  pub place : SendPlace
+  pub is_finished : Bool
+  pub is_reset : Bool
+
+-- nothing was sent
+abbrev pub nothing_waits : OutgoingState
+nothing_waits = record { bytes = []; place = NothingSent; is_finished = false; is_reset = false }
+
+-- a request stream, both ways
+pub record RequestState : Type 0 where
+  pub incoming : Incoming
+  pub outgoing : OutgoingState
+
+-- the own unidirectional streams: what waits on each
+pub record OwnState : Type 0 where
+  pub control : List ℕ
+  pub encoder : List ℕ
+  pub decoder : List ℕ
+
+-- what a contract sees of an `Endpoint`
+pub record EndpointState : Type 0 where
+  pub side : Side
+  pub announced : Announced
+  pub closed : Option ℕ
+  pub next_id : ℕ
+  pub requests : Streams RequestState
+  pub unidirectional : Streams Unidirectional
+  pub control_on : Option ℕ
+  pub encoder_on : Option ℕ
+  pub decoder_on : Option ℕ
+  pub peer : Peer
+  pub decoding : Decoding
+  pub encoding : Encoding
+  pub own : OwnState
+  pub last_goaway : Option ℕ
+  pub kept : List Arrival
+  pub sent : ℕ
+
+abbrev pub place_of : List OwnPart → SendPlace
+place_of parts = if is_unsent parts then NothingSent else (if last_is_trailer parts then TrailerSent else HeadSent)
+
+pub record IsOfOutgoing (o : Outgoing) (w : OutgoingState) : Type 0 where
+  pub bytes : w.bytes ≡ part_bytes_waiting o
+  pub place : w.place ≡ place_of o.parts
+  pub is_finished : w.is_finished ≡ o.is_finished
+  pub is_reset : w.is_reset ≡ o.is_reset
+  pub taken : o.is_reset ≡ false → o.taken ≤ length (flat_map part_bytes o.parts)
+
+-- a stream of a map, as `BTreeMap` finds it
+abbrev pub kept_at : {X : Type 0} → Streams X → ℕ → Option X
+kept_at streams id = lookup (is_at (nat_cmp id)) streams
+
+abbrev pub SameAt : {X Y : Type 0} → (X → Y → Type 0) → Option X → Option Y → Type 0
+SameAt same None None = Unit {0}
+SameAt same (Some x) (Some y) = same x y
+SameAt same None (Some y) = ⊥
+SameAt same (Some x) None = ⊥
+
+-- of each own text no more was taken than there is
+pub record TakesWhatIsThere (e : EndpointHistory) : Type 0 where
+  pub control : e.own.control_taken ≤ length (control_encoding e.announced.settings ++ flat_map goaway_encoding e.own.goaways)
+  pub encoder : e.own.encoder_taken ≤ length (encoding 2 ++ flat_map encoder_bytes e.own.instructions)
+  pub decoder : e.own.decoder_taken ≤ length (encoding 3 ++ flat_map decoder_bytes e.own.replies)
+
+-- what is kept of the own streams is what this history has not handed over
+pub record OwnStands (own : OwnState) (e : EndpointHistory) : Type 0 where
+  pub control : own.control ≡ own_waiting e (control_id e.side)
+  pub encoder : own.encoder ≡ own_waiting e (encoder_id e.side)
+  pub decoder : own.decoder ≡ own_waiting e (decoder_id e.side)
+  pub taken : TakesWhatIsThere e
+
+-- What is stored is what this history leaves.
+pub record StandsFor (s : EndpointState) (e : EndpointHistory) : Type 0 where
+  pub side : s.side ≡ e.side
+  pub announced : s.announced ≡ e.announced
+  pub closed : s.closed ≡ e.closed
+  pub next_id : s.next_id ≡ e.next_id
+  pub incoming : (id : ℕ) → option_map (λ r. r.incoming) (kept_at s.requests id) ≡ stream_at e.incoming id
+  pub outgoing : (id : ℕ) → SameAt IsOfOutgoing (stream_at e.outgoing id) (option_map (λ r. r.outgoing) (kept_at s.requests id))
+  pub unidirectional : (id : ℕ) → kept_at s.unidirectional id ≡ stream_at e.unidirectional id
+  -- so that the streams that wait are counted alike
+  pub distinct : HaveDistinctIds e.incoming
+  pub control_on : s.control_on ≡ e.control_on
+  pub encoder_on : s.encoder_on ≡ e.encoder_on
+  pub decoder_on : s.decoder_on ≡ e.decoder_on
+  pub peer : s.peer ≡ e.peer
+  pub decoding : s.decoding ≡ e.decoding
+  pub sender : s.encoding.sender ≡ stored e.sender
+  pub decoder_unread : s.encoding.unread ≡ e.decoder_unread
+  pub own : OwnStands s.own e
+  pub last_goaway : s.last_goaway ≡ last_id e.own.goaways
+  pub kept : s.kept ≡ e.kept
+  pub sent : s.sent ≡ e.sent
+
+-- how many bytes of a stream are not read
+abbrev pub unread_in : Option RequestState → Option Unidirectional → ℕ
+unread_in (Some r) o = length (concat r.incoming.unread)
+unread_in None (Some o) = length (concat o.unread)
+unread_in None None = 0
+
+-- those that its reader holds, where it is read as such
+abbrev pub held_on : Option ℕ → ℕ → List ℕ → ℕ
+held_on first id bytes = if is_read_as first id then length bytes else 0
+
+abbrev pub unread_on : EndpointState → ℕ → ℕ
+unread_on s id =
+    unread_in (kept_at s.requests id) (kept_at s.unidirectional id)
+    + held_on s.control_on id s.peer.unread + held_on s.encoder_on id s.decoding.unread + held_on s.decoder_on id s.encoding.unread

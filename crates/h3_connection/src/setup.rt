@@ -1,0 +1,68 @@
+//! What an endpoint announces.
+ghost use Rattle.std.specs.Prelude.{◌≡◌, ◌<◌, ◌≤◌, ◌^◌, IfOk, IfErr};
+ghost use Rattle.h3_proto.specs.Config.{announced};
+ghost use Rattle.h3_connection.specs.Announcing.{announced_by, section_of};
+
+use h3_coding::varint::VarInt;
+use h3_proto::config::Config;
+use h3_proto::frame::{SettingId, Settings, SettingsError};
+
+/// The limits of an endpoint's decoder: the capacity of its table in bytes, and how many streams may wait.
+#[derive(Clone, Copy)]
+pub struct Limits {
+    pub table: u64,
+    pub blocked: u64,
+}
+
+/// Why no endpoint can be made.
+#[derive(Drop)]
+pub enum NewError {
+    /// The table is above 2^30 - 1 bytes.
+    TableLimit,
+    /// More than 65535 streams may wait.
+    BlockedLimit,
+    Settings(SettingsError),
+    OutOfMemory,
+}
+
+/// What an endpoint announces: its settings, those of QPACK among them, and its decoder's limits.
+#[derive(Drop)]
+pub struct Announced {
+    pub settings: Settings,
+    pub limits: Limits,
+}
+
+impl Announced {
+    /// The settings of a configuration, then the limits as settings 1 and 7 (RFC 9204, section 5).
+    pub fn new(config: Config, limits: Limits, grease: u64) -> Result<Announced, NewError>
+        requires { grease < 0x210842108421083 }
+        ensures { result ≡ announced_by (announced config grease) limits }
+    {
+        if limits.table >= 1 << 30 {
+            return Err(NewError::TableLimit);
+        }
+        if limits.blocked > 65535 {
+            return Err(NewError::BlockedLimit);
+        }
+        let mut settings = match config.into_settings(grease) {
+            Ok(settings) => settings,
+            Err(e) => return Err(NewError::Settings(e)),
+        };
+        if let Err(e) = settings.insert(SettingId::QPACK_MAX_TABLE_CAPACITY, limits.table) {
+            return Err(NewError::Settings(e));
+        }
+        if let Err(e) = settings.insert(SettingId::QPACK_MAX_BLOCKED_STREAMS, limits.blocked) {
+            return Err(NewError::Settings(e));
+        }
+        Ok(Announced { settings, limits })
+    }
+
+    /// The greatest size of a field section that it takes (RFC 9114, section 4.2.2), in bytes.
+    pub fn section(&self) -> u64
+        ensures { result ≡ section_of self.now }
+    {
+        self.settings
+            .get(SettingId::MAX_HEADER_LIST_SIZE)
+            .unwrap_or(VarInt::MAX.into_inner())
+    }
+}
