@@ -11,15 +11,15 @@ use Rattle.h3_field.specs.Prefix.{most_entries, IsRequiredCount}
 use Rattle.h3_field.specs.PrefixReading.{EncodedPrefix, prefix, IsCount, IsBase, IsPrefix}
 use Rattle.h3_field.specs.Reading.{Reading, Whole, Unfinished, Bad}
 use Rattle.h3_field.specs.Section.{HasLine, AreLines, NoLine, NextLine}
-use Rattle.h3_qpack.specs.Held.{Held}
-use Rattle.h3_qpack.specs.Receiver.{Receiver, count_capacity}
+use Rattle.h3_qpack.specs.TableState.{TableState}
+use Rattle.h3_qpack.specs.DecoderState.{DecoderState, count_capacity}
 use Rattle.h3_qpack.specs.Meaning.{field_at, HaveFields, MeansFields, IsMissing, IsBadSection}
 use Rattle.h3_qpack.proofs.Counts.{one_residue}
 use Rattle.h3_connection.specs.Readings.{line_of}
 use Rattle.h3_connection.specs.DecodedSection.{Fields, Missing, BadSection, field_of, then_fields, fields_from, fields_within, fields_in, checked_count, near_count, count_of, with_base, count_and_base, with_fields, decoded_at, decoded_from, decode_section}
 use Rattle.h3_connection.proofs.FormValues.{line_some, line_is}
 use Rattle.h3_connection.proofs.Shorter.{line_less}
-use Rattle.h3_qpack.specs.SectionAnswers.{IsReason}
+use Rattle.h3_qpack.specs.SectionAnswers.{IsReasonFor}
 use Rattle.h3_field.specs.declared.decoder_error.DecoderError.{DecoderError}
 use Rattle.h3_field.specs.declared.decoder_error.DecoderError.TheVariants.{InvalidInteger, InvalidString, InvalidIndex, DynamicTable, InvalidStaticIndex, UnknownPrefix, MissingRefs, BadBaseIndex, UnexpectedEnd, HeaderTooLong, BufSize, OutOfMemory}
 
@@ -27,7 +27,7 @@ some_same : {X : Type 0} (x y : X) → Some x ≡ Some y → x ≡ y
 some_same x y e = cc
 
 -- lines and their fields
-pub fields_some : (most : ℕ) (h : Held) (base : ℕ) (bytes : List ℕ) (lines : List FieldLine) (fields : List Field) → AreLines bytes lines → HaveFields h base lines fields → length bytes ≤ most → fields_within most h base bytes ≡ Some fields
+pub fields_some : (most : ℕ) (h : TableState) (base : ℕ) (bytes : List ℕ) (lines : List FieldLine) (fields : List Field) → AreLines bytes lines → HaveFields h base lines fields → length bytes ≤ most → fields_within most h base bytes ≡ Some fields
 fields_some most h base bytes [] [] NoLine named fits = refl
 fields_some most h base bytes [] (f ∷ fields) NoLine named fits = absurd named
 fields_some most h base bytes (l ∷ lines) [] split named fits = absurd named
@@ -42,7 +42,7 @@ fields_some (suc most) h base (byte ∷ bytes) (l ∷ lines) (f ∷ fields) (Nex
     ∙ ap (λ o. option_map (λ fs. f ∷ fs) o) next
 
 -- the lines of some fields
-pub record LinesOf (h : Held) (base : ℕ) (bytes : List ℕ) (fields : List Field) : Type 0 where
+pub record LinesOf (h : TableState) (base : ℕ) (bytes : List ℕ) (fields : List Field) : Type 0 where
   pub lines : List FieldLine
   pub split : AreLines bytes lines
   pub named : HaveFields h base lines fields
@@ -55,11 +55,11 @@ taken : (o : Option Field) (go : Option (List Field)) (fields : List Field) → 
 taken None go fields e = absurd (cc)
 taken (Some f) go fields e = let p = pushed go f fields e in (f, p.0, refl, p.1, p.2)
 
-named_line : (h : Held) (base : ℕ) (o : Option FieldLine) (f : Field) → field_of h base o ≡ Some f → (l : FieldLine) × (o ≡ Some l) × (field_at h base l ≡ Some f)
+named_line : (h : TableState) (base : ℕ) (o : Option FieldLine) (f : Field) → field_of h base o ≡ Some f → (l : FieldLine) × (o ≡ Some l) × (field_at h base l ≡ Some f)
 named_line h base None f e = absurd (cc)
 named_line h base (Some l) f e = (l, refl, e)
 
-lines_from : (h : Held) (base : ℕ) (bytes : List ℕ) (fields : List Field) (go : List ℕ → Option (List Field)) (r : Reading LineForm) → ((rest : List ℕ) (others : List Field) → go rest ≡ Some others → LinesOf h base rest others)
+lines_from : (h : TableState) (base : ℕ) (bytes : List ℕ) (fields : List Field) (go : List ℕ → Option (List Field)) (r : Reading LineForm) → ((rest : List ℕ) (others : List Field) → go rest ≡ Some others → LinesOf h base rest others)
     → line bytes ≡ r → fields_from go h base r ≡ Some fields → LinesOf h base bytes fields
 lines_from h base bytes fields go (Whole form rest) each here e =
     let t = taken (field_of h base (line_of form)) (go rest) fields e in
@@ -71,7 +71,7 @@ lines_from h base bytes fields go (Whole form rest) each here e =
 lines_from h base bytes fields go Unfinished each here e = absurd (cc)
 lines_from h base bytes fields go Bad each here e = absurd (cc)
 
-pub fields_are : (most : ℕ) (h : Held) (base : ℕ) (bytes : List ℕ) (fields : List Field) → fields_within most h base bytes ≡ Some fields → LinesOf h base bytes fields
+pub fields_are : (most : ℕ) (h : TableState) (base : ℕ) (bytes : List ℕ) (fields : List Field) → fields_within most h base bytes ≡ Some fields → LinesOf h base bytes fields
 fields_are most h base [] fields e = subst (LinesOf h base []) (some_same [] fields e) (record { lines = []; split = NoLine; named = tt })
 fields_are zero h base (byte ∷ bytes) fields e = absurd (cc)
 fields_are (suc most) h base (byte ∷ bytes) fields e =
@@ -232,7 +232,7 @@ prefix_is capacity inserted p count base e = elim (zero_or_more capacity) [
 ]
 
 -- whole sections
-pub section_fields : (r : Receiver) (bytes : List ℕ) (count : ℕ) (fields : List Field) → MeansFields r bytes count fields → decode_section r bytes ≡ Fields fields count
+pub section_fields : (r : DecoderState) (bytes : List ℕ) (count : ℕ) (fields : List Field) → MeansFields r bytes count fields → decode_section r bytes ≡ Fields fields count
 unfolding decode_section fields_in
 section_fields r bytes count fields h =
     ap (λ x. decoded_from r x) h.begins.whole
@@ -240,14 +240,14 @@ section_fields r bytes count fields h =
     ∙ ap (λ b. if b then Missing count else with_fields count (fields_in r.table h.base h.rest)) (le-ltb r.table.inserted count h.received)
     ∙ ap (λ o. with_fields count o) (fields_some (length h.rest) r.table h.base h.rest h.lines fields h.split h.named (omega arith))
 
-pub section_missing : (r : Receiver) (bytes : List ℕ) (count : ℕ) → IsMissing r bytes count → decode_section r bytes ≡ Missing count
+pub section_missing : (r : DecoderState) (bytes : List ℕ) (count : ℕ) → IsMissing r bytes count → decode_section r bytes ≡ Missing count
 unfolding decode_section
 section_missing r bytes count h =
     ap (λ x. decoded_from r x) h.begins.whole
     ∙ ap (λ o. decoded_at r h.rest o) (prefix_some (count_capacity r) r.table.inserted h.begins.encoded count h.base h.begins.is)
     ∙ ap (λ b. if b then Missing count else with_fields count (fields_in r.table h.base h.rest)) (lt-ltb r.table.inserted count h.missing)
 
-fields_at : (r : Receiver) (bytes rest : List ℕ) (encoded : EncodedPrefix) (count base : ℕ) (o : Option (List Field)) (fields : List Field) → prefix bytes ≡ Whole encoded rest → IsPrefix (count_capacity r) r.table.inserted encoded count base
+fields_at : (r : DecoderState) (bytes rest : List ℕ) (encoded : EncodedPrefix) (count base : ℕ) (o : Option (List Field)) (fields : List Field) → prefix bytes ≡ Whole encoded rest → IsPrefix (count_capacity r) r.table.inserted encoded count base
     → count ≤ r.table.inserted → fields_in r.table base rest ≡ Some fields → MeansFields r bytes count fields
 unfolding fields_in
 fields_at r bytes rest encoded count base o fields whole is received e =
@@ -255,13 +255,13 @@ fields_at r bytes rest encoded count base o fields whole is received e =
     record { rest = rest; base = base; lines = l.lines; begins = record { encoded = encoded; whole = whole; is = is }; received = received; split = l.split; named = l.named }
 
 -- a section that is bad has no other value
-bad_fields : (r : Receiver) (bytes rest : List ℕ) (encoded : EncodedPrefix) (count base : ℕ) (o : Option (List Field)) → IsBadSection r bytes → prefix bytes ≡ Whole encoded rest → IsPrefix (count_capacity r) r.table.inserted encoded count base
+bad_fields : (r : DecoderState) (bytes rest : List ℕ) (encoded : EncodedPrefix) (count base : ℕ) (o : Option (List Field)) → IsBadSection r bytes → prefix bytes ≡ Whole encoded rest → IsPrefix (count_capacity r) r.table.inserted encoded count base
     → count ≤ r.table.inserted → fields_in r.table base rest ≡ o → with_fields count o ≡ BadSection
 bad_fields r bytes rest encoded count base None bad whole is received e = refl
 bad_fields r bytes rest encoded count base (Some fields) bad whole is received e =
     absurd (bad.no_fields count fields (fields_at r bytes rest encoded count base (Some fields) fields whole is received e))
 
-bad_at : (r : Receiver) (bytes rest : List ℕ) (encoded : EncodedPrefix) (o : Option (ℕ × ℕ)) → IsBadSection r bytes → prefix bytes ≡ Whole encoded rest → count_and_base (count_capacity r) r.table.inserted encoded ≡ o → decoded_at r rest o ≡ BadSection
+bad_at : (r : DecoderState) (bytes rest : List ℕ) (encoded : EncodedPrefix) (o : Option (ℕ × ℕ)) → IsBadSection r bytes → prefix bytes ≡ Whole encoded rest → count_and_base (count_capacity r) r.table.inserted encoded ≡ o → decoded_at r rest o ≡ BadSection
 bad_at r bytes rest encoded None bad whole e = refl
 bad_at r bytes rest encoded (Some (count, base)) bad whole e =
     let is = prefix_is (count_capacity r) r.table.inserted encoded count base e in
@@ -272,16 +272,16 @@ bad_at r bytes rest encoded (Some (count, base)) bad whole e =
           ∙ bad_fields r bytes rest encoded count base (fields_in r.table base rest) bad whole is received refl
     ]
 
-bad_from : (r : Receiver) (bytes : List ℕ) (x : Reading EncodedPrefix) → IsBadSection r bytes → prefix bytes ≡ x → decoded_from r x ≡ BadSection
+bad_from : (r : DecoderState) (bytes : List ℕ) (x : Reading EncodedPrefix) → IsBadSection r bytes → prefix bytes ≡ x → decoded_from r x ≡ BadSection
 bad_from r bytes (Whole encoded rest) bad e = bad_at r bytes rest encoded (count_and_base (count_capacity r) r.table.inserted encoded) bad e refl
 bad_from r bytes Unfinished bad e = refl
 bad_from r bytes Bad bad e = refl
 
-pub section_bad : (r : Receiver) (bytes : List ℕ) → IsBadSection r bytes → decode_section r bytes ≡ BadSection
+pub section_bad : (r : DecoderState) (bytes : List ℕ) → IsBadSection r bytes → decode_section r bytes ≡ BadSection
 unfolding decode_section
 section_bad r bytes bad = bad_from r bytes (prefix bytes) bad refl
 
-pub section_refused : (r : Receiver) (bytes : List ℕ) (e : DecoderError) → IsReason (IsBadSection r bytes) (IsMissing r bytes) e → IsReason (decode_section r bytes ≡ BadSection) (λ count. decode_section r bytes ≡ Missing count) e
+pub section_refused : (r : DecoderState) (bytes : List ℕ) (e : DecoderError) → IsReasonFor (IsBadSection r bytes) (IsMissing r bytes) e → IsReasonFor (decode_section r bytes ≡ BadSection) (λ count. decode_section r bytes ≡ Missing count) e
 section_refused r bytes OutOfMemory h = h
 section_refused r bytes (MissingRefs count) h = section_missing r bytes count h
 section_refused r bytes (HeaderTooLong size) h = absurd h

@@ -68,7 +68,7 @@ reset_peers e q code PeerUnidirectional kind h = set_peer e.side e.unidirectiona
 
 request_peers : (e : EndpointHistory) (q : ℕ) (at : Option Incoming) → OnlyPeers e.side e.unidirectional → OnlyPeers e.side (pull_request e q at).1.unidirectional
 request_peers e q None h = h
-request_peers e q (Some i) h = subst (λ s. OnlyPeers e.side s) (sym (keeps_rest (within_limit e q (pull_stream e.side e.announced q e.decoding.receiver i)).answer _).2) h
+request_peers e q (Some i) h = subst (λ s. OnlyPeers e.side s) (sym (keeps_rest (within_limit e q (pull_stream e.side e.announced q e.decoding.decoder i)).answer _).2) h
 
 peer_peers : (e : EndpointHistory) (q : ℕ) (at : Option Unidirectional) → kind_of e.side q ≡ PeerUnidirectional → OnlyPeers e.side e.unidirectional → OnlyPeers e.side (pull_peer e q at).1.unidirectional
 peer_peers e q None kind h = h

@@ -193,13 +193,13 @@ pull_here : (T : ℕ → Bool) (id : ℕ) (e : EndpointHistory) (s : Sight) (at 
     → (pull_request e id at).1.closed ≡ None
     → (WasPulled (pull_request e id at).0 ≡ (seen_pull e.side e.announced id s at).0) × IsSight T id (pull_request e id at).1 (seen_pull e.side e.announced id s at).1
 pull_here T id e s None b is p = (refl, b.sight)
-pull_here T id e s (Some i) b is p = go (nat_lt e.announced.limits.blocked (heads_waiting e.decoding.receiver (set_stream e.incoming id given.incoming))) p
+pull_here T id e s (Some i) b is p = go (nat_lt e.announced.limits.blocked (heads_waiting e.decoding.decoder (set_stream e.incoming id given.incoming))) p
   where
     given : PulledStream
-    given = pull_stream e.side e.announced id e.decoding.receiver i
+    given = pull_stream e.side e.announced id e.decoding.decoder i
 
-    same : pull_stream e.side e.announced id s.decoding.receiver i ≡ given
-    same = ap (λ d. pull_stream e.side e.announced id d.receiver i) (sym b.sight.decoding)
+    same : pull_stream e.side e.announced id s.decoding.decoder i ≡ given
+    same = ap (λ d. pull_stream e.side e.announced id d.decoder i) (sym b.sight.decoding)
 
     after : EndpointHistory
     after = replied (with_incoming e id given.incoming) given.replies
@@ -208,8 +208,8 @@ pull_here T id e s (Some i) b is p = go (nat_lt e.announced.limits.blocked (head
     rest = keeps_rest given.answer after
 
     go : (x : Bool) → (pulled e id (if_too_many x given)).1.closed ≡ None
-        → (WasPulled (pulled e id (if_too_many x given)).0 ≡ WasPulled (pull_stream e.side e.announced id s.decoding.receiver i).answer)
-        × IsSight T id (pulled e id (if_too_many x given)).1 (with_seen s (pull_stream e.side e.announced id s.decoding.receiver i).incoming)
+        → (WasPulled (pulled e id (if_too_many x given)).0 ≡ WasPulled (pull_stream e.side e.announced id s.decoding.decoder i).answer)
+        × IsSight T id (pulled e id (if_too_many x given)).1 (with_seen s (pull_stream e.side e.announced id s.decoding.decoder i).incoming)
     go true p = cc
     go false p = rw same (
       ap WasPulled (answered given.answer after b.open_still p),
@@ -220,7 +220,7 @@ pull_here T id e s (Some i) b is p = go (nat_lt e.announced.limits.blocked (head
 pull_other : (T : ℕ → Bool) (id : ℕ) (e : EndpointHistory) (s : Sight) (q : ℕ) (at : Option Incoming) → Before T id e s → (q == id) ≡ false → IsSight T id (pull_request e q at).1 s
 pull_other T id e s q None b ne = b.sight
 pull_other T id e s q (Some i) b ne =
-    let p = within_limit e q (pull_stream e.side e.announced q e.decoding.receiver i) in
+    let p = within_limit e q (pull_stream e.side e.announced q e.decoding.decoder i) in
     let after = replied (with_incoming e q p.incoming) p.replies in
     let rest = keeps_rest p.answer after in
     sight_same T id e (after_answer p.answer after).1 s b.sight (ap (λ x. stream_at x id) rest.0 ∙ at_other e.incoming q id p.incoming ne) rest.1 rest.2

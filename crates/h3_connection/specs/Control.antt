@@ -26,11 +26,11 @@ read_encoder e bytes =
 
 -- the peer's decoder, whose bytes are kept until the settings came
 abbrev pub listened_to : EndpointHistory → Listened → Found
-listened_to e l = (record e { sender = l.sender; decoder_unread = l.left }, fault_if l.is_bad decoder_stream_error)
+listened_to e l = (record e { encoder = l.encoder; decoder_unread = l.left }, fault_if l.is_bad decoder_stream_error)
 
 abbrev pub read_decoder : EndpointHistory → List ℕ → Found
 read_decoder e bytes =
-    if is_some e.peer.settings then listened_to e (listen e.sender (e.decoder_unread ++ bytes))
+    if is_some e.peer.settings then listened_to e (listen e.encoder (e.decoder_unread ++ bytes))
     else (record e { decoder_unread = e.decoder_unread ++ bytes }, None)
 
 -- the table may be used with these limits (RFC 9204, section 3.2.3)
@@ -40,7 +40,7 @@ is_usable capacity blocked = nat_lt 0 capacity && nat_lt capacity (2 ^ 30) && na
 abbrev pub with_table : EndpointHistory → ℕ → ℕ → EndpointHistory
 with_table e capacity blocked =
     record e {
-      sender = record e.sender { capacity = capacity; limit = blocked };
+      encoder = record e.encoder { capacity = capacity; limit = blocked };
       own = record e.own { instructions = e.own.instructions ++ SetCapacity capacity ∷ [] };
     }
 

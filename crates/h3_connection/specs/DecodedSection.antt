@@ -6,8 +6,8 @@ use Rattle.h3_field.specs.Prefix.{most_entries}
 use Rattle.h3_field.specs.PrefixReading.{EncodedPrefix, prefix}
 use Rattle.h3_field.specs.Reading.{Reading, Whole, Unfinished, Bad}
 use Rattle.h3_field.specs.LineReading.{LineForm, line}
-use Rattle.h3_qpack.specs.Held.{Held}
-use Rattle.h3_qpack.specs.Receiver.{Receiver, count_capacity}
+use Rattle.h3_qpack.specs.TableState.{TableState}
+use Rattle.h3_qpack.specs.DecoderState.{DecoderState, count_capacity}
 use Rattle.h3_qpack.specs.Meaning.{field_at}
 use Rattle.h3_connection.specs.Readings.{line_of}
 
@@ -18,7 +18,7 @@ pub data Decoded : Type 0 where
   Missing : (count : ℕ) → Decoded
   BadSection : Decoded
 
-abbrev pub field_of : Held → ℕ → Option FieldLine → Option Field
+abbrev pub field_of : TableState → ℕ → Option FieldLine → Option Field
 field_of h base None = None
 field_of h base (Some l) = field_at h base l
 
@@ -26,18 +26,18 @@ abbrev pub then_fields : Option Field → Option (List Field) → Option (List F
 then_fields None rest = None
 then_fields (Some f) rest = option_map (λ fs. f ∷ fs) rest
 
-abbrev pub fields_from : (List ℕ → Option (List Field)) → Held → ℕ → Reading LineForm → Option (List Field)
+abbrev pub fields_from : (List ℕ → Option (List Field)) → TableState → ℕ → Reading LineForm → Option (List Field)
 fields_from go h base (Whole form rest) = then_fields (field_of h base (line_of form)) (go rest)
 fields_from go h base Unfinished = None
 fields_from go h base Bad = None
 
-abbrev pub fields_within : ℕ → Held → ℕ → List ℕ → Option (List Field)
+abbrev pub fields_within : ℕ → TableState → ℕ → List ℕ → Option (List Field)
 fields_within most h base [] = Some []
 fields_within zero h base (byte ∷ bytes) = None
 fields_within (suc most) h base (byte ∷ bytes) = fields_from (fields_within most h base) h base (line (byte ∷ bytes))
 
 -- the fields of the lines, if all bytes are lines and each names what is there
-unfoldable pub fields_in : Held → ℕ → List ℕ → Option (List Field)
+unfoldable pub fields_in : TableState → ℕ → List ℕ → Option (List Field)
 fields_in h base bytes = fields_within (length bytes) h base bytes
 
 -- the required insert count of an encoded one above 0: of its residue, in the window (RFC 9204, section 4.5.1.1)
@@ -69,14 +69,14 @@ abbrev pub with_fields : ℕ → Option (List Field) → Decoded
 with_fields count None = BadSection
 with_fields count (Some fields) = Fields fields count
 
-abbrev pub decoded_at : Receiver → List ℕ → Option (ℕ × ℕ) → Decoded
+abbrev pub decoded_at : DecoderState → List ℕ → Option (ℕ × ℕ) → Decoded
 decoded_at r rest None = BadSection
 decoded_at r rest (Some p) = if nat_lt r.table.inserted p.0 then Missing p.0 else with_fields p.0 (fields_in r.table p.1 rest)
 
-abbrev pub decoded_from : Receiver → Reading EncodedPrefix → Decoded
+abbrev pub decoded_from : DecoderState → Reading EncodedPrefix → Decoded
 decoded_from r (Whole p rest) = decoded_at r rest (count_and_base (count_capacity r) r.table.inserted p)
 decoded_from r Unfinished = BadSection
 decoded_from r Bad = BadSection
 
-unfoldable pub decode_section : Receiver → List ℕ → Decoded
+unfoldable pub decode_section : DecoderState → List ℕ → Decoded
 decode_section r bytes = decoded_from r (prefix bytes)

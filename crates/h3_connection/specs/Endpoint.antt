@@ -4,8 +4,8 @@ use Rattle.h3_coding.specs.Encodings.{encoding}
 use Rattle.h3_wire.specs.Encoded.{frame_encoding}
 use Rattle.h3_wire.specs.StreamHeaders.{control_encoding}
 use Rattle.h3_field.specs.Instruction.{EncoderInstruction, DecoderInstruction, encoder_bytes, decoder_bytes}
-use Rattle.h3_qpack.specs.Sender.{Sender, no_table}
-use Rattle.h3_qpack.specs.Receiver.{Receiver, announcing}
+use Rattle.h3_qpack.specs.EncoderHistory.{EncoderHistory, no_table}
+use Rattle.h3_qpack.specs.DecoderState.{DecoderState, announcing}
 use Rattle.h3_connection.specs.declared.setup.Announced.{Announced}
 use Rattle.h3_connection.specs.OwnIds.{other, control_id, encoder_id, decoder_id, is_own}
 use Rattle.h3_proto.specs.declared.stream.Side.{Side}
@@ -44,7 +44,7 @@ pub record EndpointHistory : Type 0 where
   pub peer : Peer
   pub decoding : Decoding
   -- the history of the own encoder, and the bytes of the peer's decoder stream that are not read yet
-  pub sender : Sender
+  pub encoder : EncoderHistory
   pub decoder_unread : List ℕ
   pub own : Own
   -- what came and was stored, and was not read because memory was refused; in order
@@ -66,8 +66,8 @@ new_endpoint side announced =
       encoder_on = None;
       decoder_on = None;
       peer = nothing_read;
-      decoding = record { receiver = announcing announced.limits.table; unread = [] };
-      sender = no_table;
+      decoding = record { decoder = announcing announced.limits.table; unread = [] };
+      encoder = no_table;
       decoder_unread = [];
       own = record { goaways = []; control_taken = 0; instructions = []; encoder_taken = 0; replies = []; decoder_taken = 0 };
       kept = [];
@@ -113,7 +113,7 @@ abbrev pub is_critical_id : EndpointHistory → ℕ → Bool
 is_critical_id e id = is_critical_of e id (kind_of e.side id)
 
 -- how many streams wait for insertions
-abbrev pub heads_waiting : Receiver → Streams Incoming → ℕ
+abbrev pub heads_waiting : DecoderState → Streams Incoming → ℕ
 heads_waiting r streams = count_by (λ s. nat_lt r.table.inserted s.1.waits_for) streams
 
 -- what waits to be taken

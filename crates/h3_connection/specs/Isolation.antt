@@ -73,7 +73,7 @@ unless_refused None old new = (Done, new)
 abbrev pub seen_pull : Side → Announced → ℕ → Sight → Option Incoming → Seen
 seen_pull side own id s None = (WasPulled (if is_client side then answer.NoMessages else answer.Pending), s)
 seen_pull side own id s (Some i) =
-    let p = pull_stream side own id s.decoding.receiver i in
+    let p = pull_stream side own id s.decoding.decoder i in
     (WasPulled p.answer, with_seen s p.incoming)
 
 abbrev pub seen_cancel_refusal : Sight → Option Refusal

@@ -1,7 +1,7 @@
 -- What a call leaves that was refused memory in reading: what came was read up to some point, and the rest is kept.
 use Rattle.std.specs.Prelude.{◌≡◌, ℕ, ◌-◌, Bool, true, false, not, List, [], ◌∷◌, ◌++◌, Option, Some, None}
 use Rattle.h3_proto.specs.declared.stream.Side.{Side}
-use Rattle.h3_qpack.specs.Sender.{Sender}
+use Rattle.h3_qpack.specs.EncoderHistory.{EncoderHistory}
 use Rattle.h3_connection.specs.declared.setup.Announced.{Announced}
 use Rattle.h3_connection.specs.Arrivals.{Arrival, BytesCame}
 use Rattle.h3_connection.specs.Control.{increment, if_learned}
@@ -18,7 +18,7 @@ use Rattle.h3_connection.specs.State.{EndpointState, StandsFor}
 use Rattle.h3_connection.specs.StreamSets.{stream_at}
 use Rattle.h3_connection.specs.Unidirectional.{Role, role_after, with_bytes}
 use Rattle.h3_connection.specs.Unidirectional.Role.{Control, Encoder, Decoder}
-use Rattle.h3_qpack.specs.Receiver.{Receiver}
+use Rattle.h3_qpack.specs.DecoderState.{DecoderState}
 
 -- A front of the bytes of the control stream was read, without a fault.
 pub record PeerReadsPart (side : Side) (old new : Peer) : Type 0 where
@@ -34,16 +34,16 @@ pub record HearsPart (old new : Decoding) : Type 0 where
   pub front : List ℕ
   pub rest : List ℕ
   pub cut : old.unread ≡ front ++ rest
-  pub good : (hear old.receiver front).is_bad ≡ false
-  pub left : new ≡ record { receiver = (hear old.receiver front).receiver; unread = (hear old.receiver front).left ++ rest }
+  pub good : (hear old.decoder front).is_bad ≡ false
+  pub left : new ≡ record { decoder = (hear old.decoder front).decoder; unread = (hear old.decoder front).left ++ rest }
 
 -- A front of the bytes of the peer's decoder stream was read, without a bad instruction.
-pub record ListensPart (old new : Sender) (unread left : List ℕ) : Type 0 where
+pub record ListensPart (old new : EncoderHistory) (unread left : List ℕ) : Type 0 where
   pub front : List ℕ
   pub rest : List ℕ
   pub cut : unread ≡ front ++ rest
   pub good : (listen old front).is_bad ≡ false
-  pub sender : new ≡ (listen old front).sender
+  pub encoder : new ≡ (listen old front).encoder
   pub left_is : left ≡ (listen old front).left ++ rest
 
 -- It is the first stream of a role whose bytes are read in their delivery.
@@ -99,12 +99,12 @@ pub data ReadsOn : EndpointHistory → List Arrival → EndpointHistory → List
   -- of the encoder stream
   Hears : {e : EndpointHistory} {id : ℕ} {d : Decoding} {more : List Arrival} → e.encoder_on ≡ Some id → HearsPart e.decoding d
       → ReadsOn e (BytesCame id [] ∷ more)
-      (replied (record e { decoding = d }) (increment (d.receiver.table.inserted - e.decoding.receiver.table.inserted)))
+      (replied (record e { decoding = d }) (increment (d.decoder.table.inserted - e.decoding.decoder.table.inserted)))
       (BytesCame id [] ∷ more)
   -- of the decoder stream, once the settings came
-  Listens : {e : EndpointHistory} {id : ℕ} {s : Sender} {left : List ℕ} {pairs : List (ℕ × ℕ)} {more : List Arrival} → e.decoder_on ≡ Some id → e.peer.settings ≡ Some pairs
-      → ListensPart e.sender s e.decoder_unread left
-      → ReadsOn e (BytesCame id [] ∷ more) (record e { sender = s; decoder_unread = left }) (BytesCame id [] ∷ more)
+  Listens : {e : EndpointHistory} {id : ℕ} {s : EncoderHistory} {left : List ℕ} {pairs : List (ℕ × ℕ)} {more : List Arrival} → e.decoder_on ≡ Some id → e.peer.settings ≡ Some pairs
+      → ListensPart e.encoder s e.decoder_unread left
+      → ReadsOn e (BytesCame id [] ∷ more) (record e { encoder = s; decoder_unread = left }) (BytesCame id [] ∷ more)
 
 -- What came was read up to some point, and the rest is kept.
 pub data ReadsPart : EndpointHistory → List Arrival → EndpointHistory → Type 0 where
@@ -124,7 +124,7 @@ with_more i pieces false = with_pieces i pieces
 -- same. It may have passed frames that give nothing, or hold the section of a frame that it read.
 pub record Resumes (side : Side) (own : Announced) (id : ℕ) (old new : Incoming) : Type 0 where
   pub same : new ≡ record old { unread = new.unread; section = new.section; body_left = new.body_left }
-  pub pulls : (r : Receiver) (pieces : List (List ℕ)) (ended : Bool) → pull_stream side own id r (with_more old pieces ended) ≡ pull_stream side own id r (with_more new pieces ended)
+  pub pulls : (r : DecoderState) (pieces : List (List ℕ)) (ended : Bool) → pull_stream side own id r (with_more old pieces ended) ≡ pull_stream side own id r (with_more new pieces ended)
 
 -- What is stored is this endpoint, but for one request stream, which goes on as if it had not been asked.
 pub record StandsAsked (s : EndpointState) (e : EndpointHistory) (id : ℕ) : Type 0 where

@@ -4,7 +4,7 @@ use Rattle.std.specs.List.{concat, list_all}
 use Rattle.h3_field.specs.Field.{Field, section_size}
 use Rattle.h3_field.specs.Instruction.{DecoderInstruction}
 use Rattle.h3_field.specs.Instruction.DecoderInstruction.{Acknowledge, CancelStream}
-use Rattle.h3_qpack.specs.Receiver.{Receiver}
+use Rattle.h3_qpack.specs.DecoderState.{DecoderState}
 use Rattle.h3_header.specs.Head.{Head, is_request, is_response, has_pseudo}
 use Rattle.h3_proto.specs.declared.stream.Side.{Side}
 use Rattle.h3_proto.specs.declared.stream.Side.TheVariants.{Client, Server}
@@ -143,7 +143,7 @@ raw_of i (Some bytes, pieces) = just (pull.Item (item.Raw bytes)) (record i { un
 abbrev pub raw : Incoming → Pulled
 raw i = raw_of i (first_of i.unread)
 
-module _ (side : Side) (own : Announced) (id : ℕ) (r : Receiver) where
+module _ (side : Side) (own : Announced) (id : ℕ) (r : DecoderState) where
   abbrev pub read_section : Incoming → List DecoderInstruction → List Field → Pulled
   read_section i replies fields =
       if nat_lt (section_of own) (told_size fields)

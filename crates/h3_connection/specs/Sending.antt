@@ -1,7 +1,7 @@
 -- Calls of a sender, and the pulls and cancellations of a receiver, with their refusals in order.
 use Rattle.std.specs.Prelude.{ℕ, ◌+◌, ◌%◌, ◌^◌, ◌-◌, Bool, true, false, not, ◌&&◌, ◌||◌, List, [], ◌∷◌, ◌++◌, length, if◌then◌else◌, ◌==◌, nat_lt, nat_le, Option, Some, None, is_some, unwrap_or}
 use Rattle.h3_field.specs.Field.{Field, section_size}
-use Rattle.h3_qpack.specs.Written.{sent_section}
+use Rattle.h3_qpack.specs.SectionEncoding.{sent_section}
 use Rattle.h3_connection.specs.Sections.{encoded_section, instructions_for}
 use Rattle.h3_proto.specs.Settings.{value_of}
 use Rattle.h3_connection.specs.Pulling.{is_client, is_for, is_interim}
@@ -111,8 +111,8 @@ counted e cost = record e { sent = e.sent + cost + 64 }
 abbrev pub encoded : EndpointHistory → ℕ → List Field → EndpointHistory
 encoded e id fields =
     record e {
-      sender = sent_section e.sender id fields;
-      own = record e.own { instructions = e.own.instructions ++ instructions_for e.sender id fields };
+      encoder = sent_section e.encoder id fields;
+      own = record e.own { instructions = e.own.instructions ++ instructions_for e.encoder id fields };
     }
 
 -- a head with a status from 100 to 199 is not the last one
@@ -121,7 +121,7 @@ head_part head section = if is_interim head.status then OwnInterim section else 
 
 abbrev pub send_head : EndpointHistory → ℕ → Head → Option Refusal × EndpointHistory
 send_head e id head = does (head_refusal e id head) e (
-    counted (appended (encoded e id (head_fields head)) id (head_part head (encoded_section e.sender id (head_fields head)))) (fields_cost (head_fields head)))
+    counted (appended (encoded e id (head_fields head)) id (head_part head (encoded_section e.encoder id (head_fields head)))) (fields_cost (head_fields head)))
 
 abbrev pub sent_bytes : EndpointHistory → ℕ → List ℕ → EndpointHistory
 sent_bytes e id [] = e
@@ -132,7 +132,7 @@ send_body e id bytes = does (body_refusal e id) e (counted (sent_bytes e id byte
 
 abbrev pub send_trailer : EndpointHistory → ℕ → Head → Option Refusal × EndpointHistory
 send_trailer e id head = does (trailer_refusal e id head) e (
-    counted (appended (encoded e id (head_fields head)) id (OwnTrailer (encoded_section e.sender id (head_fields head)))) (fields_cost (head_fields head)))
+    counted (appended (encoded e id (head_fields head)) id (OwnTrailer (encoded_section e.encoder id (head_fields head)))) (fields_cost (head_fields head)))
 
 abbrev pub finish : EndpointHistory → ℕ → Option Refusal × EndpointHistory
 finish e id = does (finish_refusal e id) e (with_outgoing e id (record (outgoing_at e id) { is_finished = true }))
@@ -195,14 +195,14 @@ if_too_many true p = record p { answer = answer.Fault (fault.Connection decompre
 if_too_many false p = p
 
 abbrev pub within_limit : EndpointHistory → ℕ → Pulled → Pulled
-within_limit e id p = if_too_many (nat_lt e.announced.limits.blocked (heads_waiting e.decoding.receiver (set_stream e.incoming id p.incoming))) p
+within_limit e id p = if_too_many (nat_lt e.announced.limits.blocked (heads_waiting e.decoding.decoder (set_stream e.incoming id p.incoming))) p
 
 abbrev pub pulled : EndpointHistory → ℕ → Pulled → Pull × EndpointHistory
 pulled e id p = after_answer p.answer (replied (with_incoming e id p.incoming) p.replies)
 
 abbrev pub pull_request : EndpointHistory → ℕ → Option Incoming → Pull × EndpointHistory
 pull_request e id None = ((if is_client e.side then answer.NoMessages else answer.Pending), e)
-pull_request e id (Some i) = pulled e id (within_limit e id (pull_stream e.side e.announced id e.decoding.receiver i))
+pull_request e id (Some i) = pulled e id (within_limit e id (pull_stream e.side e.announced id e.decoding.decoder i))
 
 abbrev pub pulled_unidirectional : EndpointHistory → ℕ → Pull × Unidirectional → Pull × EndpointHistory
 pulled_unidirectional e id (given, o) = (given, with_unidirectional e id o)

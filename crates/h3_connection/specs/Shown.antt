@@ -31,10 +31,10 @@ peer_limits e = option_map limits_of e.peer.settings
 
 abbrev pub table_sizes : EndpointHistory → TableSizes
 table_sizes e =
-    record { sending = section_size (table e.sender.capacity e.sender.inserted); receiving = section_size e.decoding.receiver.table.entries }
+    record { sending = section_size (table e.encoder.capacity e.encoder.inserted); receiving = section_size e.decoding.decoder.table.entries }
 
 abbrev pub waiting_heads : EndpointHistory → ℕ
-waiting_heads e = heads_waiting e.decoding.receiver e.incoming
+waiting_heads e = heads_waiting e.decoding.decoder e.incoming
 
 abbrev pub block_tries : EndpointHistory → ℕ → ℕ
 block_tries e id = (incoming_at e id).tries

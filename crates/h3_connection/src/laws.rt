@@ -2,15 +2,15 @@
 //! the laws. To go to the crates below.
 ghost use Rattle.std.specs.Prelude.{◌≡◌, ℕ, List, [], Some};
 ghost use Rattle.h3_field.specs.Field.{Field};
-ghost use Rattle.h3_qpack.specs.Receiver.{Receiver};
+ghost use Rattle.h3_qpack.specs.DecoderState.{DecoderState};
 ghost use Rattle.h3_qpack.specs.Meaning.{MeansFields, IsMissing, IsBadSection};
 ghost use Rattle.h3_connection.specs.DecodedSection.{Fields, Missing, BadSection, decode_section};
 
 /// What an encoded field section is to a decoder is its value.
 pub fn sections_are_their_value()
-    ensures fields { (r : Receiver) (bytes : List ℕ) (count : ℕ) (fields : List Field) → MeansFields r bytes count fields → decode_section r bytes ≡ Fields fields count }
-    ensures missing { (r : Receiver) (bytes : List ℕ) (count : ℕ) → IsMissing r bytes count → decode_section r bytes ≡ Missing count }
-    ensures bad { (r : Receiver) (bytes : List ℕ) → IsBadSection r bytes → decode_section r bytes ≡ BadSection }
+    ensures fields { (r : DecoderState) (bytes : List ℕ) (count : ℕ) (fields : List Field) → MeansFields r bytes count fields → decode_section r bytes ≡ Fields fields count }
+    ensures missing { (r : DecoderState) (bytes : List ℕ) (count : ℕ) → IsMissing r bytes count → decode_section r bytes ≡ Missing count }
+    ensures bad { (r : DecoderState) (bytes : List ℕ) → IsBadSection r bytes → decode_section r bytes ≡ BadSection }
 {}
 
 ghost use Rattle.std.specs.Prelude.{◌++◌};
@@ -18,7 +18,7 @@ ghost use Rattle.h3_connection.specs.Hearing.{hear, heard_then};
 
 /// However the bytes of an encoder are cut, they are heard alike.
 pub fn cuts_are_heard_alike()
-    ensures { (r : Receiver) (bytes more : List ℕ) → hear r (bytes ++ more) ≡ heard_then (hear r bytes) more }
+    ensures { (r : DecoderState) (bytes more : List ℕ) → hear r (bytes ++ more) ≡ heard_then (hear r bytes) more }
 {}
 
 ghost use Rattle.std.specs.Prelude.{Bool};

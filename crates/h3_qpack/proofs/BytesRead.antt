@@ -8,7 +8,7 @@ use Rattle.h3_field.specs.Instruction.{EncoderInstruction, encoder_bytes}
 use Rattle.h3_field.proofs.ReadBack.{instruction_reads_back}
 use Rattle.h3_qpack.specs.Encodings.{IsWrittenInstruction}
 use Rattle.h3_qpack.specs.Session.{Session}
-use Rattle.h3_qpack.specs.Exchange.{Ends, opening}
+use Rattle.h3_qpack.specs.Exchange.{ExchangeHistory, opening}
 use Rattle.h3_qpack.proofs.Drafts.{All-second}
 use Rattle.h3_qpack.proofs.FrontsRead.{nothing_read}
 use Rattle.h3_qpack.proofs.EncoderStreams.{take_further}
@@ -26,7 +26,7 @@ some_more [] n w above some = absurd (omega (arith, some))
 some_more (i ∷ is) zero w above some = absurd (omega (arith, above))
 some_more (i ∷ is) (suc n) w above some = omega (arith, some_bytes i w.0, length-append (encoder_bytes i) (flat_map encoder_bytes (take n is)))
 
-pub bytes_read : (capacity : ℕ) (w : Ends) (s : Session) (n : ℕ) → Stands capacity w s → n ≤ length s.instructions
+pub bytes_read : (capacity : ℕ) (w : ExchangeHistory) (s : Session) (n : ℕ) → Stands capacity w s → n ≤ length s.instructions
     → length (flat_map encoder_bytes (opening capacity ++ take n s.instructions)) ≤ w.encoder_stream.read → n ≤ s.received
 bytes_read capacity w s n st within came = by_order (nat_le n s.received) refl
   where

@@ -1,22 +1,22 @@
--- Each choice of the sender's rule, made by what is kept.
+-- Each choice of the encoder's rule, made by what is kept.
 use Rattle.std.proofs.Common.{◌≡◌, ℕ, ◌+◌, ◌-◌, ◌^◌, ◌<◌, ◌≤◌, Bool, true, false, ◌&&◌, ◌||◌, List, [], ◌∷◌, ◌++◌, length, min, max, refl, sym, ◌∙◌, ap, arith, length-append, nat_le, nat_lt, bytes_eq, if◌then◌else◌, map, fold}
 use Rattle.std.specs.List.{AllByRecursion, list_all, flat_map}
 use Rattle.std.proofs.lemmas.Grind.{common_steps}
 use Rattle.h3_field.specs.Field.{Field, field_eq, field_size}
-use Rattle.h3_qpack.specs.Table.{table, dropped}
-use Rattle.h3_qpack.specs.Held.{gone, newest_in, with_entry}
-use Rattle.h3_qpack.specs.Sender.{Sender, Tracked, blocks_out, referenced_entries}
-use Rattle.h3_qpack.specs.Written.{Draft, is_usable, found, found_name, remaining, dropped_by, is_insertable}
+use Rattle.h3_qpack.specs.Table.{table, evictions}
+use Rattle.h3_qpack.specs.TableState.{evicted, newest_in, with_entry}
+use Rattle.h3_qpack.specs.EncoderHistory.{EncoderHistory, UnacknowledgedSection, blocks_out, referenced_entries}
+use Rattle.h3_qpack.specs.SectionEncoding.{Draft, is_usable, found, found_name, remaining, evictions_by, is_insertable}
 use Rattle.h3_qpack.specs.Tracking.{is_free_to}
-use Rattle.h3_qpack.specs.Stored.{StoredSender, stored_section, least, MayInsertInto}
-use Rattle.h3_qpack.proofs.Tables.{dropped-append}
-use Rattle.h3_qpack.proofs.Kept.{held_of, with_entry-held, search_held}
+use Rattle.h3_qpack.specs.EncoderState.{EncoderState, tracked_section, least, MayInsertInto}
+use Rattle.h3_qpack.proofs.Tables.{evictions-append}
+use Rattle.h3_qpack.proofs.TableStates.{table_state_of, with_entry-held, search_held}
 
 -- the greatest number that may be named, of those up to a number
-abbrev pub usable_to : Sender → ℕ → ℕ
+abbrev pub usable_to : EncoderHistory → ℕ → ℕ
 usable_to s number = if nat_lt (blocks_out s) s.limit then number else min number s.known_received
 
-usable_is : (s : Sender) (most n : ℕ) → nat_le n (usable_to s most) ≡ (nat_le n most && is_usable s n)
+usable_is : (s : EncoderHistory) (most n : ℕ) → nat_le n (usable_to s most) ≡ (nat_le n most && is_usable s n)
 usable_is s most n = by_test (nat_lt (blocks_out s) s.limit) refl
   where
     and_true : (b : Bool) → (b && true) ≡ b
@@ -61,8 +61,8 @@ and_false true = refl
 and_false false = refl
 
 -- an equal entry that is older than the section
-pub found_held : (s : Sender) (d : Draft) (f : Field) → newest_in (held_of s.capacity d.inserted) (λ e. field_eq e f) (dropped s.capacity d.inserted) (usable_to s (length s.inserted)) ≡ found s d f
-found_held s d f = search_held s.capacity d.inserted (λ e. field_eq e f) (dropped s.capacity d.inserted) (usable_to s (length s.inserted)) _
+pub found_held : (s : EncoderHistory) (d : Draft) (f : Field) → newest_in (table_state_of s.capacity d.inserted) (λ e. field_eq e f) (evictions s.capacity d.inserted) (usable_to s (length s.inserted)) ≡ found s d f
+found_held s d f = search_held s.capacity d.inserted (λ e. field_eq e f) (evictions s.capacity d.inserted) (usable_to s (length s.inserted)) _
     (λ n e le. rw (lt_false _ n le, and_false (field_eq e f)) refl)
     (λ n e low high. rw (lt_true _ n low, usable_is s (length s.inserted) n) (same (field_eq e f) (nat_le n (length s.inserted)) (is_usable s n)))
   where
@@ -78,9 +78,9 @@ found_held s d f = search_held s.capacity d.inserted (λ e. field_eq e f) (dropp
     same false false c = refl
 
 -- an entry of the name
-pub found_name_held : (s : Sender) (d : Draft) (f : Field)
-    → newest_in (held_of s.capacity d.inserted) (λ e. bytes_eq e.name f.name) (dropped s.capacity d.inserted) (usable_to s (length d.inserted)) ≡ found_name s d f
-found_name_held s d f = search_held s.capacity d.inserted (λ e. bytes_eq e.name f.name) (dropped s.capacity d.inserted) (usable_to s (length d.inserted)) _
+pub found_name_held : (s : EncoderHistory) (d : Draft) (f : Field)
+    → newest_in (table_state_of s.capacity d.inserted) (λ e. bytes_eq e.name f.name) (evictions s.capacity d.inserted) (usable_to s (length d.inserted)) ≡ found_name s d f
+found_name_held s d f = search_held s.capacity d.inserted (λ e. bytes_eq e.name f.name) (evictions s.capacity d.inserted) (usable_to s (length d.inserted)) _
     (λ n e le. rw (lt_false _ n le, and_false (bytes_eq e.name f.name)) refl)
     (λ n e low high. rw (lt_true _ n low, usable_is s (length d.inserted) n, le_true n (length d.inserted) high) (same (bytes_eq e.name f.name) (is_usable s n)))
   where
@@ -91,11 +91,11 @@ found_name_held s d f = search_held s.capacity d.inserted (λ e. bytes_eq e.name
     same false false = refl
 
 -- an entry that remains after the insertion
-pub remaining_held : (s : Sender) (d : Draft) (f : Field) (test : Field → Bool)
-    → newest_in (held_of s.capacity d.inserted) test (dropped_by s d f) (length d.inserted) ≡ remaining s d f test
-remaining_held s d f test = search_held s.capacity d.inserted test (dropped_by s d f) (length d.inserted) _
-    (λ n e le. rw (lt_false (dropped_by s d f) n (omega (arith, le, dropped-append s.capacity d.inserted (f ∷ [])))) refl)
-    (λ n e low high. rw (le_true n (length d.inserted) high) (same (nat_lt (dropped_by s d f) n) (test e)))
+pub remaining_held : (s : EncoderHistory) (d : Draft) (f : Field) (test : Field → Bool)
+    → newest_in (table_state_of s.capacity d.inserted) test (evictions_by s d f) (length d.inserted) ≡ remaining s d f test
+remaining_held s d f test = search_held s.capacity d.inserted test (evictions_by s d f) (length d.inserted) _
+    (λ n e le. rw (lt_false (evictions_by s d f) n (omega (arith, le, evictions-append s.capacity d.inserted (f ∷ [])))) refl)
+    (λ n e low high. rw (le_true n (length d.inserted) high) (same (nat_lt (evictions_by s d f) n) (test e)))
   where
     same : (a b : Bool) → ((a && true) && b) ≡ (a && b)
     same true b = refl
@@ -106,7 +106,7 @@ abbrev pub oldest_of : List ℕ → ℕ
 oldest_of ns = fold min (2 ^ 64 - 1) ns
 
 -- sections that are tracked name entries
-abbrev pub NameEntries : Sender → Type 0
+abbrev pub NameEntries : EncoderHistory → Type 0
 NameEntries s = AllByRecursion (λ t. 0 < least t.references) s.tracked
 
 least_all : (n m : ℕ) (ns : List ℕ) → list_all (λ k. nat_lt n k) (m ∷ ns) ≡ nat_lt n (fold min m ns)
@@ -134,12 +134,12 @@ list_all-append n (x ∷ xs) ys = ap (λ b. nat_lt n x && b) (list_all-append n 
     join true b c = refl
     join false b c = refl
 
-pub tracked_free : (n : ℕ) (ts : List Tracked) → AllByRecursion (λ t. 0 < least t.references) ts → list_all (λ k. nat_lt n k) (flat_map (λ t. t.references) ts) ≡ is_free_to n (map stored_section ts)
+pub tracked_free : (n : ℕ) (ts : List UnacknowledgedSection) → AllByRecursion (λ t. 0 < least t.references) ts → list_all (λ k. nat_lt n k) (flat_map (λ t. t.references) ts) ≡ is_free_to n (map tracked_section ts)
 tracked_free n [] h = refl
 tracked_free n (t ∷ ts) h =
-    list_all-append n t.references (flat_map (λ (t : Tracked). t.references) ts)
+    list_all-append n t.references (flat_map (λ (t : UnacknowledgedSection). t.references) ts)
     ∙ ap (λ b. list_all (λ k. nat_lt n k) t.references && b) (tracked_free n ts h.1)
-    ∙ ap (λ b. b && is_free_to n (map stored_section ts)) (own t.references h.0)
+    ∙ ap (λ b. b && is_free_to n (map tracked_section ts)) (own t.references h.0)
   where
     own : (ns : List ℕ) → 0 < least ns → list_all (λ k. nat_lt n k) ns ≡ nat_lt n (least ns)
     own [] above = absurd (omega (arith, above))
@@ -152,20 +152,20 @@ drafted_free n ns small = front (lt_true n (2 ^ 64 - 1) small) ∙ least_all n (
     front e = sym (ap (λ b. b && list_all (λ k. nat_lt n k) ns) e)
 
 -- A field is inserted exactly where what is kept allows it.
-pub insertable_held : (s : Sender) (d : Draft) (f : Field) (t : StoredSender) → t.table ≡ held_of s.capacity d.inserted → t.known_received ≡ s.known_received → t.tracked ≡ map stored_section s.tracked
+pub insertable_held : (s : EncoderHistory) (d : Draft) (f : Field) (t : EncoderState) → t.table ≡ table_state_of s.capacity d.inserted → t.known_received ≡ s.known_received → t.tracked ≡ map tracked_section s.tracked
     → NameEntries s → length d.inserted < 2 ^ 62 → nat_lt (blocks_out s) s.limit ≡ true → MayInsertInto t f (oldest_of d.references) → is_insertable s d f ≡ true
 insertable_held s d f t table known tracked named small waits h =
     let fits : field_size f ≤ s.capacity = omega (arith, h.fits, ap (λ k. k.capacity) table) in
-    let after : gone (with_entry t.table f) ≡ dropped_by s d f = ap (λ k. gone (with_entry k f)) table ∙ ap gone (with_entry-held s.capacity d.inserted f fits) in
-    let before : gone t.table ≡ dropped s.capacity d.inserted = ap gone table in
+    let after : evicted (with_entry t.table f) ≡ evictions_by s d f = ap (λ k. evicted (with_entry k f)) table ∙ ap evicted (with_entry-held s.capacity d.inserted f fits) in
+    let before : evicted t.table ≡ evictions s.capacity d.inserted = ap evicted table in
     let few = lt_true (length d.inserted + 1) (2 ^ 62) (omega (arith, h.few, ap (λ k. k.inserted) table)) in
     let room = le_true (field_size f) s.capacity fits in
-    let received = le_true (dropped_by s d f) (max s.known_received (dropped s.capacity d.inserted)) (omega (arith, h.known, after, before, known)) in
-    let free : list_all (λ k. nat_lt (dropped_by s d f) k) (referenced_entries s) ≡ true =
-    tracked_free (dropped_by s d f) s.tracked named ∙ ap (is_free_to (dropped_by s d f)) (sym tracked) ∙ ap (λ n. is_free_to n t.tracked) (sym after) ∙ h.free in
-    let own : list_all (λ k. nat_lt (dropped_by s d f) k) d.references ≡ true =
-    drafted_free (dropped_by s d f) d.references (omega (arith, small, length-append d.inserted (f ∷ []))) ∙ lt_true (dropped_by s d f) (oldest_of d.references) (omega (arith, h.own, after)) in
-    rw (few, waits, room, received, list_all-append (dropped_by s d f) (referenced_entries s) d.references, free, own) refl
+    let received = le_true (evictions_by s d f) (max s.known_received (evictions s.capacity d.inserted)) (omega (arith, h.known, after, before, known)) in
+    let free : list_all (λ k. nat_lt (evictions_by s d f) k) (referenced_entries s) ≡ true =
+    tracked_free (evictions_by s d f) s.tracked named ∙ ap (is_free_to (evictions_by s d f)) (sym tracked) ∙ ap (λ n. is_free_to n t.tracked) (sym after) ∙ h.free in
+    let own : list_all (λ k. nat_lt (evictions_by s d f) k) d.references ≡ true =
+    drafted_free (evictions_by s d f) d.references (omega (arith, small, length-append d.inserted (f ∷ []))) ∙ lt_true (evictions_by s d f) (oldest_of d.references) (omega (arith, h.own, after)) in
+    rw (few, waits, room, received, list_all-append (evictions_by s d f) (referenced_entries s) d.references, free, own) refl
 
 both : (a b : Bool) → (a && b) ≡ true → (a ≡ true) × (b ≡ true)
 both true b h = (refl, h)
@@ -177,28 +177,28 @@ is_le a b h = grind (arith, common_steps)
 is_lt : (a b : ℕ) → nat_lt a b ≡ true → a < b
 is_lt a b h = grind (arith, common_steps)
 
-pub record Insertable (s : Sender) (t : StoredSender) (f : Field) (oldest : ℕ) : Type 0 where
+pub record Insertable (s : EncoderHistory) (t : EncoderState) (f : Field) (oldest : ℕ) : Type 0 where
   pub waits : nat_lt (blocks_out s) s.limit ≡ true
   pub may : MayInsertInto t f oldest
 
-pub held_insertable : (s : Sender) (d : Draft) (f : Field) (t : StoredSender) → t.table ≡ held_of s.capacity d.inserted → t.known_received ≡ s.known_received → t.tracked ≡ map stored_section s.tracked
+pub held_insertable : (s : EncoderHistory) (d : Draft) (f : Field) (t : EncoderState) → t.table ≡ table_state_of s.capacity d.inserted → t.known_received ≡ s.known_received → t.tracked ≡ map tracked_section s.tracked
     → NameEntries s → length d.inserted < 2 ^ 62 → is_insertable s d f ≡ true → Insertable s t f (oldest_of d.references)
 held_insertable s d f t table known tracked named small h =
-    let a = both _ (list_all (λ number. nat_lt (dropped_by s d f) number) (referenced_entries s ++ d.references)) h in
-    let b = both _ (nat_le (dropped_by s d f) (max s.known_received (dropped s.capacity d.inserted))) a.0 in
+    let a = both _ (list_all (λ number. nat_lt (evictions_by s d f) number) (referenced_entries s ++ d.references)) h in
+    let b = both _ (nat_le (evictions_by s d f) (max s.known_received (evictions s.capacity d.inserted))) a.0 in
     let c = both (nat_lt (length d.inserted + 1) (2 ^ 62) && nat_lt (blocks_out s) s.limit) (nat_le (field_size f) s.capacity) b.0 in
     let room = both (nat_lt (length d.inserted + 1) (2 ^ 62)) (nat_lt (blocks_out s) s.limit) c.0 in
-    let named_all = both _ _ (sym (list_all-append (dropped_by s d f) (referenced_entries s) d.references) ∙ a.1) in
+    let named_all = both _ _ (sym (list_all-append (evictions_by s d f) (referenced_entries s) d.references) ∙ a.1) in
     let fits = is_le (field_size f) s.capacity c.1 in
-    let after : gone (with_entry t.table f) ≡ dropped_by s d f = ap (λ k. gone (with_entry k f)) table ∙ ap gone (with_entry-held s.capacity d.inserted f fits) in
-    let before : gone t.table ≡ dropped s.capacity d.inserted = ap gone table in
+    let after : evicted (with_entry t.table f) ≡ evictions_by s d f = ap (λ k. evicted (with_entry k f)) table ∙ ap evicted (with_entry-held s.capacity d.inserted f fits) in
+    let before : evicted t.table ≡ evictions s.capacity d.inserted = ap evicted table in
     record {
       waits = room.1;
       may = record {
         few = omega (arith, is_lt _ _ room.0, ap (λ k. k.inserted) table);
         fits = omega (arith, fits, ap (λ k. k.capacity) table);
         known = omega (arith, is_le _ _ b.1, after, before, known);
-        free = ap (λ n. is_free_to n t.tracked) after ∙ ap (is_free_to (dropped_by s d f)) tracked ∙ sym (tracked_free (dropped_by s d f) s.tracked named) ∙ named_all.0;
-        own = omega (arith, after, is_lt (dropped_by s d f) (oldest_of d.references) (sym (drafted_free (dropped_by s d f) d.references (omega (arith, small, length-append d.inserted (f ∷ [])))) ∙ named_all.1));
+        free = ap (λ n. is_free_to n t.tracked) after ∙ ap (is_free_to (evictions_by s d f)) tracked ∙ sym (tracked_free (evictions_by s d f) s.tracked named) ∙ named_all.0;
+        own = omega (arith, after, is_lt (evictions_by s d f) (oldest_of d.references) (sym (drafted_free (evictions_by s d f) d.references (omega (arith, small, length-append d.inserted (f ∷ [])))) ∙ named_all.1));
       };
     }

@@ -1,22 +1,22 @@
--- Each choice made by what is kept is that of the sender's rule.
+-- Each choice made by what is kept is that of the encoder's rule.
 use Rattle.std.proofs.Common.{◌≡◌, ℕ, ◌-◌, ◌^◌, ◌<◌, Bool, true, false, [], ◌∷◌, length, min, refl, sym, ◌∙◌, ap, subst, nat_lt, if◌then◌else◌, Some, None}
 use Rattle.h3_field.specs.Field.{Field}
 use Rattle.h3_field.specs.Line.{FieldLine as line}
-use Rattle.h3_qpack.specs.Held.{gone, newest_in}
+use Rattle.h3_qpack.specs.TableState.{evicted, newest_in}
 use Rattle.h3_qpack.specs.Matches.{matches}
-use Rattle.h3_qpack.specs.Sender.{Sender, blocks_out}
-use Rattle.h3_qpack.specs.Stored.{StoredSender, MayInsertInto}
-use Rattle.h3_qpack.specs.Written.{Draft, add_line, add_inserted, add_field, entry_name_line, found, found_name, dropped_by, is_insertable, insertion}
-use Rattle.h3_qpack.specs.Drafting.{IsKept, IsChosen, older, named, most_usable, insertion_for}
+use Rattle.h3_qpack.specs.EncoderHistory.{EncoderHistory, blocks_out}
+use Rattle.h3_qpack.specs.EncoderState.{EncoderState, MayInsertInto}
+use Rattle.h3_qpack.specs.SectionEncoding.{Draft, add_line, add_inserted, add_field, entry_name_line, found, found_name, evictions_by, is_insertable, insertion}
+use Rattle.h3_qpack.specs.Drafting.{IsDraftState, IsChosen, older, named, most_usable, insertion_for}
 use Rattle.h3_qpack.specs.declared.entries.Match.TheVariants as what
 use Rattle.h3_qpack.specs.declared.section.Section.{Section}
 use Rattle.h3_qpack.specs.declared.section.Choice.{Choice}
 use Rattle.h3_qpack.specs.declared.section.Choice.TheVariants as choice
-use Rattle.h3_qpack.proofs.Kept.{held_of}
+use Rattle.h3_qpack.proofs.TableStates.{table_state_of}
 use Rattle.h3_qpack.proofs.Choices.{usable_to, found_held, found_name_held, remaining_held, NameEntries, insertable_held, held_insertable}
 
 -- the draft with a field as it was chosen
-abbrev pub drafted : Sender → Draft → Field → Choice → Draft
+abbrev pub drafted : EncoderHistory → Draft → Field → Choice → Draft
 drafted s d f (choice.Static index) = add_line d (line.StaticField index) []
 drafted s d f (choice.Entry number) = add_line d (line.RelativeField (length s.inserted - number)) (number ∷ [])
 drafted s d f (choice.Insertion after) = add_inserted s d f
@@ -24,53 +24,53 @@ drafted s d f (choice.StaticName index) = add_line d (line.StaticName index f.va
 drafted s d f (choice.EntryName number) = add_line d (entry_name_line (length s.inserted) number f.value) (number ∷ [])
 drafted s d f choice.Literal = add_line d (line.Literal f.name f.value) []
 
-usable_kept : (s : Sender) (d : Draft) (t : StoredSender) (section : Section) (n m : ℕ) → IsKept s d t section → n ≡ m → most_usable t section n ≡ usable_to s m
+usable_kept : (s : EncoderHistory) (d : Draft) (t : EncoderState) (section : Section) (n m : ℕ) → IsDraftState s d t section → n ≡ m → most_usable t section n ≡ usable_to s m
 usable_kept s d t section n m k e =
-    ap (λ b. if b then n else min n t.known_received) k.may_wait
-    ∙ ap (λ known. if nat_lt (blocks_out s) s.limit then n else min n known) (ap (λ (u : StoredSender). u.known_received) k.stores)
+    ap (λ b. if b then n else min n t.known_received) k.may_block
+    ∙ ap (λ known. if nat_lt (blocks_out s) s.limit then n else min n known) (ap (λ (u : EncoderState). u.known_received) k.stores)
     ∙ ap (λ x. usable_to s x) e
 
 -- an equal entry that is older than the section
-older_kept : (s : Sender) (d : Draft) (t : StoredSender) (section : Section) (f : Field) → IsKept s d t section → older t section f ≡ found s d f
+older_kept : (s : EncoderHistory) (d : Draft) (t : EncoderState) (section : Section) (f : Field) → IsDraftState s d t section → older t section f ≡ found s d f
 older_kept s d t section f k =
-    ap (λ most. newest_in t.table (matches what.Field f) (gone t.table) most) (usable_kept s d t section section.base (length s.inserted) k k.base)
-    ∙ ap (λ (u : StoredSender). newest_in u.table (matches what.Field f) (gone u.table) (usable_to s (length s.inserted))) k.stores
+    ap (λ most. newest_in t.table (matches what.Field f) (evicted t.table) most) (usable_kept s d t section section.base (length s.inserted) k k.base)
+    ∙ ap (λ (u : EncoderState). newest_in u.table (matches what.Field f) (evicted u.table) (usable_to s (length s.inserted))) k.stores
     ∙ found_held s d f
 
 -- an entry of the name
-named_kept : (s : Sender) (d : Draft) (t : StoredSender) (section : Section) (f : Field) → IsKept s d t section → named t section f ≡ found_name s d f
+named_kept : (s : EncoderHistory) (d : Draft) (t : EncoderState) (section : Section) (f : Field) → IsDraftState s d t section → named t section f ≡ found_name s d f
 named_kept s d t section f k =
-    ap (λ most. newest_in t.table (matches what.Name f) (gone t.table) most) (usable_kept s d t section t.table.inserted (length d.inserted) k (ap (λ (u : StoredSender). u.table.inserted) k.stores))
-    ∙ ap (λ (u : StoredSender). newest_in u.table (matches what.Name f) (gone u.table) (usable_to s (length d.inserted))) k.stores
+    ap (λ most. newest_in t.table (matches what.Name f) (evicted t.table) most) (usable_kept s d t section t.table.inserted (length d.inserted) k (ap (λ (u : EncoderState). u.table.inserted) k.stores))
+    ∙ ap (λ (u : EncoderState). newest_in u.table (matches what.Name f) (evicted u.table) (usable_to s (length d.inserted))) k.stores
     ∙ found_name_held s d f
 
 -- how a field is inserted
-pub insertion_kept : (s : Sender) (d : Draft) (t : StoredSender) (section : Section) (f : Field) (after : ℕ) → IsKept s d t section → after ≡ dropped_by s d f
+pub insertion_kept : (s : EncoderHistory) (d : Draft) (t : EncoderState) (section : Section) (f : Field) (after : ℕ) → IsDraftState s d t section → after ≡ evictions_by s d f
     → insertion_for t.table after f ≡ insertion s d f
 insertion_kept s d t section f after k e =
-    ap (λ (u : StoredSender). insertion_for u.table after f) k.stores
-    ∙ ap (λ n. insertion_for (held_of s.capacity d.inserted) n f) e
+    ap (λ (u : EncoderState). insertion_for u.table after f) k.stores
+    ∙ ap (λ n. insertion_for (table_state_of s.capacity d.inserted) n f) e
     ∙ rw (remaining_held s d f (matches what.Field f), remaining_held s d f (matches what.Name f)) refl
 
 -- A field is inserted exactly where it may be.
-inserted_kept : (s : Sender) (d : Draft) (t : StoredSender) (section : Section) (f : Field) → IsKept s d t section → NameEntries s → length d.inserted < 2 ^ 62
-    → section.may_wait ≡ true → MayInsertInto t f section.oldest → is_insertable s d f ≡ true
+inserted_kept : (s : EncoderHistory) (d : Draft) (t : EncoderState) (section : Section) (f : Field) → IsDraftState s d t section → NameEntries s → length d.inserted < 2 ^ 62
+    → section.may_block ≡ true → MayInsertInto t f section.oldest → is_insertable s d f ≡ true
 inserted_kept s d t section f k names few waits may =
-    insertable_held s d f t (ap (λ (u : StoredSender). u.table) k.stores) (ap (λ (u : StoredSender). u.known_received) k.stores) (ap (λ (u : StoredSender). u.tracked) k.stores)
-    names few (sym k.may_wait ∙ waits) (subst (λ n. MayInsertInto t f n) k.oldest may)
+    insertable_held s d f t (ap (λ (u : EncoderState). u.table) k.stores) (ap (λ (u : EncoderState). u.known_received) k.stores) (ap (λ (u : EncoderState). u.tracked) k.stores)
+    names few (sym k.may_block ∙ waits) (subst (λ n. MayInsertInto t f n) k.oldest may)
 
-not_inserted_kept : (s : Sender) (d : Draft) (t : StoredSender) (section : Section) (f : Field) → IsKept s d t section → NameEntries s → length d.inserted < 2 ^ 62
-    → (section.may_wait ≡ true → MayInsertInto t f section.oldest → ⊥) → is_insertable s d f ≡ false
+not_inserted_kept : (s : EncoderHistory) (d : Draft) (t : EncoderState) (section : Section) (f : Field) → IsDraftState s d t section → NameEntries s → length d.inserted < 2 ^ 62
+    → (section.may_block ≡ true → MayInsertInto t f section.oldest → ⊥) → is_insertable s d f ≡ false
 not_inserted_kept s d t section f k names few none = by_test (is_insertable s d f) refl
   where
     by_test : (b : Bool) → is_insertable s d f ≡ b → is_insertable s d f ≡ false
     by_test false e = e
     by_test true e =
-        let i = held_insertable s d f t (ap (λ (u : StoredSender). u.table) k.stores) (ap (λ (u : StoredSender). u.known_received) k.stores) (ap (λ (u : StoredSender). u.tracked) k.stores) names few e in
-        absurd (none (k.may_wait ∙ i.waits) (subst (λ n. MayInsertInto t f n) (sym k.oldest) i.may))
+        let i = held_insertable s d f t (ap (λ (u : EncoderState). u.table) k.stores) (ap (λ (u : EncoderState). u.known_received) k.stores) (ap (λ (u : EncoderState). u.tracked) k.stores) names few e in
+        absurd (none (k.may_block ∙ i.waits) (subst (λ n. MayInsertInto t f n) (sym k.oldest) i.may))
 
 -- The rule says the same.
-pub rule_kept : (s : Sender) (d : Draft) (t : StoredSender) (section : Section) (f : Field) (c : Choice) → IsKept s d t section → NameEntries s → length d.inserted < 2 ^ 62
+pub rule_kept : (s : EncoderHistory) (d : Draft) (t : EncoderState) (section : Section) (f : Field) (c : Choice) → IsDraftState s d t section → NameEntries s → length d.inserted < 2 ^ 62
     → IsChosen t section f c → add_field s d f ≡ drafted s d f c
 rule_kept s d t section f (choice.Static index) k names few h = rw h refl
 rule_kept s d t section f (choice.Entry number) k names few h =

@@ -13,10 +13,10 @@ use Rattle.h3_field.specs.InstructionAnswer.{IsReply}
 use Rattle.h3_field.specs.InstructionLaws.{decoder_instruction_stable}
 use Rattle.h3_field.proofs.ReadBack.{reply_reads_back}
 use Rattle.h3_field.proofs.Sections.{whole_same}
-use Rattle.h3_qpack.specs.Sender.{Sender, Tracked, told_all, is_refused}
+use Rattle.h3_qpack.specs.EncoderHistory.{EncoderHistory, UnacknowledgedSection, encoder_after_all, is_refused}
 use Rattle.h3_qpack.specs.Instructions.{AreDecoderInstructions, NoDecoderInstruction, NextDecoderInstruction, BeginsRefused}
-use Rattle.h3_qpack.specs.Session.{Session, IsSound, tracked_references, acknowledgements, after_decoder_instruction}
-use Rattle.h3_qpack.specs.Exchange.{Stream, unread, waiting, arriving, reading}
+use Rattle.h3_qpack.specs.Session.{Session, IsSound, tracked_references, acknowledgments, after_decoder_instruction}
+use Rattle.h3_qpack.specs.Exchange.{Stream, unread, undelivered, arriving, reading}
 use Rattle.h3_qpack.proofs.Drafts.{All-second}
 use Rattle.h3_qpack.proofs.Sessions.{reply_read}
 use Rattle.h3_qpack.proofs.EncoderStreams.{behind_front}
@@ -73,12 +73,12 @@ take_none : (n : ℕ) → ◌≡◌ {A = List ℕ} (take n []) []
 take_none zero = refl
 take_none (suc n) = refl
 
-nothing_refused : (s : Sender) (bytes : List ℕ) → bytes ≡ [] → BeginsRefused s bytes → ⊥
+nothing_refused : (s : EncoderHistory) (bytes : List ℕ) → bytes ≡ [] → BeginsRefused s bytes → ⊥
 nothing_refused s bytes e (inl bad) = let none = rw e at bad in cc
 nothing_refused s bytes e (inr whole) = let none = rw e at whole.2 in cc
 
 -- A front of what was written begins with nothing that is refused, where the first one is accepted.
-none_refused : (all : List DecoderInstruction) (n : ℕ) (s : Sender) → AllByRecursion IsReply all → ((j : DecoderInstruction) (js : List DecoderInstruction) → all ≡ j ∷ js → is_refused s j ≡ false)
+none_refused : (all : List DecoderInstruction) (n : ℕ) (s : EncoderHistory) → AllByRecursion IsReply all → ((j : DecoderInstruction) (js : List DecoderInstruction) → all ≡ j ∷ js → is_refused s j ≡ false)
     → BeginsRefused s (take n (flat_map decoder_bytes all)) → ⊥
 none_refused [] n s w next h = nothing_refused s (take n []) (take_none n) h
 none_refused (j ∷ js) n s w next h = by_kind h
@@ -103,7 +103,7 @@ none_refused (j ∷ js) n s w next h = by_kind h
         let accepted : is_refused s i ≡ false = ap (is_refused s) one.0 ∙ next j js refl in cc
 
 -- an acknowledgment under way finds a section
-tracked_found : (stream : ℕ) (ts : List Tracked) → 0 < length (tracked_references stream ts) → list_any (λ block. block.stream == stream) ts ≡ true
+tracked_found : (stream : ℕ) (ts : List UnacknowledgedSection) → 0 < length (tracked_references stream ts) → list_any (λ section. section.stream == stream) ts ≡ true
 tracked_found stream [] h = absurd (omega (arith, h))
 tracked_found stream (t ∷ ts) h = by_test (t.stream == stream) refl h (tracked_found stream ts)
   where
@@ -112,22 +112,22 @@ tracked_found stream (t ∷ ts) h = by_test (t.stream == stream) refl h (tracked
     or_right false = refl
 
     by_test : (b : Bool) → (t.stream == stream) ≡ b → 0 < length (if b then t.references ∷ tracked_references stream ts else tracked_references stream ts)
-        → (0 < length (tracked_references stream ts) → list_any (λ block. block.stream == stream) ts ≡ true) → list_any (λ block. block.stream == stream) (t ∷ ts) ≡ true
+        → (0 < length (tracked_references stream ts) → list_any (λ section. section.stream == stream) ts ≡ true) → list_any (λ section. section.stream == stream) (t ∷ ts) ≡ true
     by_test true e h later = rw e refl
     by_test false e h later = rw (later h) (or_right (t.stream == stream))
 
-accepted_next : (s : Session) (j : DecoderInstruction) (js : List DecoderInstruction) → IsSound s → s.decoder_instructions ≡ j ∷ js → is_refused s.sender j ≡ false
+accepted_next : (s : Session) (j : DecoderInstruction) (js : List DecoderInstruction) → IsSound s → s.decoder_instructions ≡ j ∷ js → is_refused s.encoder j ≡ false
 accepted_next s (Acknowledge stream) js h e =
-    let enough = subst (λ is. acknowledgements stream is ≤ length (tracked_references stream s.sender.tracked)) e (h.acknowledged stream) in
+    let enough = subst (λ is. acknowledgments stream is ≤ length (tracked_references stream s.encoder.tracked)) e (h.acknowledged stream) in
     let own : ◌≡◌ {A = ℕ} (if stream == stream then 1 else 0) 1 = grind (arith, common_steps) in
-    let found = tracked_found stream s.sender.tracked (omega (arith, enough, own)) in
+    let found = tracked_found stream s.encoder.tracked (omega (arith, enough, own)) in
     ap not found
 accepted_next s (CancelStream stream) js h e = refl
 accepted_next s (Increment count) js h e = refl
 
 -- the session after so many of the decoder's instructions
 abbrev pub heard_so : Session → ℕ → Session
-heard_so s count = record s { sender = told_all s.sender (take count s.decoder_instructions); decoder_instructions = drop count s.decoder_instructions }
+heard_so s count = record s { encoder = encoder_after_all s.encoder (take count s.decoder_instructions); decoder_instructions = drop count s.decoder_instructions }
 
 pub heard_sound : (count : ℕ) (s : Session) → IsSound s → IsSound (heard_so s count)
 heard_sound zero s h = h
@@ -140,15 +140,15 @@ heard_sound (suc count) s h = by_list s.decoder_instructions refl (λ t k. heard
     by_list (i ∷ is) e further =
         let later = further (after_decoder_instruction s i is) (reply_read s i is e h) in
         let same : heard_so (after_decoder_instruction s i is) count ≡ heard_so s (suc count) =
-        ap (λ js. record s { sender = told_all s.sender (take (suc count) js); decoder_instructions = drop (suc count) js }) (sym e) in
+        ap (λ js. record s { encoder = encoder_after_all s.encoder (take (suc count) js); decoder_instructions = drop (suc count) js }) (sym e) in
         subst IsSound same later
 
 -- The stream holds what was read, and then the instructions that are under way.
 pub record DecoderStream (t : Stream) (pending : List DecoderInstruction) : Type 0 where
-  pub heard : List ℕ
-  pub told : t.bytes ≡ heard ++ flat_map decoder_bytes pending
+  pub read_before : List ℕ
+  pub bytes_are : t.bytes ≡ read_before ++ flat_map decoder_bytes pending
   pub replies : AllByRecursion IsReply pending
-  pub read : t.read ≡ length heard
+  pub read : t.read ≡ length read_before
   pub before : t.read ≤ t.arrived
   pub after : t.arrived ≤ length t.bytes
 
@@ -156,17 +156,17 @@ pub record HeardMore (s : Session) (t : Stream) (is : List DecoderInstruction) (
   pub count : ℕ
   pub are : is ≡ take count s.decoder_instructions
   pub decoder_stream : DecoderStream (reading t (length left)) (drop count s.decoder_instructions)
-  pub not_refused : BeginsRefused (told_all s.sender is) left → ⊥
+  pub not_refused : BeginsRefused (encoder_after_all s.encoder is) left → ⊥
 
 -- More bytes come, and what is whole is read.
-pub decoder_stream_reads : (s : Session) (t : Stream) (more : ℕ) (is : List DecoderInstruction) (left : List ℕ) → IsSound s → DecoderStream t s.decoder_instructions → more ≤ waiting t
+pub decoder_stream_reads : (s : Session) (t : Stream) (more : ℕ) (is : List DecoderInstruction) (left : List ℕ) → IsSound s → DecoderStream t s.decoder_instructions → more ≤ undelivered t
     → AreDecoderInstructions (unread (arriving t more)) is left → HeardMore s (arriving t more) is left
 decoder_stream_reads s t more is left sound b enough h =
     let pending = s.decoder_instructions in
     let n = t.arrived + more - t.read in
-    let split = ap length b.told ∙ length-append b.heard (flat_map decoder_bytes pending) in
+    let split = ap length b.bytes_are ∙ length-append b.read_before (flat_map decoder_bytes pending) in
     let here : unread (arriving t more) ≡ take n (flat_map decoder_bytes pending) =
-    ap (λ bs. take n (drop t.read bs)) b.told ∙ ap (λ k. take n (drop k (b.heard ++ flat_map decoder_bytes pending))) b.read ∙ ap (take n) (drop-append_seam b.heard (flat_map decoder_bytes pending)) in
+    ap (λ bs. take n (drop t.read bs)) b.bytes_are ∙ ap (λ k. take n (drop k (b.read_before ++ flat_map decoder_bytes pending))) b.read ∙ ap (take n) (drop-append_seam b.read_before (flat_map decoder_bytes pending)) in
     let front = front_heard pending n (unread (arriving t more)) left is b.replies (omega (arith, enough, split, b.read, b.after, b.before)) here h in
     let parts = behind_front decoder_bytes front.count pending in
     let split_rest = ap length parts ∙ length-append (flat_map decoder_bytes (take front.count pending)) (flat_map decoder_bytes (drop front.count pending)) in
@@ -177,15 +177,15 @@ decoder_stream_reads s t more is left sound b enough h =
       count = front.count;
       are = front.are;
       decoder_stream = record {
-        heard = b.heard ++ flat_map decoder_bytes (take front.count pending);
-        told = b.told ∙ ap (λ bs. b.heard ++ bs) parts ∙ sym (append_assoc b.heard (flat_map decoder_bytes (take front.count pending)) (flat_map decoder_bytes (drop front.count pending)));
+        read_before = b.read_before ++ flat_map decoder_bytes (take front.count pending);
+        bytes_are = b.bytes_are ∙ ap (λ bs. b.read_before ++ bs) parts ∙ sym (append_assoc b.read_before (flat_map decoder_bytes (take front.count pending)) (flat_map decoder_bytes (drop front.count pending)));
         replies = replies;
-        read = omega (arith, left_len, b.read, b.before, front.fits, length-append b.heard (flat_map decoder_bytes (take front.count pending)));
+        read = omega (arith, left_len, b.read, b.before, front.fits, length-append b.read_before (flat_map decoder_bytes (take front.count pending)));
         before = omega arith;
         after = omega (arith, enough, b.after);
       };
-      not_refused = λ refused. none_refused (drop front.count pending) (n - length (flat_map decoder_bytes (take front.count pending))) (told_all s.sender (take front.count pending)) replies
+      not_refused = λ refused. none_refused (drop front.count pending) (n - length (flat_map decoder_bytes (take front.count pending))) (encoder_after_all s.encoder (take front.count pending)) replies
           (λ j js e. accepted_next (heard_so s front.count) j js (heard_sound front.count s sound) e)
-          (subst (λ js. BeginsRefused (told_all s.sender js) (take (n - length (flat_map decoder_bytes (take front.count pending))) (flat_map decoder_bytes (drop front.count pending)))) front.are
-          (subst (BeginsRefused (told_all s.sender is)) front.left_is refused));
+          (subst (λ js. BeginsRefused (encoder_after_all s.encoder js) (take (n - length (flat_map decoder_bytes (take front.count pending))) (flat_map decoder_bytes (drop front.count pending)))) front.are
+          (subst (BeginsRefused (encoder_after_all s.encoder is)) front.left_is refused));
     }

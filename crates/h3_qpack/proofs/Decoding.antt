@@ -1,4 +1,4 @@
--- Each block that a decoder tries decodes to its fields.
+-- Each section that a decoder tries decodes to its fields.
 use Rattle.std.proofs.Common.{◌≡◌, ℕ, zero, suc, ◌+◌, ◌-◌, ◌*◌, ◌%◌, ◌⊎◌, ⊎_elim, inl, inr, ◌<◌, ◌≤◌, Bool, true, false, List, [], ◌∷◌, ◌++◌, length, take, drop, refl, sym, ◌∙◌, ap, subst, arith, length-append, max, Some, nat_le, nat_lt, unwrap_or, if◌then◌else◌, fold, slice_get}
 use Rattle.std.specs.Prelude.{◌==◌}
 use Rattle.std.specs.List.{AllByRecursion, flat_map}
@@ -10,19 +10,19 @@ use Rattle.h3_field.specs.Line.FieldLine.{StaticField, RelativeField, PostBaseFi
 use Rattle.h3_field.specs.StaticTable.{static_field, static_name}
 use Rattle.h3_field.specs.Prefix.{most_entries, IsRequiredCount}
 use Rattle.h3_qpack.proofs.Counts.{few_entries}
-use Rattle.h3_qpack.specs.Table.{table, dropped}
-use Rattle.h3_qpack.specs.Sender.{Sender, Tracked}
-use Rattle.h3_qpack.specs.Block.{insertion_at, named_field, StandFor, entry_number}
-use Rattle.h3_qpack.specs.Written.{Draft, found, found_name, is_insertable, add_line, add_literal, add_inserted, add_field, draft_of, required_insert_count}
-use Rattle.h3_qpack.specs.Session.{Session, UnderWay, oldest, without_oldest, count_of, references_of, references_under_way, tracked_references, acknowledgements, is_canceled, IsWrittenOver, IsSound, DecodesTo}
-use Rattle.h3_qpack.proofs.Tables.{dropped-append}
+use Rattle.h3_qpack.specs.Table.{table, evictions}
+use Rattle.h3_qpack.specs.EncoderHistory.{EncoderHistory, UnacknowledgedSection}
+use Rattle.h3_qpack.specs.NamedFields.{insertion_at, named_field, StandFor, entry_number}
+use Rattle.h3_qpack.specs.SectionEncoding.{Draft, found, found_name, is_insertable, add_line, add_literal, add_inserted, add_field, draft_of, required_insert_count}
+use Rattle.h3_qpack.specs.Session.{Session, UndecodedSection, oldest, without_oldest, count_of, references_of, undecoded_references, tracked_references, acknowledgments, is_canceled, IsWrittenOver, IsSound, DecodesTo}
+use Rattle.h3_qpack.proofs.Tables.{evictions-append}
 use Rattle.h3_qpack.proofs.Newest.{chosen, newest_from-passes}
 use Rattle.h3_qpack.proofs.Drafts.{either_way, both, All-join, All-first}
-use Rattle.h3_qpack.proofs.Blocks.{block_stands, StandFor-append, with_value-more}
+use Rattle.h3_qpack.proofs.NamedFieldsOf.{section_stands, StandFor-append, with_value-more}
 use Rattle.h3_qpack.proofs.Sessions.{taken_names}
 
 -- each line names an entry up to the required count, and each entry has a number above 0
-pub record IsCounted (s : Sender) (d : Draft) : Type 0 where
+pub record IsCounted (s : EncoderHistory) (d : Draft) : Type 0 where
   pub lines : AllByRecursion (λ line. entry_number (length s.inserted) line ≤ required_insert_count d) d.lines
   pub positive : AllByRecursion (λ number. 0 < number) d.references
   pub made : AllByRecursion (λ number. number ≤ length d.inserted) d.references
@@ -44,7 +44,7 @@ no_less base m n [] le h = tt
 no_less base m n (l ∷ ls) le h = (omega (arith, le, h.0), no_less base m n ls le h.1)
 
 -- a line that names nothing, or the entry that is added to the names
-plain_counted : (s : Sender) (d : Draft) (line : FieldLine) → entry_number (length s.inserted) line ≡ 0 → IsCounted s d → IsCounted s (add_line d line [])
+plain_counted : (s : EncoderHistory) (d : Draft) (line : FieldLine) → entry_number (length s.inserted) line ≡ 0 → IsCounted s d → IsCounted s (add_line d line [])
 plain_counted s d line none h =
     record {
       lines = All-join _ d.lines (line ∷ []) (no_less (length s.inserted) (required_insert_count d) _ d.lines (more_is_more 0 d.references []) h.lines) (omega (arith, none), tt);
@@ -52,7 +52,7 @@ plain_counted s d line none h =
       made = All-join (λ number. number ≤ length d.inserted) d.references [] h.made tt;
     }
 
-named_counted : (s : Sender) (d : Draft) (line : FieldLine) (number : ℕ) → entry_number (length s.inserted) line ≡ number → 0 < number → number ≤ length d.inserted → IsCounted s d → IsCounted s (add_line d line (number ∷ []))
+named_counted : (s : EncoderHistory) (d : Draft) (line : FieldLine) (number : ℕ) → entry_number (length s.inserted) line ≡ number → 0 < number → number ≤ length d.inserted → IsCounted s d → IsCounted s (add_line d line (number ∷ []))
 named_counted s d line number is above below h =
     record {
       lines = All-join _ d.lines (line ∷ []) (no_less (length s.inserted) (required_insert_count d) _ d.lines (more_is_more 0 d.references (number ∷ [])) h.lines)
@@ -65,7 +65,7 @@ All-at-most : (names : List ℕ) (m n : ℕ) → m ≤ n → AllByRecursion (λ 
 All-at-most [] m n le h = tt
 All-at-most (x ∷ xs) m n le h = (omega (arith, le, h.0), All-at-most xs m n le h.1)
 
-inserted_counted : (s : Sender) (d : Draft) (f : Field) → length s.inserted ≤ length d.inserted → IsCounted s d → IsCounted s (add_inserted s d f)
+inserted_counted : (s : EncoderHistory) (d : Draft) (f : Field) → length s.inserted ≤ length d.inserted → IsCounted s d → IsCounted s (add_inserted s d f)
 inserted_counted s d f longer h =
     let more : length d.inserted ≤ length (d.inserted ++ f ∷ []) = omega (arith, length-append d.inserted (f ∷ [])) in
     let made_longer : (names : List ℕ) → AllByRecursion (λ number. number ≤ length d.inserted) names → AllByRecursion (λ number. number ≤ length (d.inserted ++ f ∷ [])) names = λ names k. All-at-most names _ _ more k in
@@ -79,7 +79,7 @@ inserted_counted s d f longer h =
 le_is : (a b : ℕ) → nat_le a b ≡ true → a ≤ b
 le_is a b e = grind (arith, common_steps)
 
-pub found_back : (s : Sender) (d : Draft) (f : Field) (number : ℕ) → found s d f ≡ Some number → (length s.inserted - (length s.inserted - number) ≡ number) × (0 < number) × (number ≤ length d.inserted)
+pub found_back : (s : EncoderHistory) (d : Draft) (f : Field) (number : ℕ) → found s d f ≡ Some number → (length s.inserted - (length s.inserted - number) ≡ number) × (0 < number) × (number ≤ length d.inserted)
 found_back s d f number h =
     let p = newest_from-passes _ 1 d.inserted number h in
     let a = both _ _ p.test_is in
@@ -92,11 +92,11 @@ pub name_back : (base number : ℕ) (value : List ℕ) (b : Bool) → nat_le num
 name_back base number value true e above = grind (arith, common_steps)
 name_back base number value false e above = grind (arith, common_steps)
 
-record Both (s : Sender) (d : Draft) : Type 0 where
+record Both (s : EncoderHistory) (d : Draft) : Type 0 where
   longer : length s.inserted ≤ length d.inserted
   counted : IsCounted s d
 
-literal_both : (s : Sender) (d : Draft) (f : Field) → Both s d → Both s (add_literal s d f)
+literal_both : (s : EncoderHistory) (d : Draft) (f : Field) → Both s d → Both s (add_literal s d f)
 literal_both s d f h =
     chosen (Both s) (static_name f.name) _ _ (λ index e. record { longer = h.longer; counted = plain_counted s d _ refl h.counted }) (λ none.
     chosen (Both s) (found_name s d f) _ _ (λ number e.
@@ -105,7 +105,7 @@ literal_both s d f h =
     record { longer = h.longer; counted = named_counted s d _ number (name_back (length s.inserted) number f.value _ refl above) above (omega (arith, p.below)) h.counted }) (λ none.
     record { longer = h.longer; counted = plain_counted s d _ refl h.counted }))
 
-field_both : (s : Sender) (d : Draft) (f : Field) → Both s d → Both s (add_field s d f)
+field_both : (s : EncoderHistory) (d : Draft) (f : Field) → Both s d → Both s (add_field s d f)
 field_both s d f h =
     chosen (Both s) (static_field f) _ _ (λ index e. record { longer = h.longer; counted = plain_counted s d _ refl h.counted }) (λ none.
     chosen (Both s) (found s d f) _ _ (λ number e. let k = found_back s d f number e in record { longer = h.longer; counted = named_counted s d _ number k.0 k.1 k.2 h.counted }) (λ none.
@@ -113,12 +113,12 @@ field_both s d f h =
     (λ e. record { longer = omega (arith, h.longer, length-append d.inserted (f ∷ [])); counted = inserted_counted s d f h.longer h.counted })
     (literal_both s d f h)))
 
-fields_both : (s : Sender) (d : Draft) (fields : List Field) → Both s d → Both s (fold (add_field s) d fields)
+fields_both : (s : EncoderHistory) (d : Draft) (fields : List Field) → Both s d → Both s (fold (add_field s) d fields)
 fields_both s d [] h = h
 fields_both s d (f ∷ fields) h = fields_both s (add_field s d f) fields (field_both s d f h)
 
-pub block_counted : (s : Sender) (fields : List Field) → IsCounted s (draft_of s fields)
-block_counted s fields = (fields_both s (record { inserted = s.inserted; instructions = []; lines = []; references = [] }) fields (record { longer = omega arith; counted = record { lines = tt; positive = tt; made = tt } })).counted
+pub section_counted : (s : EncoderHistory) (fields : List Field) → IsCounted s (draft_of s fields)
+section_counted s fields = (fields_both s (record { inserted = s.inserted; instructions = []; lines = []; references = [] }) fields (record { longer = omega arith; counted = record { lines = tt; positive = tt; made = tt } })).counted
 
 slice_get-take : {X : Type 0} (xs : List X) (n i : ℕ) (x : X) → i < n → slice_get xs i ≡ Some x → slice_get (take n xs) i ≡ Some x
 slice_get-take [] n i x lt h = cc
@@ -145,8 +145,8 @@ StandFor-take fs n base (l ∷ ls) (f ∷ fields) le h = (named_field-take fs n 
 StandFor-take fs n base [] (f ∷ fields) le h = h
 StandFor-take fs n base (l ∷ ls) [] le h = h
 
--- what holds of each block holds of the oldest
-pub oldest_holds : (P : UnderWay → Type 0) (stream : ℕ) (blocks : List UnderWay) (b : UnderWay) → AllByRecursion P blocks → oldest stream blocks ≡ Some b → P b
+-- what holds of each section holds of the oldest
+pub oldest_holds : (P : UndecodedSection → Type 0) (stream : ℕ) (sections : List UndecodedSection) (b : UndecodedSection) → AllByRecursion P sections → oldest stream sections ≡ Some b → P b
 oldest_holds P stream [] b h e = cc
 oldest_holds P stream (x ∷ xs) b h e = by_test (x.stream == stream) h.0 e (λ k. oldest_holds P stream xs b h.1 k)
   where
@@ -154,9 +154,9 @@ oldest_holds P stream (x ∷ xs) b h e = by_test (x.stream == stream) h.0 e (λ 
     by_test true p e later = subst P (ap (λ o. unwrap_or o x) e) p
     by_test false p e later = later e
 
-named_each : (P : ℕ → Type 0) (stream : ℕ) (bs : List Tracked) → AllByRecursion P (flat_map (λ b. b.references) bs) → AllByRecursion (AllByRecursion P) (tracked_references stream bs)
+named_each : (P : ℕ → Type 0) (stream : ℕ) (bs : List UnacknowledgedSection) → AllByRecursion P (flat_map (λ b. b.references) bs) → AllByRecursion (AllByRecursion P) (tracked_references stream bs)
 named_each P stream [] h = tt
-named_each P stream (b ∷ bs) h = by_test (b.stream == stream) (All-first P b.references (flat_map (λ (b : Tracked). b.references) bs) h) (named_each P stream bs (second P b.references (flat_map (λ (b : Tracked). b.references) bs) h))
+named_each P stream (b ∷ bs) h = by_test (b.stream == stream) (All-first P b.references (flat_map (λ (b : UnacknowledgedSection). b.references) bs) h) (named_each P stream bs (second P b.references (flat_map (λ (b : UnacknowledgedSection). b.references) bs) h))
   where
     by_test : (t : Bool) → AllByRecursion P b.references → AllByRecursion (AllByRecursion P) (tracked_references stream bs) → AllByRecursion (AllByRecursion P) (if t then b.references ∷ tracked_references stream bs else tracked_references stream bs)
     by_test true h k = (h, k)
@@ -182,37 +182,37 @@ none_named d (x ∷ xs) e h = absurd (omega (arith, e, h.0, first_counts x xs))
     first_counts : (x : ℕ) (xs : List ℕ) → x ≤ fold max (max 0 x) xs
     first_counts x xs = omega (arith, more_is_more (max 0 x) [] xs)
 
--- The names of the oldest block of a stream are there.
-names_held : (s : Session) (b : UnderWay) → IsSound s → oldest b.stream s.blocks ≡ Some b → is_canceled s b.stream ≡ false
-    → AllByRecursion (λ number. dropped s.sender.capacity s.sender.inserted < number) (references_of b)
+-- The names of the oldest section of a stream are there.
+names_held : (s : Session) (b : UndecodedSection) → IsSound s → oldest b.stream s.sections ≡ Some b → is_canceled s b.stream ≡ false
+    → AllByRecursion (λ number. evictions s.encoder.capacity s.encoder.inserted < number) (references_of b)
 names_held s b h is alive = by_count (nat_lt 0 (count_of b)) refl
   where
-    by_count : (t : Bool) → nat_lt 0 (count_of b) ≡ t → AllByRecursion (λ number. dropped s.sender.capacity s.sender.inserted < number) (references_of b)
+    by_count : (t : Bool) → nat_lt 0 (count_of b) ≡ t → AllByRecursion (λ number. evictions s.encoder.capacity s.encoder.inserted < number) (references_of b)
     by_count true e =
-        let gone : references_under_way b.stream s.blocks ≡ references_of b ∷ references_under_way b.stream (without_oldest b.stream s.blocks) = taken_names b.stream s.blocks b is ∙ rw e refl in
-        let all = All-drop (AllByRecursion (λ number. dropped s.sender.capacity s.sender.inserted < number)) (acknowledgements b.stream s.decoder_instructions) (tracked_references b.stream s.sender.tracked)
-        (named_each (λ number. dropped s.sender.capacity s.sender.inserted < number) b.stream s.sender.tracked h.references_held) in
-        (subst (λ ns. AllByRecursion (AllByRecursion (λ number. dropped s.sender.capacity s.sender.inserted < number)) ns) (h.tracked b.stream alive ∙ gone) all).0
+        let evicted : undecoded_references b.stream s.sections ≡ references_of b ∷ undecoded_references b.stream (without_oldest b.stream s.sections) = taken_names b.stream s.sections b is ∙ rw e refl in
+        let all = All-drop (AllByRecursion (λ number. evictions s.encoder.capacity s.encoder.inserted < number)) (acknowledgments b.stream s.decoder_instructions) (tracked_references b.stream s.encoder.tracked)
+        (named_each (λ number. evictions s.encoder.capacity s.encoder.inserted < number) b.stream s.encoder.tracked h.references_present) in
+        (subst (λ ns. AllByRecursion (AllByRecursion (λ number. evictions s.encoder.capacity s.encoder.inserted < number)) ns) (h.tracked b.stream alive ∙ evicted) all).0
     by_count false e =
         let none : count_of b ≡ 0 = grind (arith, common_steps) in
-        none_named _ (references_of b) none (block_counted b.sender b.fields).positive
+        none_named _ (references_of b) none (section_counted b.encoder b.fields).positive
 
--- A block that is tried once its insertions came decodes to its fields.
-pub block_decodes : (s : Session) (b : UnderWay) → IsSound s → oldest b.stream s.blocks ≡ Some b → is_canceled s b.stream ≡ false → count_of b ≤ s.received → DecodesTo s b
-block_decodes s b h is alive came =
-    let w = oldest_holds (IsWrittenOver s.sender.inserted) b.stream s.blocks b h.written is in
-    let base = length b.sender.inserted in
-    let lines = (draft_of b.sender b.fields).lines in
-    let all : StandFor s.sender.inserted base lines b.fields =
+-- A section that is tried once its insertions came decodes to its fields.
+pub section_decodes : (s : Session) (b : UndecodedSection) → IsSound s → oldest b.stream s.sections ≡ Some b → is_canceled s b.stream ≡ false → count_of b ≤ s.received → DecodesTo s b
+section_decodes s b h is alive came =
+    let w = oldest_holds (IsWrittenOver s.encoder.inserted) b.stream s.sections b h.written is in
+    let base = length b.encoder.inserted in
+    let lines = (draft_of b.encoder b.fields).lines in
+    let all : StandFor s.encoder.inserted base lines b.fields =
     subst (λ fs. StandFor fs base lines b.fields) (sym w.begins)
-    (StandFor-append (draft_of b.sender b.fields).inserted w.more base lines b.fields (block_stands b.sender b.fields)) in
-    let counted = block_counted b.sender b.fields in
-    let fewer : dropped s.sender.capacity (take s.received s.sender.inserted) ≤ dropped s.sender.capacity s.sender.inserted =
-    subst (λ fs. dropped s.sender.capacity (take s.received s.sender.inserted) ≤ dropped s.sender.capacity fs) (take-append-drop s.received s.sender.inserted)
-    (dropped-append s.sender.capacity (take s.received s.sender.inserted) (drop s.received s.sender.inserted)) in
+    (StandFor-append (draft_of b.encoder b.fields).inserted w.more base lines b.fields (section_stands b.encoder b.fields)) in
+    let counted = section_counted b.encoder b.fields in
+    let fewer : evictions s.encoder.capacity (take s.received s.encoder.inserted) ≤ evictions s.encoder.capacity s.encoder.inserted =
+    subst (λ fs. evictions s.encoder.capacity (take s.received s.encoder.inserted) ≤ evictions s.encoder.capacity fs) (take-append-drop s.received s.encoder.inserted)
+    (evictions-append s.encoder.capacity (take s.received s.encoder.inserted) (drop s.received s.encoder.inserted)) in
     record {
-      lines = StandFor-take s.sender.inserted s.received base lines b.fields (no_less base (count_of b) s.received lines came counted.lines) all;
-      held = All-weaker _ _ (references_of b) fewer (names_held s b h is alive);
+      lines = StandFor-take s.encoder.inserted s.received base lines b.fields (no_less base (count_of b) s.received lines came counted.lines) all;
+      present = All-weaker _ _ (references_of b) fewer (names_held s b h is alive);
     }
 
 -- the greatest of the names is one of them
@@ -229,20 +229,20 @@ greatest_holds P a (x ∷ xs) h = ⊎_elim
 pub count_holds : (P : ℕ → Type 0) (names : List ℕ) → 0 < fold max 0 names → AllByRecursion P names → P (fold max 0 names)
 count_holds P names above h = ⊎_elim (λ e. absurd (omega (arith, e, above))) (λ p. p) (greatest_holds P 0 names h)
 
--- The encoded count of a block that is tried stands for its count, at whatever moment.
-pub count_in_window : (s : Session) (b : UnderWay) → IsSound s → oldest b.stream s.blocks ≡ Some b → is_canceled s b.stream ≡ false → 0 < count_of b
-    → IsRequiredCount s.sender.capacity s.received (count_of b % (2 * most_entries s.sender.capacity) + 1) (count_of b)
+-- The encoded count of a section that is tried stands for its count, at whatever moment.
+pub count_in_window : (s : Session) (b : UndecodedSection) → IsSound s → oldest b.stream s.sections ≡ Some b → is_canceled s b.stream ≡ false → 0 < count_of b
+    → IsRequiredCount s.encoder.capacity s.received (count_of b % (2 * most_entries s.encoder.capacity) + 1) (count_of b)
 count_in_window s b h is alive above =
-    let w = oldest_holds (IsWrittenOver s.sender.inserted) b.stream s.blocks b h.written is in
-    let d = draft_of b.sender b.fields in
-    let made : count_of b ≤ length d.inserted = count_holds (λ n. n ≤ length d.inserted) d.references above (block_counted b.sender b.fields).made in
-    let longer : length d.inserted ≤ length s.sender.inserted = omega (arith, ap length w.begins, length-append d.inserted w.more) in
-    let held : dropped s.sender.capacity s.sender.inserted < count_of b =
-    count_holds (λ n. dropped s.sender.capacity s.sender.inserted < n) (references_of b) above (names_held s b h is alive) in
-    let few : length (table s.sender.capacity s.sender.inserted) ≤ most_entries s.sender.capacity = omega (arith, few_entries s.sender.capacity s.sender.inserted) in
+    let w = oldest_holds (IsWrittenOver s.encoder.inserted) b.stream s.sections b h.written is in
+    let d = draft_of b.encoder b.fields in
+    let made : count_of b ≤ length d.inserted = count_holds (λ n. n ≤ length d.inserted) d.references above (section_counted b.encoder b.fields).made in
+    let longer : length d.inserted ≤ length s.encoder.inserted = omega (arith, ap length w.begins, length-append d.inserted w.more) in
+    let held : evictions s.encoder.capacity s.encoder.inserted < count_of b =
+    count_holds (λ n. evictions s.encoder.capacity s.encoder.inserted < n) (references_of b) above (names_held s b h is alive) in
+    let few : length (table s.encoder.capacity s.encoder.inserted) ≤ most_entries s.encoder.capacity = omega (arith, few_entries s.encoder.capacity s.encoder.inserted) in
     record {
       positive = above;
       residue = refl;
       not_too_old = omega (arith, h.received, held, few);
-      not_too_new = omega (arith, made, longer, few, h.dropped_known, h.accounted);
+      not_too_new = omega (arith, made, longer, few, h.evictions_known, h.accounted);
     }

@@ -7,15 +7,15 @@ use Rattle.h3_field.specs.Field.{Field, field_size}
 use Rattle.h3_field.specs.Line.{FieldLine, line_bytes}
 use Rattle.h3_field.specs.Line.{FieldLine as line}
 use Rattle.h3_field.specs.Instruction.{encoder_bytes}
-use Rattle.h3_qpack.specs.Held.{gone, with_entry}
-use Rattle.h3_qpack.specs.Sender.{Sender, Tracked}
-use Rattle.h3_qpack.specs.Stored.{StoredSender, stored, stored_section, least}
-use Rattle.h3_qpack.specs.Written.{Draft, add_line, add_inserted, add_field, entry_name_line, dropped_by, insertion}
-use Rattle.h3_qpack.specs.Drafting.{IsKept, IsDrafted, IsSmall, IsChosen, IsPossible, line_for, section_after, kept_after, instructions_after, naming, oldest_of}
+use Rattle.h3_qpack.specs.TableState.{evicted, with_entry}
+use Rattle.h3_qpack.specs.EncoderHistory.{EncoderHistory, UnacknowledgedSection}
+use Rattle.h3_qpack.specs.EncoderState.{EncoderState, encoder_state, tracked_section, least}
+use Rattle.h3_qpack.specs.SectionEncoding.{Draft, add_line, add_inserted, add_field, entry_name_line, evictions_by, insertion}
+use Rattle.h3_qpack.specs.Drafting.{IsDraftState, IsDrafted, IsSmall, IsChosen, IsPossible, line_for, section_after, encoder_state_with, instructions_after, naming, oldest_of}
 use Rattle.h3_qpack.specs.declared.section.Section.{Section}
 use Rattle.h3_qpack.specs.declared.section.Choice.{Choice}
 use Rattle.h3_qpack.specs.declared.section.Choice.TheVariants as choice
-use Rattle.h3_qpack.proofs.Kept.{held_of, with_entry-held}
+use Rattle.h3_qpack.proofs.TableStates.{table_state_of, with_entry-held}
 use Rattle.h3_qpack.proofs.Choices.{NameEntries}
 use Rattle.h3_qpack.proofs.Chosen.{drafted, rule_kept, insertion_kept}
 
@@ -29,91 +29,91 @@ lines_more : (ls : List FieldLine) (l m : FieldLine) (lines : List ℕ) → line
 lines_more ls l m lines e same = ap (λ bytes. bytes ++ line_bytes l) e ∙ ap (λ k. flat_map line_bytes ls ++ line_bytes k) same ∙ flat_map_more line_bytes [] ls m
 
 -- a line that names nothing
-plain_drafted : (s : Sender) (d : Draft) (t : StoredSender) (section : Section) (lines start told : List ℕ) (l : FieldLine) → IsDrafted s d t section lines start told
-    → IsDrafted s (add_line d l []) t section (lines ++ line_bytes l) start (told ++ [])
-plain_drafted s d t section lines start told l h =
+plain_drafted : (s : EncoderHistory) (d : Draft) (t : EncoderState) (section : Section) (lines start instruction_bytes : List ℕ) (l : FieldLine) → IsDrafted s d t section lines start instruction_bytes
+    → IsDrafted s (add_line d l []) t section (lines ++ line_bytes l) start (instruction_bytes ++ [])
+plain_drafted s d t section lines start instruction_bytes l h =
     record {
-      kept = record {
-        stores = h.kept.stores;
-        base = h.kept.base;
-        may_wait = h.kept.may_wait;
-        oldest = h.kept.oldest ∙ ap oldest_of (sym (append-nil d.references));
-        newest = h.kept.newest ∙ ap (λ ns. fold max 0 ns) (sym (append-nil d.references));
+      state = record {
+        stores = h.state.stores;
+        base = h.state.base;
+        may_block = h.state.may_block;
+        oldest = h.state.oldest ∙ ap oldest_of (sym (append-nil d.references));
+        newest = h.state.newest ∙ ap (λ ns. fold max 0 ns) (sym (append-nil d.references));
       };
       lines_are = lines_more d.lines l l lines h.lines_are refl;
-      told_is = append-nil told ∙ h.told_is;
+      instructions_are = append-nil instruction_bytes ∙ h.instructions_are;
     }
 
 -- a line that names an entry
-entry_drafted : (s : Sender) (d : Draft) (t : StoredSender) (section : Section) (lines start told : List ℕ) (l m : FieldLine) (number : ℕ) → IsDrafted s d t section lines start told → l ≡ m
-    → IsDrafted s (add_line d m (number ∷ [])) t (naming section number) (lines ++ line_bytes l) start (told ++ [])
-entry_drafted s d t section lines start told l m number h same =
+entry_drafted : (s : EncoderHistory) (d : Draft) (t : EncoderState) (section : Section) (lines start instruction_bytes : List ℕ) (l m : FieldLine) (number : ℕ) → IsDrafted s d t section lines start instruction_bytes → l ≡ m
+    → IsDrafted s (add_line d m (number ∷ [])) t (naming section number) (lines ++ line_bytes l) start (instruction_bytes ++ [])
+entry_drafted s d t section lines start instruction_bytes l m number h same =
     record {
-      kept = record {
-        stores = h.kept.stores;
-        base = h.kept.base;
-        may_wait = h.kept.may_wait;
-        oldest = oldest_more d.references number section.oldest h.kept.oldest;
-        newest = newest_more d.references number section.newest h.kept.newest;
+      state = record {
+        stores = h.state.stores;
+        base = h.state.base;
+        may_block = h.state.may_block;
+        oldest = oldest_more d.references number section.oldest h.state.oldest;
+        newest = newest_more d.references number section.newest h.state.newest;
       };
       lines_are = lines_more d.lines l m lines h.lines_are same;
-      told_is = append-nil told ∙ h.told_is;
+      instructions_are = append-nil instruction_bytes ∙ h.instructions_are;
     }
 
 -- a new entry
-insertion_drafted : (s : Sender) (d : Draft) (t : StoredSender) (section : Section) (f : Field) (after : ℕ) (lines start told : List ℕ) → IsDrafted s d t section lines start told
+insertion_drafted : (s : EncoderHistory) (d : Draft) (t : EncoderState) (section : Section) (f : Field) (after : ℕ) (lines start instruction_bytes : List ℕ) → IsDrafted s d t section lines start instruction_bytes
     → IsPossible t section f (choice.Insertion after)
-    → IsDrafted s (add_inserted s d f) (kept_after t f (choice.Insertion after)) (section_after t section (choice.Insertion after)) (lines ++ line_bytes (line_for t section f (choice.Insertion after))) start
-    (told ++ flat_map encoder_bytes (instructions_after t f (choice.Insertion after)))
-insertion_drafted s d t section f after lines start told h p =
-    let table : t.table ≡ held_of s.capacity d.inserted = ap (λ (u : StoredSender). u.table) h.kept.stores in
-    let made : t.table.inserted ≡ length d.inserted = ap (λ (u : StoredSender). u.table.inserted) h.kept.stores in
-    let fits = subst (λ k. field_size f ≤ k) (ap (λ (u : StoredSender). u.table.capacity) h.kept.stores) p.0.fits in
+    → IsDrafted s (add_inserted s d f) (encoder_state_with t f (choice.Insertion after)) (section_after t section (choice.Insertion after)) (lines ++ line_bytes (line_for t section f (choice.Insertion after))) start
+    (instruction_bytes ++ flat_map encoder_bytes (instructions_after t f (choice.Insertion after)))
+insertion_drafted s d t section f after lines start instruction_bytes h p =
+    let table : t.table ≡ table_state_of s.capacity d.inserted = ap (λ (u : EncoderState). u.table) h.state.stores in
+    let made : t.table.inserted ≡ length d.inserted = ap (λ (u : EncoderState). u.table.inserted) h.state.stores in
+    let fits = subst (λ k. field_size f ≤ k) (ap (λ (u : EncoderState). u.table.capacity) h.state.stores) p.0.fits in
     let entry = with_entry-held s.capacity d.inserted f fits in
-    let is : after ≡ dropped_by s d f = p.1 ∙ ap (λ k. gone (with_entry k f)) table ∙ ap gone entry in
+    let is : after ≡ evictions_by s d f = p.1 ∙ ap (λ k. evicted (with_entry k f)) table ∙ ap evicted entry in
     let number : t.table.inserted + 1 ≡ length d.inserted + 1 = ap (λ n. n + 1) made in
-    let place : t.table.inserted - section.base ≡ length d.inserted - length s.inserted = ap (λ n. n - section.base) made ∙ ap (λ n. length d.inserted - n) h.kept.base in
+    let place : t.table.inserted - section.base ≡ length d.inserted - length s.inserted = ap (λ n. n - section.base) made ∙ ap (λ n. length d.inserted - n) h.state.base in
     record {
-      kept = record {
-        stores = ap (λ (u : StoredSender). record u { table = with_entry u.table f }) h.kept.stores ∙ ap (λ k. record (stored s) { table = k }) entry;
-        base = h.kept.base;
-        may_wait = h.kept.may_wait;
-        oldest = ap (λ n. min section.oldest n) number ∙ oldest_more d.references (length d.inserted + 1) section.oldest h.kept.oldest;
-        newest = ap (λ n. max section.newest n) number ∙ newest_more d.references (length d.inserted + 1) section.newest h.kept.newest;
+      state = record {
+        stores = ap (λ (u : EncoderState). record u { table = with_entry u.table f }) h.state.stores ∙ ap (λ k. record (encoder_state s) { table = k }) entry;
+        base = h.state.base;
+        may_block = h.state.may_block;
+        oldest = ap (λ n. min section.oldest n) number ∙ oldest_more d.references (length d.inserted + 1) section.oldest h.state.oldest;
+        newest = ap (λ n. max section.newest n) number ∙ newest_more d.references (length d.inserted + 1) section.newest h.state.newest;
       };
       lines_are = lines_more d.lines _ _ lines h.lines_are (ap (λ n. line.PostBaseField n) place);
-      told_is = ap (λ i. told ++ flat_map encoder_bytes (i ∷ [])) (insertion_kept s d t section f after h.kept is)
-          ∙ ap (λ bytes. bytes ++ flat_map encoder_bytes (insertion s d f ∷ [])) h.told_is
+      instructions_are = ap (λ i. instruction_bytes ++ flat_map encoder_bytes (i ∷ [])) (insertion_kept s d t section f after h.state is)
+          ∙ ap (λ bytes. bytes ++ flat_map encoder_bytes (insertion s d f ∷ [])) h.instructions_are
           ∙ ap (λ bytes. (start ++ flat_map encoder_bytes d.instructions) ++ bytes) (append-nil (encoder_bytes (insertion s d f)))
           ∙ flat_map_more encoder_bytes start d.instructions (insertion s d f);
     }
 
-chosen_drafted : (s : Sender) (d : Draft) (t : StoredSender) (section : Section) (f : Field) (c : Choice) (lines start told : List ℕ) → IsDrafted s d t section lines start told
+chosen_drafted : (s : EncoderHistory) (d : Draft) (t : EncoderState) (section : Section) (f : Field) (c : Choice) (lines start instruction_bytes : List ℕ) → IsDrafted s d t section lines start instruction_bytes
     → IsPossible t section f c
-    → IsDrafted s (drafted s d f c) (kept_after t f c) (section_after t section c) (lines ++ line_bytes (line_for t section f c)) start (told ++ flat_map encoder_bytes (instructions_after t f c))
-chosen_drafted s d t section f (choice.Static index) lines start told h p = plain_drafted s d t section lines start told (line.StaticField index) h
-chosen_drafted s d t section f (choice.Entry number) lines start told h p =
-    entry_drafted s d t section lines start told _ _ number h (ap (λ n. line.RelativeField (n - number)) h.kept.base)
-chosen_drafted s d t section f (choice.Insertion after) lines start told h p = insertion_drafted s d t section f after lines start told h p
-chosen_drafted s d t section f (choice.StaticName index) lines start told h p = plain_drafted s d t section lines start told (line.StaticName index f.value) h
-chosen_drafted s d t section f (choice.EntryName number) lines start told h p =
-    entry_drafted s d t section lines start told _ _ number h (ap (λ n. entry_name_line n number f.value) h.kept.base)
-chosen_drafted s d t section f choice.Literal lines start told h p = plain_drafted s d t section lines start told (line.Literal f.name f.value) h
+    → IsDrafted s (drafted s d f c) (encoder_state_with t f c) (section_after t section c) (lines ++ line_bytes (line_for t section f c)) start (instruction_bytes ++ flat_map encoder_bytes (instructions_after t f c))
+chosen_drafted s d t section f (choice.Static index) lines start instruction_bytes h p = plain_drafted s d t section lines start instruction_bytes (line.StaticField index) h
+chosen_drafted s d t section f (choice.Entry number) lines start instruction_bytes h p =
+    entry_drafted s d t section lines start instruction_bytes _ _ number h (ap (λ n. line.RelativeField (n - number)) h.state.base)
+chosen_drafted s d t section f (choice.Insertion after) lines start instruction_bytes h p = insertion_drafted s d t section f after lines start instruction_bytes h p
+chosen_drafted s d t section f (choice.StaticName index) lines start instruction_bytes h p = plain_drafted s d t section lines start instruction_bytes (line.StaticName index f.value) h
+chosen_drafted s d t section f (choice.EntryName number) lines start instruction_bytes h p =
+    entry_drafted s d t section lines start instruction_bytes _ _ number h (ap (λ n. entry_name_line n number f.value) h.state.base)
+chosen_drafted s d t section f choice.Literal lines start instruction_bytes h p = plain_drafted s d t section lines start instruction_bytes (line.Literal f.name f.value) h
 
 -- what sections that are tracked name is there
-names_kept : (s : Sender) (d : Draft) (t : StoredSender) (section : Section) → IsKept s d t section → AllByRecursion (λ u. 0 < u.oldest) t.tracked → NameEntries s
-names_kept s d t section k h = each s.tracked (subst (AllByRecursion (λ u. 0 < u.oldest)) (ap (λ (u : StoredSender). u.tracked) k.stores) h)
+names_kept : (s : EncoderHistory) (d : Draft) (t : EncoderState) (section : Section) → IsDraftState s d t section → AllByRecursion (λ u. 0 < u.oldest) t.tracked → NameEntries s
+names_kept s d t section k h = each s.tracked (subst (AllByRecursion (λ u. 0 < u.oldest)) (ap (λ (u : EncoderState). u.tracked) k.stores) h)
   where
-    each : (ts : List Tracked) → AllByRecursion (λ u. 0 < u.oldest) (map stored_section ts) → AllByRecursion (λ u. 0 < least u.references) ts
+    each : (ts : List UnacknowledgedSection) → AllByRecursion (λ u. 0 < u.oldest) (map tracked_section ts) → AllByRecursion (λ u. 0 < least u.references) ts
     each [] h = tt
     each (u ∷ us) h = (h.0, each us h.1)
 
 -- A field was written as it was chosen.
-pub field_drafted : (s : Sender) (d : Draft) (t : StoredSender) (section : Section) (f : Field) (c : Choice) (lines start told : List ℕ) → IsDrafted s d t section lines start told
+pub field_drafted : (s : EncoderHistory) (d : Draft) (t : EncoderState) (section : Section) (f : Field) (c : Choice) (lines start instruction_bytes : List ℕ) → IsDrafted s d t section lines start instruction_bytes
     → IsSmall t → IsChosen t section f c → IsPossible t section f c
-    → IsDrafted s (add_field s d f) (kept_after t f c) (section_after t section c) (lines ++ line_bytes (line_for t section f c)) start (told ++ flat_map encoder_bytes (instructions_after t f c))
-field_drafted s d t section f c lines start told h small rule p =
-    let few : length d.inserted < 2 ^ 62 = subst (λ n. n < 2 ^ 62) (ap (λ (u : StoredSender). u.table.inserted) h.kept.stores) small.few in
-    subst (λ e. IsDrafted s e (kept_after t f c) (section_after t section c) (lines ++ line_bytes (line_for t section f c)) start (told ++ flat_map encoder_bytes (instructions_after t f c)))
-    (sym (rule_kept s d t section f c h.kept (names_kept s d t section h.kept small.names) few rule))
-    (chosen_drafted s d t section f c lines start told h p)
+    → IsDrafted s (add_field s d f) (encoder_state_with t f c) (section_after t section c) (lines ++ line_bytes (line_for t section f c)) start (instruction_bytes ++ flat_map encoder_bytes (instructions_after t f c))
+field_drafted s d t section f c lines start instruction_bytes h small rule p =
+    let few : length d.inserted < 2 ^ 62 = subst (λ n. n < 2 ^ 62) (ap (λ (u : EncoderState). u.table.inserted) h.state.stores) small.few in
+    subst (λ e. IsDrafted s e (encoder_state_with t f c) (section_after t section c) (lines ++ line_bytes (line_for t section f c)) start (instruction_bytes ++ flat_map encoder_bytes (instructions_after t f c)))
+    (sym (rule_kept s d t section f c h.state (names_kept s d t section h.state small.names) few rule))
+    (chosen_drafted s d t section f c lines start instruction_bytes h p)

@@ -1,28 +1,28 @@
--- What holds of a block under way.
+-- What holds of a section under way.
 use Rattle.std.proofs.Common.{◌^◌, ◌≡◌, ℕ, ◌+◌, ◌<◌, ◌≤◌, Bool, true, false, ◌&&◌, ◌||◌, List, [], ◌∷◌, ◌++◌, length, refl, sym, ◌∙◌, ap, arith, length-append, append_assoc, append-nil, max, Some, nat_le, nat_lt, bytes_eq, if◌then◌else◌, fold}
 use Rattle.std.specs.List.{AllByRecursion, list_all}
 use Rattle.std.proofs.lemmas.Grind.{common_steps}
 use Rattle.h3_field.specs.Field.{Field, field_eq, field_size}
 use Rattle.h3_field.specs.Line.{FieldLine}
-use Rattle.h3_qpack.specs.Table.{dropped}
-use Rattle.h3_qpack.specs.Sender.{Sender, blocks_out, referenced_entries}
-use Rattle.h3_qpack.specs.Written.{Draft, is_usable, found, dropped_by, is_insertable, found_name, add_line, add_literal, add_inserted, add_field, draft_of}
+use Rattle.h3_qpack.specs.Table.{evictions}
+use Rattle.h3_qpack.specs.EncoderHistory.{EncoderHistory, blocks_out, referenced_entries}
+use Rattle.h3_qpack.specs.SectionEncoding.{Draft, is_usable, found, evictions_by, is_insertable, found_name, add_line, add_literal, add_inserted, add_field, draft_of}
 use Rattle.h3_field.specs.StaticTable.{static_field, static_name}
 use Rattle.h3_qpack.proofs.Tables.{length-table}
 use Rattle.h3_qpack.proofs.Newest.{chosen, newest_from-passes}
 
--- the entry is there, and the receiver has it or one more block may wait
-pub record IsNamed (s : Sender) (inserted : List Field) (number : ℕ) : Type 0 where
-  pub there : dropped s.capacity inserted < number
+-- the entry is there, and the decoder has it or one more section may be blocked
+pub record IsNamed (s : EncoderHistory) (inserted : List Field) (number : ℕ) : Type 0 where
+  pub there : evictions s.capacity inserted < number
   pub made : number ≤ length inserted
   pub usable : is_usable s number ≡ true
 
-pub record IsDraft (s : Sender) (d : Draft) : Type 0 where
+pub record IsDraft (s : EncoderHistory) (d : Draft) : Type 0 where
   pub more : List Field
   pub begins : d.inserted ≡ s.inserted ++ more
   pub references : AllByRecursion (IsNamed s d.inserted) d.references
-  pub held : AllByRecursion (λ number. dropped s.capacity d.inserted < number) (referenced_entries s)
-  pub dropped_known : dropped s.capacity d.inserted ≤ max s.known_received (dropped s.capacity s.inserted)
+  pub present : AllByRecursion (λ number. evictions s.capacity d.inserted < number) (referenced_entries s)
+  pub evictions_known : evictions s.capacity d.inserted ≤ max s.known_received (evictions s.capacity s.inserted)
   pub small : length s.inserted < 2 ^ 62 → length d.inserted < 2 ^ 62
 
 pub both : (a b : Bool) → (a && b) ≡ true → (a ≡ true) × (b ≡ true)
@@ -53,23 +53,23 @@ All-second P [] ys h = h
 All-second P (x ∷ xs) ys h = All-second P xs ys h.1
 
 -- a line that names entries that may be named
-line_is_draft : (s : Sender) (d : Draft) (line : FieldLine) (names : List ℕ) → IsDraft s d → AllByRecursion (IsNamed s d.inserted) names → IsDraft s (add_line d line names)
+line_is_draft : (s : EncoderHistory) (d : Draft) (line : FieldLine) (names : List ℕ) → IsDraft s d → AllByRecursion (IsNamed s d.inserted) names → IsDraft s (add_line d line names)
 line_is_draft s d line names h n =
-    record { more = h.more; begins = h.begins; references = All-join (IsNamed s d.inserted) d.references names h.references n; held = h.held; dropped_known = h.dropped_known; small = h.small }
+    record { more = h.more; begins = h.begins; references = All-join (IsNamed s d.inserted) d.references names h.references n; present = h.present; evictions_known = h.evictions_known; small = h.small }
 
 -- a field that fits is in the table after it is inserted
-still_there : (capacity : ℕ) (fs : List Field) (f : Field) → field_size f ≤ capacity → dropped capacity (fs ++ f ∷ []) < length fs + 1
+still_there : (capacity : ℕ) (fs : List Field) (f : Field) → field_size f ≤ capacity → evictions capacity (fs ++ f ∷ []) < length fs + 1
 still_there capacity [] f h = grind (arith, common_steps)
 still_there capacity (g ∷ fs) f h = grind (arith, common_steps, still_there capacity fs f h, length-append fs (f ∷ []), length-table capacity (fs ++ f ∷ []))
 
 -- what the test of an insertion says
-pub record MayInsert (s : Sender) (d : Draft) (f : Field) : Type 0 where
+pub record MayInsert (s : EncoderHistory) (d : Draft) (f : Field) : Type 0 where
   pub few : length d.inserted + 1 < 2 ^ 62
-  pub room_for_block : nat_lt (blocks_out s) s.limit ≡ true
+  pub room_for_section : nat_lt (blocks_out s) s.limit ≡ true
   pub fits : field_size f ≤ s.capacity
-  pub known_received : dropped_by s d f ≤ max s.known_received (dropped s.capacity d.inserted)
-  pub held : AllByRecursion (λ number. dropped_by s d f < number) (referenced_entries s)
-  pub own : AllByRecursion (λ number. dropped_by s d f < number) d.references
+  pub known_received : evictions_by s d f ≤ max s.known_received (evictions s.capacity d.inserted)
+  pub present : AllByRecursion (λ number. evictions_by s d f < number) (referenced_entries s)
+  pub own : AllByRecursion (λ number. evictions_by s d f < number) d.references
 
 le_true : (a b : ℕ) → nat_le a b ≡ true → a ≤ b
 le_true a b e = grind (arith, common_steps)
@@ -77,36 +77,36 @@ le_true a b e = grind (arith, common_steps)
 lt_true : (a b : ℕ) → nat_lt a b ≡ true → a < b
 lt_true a b e = grind (arith, common_steps)
 
-pub may_insert : (s : Sender) (d : Draft) (f : Field) → is_insertable s d f ≡ true → MayInsert s d f
+pub may_insert : (s : EncoderHistory) (d : Draft) (f : Field) → is_insertable s d f ≡ true → MayInsert s d f
 may_insert s d f h =
-    let a = both _ (list_all (λ number. nat_lt (dropped_by s d f) number) (referenced_entries s ++ d.references)) h in
-    let b = both _ (nat_le (dropped_by s d f) (max s.known_received (dropped s.capacity d.inserted))) a.0 in
+    let a = both _ (list_all (λ number. nat_lt (evictions_by s d f) number) (referenced_entries s ++ d.references)) h in
+    let b = both _ (nat_le (evictions_by s d f) (max s.known_received (evictions s.capacity d.inserted))) a.0 in
     let c = both (nat_lt (length d.inserted + 1) (2 ^ 62) && nat_lt (blocks_out s) s.limit) (nat_le (field_size f) s.capacity) b.0 in
     let room = both (nat_lt (length d.inserted + 1) (2 ^ 62)) (nat_lt (blocks_out s) s.limit) c.0 in
-    let all = All-tested (dropped_by s d f) (referenced_entries s ++ d.references) a.1 in
+    let all = All-tested (evictions_by s d f) (referenced_entries s ++ d.references) a.1 in
     record {
       few = lt_true _ _ room.0;
-      room_for_block = room.1;
+      room_for_section = room.1;
       fits = le_true _ _ c.1;
       known_received = le_true _ _ b.1;
-      held = All-first (λ number. dropped_by s d f < number) (referenced_entries s) d.references all;
-      own = All-second (λ number. dropped_by s d f < number) (referenced_entries s) d.references all;
+      present = All-first (λ number. evictions_by s d f < number) (referenced_entries s) d.references all;
+      own = All-second (λ number. evictions_by s d f < number) (referenced_entries s) d.references all;
     }
 
--- an entry that is named stays named where nothing that is named is dropped
-kept_names : (s : Sender) (fs gs : List Field) (names : List ℕ) → AllByRecursion (IsNamed s fs) names → AllByRecursion (λ number. dropped s.capacity (fs ++ gs) < number) names → AllByRecursion (IsNamed s (fs ++ gs)) names
+-- an entry that is named stays named where nothing that is named is evicted
+kept_names : (s : EncoderHistory) (fs gs : List Field) (names : List ℕ) → AllByRecursion (IsNamed s fs) names → AllByRecursion (λ number. evictions s.capacity (fs ++ gs) < number) names → AllByRecursion (IsNamed s (fs ++ gs)) names
 kept_names s fs gs [] h k = tt
 kept_names s fs gs (x ∷ xs) h k =
     (record { there = k.0; made = omega (arith, h.0.made, length-append fs gs); usable = h.0.usable }, kept_names s fs gs xs h.1 k.1)
 
-room_usable : (s : Sender) (number : ℕ) → nat_lt (blocks_out s) s.limit ≡ true → is_usable s number ≡ true
+room_usable : (s : EncoderHistory) (number : ℕ) → nat_lt (blocks_out s) s.limit ≡ true → is_usable s number ≡ true
 room_usable s number h = rw h (or_true (nat_le number s.known_received))
   where
     or_true : (b : Bool) → (b || true) ≡ true
     or_true true = refl
     or_true false = refl
 
-inserted_is_draft : (s : Sender) (d : Draft) (f : Field) → IsDraft s d → MayInsert s d f → IsDraft s (add_inserted s d f)
+inserted_is_draft : (s : EncoderHistory) (d : Draft) (f : Field) → IsDraft s d → MayInsert s d f → IsDraft s (add_inserted s d f)
 inserted_is_draft s d f h m =
     record {
       more = h.more ++ f ∷ [];
@@ -115,38 +115,38 @@ inserted_is_draft s d f h m =
         record {
           there = still_there s.capacity d.inserted f m.fits;
           made = omega (arith, length-append d.inserted (f ∷ []));
-          usable = room_usable s (length d.inserted + 1) m.room_for_block;
+          usable = room_usable s (length d.inserted + 1) m.room_for_section;
         },
         tt,
       );
-      held = m.held;
-      dropped_known = omega (arith, m.known_received, h.dropped_known);
+      present = m.present;
+      evictions_known = omega (arith, m.known_received, h.evictions_known);
       small = λ k. omega (arith, m.few, length-append d.inserted (f ∷ []));
     }
 
 -- what the search for an equal entry, or for an entry of the name, finds may be named
-found_is_named : (s : Sender) (d : Draft) (f : Field) (number : ℕ) → found s d f ≡ Some number → IsNamed s d.inserted number
+found_is_named : (s : EncoderHistory) (d : Draft) (f : Field) (number : ℕ) → found s d f ≡ Some number → IsNamed s d.inserted number
 found_is_named s d f number h =
     let p = newest_from-passes _ 1 d.inserted number h in
     let a = both _ (is_usable s number) p.test_is in
     let b = both _ (nat_le number (length s.inserted)) a.0 in
-    let c = both (field_eq p.entry f) (nat_lt (dropped s.capacity d.inserted) number) b.0 in
+    let c = both (field_eq p.entry f) (nat_lt (evictions s.capacity d.inserted) number) b.0 in
     record { there = lt_is _ _ c.1; made = omega (arith, p.below); usable = a.1 }
   where
     lt_is : (a b : ℕ) → nat_lt a b ≡ true → a < b
     lt_is a b e = grind (arith, common_steps)
 
-found_name_is_named : (s : Sender) (d : Draft) (f : Field) (number : ℕ) → found_name s d f ≡ Some number → IsNamed s d.inserted number
+found_name_is_named : (s : EncoderHistory) (d : Draft) (f : Field) (number : ℕ) → found_name s d f ≡ Some number → IsNamed s d.inserted number
 found_name_is_named s d f number h =
     let p = newest_from-passes _ 1 d.inserted number h in
     let a = both _ (is_usable s number) p.test_is in
-    let b = both (bytes_eq p.entry.name f.name) (nat_lt (dropped s.capacity d.inserted) number) a.0 in
+    let b = both (bytes_eq p.entry.name f.name) (nat_lt (evictions s.capacity d.inserted) number) a.0 in
     record { there = lt_is _ _ b.1; made = omega (arith, p.below); usable = a.1 }
   where
     lt_is : (a b : ℕ) → nat_lt a b ≡ true → a < b
     lt_is a b e = grind (arith, common_steps)
 
-literal_is_draft : (s : Sender) (d : Draft) (f : Field) → IsDraft s d → IsDraft s (add_literal s d f)
+literal_is_draft : (s : EncoderHistory) (d : Draft) (f : Field) → IsDraft s d → IsDraft s (add_literal s d f)
 literal_is_draft s d f h =
     chosen (IsDraft s) (static_name f.name) _ _ (λ index e. line_is_draft s d _ [] h tt) (λ none.
     chosen (IsDraft s) (found_name s d f) _ _ (λ number e. line_is_draft s d _ (number ∷ []) h (found_name_is_named s d f number e, tt)) (λ none.
@@ -156,18 +156,18 @@ pub either_way : {X : Type 0} (P : X → Type 0) (b : Bool) (x y : X) → (b ≡
 either_way P true x y p q = p refl
 either_way P false x y p q = q
 
-field_is_draft : (s : Sender) (d : Draft) (f : Field) → IsDraft s d → IsDraft s (add_field s d f)
+field_is_draft : (s : EncoderHistory) (d : Draft) (f : Field) → IsDraft s d → IsDraft s (add_field s d f)
 field_is_draft s d f h =
     chosen (IsDraft s) (static_field f) _ _ (λ index e. line_is_draft s d _ [] h tt) (λ none.
     chosen (IsDraft s) (found s d f) _ _ (λ number e. line_is_draft s d _ (number ∷ []) h (found_is_named s d f number e, tt)) (λ none.
     either_way (IsDraft s) (is_insertable s d f) _ _ (λ e. inserted_is_draft s d f h (may_insert s d f e)) (literal_is_draft s d f h)))
 
-fields_are_draft : (s : Sender) (d : Draft) (fields : List Field) → IsDraft s d → IsDraft s (fold (add_field s) d fields)
+fields_are_draft : (s : EncoderHistory) (d : Draft) (fields : List Field) → IsDraft s d → IsDraft s (fold (add_field s) d fields)
 fields_are_draft s d [] h = h
 fields_are_draft s d (f ∷ fields) h = fields_are_draft s (add_field s d f) fields (field_is_draft s d f h)
 
--- Each block under way names entries that are there, and drops none that a tracked block names or that isn't known.
-pub draft_is_draft : (s : Sender) (fields : List Field) → AllByRecursion (λ number. dropped s.capacity s.inserted < number) (referenced_entries s) → IsDraft s (draft_of s fields)
+-- Each section under way names entries that are there, and evicts none that a tracked section names or that isn't known.
+pub draft_is_draft : (s : EncoderHistory) (fields : List Field) → AllByRecursion (λ number. evictions s.capacity s.inserted < number) (referenced_entries s) → IsDraft s (draft_of s fields)
 draft_is_draft s fields held =
     fields_are_draft s (record { inserted = s.inserted; instructions = []; lines = []; references = [] }) fields
-    (record { more = []; begins = sym (append-nil s.inserted); references = tt; held = held; dropped_known = omega arith; small = λ k. k })
+    (record { more = []; begins = sym (append-nil s.inserted); references = tt; present = held; evictions_known = omega arith; small = λ k. k })

@@ -8,13 +8,13 @@ use Rattle.h3_field.specs.Line.FieldLine.{StaticField, RelativeField, PostBaseFi
 use Rattle.h3_field.specs.Section.{AreLines, NoLine, NextLine}
 use Rattle.h3_field.specs.StaticTable.{static_field, static_name}
 use Rattle.h3_field.proofs.ReadBack.{line_reads_back}
-use Rattle.h3_qpack.specs.Table.{dropped}
-use Rattle.h3_qpack.specs.Sender.{Sender}
-use Rattle.h3_qpack.specs.Held.{Held, entry_at}
-use Rattle.h3_qpack.specs.History.{held, table_of}
-use Rattle.h3_qpack.specs.Block.{insertion_at, named_field, StandFor, entry_number}
+use Rattle.h3_qpack.specs.Table.{evictions}
+use Rattle.h3_qpack.specs.EncoderHistory.{EncoderHistory}
+use Rattle.h3_qpack.specs.TableState.{TableState, entry_at}
+use Rattle.h3_qpack.specs.TableHistory.{table_state, table_of}
+use Rattle.h3_qpack.specs.NamedFields.{insertion_at, named_field, StandFor, entry_number}
 use Rattle.h3_qpack.specs.Meaning.{field_at, HaveFields}
-use Rattle.h3_qpack.specs.Written.{Draft, found, found_name, is_insertable, add_line, add_literal, add_inserted, add_field, draft_of}
+use Rattle.h3_qpack.specs.SectionEncoding.{Draft, found, found_name, is_insertable, add_line, add_literal, add_inserted, add_field, draft_of}
 use Rattle.h3_qpack.specs.Encodings.{IsWrittenLine}
 use Rattle.h3_qpack.proofs.Newest.{chosen, newest_from-passes}
 use Rattle.h3_qpack.proofs.Drafts.{either_way, All-join}
@@ -28,11 +28,11 @@ use Rattle.h3_field.specs.PrefixWriting.{written_prefix}
 use Rattle.h3_field.specs.Section.{with_value}
 use Rattle.h3_field.proofs.PrefixReadBack.{prefix_is_written, prefix_reads_back, prefix_is_read}
 use Rattle.h3_qpack.specs.Meaning.{MeansFields}
-use Rattle.h3_qpack.specs.Written.{encoded_section}
+use Rattle.h3_qpack.specs.SectionEncoding.{encoded_section}
 use Rattle.h3_qpack.specs.Encodings.{decoder_of, IsWritten}
-use Rattle.h3_qpack.specs.Session.{Session, UnderWay, oldest, is_canceled, count_of, IsSound, DecodesTo}
-use Rattle.h3_qpack.proofs.Blocks.{with_value-more}
-use Rattle.h3_qpack.proofs.Decoding.{found_back, name_back, block_counted, block_decodes, count_in_window}
+use Rattle.h3_qpack.specs.Session.{Session, UndecodedSection, oldest, is_canceled, count_of, IsSound, DecodesTo}
+use Rattle.h3_qpack.proofs.NamedFieldsOf.{with_value-more}
+use Rattle.h3_qpack.proofs.Decoding.{found_back, name_back, section_counted, section_decodes, count_in_window}
 
 -- written lines are read one behind the other
 pub lines_read : (lines : List FieldLine) → AllByRecursion IsWrittenLine lines → AreLines (flat_map line_bytes lines) lines
@@ -43,7 +43,7 @@ lines_read (l ∷ ls) h = NextLine (line_bytes l ++ flat_map line_bytes ls) (fla
 abbrev pub Names : (ℕ → Type 0) → ℕ → FieldLine → Type 0
 Names P base line = (entry_number base line ≡ 0) ⊎ P (entry_number base line)
 
-record Naming (P : ℕ → Type 0) (s : Sender) (d : Draft) : Type 0 where
+record Naming (P : ℕ → Type 0) (s : EncoderHistory) (d : Draft) : Type 0 where
   longer : length s.inserted ≤ length d.inserted
   each : AllByRecursion P d.references → AllByRecursion (Names P (length s.inserted)) d.lines
 
@@ -55,18 +55,18 @@ last_all : (P : ℕ → Type 0) (xs : List ℕ) (y : ℕ) → AllByRecursion P (
 last_all P [] y h = h.0
 last_all P (x ∷ xs) y h = last_all P xs y h.1
 
-plain_named : (P : ℕ → Type 0) (s : Sender) (d : Draft) (line : FieldLine) → entry_number (length s.inserted) line ≡ 0 → Naming P s d → Naming P s (add_line d line [])
+plain_named : (P : ℕ → Type 0) (s : EncoderHistory) (d : Draft) (line : FieldLine) → entry_number (length s.inserted) line ≡ 0 → Naming P s d → Naming P s (add_line d line [])
 plain_named P s d line none h =
     record { longer = h.longer; each = λ all. All-join (Names P (length s.inserted)) d.lines (line ∷ []) (h.each (first_all P d.references [] all)) (inl none, tt) }
 
-entry_named : (P : ℕ → Type 0) (s : Sender) (d : Draft) (line : FieldLine) (number : ℕ) → entry_number (length s.inserted) line ≡ number → Naming P s d → Naming P s (add_line d line (number ∷ []))
+entry_named : (P : ℕ → Type 0) (s : EncoderHistory) (d : Draft) (line : FieldLine) (number : ℕ) → entry_number (length s.inserted) line ≡ number → Naming P s d → Naming P s (add_line d line (number ∷ []))
 entry_named P s d line number is h =
     record {
       longer = h.longer;
       each = λ all. All-join (Names P (length s.inserted)) d.lines (line ∷ []) (h.each (first_all P d.references (number ∷ []) all)) (inr (subst P (sym is) (last_all P d.references number all)), tt);
     }
 
-inserted_named : (P : ℕ → Type 0) (s : Sender) (d : Draft) (f : Field) → Naming P s d → Naming P s (add_inserted s d f)
+inserted_named : (P : ℕ → Type 0) (s : EncoderHistory) (d : Draft) (f : Field) → Naming P s d → Naming P s (add_inserted s d f)
 inserted_named P s d f h =
     let is : length s.inserted + (length d.inserted - length s.inserted) + 1 ≡ length d.inserted + 1 = omega (arith, h.longer) in
     record {
@@ -74,7 +74,7 @@ inserted_named P s d f h =
       each = λ all. All-join (Names P (length s.inserted)) d.lines _ (h.each (first_all P d.references ((length d.inserted + 1) ∷ []) all)) (inr (subst P (sym is) (last_all P d.references (length d.inserted + 1) all)), tt);
     }
 
-literal_named : (P : ℕ → Type 0) (s : Sender) (d : Draft) (f : Field) → Naming P s d → Naming P s (add_literal s d f)
+literal_named : (P : ℕ → Type 0) (s : EncoderHistory) (d : Draft) (f : Field) → Naming P s d → Naming P s (add_literal s d f)
 literal_named P s d f h =
     chosen (Naming P s) (static_name f.name) _ _ (λ index e. plain_named P s d _ refl h) (λ none.
     chosen (Naming P s) (found_name s d f) _ _ (λ number e.
@@ -82,49 +82,49 @@ literal_named P s d f h =
     entry_named P s d _ number (name_back (length s.inserted) number f.value _ refl (omega (arith, p.above))) h) (λ none.
     plain_named P s d _ refl h))
 
-field_named : (P : ℕ → Type 0) (s : Sender) (d : Draft) (f : Field) → Naming P s d → Naming P s (add_field s d f)
+field_named : (P : ℕ → Type 0) (s : EncoderHistory) (d : Draft) (f : Field) → Naming P s d → Naming P s (add_field s d f)
 field_named P s d f h =
     chosen (Naming P s) (static_field f) _ _ (λ index e. plain_named P s d _ refl h) (λ none.
     chosen (Naming P s) (found s d f) _ _ (λ number e. entry_named P s d _ number (found_back s d f number e).0 h) (λ none.
     either_way (Naming P s) (is_insertable s d f) _ _ (λ e. inserted_named P s d f h) (literal_named P s d f h)))
 
-fields_named : (P : ℕ → Type 0) (s : Sender) (d : Draft) (fields : List Field) → Naming P s d → Naming P s (fold (add_field s) d fields)
+fields_named : (P : ℕ → Type 0) (s : EncoderHistory) (d : Draft) (fields : List Field) → Naming P s d → Naming P s (fold (add_field s) d fields)
 fields_named P s d [] h = h
 fields_named P s d (f ∷ fields) h = fields_named P s (add_field s d f) fields (field_named P s d f h)
 
 -- what holds of all entries that a section names holds of each line's
-pub lines_name : (P : ℕ → Type 0) (s : Sender) (fields : List Field) → AllByRecursion P (draft_of s fields).references
+pub lines_name : (P : ℕ → Type 0) (s : EncoderHistory) (fields : List Field) → AllByRecursion P (draft_of s fields).references
     → AllByRecursion (Names P (length s.inserted)) (draft_of s fields).lines
 lines_name P s fields all =
     (fields_named P s (record { inserted = s.inserted; instructions = []; lines = []; references = [] }) fields (record { longer = omega arith; each = λ none. tt })).each all
 
--- an entry that is not gone is found where it is held
-pub still_held : (fs : List Field) (gone number : ℕ) (f : Field) → gone < number → gone ≤ length fs → insertion_at fs number ≡ Some f
-    → slice_get (drop gone fs) (number - gone - 1) ≡ Some f
-still_held fs gone zero f lt le h = absurd (omega (arith, lt))
-still_held fs gone (suc n) f lt le h = let same : suc n - gone - 1 ≡ n - gone = omega (arith, lt) in rw same (at fs gone n (omega (arith, lt)) h)
+-- an entry that is not evicted is found where it is held
+pub still_held : (fs : List Field) (evicted number : ℕ) (f : Field) → evicted < number → evicted ≤ length fs → insertion_at fs number ≡ Some f
+    → slice_get (drop evicted fs) (number - evicted - 1) ≡ Some f
+still_held fs evicted zero f lt le h = absurd (omega (arith, lt))
+still_held fs evicted (suc n) f lt le h = let same : suc n - evicted - 1 ≡ n - evicted = omega (arith, lt) in rw same (at fs evicted n (omega (arith, lt)) h)
   where
-    at : (fs : List Field) (gone n : ℕ) → gone ≤ n → slice_get fs n ≡ Some f → slice_get (drop gone fs) (n - gone) ≡ Some f
+    at : (fs : List Field) (evicted n : ℕ) → evicted ≤ n → slice_get fs n ≡ Some f → slice_get (drop evicted fs) (n - evicted) ≡ Some f
     at fs zero n le h = let same : n - 0 ≡ n = omega arith in rw same h
     at [] (suc g) n le h = absurd (cc)
     at (x ∷ xs) (suc g) zero le h = absurd (omega (arith, le))
     at (x ∷ xs) (suc g) (suc n) le h = let same : suc n - suc g ≡ n - g = omega arith in rw same (at xs g n (omega (arith, le)) h)
 
 -- the field of a line, where what it names is held
-held_field : (capacity : ℕ) (fs : List Field) (number : ℕ) (f : Field) → (number ≡ 0) ⊎ (dropped capacity fs < number) → insertion_at fs number ≡ Some f
-    → entry_at (held (table_of capacity fs)) number ≡ Some f
+held_field : (capacity : ℕ) (fs : List Field) (number : ℕ) (f : Field) → (number ≡ 0) ⊎ (evictions capacity fs < number) → insertion_at fs number ≡ Some f
+    → entry_at (table_state (table_of capacity fs)) number ≡ Some f
 held_field capacity fs number f (inl none) h = absurd (nothing number none h)
   where
     nothing : (n : ℕ) → n ≡ 0 → insertion_at fs n ≡ Some f → ⊥
     nothing zero e h = cc
     nothing (suc n) e h = omega (arith, e)
 held_field capacity fs number f (inr there) h =
-    let gone : length fs - length (drop (dropped capacity fs) fs) ≡ dropped capacity fs = omega (arith, length-drop (dropped capacity fs) fs) in
-    let yes : nat_lt (dropped capacity fs) number ≡ true = grind (arith, common_steps) in
-    rw (gone, yes) (still_held fs (dropped capacity fs) number f there (omega arith) h)
+    let evicted : length fs - length (drop (evictions capacity fs) fs) ≡ evictions capacity fs = omega (arith, length-drop (evictions capacity fs) fs) in
+    let yes : nat_lt (evictions capacity fs) number ≡ true = grind (arith, common_steps) in
+    rw (evicted, yes) (still_held fs (evictions capacity fs) number f there (omega arith) h)
 
-line_held : (capacity : ℕ) (fs : List Field) (base : ℕ) (line : FieldLine) (f : Field) → Names (λ n. dropped capacity fs < n) base line → named_field fs base line ≡ Some f
-    → field_at (held (table_of capacity fs)) base line ≡ Some f
+line_held : (capacity : ℕ) (fs : List Field) (base : ℕ) (line : FieldLine) (f : Field) → Names (λ n. evictions capacity fs < n) base line → named_field fs base line ≡ Some f
+    → field_at (table_state (table_of capacity fs)) base line ≡ Some f
 line_held capacity fs base (StaticField index) f names h = h
 line_held capacity fs base (RelativeField index) f names h = held_field capacity fs (base - index) f names h
 line_held capacity fs base (PostBaseField index) f names h = held_field capacity fs (base + index + 1) f names h
@@ -133,8 +133,8 @@ line_held capacity fs base (RelativeName index value) f names h = with_value-mor
 line_held capacity fs base (PostBaseName index value) f names h = with_value-more value _ _ f (λ g e. held_field capacity fs (base + index + 1) g names e) h
 line_held capacity fs base (Literal name value) f names h = h
 
-lines_held : (capacity : ℕ) (fs : List Field) (base : ℕ) (lines : List FieldLine) (fields : List Field) → AllByRecursion (Names (λ n. dropped capacity fs < n) base) lines
-    → StandFor fs base lines fields → HaveFields (held (table_of capacity fs)) base lines fields
+lines_held : (capacity : ℕ) (fs : List Field) (base : ℕ) (lines : List FieldLine) (fields : List Field) → AllByRecursion (Names (λ n. evictions capacity fs < n) base) lines
+    → StandFor fs base lines fields → HaveFields (table_state (table_of capacity fs)) base lines fields
 lines_held capacity fs base [] [] names h = tt
 lines_held capacity fs base (l ∷ ls) (f ∷ fields) names h = (line_held capacity fs base l f names.0 h.0, lines_held capacity fs base ls fields names.1 h.1)
 lines_held capacity fs base [] (f ∷ fields) names h = h
@@ -149,7 +149,7 @@ none_with : (value : List ℕ) (o : Option Field) (f : Field) → ((g : Field) �
 none_with value None f none h = cc
 none_with value (Some g) f none h = none g refl
 
-line_plain : (h : Held) (fs : List Field) (base : ℕ) (line : FieldLine) (f : Field) → entry_number base line ≤ 0 → named_field fs base line ≡ Some f → field_at h 0 line ≡ Some f
+line_plain : (h : TableState) (fs : List Field) (base : ℕ) (line : FieldLine) (f : Field) → entry_number base line ≤ 0 → named_field fs base line ≡ Some f → field_at h 0 line ≡ Some f
 line_plain h fs base (StaticField index) f none e = e
 line_plain h fs base (RelativeField index) f none e = absurd (nothing_at fs (base - index) f (omega (arith, none)) e)
 line_plain h fs base (PostBaseField index) f none e = absurd (omega (arith, none))
@@ -158,7 +158,7 @@ line_plain h fs base (RelativeName index value) f none e = absurd (none_with val
 line_plain h fs base (PostBaseName index value) f none e = absurd (omega (arith, none))
 line_plain h fs base (Literal name value) f none e = e
 
-lines_plain : (h : Held) (fs : List Field) (base : ℕ) (lines : List FieldLine) (fields : List Field) → AllByRecursion (λ line. entry_number base line ≤ 0) lines
+lines_plain : (h : TableState) (fs : List Field) (base : ℕ) (lines : List FieldLine) (fields : List Field) → AllByRecursion (λ line. entry_number base line ≤ 0) lines
     → StandFor fs base lines fields → HaveFields h 0 lines fields
 lines_plain h fs base [] [] none e = tt
 lines_plain h fs base (l ∷ ls) (f ∷ fields) none e = (line_plain h fs base l f none.0 e.0, lines_plain h fs base ls fields none.1 e.1)
@@ -186,61 +186,61 @@ prefix_read capacity count base rest few low =
         either false = omega (arith, low)
 
 -- A section whose insertions came means its fields.
-pub section_means : (s : Session) (b : UnderWay) → IsSound s → oldest b.stream s.blocks ≡ Some b → is_canceled s b.stream ≡ false → count_of b ≤ s.received → IsWritten s b
-    → MeansFields (decoder_of s) (encoded_section b.sender b.fields) (count_of b) b.fields
+pub section_means : (s : Session) (b : UndecodedSection) → IsSound s → oldest b.stream s.sections ≡ Some b → is_canceled s b.stream ≡ false → count_of b ≤ s.received → IsWritten s b
+    → MeansFields (decoder_of s) (encoded_section b.encoder b.fields) (count_of b) b.fields
 section_means s b h is alive came w = by_count (nat_lt 0 (count_of b)) refl
   where
     d : DecodesTo s b
-    d = block_decodes s b h is alive came
+    d = section_decodes s b h is alive came
 
     lines : List FieldLine
-    lines = (draft_of b.sender b.fields).lines
+    lines = (draft_of b.encoder b.fields).lines
 
-    received_is : length (take s.received s.sender.inserted) ≡ s.received
-    received_is = length-take-le s.received s.sender.inserted h.received
+    received_is : length (take s.received s.encoder.inserted) ≡ s.received
+    received_is = length-take-le s.received s.encoder.inserted h.received
 
     few : count_of b < 2 ^ 62
     few = omega (arith, came, h.received, h.small)
 
-    by_count : (t : Bool) → nat_lt 0 (count_of b) ≡ t → MeansFields (decoder_of s) (encoded_section b.sender b.fields) (count_of b) b.fields
+    by_count : (t : Bool) → nat_lt 0 (count_of b) ≡ t → MeansFields (decoder_of s) (encoded_section b.encoder b.fields) (count_of b) b.fields
     by_count true e =
         let above : 0 < count_of b = grind (arith, common_steps) in
         let window = count_in_window s b h is alive above in
-        let some : 0 < s.sender.capacity = omega (arith, window.not_too_old, window.not_too_new) in
-        let taken : IsPrefix s.sender.capacity s.received (written_prefix s.sender.capacity (count_of b) (length b.sender.inserted)) (count_of b) (length b.sender.inserted) =
-        prefix_is_read s.sender.capacity s.received (count_of b) (length b.sender.inserted) some (λ z. absurd (omega (arith, z, above))) window.not_too_old window.not_too_new in
+        let some : 0 < s.encoder.capacity = omega (arith, window.not_too_old, window.not_too_new) in
+        let taken : IsPrefix s.encoder.capacity s.received (written_prefix s.encoder.capacity (count_of b) (length b.encoder.inserted)) (count_of b) (length b.encoder.inserted) =
+        prefix_is_read s.encoder.capacity s.received (count_of b) (length b.encoder.inserted) some (λ z. absurd (omega (arith, z, above))) window.not_too_old window.not_too_new in
         record {
           rest = flat_map line_bytes lines;
-          base = length b.sender.inserted;
+          base = length b.encoder.inserted;
           lines = lines;
           begins = record {
-            encoded = written_prefix b.sender.capacity (count_of b) (length b.sender.inserted);
-            whole = prefix_read b.sender.capacity (count_of b) (length b.sender.inserted) _ few w.base;
-            is = subst (λ n. IsPrefix s.sender.capacity n (written_prefix b.sender.capacity (count_of b) (length b.sender.inserted)) (count_of b) (length b.sender.inserted)) (sym received_is)
-                (subst (λ c. IsPrefix s.sender.capacity s.received (written_prefix c (count_of b) (length b.sender.inserted)) (count_of b) (length b.sender.inserted)) (sym (w.capacity above)) taken);
+            encoded = written_prefix b.encoder.capacity (count_of b) (length b.encoder.inserted);
+            whole = prefix_read b.encoder.capacity (count_of b) (length b.encoder.inserted) _ few w.base;
+            is = subst (λ n. IsPrefix s.encoder.capacity n (written_prefix b.encoder.capacity (count_of b) (length b.encoder.inserted)) (count_of b) (length b.encoder.inserted)) (sym received_is)
+                (subst (λ c. IsPrefix s.encoder.capacity s.received (written_prefix c (count_of b) (length b.encoder.inserted)) (count_of b) (length b.encoder.inserted)) (sym (w.capacity above)) taken);
           };
           received = omega (arith, came, received_is);
           split = lines_read lines w.lines;
-          named = lines_held s.sender.capacity (take s.received s.sender.inserted) (length b.sender.inserted) lines b.fields
-              (lines_name (λ n. dropped s.sender.capacity (take s.received s.sender.inserted) < n) b.sender b.fields d.held) d.lines;
+          named = lines_held s.encoder.capacity (take s.received s.encoder.inserted) (length b.encoder.inserted) lines b.fields
+              (lines_name (λ n. evictions s.encoder.capacity (take s.received s.encoder.inserted) < n) b.encoder b.fields d.present) d.lines;
         }
     by_count false e =
         let none : count_of b ≡ 0 = grind (arith, common_steps) in
-        let counted : AllByRecursion (λ line. entry_number (length b.sender.inserted) line ≤ count_of b) lines = (block_counted b.sender b.fields).lines in
+        let counted : AllByRecursion (λ line. entry_number (length b.encoder.inserted) line ≤ count_of b) lines = (section_counted b.encoder b.fields).lines in
         record {
           rest = flat_map line_bytes lines;
           base = 0;
           lines = lines;
           begins = record {
-            encoded = written_prefix b.sender.capacity (count_of b) (length b.sender.inserted);
-            whole = prefix_read b.sender.capacity (count_of b) (length b.sender.inserted) _ few w.base;
-            is = rw none (plain (nat_lt 0 s.sender.capacity) refl);
+            encoded = written_prefix b.encoder.capacity (count_of b) (length b.encoder.inserted);
+            whole = prefix_read b.encoder.capacity (count_of b) (length b.encoder.inserted) _ few w.base;
+            is = rw none (plain (nat_lt 0 s.encoder.capacity) refl);
           };
           received = omega (arith, came, received_is);
           split = lines_read lines w.lines;
-          named = lines_plain (held (table_of s.sender.capacity (take s.received s.sender.inserted))) (take s.received s.sender.inserted) (length b.sender.inserted) lines b.fields (rw none at counted) d.lines;
+          named = lines_plain (table_state (table_of s.encoder.capacity (take s.received s.encoder.inserted))) (take s.received s.encoder.inserted) (length b.encoder.inserted) lines b.fields (rw none at counted) d.lines;
         }
       where
-        plain : (t : Bool) → nat_lt 0 s.sender.capacity ≡ t → IsPrefix s.sender.capacity (length (take s.received s.sender.inserted)) (written_prefix b.sender.capacity 0 (length b.sender.inserted)) 0 0
+        plain : (t : Bool) → nat_lt 0 s.encoder.capacity ≡ t → IsPrefix s.encoder.capacity (length (take s.received s.encoder.inserted)) (written_prefix b.encoder.capacity 0 (length b.encoder.inserted)) 0 0
         plain true e = inr (grind (arith, common_steps), inl (refl, refl), refl)
         plain false e = inl (grind (arith, common_steps), refl, refl)

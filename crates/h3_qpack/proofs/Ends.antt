@@ -8,9 +8,9 @@ use Rattle.h3_field.specs.StringReading.{bytes_reading, string}
 use Rattle.h3_field.specs.Shapes.{index_and_string, two_strings}
 use Rattle.h3_field.specs.Instruction.{EncoderInstruction, DecoderInstruction}
 use Rattle.h3_field.specs.InstructionReading.{name_reference, literal_name, capacity, repeat, instruction, acknowledgment, cancellation, increment, decoder_instruction}
-use Rattle.h3_qpack.specs.Receiver.{Receiver}
-use Rattle.h3_qpack.specs.Stored.{StoredSender}
-use Rattle.h3_qpack.specs.Telling.{HasHeard}
+use Rattle.h3_qpack.specs.DecoderState.{DecoderState}
+use Rattle.h3_qpack.specs.EncoderState.{EncoderState}
+use Rattle.h3_qpack.specs.EncoderAnswers.{HasReadDecoderInstructions}
 use Rattle.h3_qpack.specs.Instructions.{AreInstructions, NoInstruction, NextInstruction, HasRead, AreDecoderInstructions, NoDecoderInstruction, NextDecoderInstruction}
 
 -- the bytes end so
@@ -144,8 +144,8 @@ replies_end bytes left (i ∷ is) (NextDecoderInstruction b rest l j js here oth
     further bytes rest left (end_of_whole decoder_instruction bytes rest i reply_leaves here) (replies_end rest left is others)
 
 -- so it is what is left of the bytes without the others
-pub dropped : (bytes left : List ℕ) → EndsWith bytes left → drop (length bytes - length left) bytes ≡ left
-dropped bytes left h =
+pub evictions : (bytes left : List ℕ) → EndsWith bytes left → drop (length bytes - length left) bytes ≡ left
+evictions bytes left h =
     let sizes : length bytes - length left ≡ length h.0 = omega (arith, ap length h.1, length-append h.0 left) in
     ap (λ n. drop n bytes) sizes ∙ ap (λ l. drop (length h.0) l) h.1 ∙ drop_front h.0 left
   where
@@ -153,8 +153,8 @@ dropped bytes left h =
     drop_front [] ys = refl
     drop_front (x ∷ xs) ys = drop_front xs ys
 
-pub read_to_an_end : (old new : Receiver) (bytes left : List ℕ) → HasRead old new bytes left → left ≡ drop (length bytes - length left) bytes
-read_to_an_end old new bytes left h = sym (dropped bytes left (instructions_end bytes left h.instructions h.split))
+pub read_to_an_end : (old new : DecoderState) (bytes left : List ℕ) → HasRead old new bytes left → left ≡ drop (length bytes - length left) bytes
+read_to_an_end old new bytes left h = sym (evictions bytes left (instructions_end bytes left h.instructions h.split))
 
-pub heard_to_an_end : (old new : StoredSender) (bytes left : List ℕ) → HasHeard old new bytes left → left ≡ drop (length bytes - length left) bytes
-heard_to_an_end old new bytes left h = sym (dropped bytes left (replies_end bytes left h.instructions h.split))
+pub heard_to_an_end : (old new : EncoderState) (bytes left : List ℕ) → HasReadDecoderInstructions old new bytes left → left ≡ drop (length bytes - length left) bytes
+heard_to_an_end old new bytes left h = sym (evictions bytes left (replies_end bytes left h.instructions h.split))

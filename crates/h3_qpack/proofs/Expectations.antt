@@ -5,27 +5,27 @@ use Rattle.std.proofs.lemmas.Grind.{common_steps}
 use Rattle.h3_field.specs.Field.{Field}
 use Rattle.h3_field.specs.Instruction.{DecoderInstruction}
 use Rattle.h3_field.specs.Instruction.DecoderInstruction.{Acknowledge, CancelStream, Increment}
-use Rattle.h3_qpack.specs.Sender.{Sender, told, told_all, blocks_out}
-use Rattle.h3_qpack.specs.Session.{Session, UnderWay, IsSound, is_canceled, oldest, inserted, after_cancellation}
+use Rattle.h3_qpack.specs.EncoderHistory.{EncoderHistory, encoder_after, encoder_after_all, blocks_out}
+use Rattle.h3_qpack.specs.Session.{Session, UndecodedSection, IsSound, is_canceled, oldest, inserted, after_cancellation}
 use Rattle.h3_qpack.specs.Schedule.{beginning}
-use Rattle.h3_qpack.specs.Expected.{EncodesTo, ReadsInsertions, DeliversInsertions, DeliversReplies, DecodesAs, CancelsAs, Expects, Expected, NoEvent, NextEvent}
+use Rattle.h3_qpack.specs.Expected.{EncodesTo, ReadsInsertions, DeliversInsertions, DeliversDecoderInstructions, DecodesAs, CancelsAs, Expects, Expected, NoEvent, NextEvent}
 use Rattle.h3_qpack.specs.declared.session.SessionEvent.{SessionEvent}
 use Rattle.h3_qpack.specs.declared.session.SessionEvent.TheVariants as event
 use Rattle.h3_qpack.specs.declared.session.SessionAnswer.{SessionAnswer}
 use Rattle.h3_qpack.specs.declared.session.SessionAnswer.TheVariants as answer
 use Rattle.h3_qpack.proofs.Schedules.{beginning_is_sound}
-use Rattle.h3_qpack.proofs.Sessions.{block_written, insertions_kept, insertions_read, block_decoded, stream_abandoned}
+use Rattle.h3_qpack.proofs.Sessions.{section_written, insertions_kept, insertions_read, section_decoded, stream_abandoned}
 use Rattle.h3_qpack.proofs.DecoderStreams.{heard_sound}
 
 -- A sound session with the limit of another.
 record Keeps (s t : Session) : Type 0 where
   sound : IsSound t
-  limit : t.sender.limit ≡ s.sender.limit
+  limit : t.encoder.limit ≡ s.encoder.limit
 
 stays : (s t : Session) → IsSound s → t ≡ s → Keeps s t
 stays s t h e = subst (Keeps s) (sym e) (record { sound = h; limit = refl })
 
-oldest_of_stream : (stream : ℕ) (blocks : List UnderWay) (b : UnderWay) → oldest stream blocks ≡ Some b → b.stream ≡ stream
+oldest_of_stream : (stream : ℕ) (sections : List UndecodedSection) (b : UndecodedSection) → oldest stream sections ≡ Some b → b.stream ≡ stream
 oldest_of_stream stream [] b h = absurd (cc)
 oldest_of_stream stream (c ∷ cs) b h = by_test (c.stream == stream) refl h (λ k. oldest_of_stream stream cs b k)
   where
@@ -36,17 +36,17 @@ oldest_of_stream stream (c ∷ cs) b h = by_test (c.stream == stream) refl h (λ
         same m n e = grind (arith, common_steps)
     by_test false e h later = later h
 
-told_limit : (s : Sender) (i : DecoderInstruction) → (told s i).limit ≡ s.limit
-told_limit s (Acknowledge stream) = refl
-told_limit s (CancelStream stream) = refl
-told_limit s (Increment count) = refl
+encoder_after_limit : (s : EncoderHistory) (i : DecoderInstruction) → (encoder_after s i).limit ≡ s.limit
+encoder_after_limit s (Acknowledge stream) = refl
+encoder_after_limit s (CancelStream stream) = refl
+encoder_after_limit s (Increment count) = refl
 
-told_all_limit : (s : Sender) (is : List DecoderInstruction) → (told_all s is).limit ≡ s.limit
-told_all_limit s [] = refl
-told_all_limit s (i ∷ is) = told_all_limit (told s i) is ∙ told_limit s i
+encoder_after_all_limit : (s : EncoderHistory) (is : List DecoderInstruction) → (encoder_after_all s is).limit ≡ s.limit
+encoder_after_all_limit s [] = refl
+encoder_after_all_limit s (i ∷ is) = encoder_after_all_limit (encoder_after s i) is ∙ encoder_after_limit s i
 
 encodes_keeps : (s : Session) (stream : ℕ) (fields : List Field) (a : SessionAnswer) (t : Session) → IsSound s → EncodesTo s stream fields a t → Keeps s t
-encodes_keeps s stream fields (answer.Encoded count) t h e = subst (Keeps s) (sym e.0) (record { sound = block_written s stream fields h; limit = refl })
+encodes_keeps s stream fields (answer.Encoded count) t h e = subst (Keeps s) (sym e.0) (record { sound = section_written s stream fields h; limit = refl })
 encodes_keeps s stream fields (answer.Refused x) t h e = subst (Keeps s) (sym e.1.2) (record { sound = insertions_kept s (take e.1.0 fields) h; limit = refl })
 encodes_keeps s stream fields answer.Delivered t h e = absurd e
 encodes_keeps s stream fields (answer.Short most) t h e = absurd e
@@ -72,10 +72,10 @@ delivers_keeps s (answer.Missing count) t h e = absurd e
 delivers_keeps s answer.NoBlock t h e = absurd e
 delivers_keeps s answer.Canceled t h e = absurd e
 
-replies_keeps : (s : Session) (a : SessionAnswer) (t : Session) → IsSound s → DeliversReplies s a t → Keeps s t
+replies_keeps : (s : Session) (a : SessionAnswer) (t : Session) → IsSound s → DeliversDecoderInstructions s a t → Keeps s t
 replies_keeps s (answer.Short most) t h e = stays s t h e
 replies_keeps s answer.Delivered t h e =
-    subst (Keeps s) (sym e.1) (record { sound = heard_sound e.0 s h; limit = told_all_limit s.sender (take e.0 s.decoder_instructions) })
+    subst (Keeps s) (sym e.1) (record { sound = heard_sound e.0 s h; limit = encoder_after_all_limit s.encoder (take e.0 s.decoder_instructions) })
 replies_keeps s (answer.Refused x) t h e = absurd e
 replies_keeps s (answer.Encoded count) t h e = absurd e
 replies_keeps s (answer.Decoded fs) t h e = absurd e
@@ -87,9 +87,9 @@ decodes_keeps : (s : Session) (stream : ℕ) (a : SessionAnswer) (t : Session) �
 decodes_keeps s stream answer.Canceled t h e = stays s t h e.1
 decodes_keeps s stream answer.NoBlock t h e = stays s t h e.2
 decodes_keeps s stream (answer.Decoded fs) t h e =
-    let of_stream = oldest_of_stream stream s.blocks e.1.0 e.1.1 in
+    let of_stream = oldest_of_stream stream s.sections e.1.0 e.1.1 in
     subst (Keeps s) (sym e.1.4) (record {
-      sound = block_decoded s e.1.0 (subst (λ n. oldest n s.blocks ≡ Some e.1.0) (sym of_stream) e.1.1) (subst (λ n. is_canceled s n ≡ false) (sym of_stream) e.0) h;
+      sound = section_decoded s e.1.0 (subst (λ n. oldest n s.sections ≡ Some e.1.0) (sym of_stream) e.1.1) (subst (λ n. is_canceled s n ≡ false) (sym of_stream) e.0) h;
       limit = refl;
     })
 decodes_keeps s stream (answer.Missing count) t h e = stays s t h e.1.4
@@ -126,9 +126,9 @@ run_keeps capacity limit events answers s (NextEvent before replies mid new e a 
     let k = expects_keeps mid e a new m.sound h in
     record { sound = k.sound; limit = k.limit ∙ m.limit }
 
--- Every session that is expected is sound, and no more of its sections wait than may.
+-- Every session that is expected is sound, and no more of its sections are blocked than may be.
 pub expected_sound : (capacity limit : ℕ) (events : List SessionEvent) (answers : List SessionAnswer) (s : Session) → Expected (beginning capacity limit) events answers s
-    → IsSound s × (blocks_out s.sender ≤ limit)
+    → IsSound s × (blocks_out s.encoder ≤ limit)
 expected_sound capacity limit events answers s run =
     let k = run_keeps capacity limit events answers s run in
-    (k.sound, subst (λ n. blocks_out s.sender ≤ n) k.limit k.sound.within_limit)
+    (k.sound, subst (λ n. blocks_out s.encoder ≤ n) k.limit k.sound.within_limit)

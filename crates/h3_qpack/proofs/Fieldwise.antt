@@ -8,15 +8,15 @@ use Rattle.h3_field.specs.Field.{Field, field_size, section_size}
 use Rattle.h3_field.specs.ReadBack.{IsFieldOfBytes}
 use Rattle.h3_field.specs.Line.{line_bytes}
 use Rattle.h3_field.specs.Instruction.{encoder_bytes}
-use Rattle.h3_qpack.specs.Held.{Held, gone}
-use Rattle.h3_qpack.specs.Sender.{Sender}
-use Rattle.h3_qpack.specs.Stored.{StoredSender}
-use Rattle.h3_qpack.specs.Written.{Draft, add_field, draft_of}
-use Rattle.h3_qpack.specs.Drafting.{IsDrafted, IsOver, IsSmall, IsChosen, IsPossible, IsCutOff, line_for, section_after, kept_after, instructions_after, naming}
+use Rattle.h3_qpack.specs.TableState.{TableState, evicted}
+use Rattle.h3_qpack.specs.EncoderHistory.{EncoderHistory}
+use Rattle.h3_qpack.specs.EncoderState.{EncoderState}
+use Rattle.h3_qpack.specs.SectionEncoding.{Draft, add_field, draft_of}
+use Rattle.h3_qpack.specs.Drafting.{IsDrafted, IsOver, IsSmall, IsChosen, IsPossible, IsCutOff, line_for, section_after, encoder_state_with, instructions_after, naming}
 use Rattle.h3_qpack.specs.declared.section.Section.{Section}
 use Rattle.h3_qpack.specs.declared.section.Choice.{Choice}
 use Rattle.h3_qpack.specs.declared.section.Choice.TheVariants as choice
-use Rattle.h3_qpack.proofs.Rooms.{gone_with_entry}
+use Rattle.h3_qpack.proofs.Rooms.{evicted_with_entry}
 use Rattle.h3_qpack.proofs.Drafts.{All-join}
 use Rattle.h3_qpack.proofs.Drafted.{field_drafted}
 
@@ -36,15 +36,15 @@ grown P (Ok x) old new more p q = omega (arith, ap length p, length-append old m
 grown P (Err e) old new more p q = omega (arith, ap length q.1)
 
 -- an entry that is there is named
-naming_over : (h : Held) (section : Section) (number : ℕ) → IsOver h section → gone h < number → number ≤ h.inserted → IsOver h (naming section number)
+naming_over : (h : TableState) (section : Section) (number : ℕ) → IsOver h section → evicted h < number → number ≤ h.inserted → IsOver h (naming section number)
 naming_over h section number o low high =
     record { base = o.base; above = omega (arith, o.above, low); named = inr (omega (arith, high)); newest = omega (arith, o.newest, high) }
 
-chosen_over : (t : StoredSender) (section : Section) (f : Field) (c : Choice) → IsOver t.table section → IsPossible t section f c → IsOver (kept_after t f c).table (section_after t section c)
+chosen_over : (t : EncoderState) (section : Section) (f : Field) (c : Choice) → IsOver t.table section → IsPossible t section f c → IsOver (encoder_state_with t f c).table (section_after t section c)
 chosen_over t section f (choice.Static index) o p = o
 chosen_over t section f (choice.Entry number) o p = naming_over t.table section number o p.0 (omega (arith, p.1, o.base))
 chosen_over t section f (choice.Insertion after) o p =
-    let here = gone_with_entry t.table f p.0.fits in
+    let here = evicted_with_entry t.table f p.0.fits in
     record {
       base = omega (arith, o.base);
       above = omega (arith, p.0.own, here);
@@ -55,36 +55,36 @@ chosen_over t section f (choice.StaticName index) o p = o
 chosen_over t section f (choice.EntryName number) o p = naming_over t.table section number o p.0 p.1
 chosen_over t section f choice.Literal o p = o
 
-pub over_after : (t : StoredSender) (section : Section) (f : Field) (c : Choice) (new : StoredSender) (next : Section) → IsOver t.table section → IsPossible t section f c
-    → new ≡ kept_after t f c → next ≡ section_after t section c → IsOver new.table next
+pub over_after : (t : EncoderState) (section : Section) (f : Field) (c : Choice) (new : EncoderState) (next : Section) → IsOver t.table section → IsPossible t section f c
+    → new ≡ encoder_state_with t f c → next ≡ section_after t section c → IsOver new.table next
 over_after t section f c new next o p table named = rw (table, named) (chosen_over t section f c o p)
 
-pub drafted_after : (s : Sender) (d : Draft) (start : List ℕ) (t : StoredSender) (section : Section) (f : Field) (c : Choice) (new : StoredSender) (next : Section) (lines more told later : List ℕ)
-    → IsDrafted s d t section lines start told → IsSmall t → IsChosen t section f c → IsPossible t section f c
-    → new ≡ kept_after t f c → next ≡ section_after t section c → more ≡ lines ++ line_bytes (line_for t section f c) → later ≡ told ++ flat_map encoder_bytes (instructions_after t f c)
+pub drafted_after : (s : EncoderHistory) (d : Draft) (start : List ℕ) (t : EncoderState) (section : Section) (f : Field) (c : Choice) (new : EncoderState) (next : Section) (lines more instruction_bytes later : List ℕ)
+    → IsDrafted s d t section lines start instruction_bytes → IsSmall t → IsChosen t section f c → IsPossible t section f c
+    → new ≡ encoder_state_with t f c → next ≡ section_after t section c → more ≡ lines ++ line_bytes (line_for t section f c) → later ≡ instruction_bytes ++ flat_map encoder_bytes (instructions_after t f c)
     → IsDrafted s (add_field s d f) new next more start later
-drafted_after s d start t section f c new next lines more told later h small rule p a b e g = rw (a, b, e, g) (field_drafted s d t section f c lines start told h small rule p)
+drafted_after s d start t section f c new next lines more instruction_bytes later h small rule p a b e g = rw (a, b, e, g) (field_drafted s d t section f c lines start instruction_bytes h small rule p)
 
 -- What a loop over the fields keeps.
-pub record InFields (t : StoredSender) (section : Section) (lines told : List ℕ) (new : StoredSender) (next : Section) (more later : List ℕ) (fields : List Field) (index : ℕ) : Type 0 where
+pub record InFields (t : EncoderState) (section : Section) (lines instruction_bytes : List ℕ) (new : EncoderState) (next : Section) (more later : List ℕ) (fields : List Field) (index : ℕ) : Type 0 where
   pub over : IsOver new.table next
-  pub grown : length told ≤ length later
+  pub grown : length instruction_bytes ≤ length later
   pub are_bytes : AllByRecursion IsFieldOfBytes (take index fields)
-  pub drafted : (s : Sender) (start : List ℕ) → IsDrafted s (draft_of s []) t section lines start told → IsDrafted s (draft_of s (take index fields)) new next more start later
+  pub drafted : (s : EncoderHistory) (start : List ℕ) → IsDrafted s (draft_of s []) t section lines start instruction_bytes → IsDrafted s (draft_of s (take index fields)) new next more start later
 
-pub in_none : (t : StoredSender) (section : Section) (lines told : List ℕ) (fields : List Field) → IsOver t.table section → InFields t section lines told t section lines told fields 0
-in_none t section lines told fields o = record { over = o; grown = omega arith; are_bytes = tt; drafted = λ s start h. h }
+pub in_none : (t : EncoderState) (section : Section) (lines instruction_bytes : List ℕ) (fields : List Field) → IsOver t.table section → InFields t section lines instruction_bytes t section lines instruction_bytes fields 0
+in_none t section lines instruction_bytes fields o = record { over = o; grown = omega arith; are_bytes = tt; drafted = λ s start h. h }
 
-pub draft_more : (s : Sender) (fields : List Field) (index : ℕ) (f : Field) → index < length fields → f ≡ get_or fields index f → draft_of s (take (index + 1) fields) ≡ add_field s (draft_of s (take index fields)) f
+pub draft_more : (s : EncoderHistory) (fields : List Field) (index : ℕ) (f : Field) → index < length fields → f ≡ get_or fields index f → draft_of s (take (index + 1) fields) ≡ add_field s (draft_of s (take index fields)) f
 draft_more s fields index f lt is =
     ap (draft_of s) (take_more fields index f lt ∙ ap (λ x. take index fields ++ x ∷ []) (sym is))
     ∙ fold_push (add_field s) (record { inserted = s.inserted; instructions = []; lines = []; references = [] }) (take index fields) f
 
-pub in_more : (t : StoredSender) (section : Section) (lines told : List ℕ) (mid : StoredSender) (between : Section) (m l : List ℕ) (new : StoredSender) (next : Section) (more later : List ℕ) (fields : List Field) (index : ℕ) (f : Field)
-    → InFields t section lines told mid between m l fields index → index < length fields → f ≡ get_or fields index f → IsFieldOfBytes f → IsOver new.table next → length l ≤ length later
-    → ((s : Sender) (d : Draft) (start : List ℕ) → IsDrafted s d mid between m start l → IsDrafted s (add_field s d f) new next more start later)
-    → InFields t section lines told new next more later fields (index + 1)
-in_more t section lines told mid between m l new next more later fields index f i lt is each over longer step =
+pub in_more : (t : EncoderState) (section : Section) (lines instruction_bytes : List ℕ) (mid : EncoderState) (between : Section) (m l : List ℕ) (new : EncoderState) (next : Section) (more later : List ℕ) (fields : List Field) (index : ℕ) (f : Field)
+    → InFields t section lines instruction_bytes mid between m l fields index → index < length fields → f ≡ get_or fields index f → IsFieldOfBytes f → IsOver new.table next → length l ≤ length later
+    → ((s : EncoderHistory) (d : Draft) (start : List ℕ) → IsDrafted s d mid between m start l → IsDrafted s (add_field s d f) new next more start later)
+    → InFields t section lines instruction_bytes new next more later fields (index + 1)
+in_more t section lines instruction_bytes mid between m l new next more later fields index f i lt is each over longer step =
     record {
       over = over;
       grown = omega (arith, i.grown, longer);
@@ -92,29 +92,29 @@ in_more t section lines told mid between m l new next more later fields index f 
       drafted = λ s start h. subst (λ d. IsDrafted s d new next more start later) (sym (draft_more s fields index f lt is)) (step s (draft_of s (take index fields)) start (i.drafted s start h));
     }
 
-pub in_all : (t : StoredSender) (section : Section) (lines told : List ℕ) (new : StoredSender) (next : Section) (more later : List ℕ) (fields : List Field) (index : ℕ)
-    → InFields t section lines told new next more later fields index → length fields ≤ index
-    → (s : Sender) (start : List ℕ) → IsDrafted s (draft_of s []) t section lines start told → IsDrafted s (draft_of s fields) new next more start later
-in_all t section lines told new next more later fields index i all s start h =
+pub in_all : (t : EncoderState) (section : Section) (lines instruction_bytes : List ℕ) (new : EncoderState) (next : Section) (more later : List ℕ) (fields : List Field) (index : ℕ)
+    → InFields t section lines instruction_bytes new next more later fields index → length fields ≤ index
+    → (s : EncoderHistory) (start : List ℕ) → IsDrafted s (draft_of s []) t section lines start instruction_bytes → IsDrafted s (draft_of s fields) new next more start later
+in_all t section lines instruction_bytes new next more later fields index i all s start h =
     subst (λ fs. IsDrafted s (draft_of s fs) new next more start later) (take_all index fields all) (i.drafted s start h)
 
-pub all_bytes : (t : StoredSender) (section : Section) (lines told : List ℕ) (new : StoredSender) (next : Section) (more later : List ℕ) (fields : List Field) (index : ℕ)
-    → InFields t section lines told new next more later fields index → length fields ≤ index → AllByRecursion IsFieldOfBytes fields
-all_bytes t section lines told new next more later fields index i all = subst (AllByRecursion IsFieldOfBytes) (take_all index fields all) i.are_bytes
+pub all_bytes : (t : EncoderState) (section : Section) (lines instruction_bytes : List ℕ) (new : EncoderState) (next : Section) (more later : List ℕ) (fields : List Field) (index : ℕ)
+    → InFields t section lines instruction_bytes new next more later fields index → length fields ≤ index → AllByRecursion IsFieldOfBytes fields
+all_bytes t section lines instruction_bytes new next more later fields index i all = subst (AllByRecursion IsFieldOfBytes) (take_all index fields all) i.are_bytes
 
 -- a refused field leaves the section cut off behind the fields before it
-pub in_cut_off : (t : StoredSender) (section : Section) (lines told : List ℕ) (new : StoredSender) (next : Section) (more later : List ℕ) (fields : List Field) (index : ℕ)
-    → InFields t section lines told new next more later fields index → index ≤ length fields
-    → (s : Sender) (start : List ℕ) → IsDrafted s (draft_of s []) t section lines start told → IsCutOff s fields new start later
-in_cut_off t section lines told new next more later fields index i le s start h =
+pub in_cut_off : (t : EncoderState) (section : Section) (lines instruction_bytes : List ℕ) (new : EncoderState) (next : Section) (more later : List ℕ) (fields : List Field) (index : ℕ)
+    → InFields t section lines instruction_bytes new next more later fields index → index ≤ length fields
+    → (s : EncoderHistory) (start : List ℕ) → IsDrafted s (draft_of s []) t section lines start instruction_bytes → IsCutOff s fields new start later
+in_cut_off t section lines instruction_bytes new next more later fields index i le s start h =
     let d = i.drafted s start h in
-    record { front = index; within = le; are_bytes = i.are_bytes; stores = d.kept.stores; told_is = d.told_is }
+    record { front = index; within = le; are_bytes = i.are_bytes; stores = d.state.stores; instructions_are = d.instructions_are }
 
-pub in_refused : (t : StoredSender) (section : Section) (lines told : List ℕ) (mid : StoredSender) (between : Section) (m l : List ℕ) (new : StoredSender) (later : List ℕ) (fields : List Field) (index : ℕ)
-    → InFields t section lines told mid between m l fields index → index ≤ length fields → new ≡ mid → later ≡ l
-    → (s : Sender) (start : List ℕ) → IsDrafted s (draft_of s []) t section lines start told → IsCutOff s fields new start later
-in_refused t section lines told mid between m l new later fields index i le same unwritten s start h =
-    rw (same, unwritten) (in_cut_off t section lines told mid between m l fields index i le s start h)
+pub in_refused : (t : EncoderState) (section : Section) (lines instruction_bytes : List ℕ) (mid : EncoderState) (between : Section) (m l : List ℕ) (new : EncoderState) (later : List ℕ) (fields : List Field) (index : ℕ)
+    → InFields t section lines instruction_bytes mid between m l fields index → index ≤ length fields → new ≡ mid → later ≡ l
+    → (s : EncoderHistory) (start : List ℕ) → IsDrafted s (draft_of s []) t section lines start instruction_bytes → IsCutOff s fields new start later
+in_refused t section lines instruction_bytes mid between m l new later fields index i le same unwritten s start h =
+    rw (same, unwritten) (in_cut_off t section lines instruction_bytes mid between m l fields index i le s start h)
 
 -- a field is within the sum
 one_size : (f : Field) → section_size (f ∷ []) ≡ field_size f

@@ -8,9 +8,9 @@ use Rattle.h3_field.specs.InstructionLaws.{instruction_stable}
 use Rattle.h3_field.specs.ReadBack.{HasInstruction}
 use Rattle.h3_field.proofs.ReadBack.{instruction_reads_back, instruction_one}
 use Rattle.h3_qpack.specs.Encodings.{IsWrittenInstruction}
-use Rattle.h3_qpack.specs.Receiver.{Receiver, having_read}
+use Rattle.h3_qpack.specs.DecoderState.{DecoderState, decoder_after}
 use Rattle.h3_qpack.specs.Instructions.{AreInstructions, NoInstruction, NextInstruction, BeginsBad}
-use Rattle.h3_qpack.proofs.Hearing.{longer_instruction}
+use Rattle.h3_qpack.proofs.DecoderFronts.{longer_instruction}
 
 -- what was read of the front: some of the instructions, and what came of those behind them is left
 pub record ReadFront (all : List EncoderInstruction) (n : ℕ) (is : List EncoderInstruction) (left : List ℕ) : Type 0 where
@@ -66,12 +66,12 @@ take_none : (n : ℕ) → ◌≡◌ {A = List ℕ} (take n []) []
 take_none zero = refl
 take_none (suc n) = refl
 
-nothing_bad : (r : Receiver) (bytes : List ℕ) → bytes ≡ [] → BeginsBad r bytes → ⊥
+nothing_bad : (r : DecoderState) (bytes : List ℕ) → bytes ≡ [] → BeginsBad r bytes → ⊥
 nothing_bad r bytes e (inl bad) = let none = rw e at bad in cc
 nothing_bad r bytes e (inr whole) = let none = rw e at whole.2 in cc
 
 -- A front of what was written begins with no bad instruction, where the first one may be read.
-pub no_bad : (all : List EncoderInstruction) (n : ℕ) (r : Receiver) → AllByRecursion IsWrittenInstruction all → ((j : EncoderInstruction) (js : List EncoderInstruction) → all ≡ j ∷ js → (next : Receiver) × (having_read r j ≡ Some next))
+pub no_bad : (all : List EncoderInstruction) (n : ℕ) (r : DecoderState) → AllByRecursion IsWrittenInstruction all → ((j : EncoderInstruction) (js : List EncoderInstruction) → all ≡ j ∷ js → (next : DecoderState) × (decoder_after r j ≡ Some next))
     → BeginsBad r (take n (flat_map encoder_bytes all)) → ⊥
 no_bad [] n r w next h = nothing_bad r (take n []) (take_none n) h
 no_bad (j ∷ js) n r w next h = by_kind h
@@ -93,5 +93,5 @@ no_bad (j ∷ js) n r w next h = by_kind h
         let s = instruction_stable (take n text) (drop n text) in
         let stays = rw (whole, whole_text, own.whole) at s in
         let same : own.form ≡ form = cc in
-        let refused : having_read r j ≡ None = none j (subst (λ f. Says f j) same own.says) in
+        let refused : decoder_after r j ≡ None = none j (subst (λ f. Says f j) same own.says) in
         let read = (next j js refl).1 in cc

@@ -18,11 +18,11 @@ use Rattle.std.proofs.lemmas.Grind.{common_steps}
 use Rattle.h3_field.specs.Instruction.EncoderInstruction.{SetCapacity, InsertWithStaticName, InsertWithEntryName, InsertLiteral, Duplicate}
 use Rattle.h3_field.specs.declared.decoder_error.DecoderError.{DecoderError}
 use Rattle.h3_field.specs.declared.decoder_error.DecoderError.TheVariants as error
-use Rattle.h3_qpack.specs.Held.{Held, has_room, with_entry, with_capacity}
-use Rattle.h3_qpack.specs.Receiver.{Receiver, insertion_of, inserting, having_read, greatest_capacity}
+use Rattle.h3_qpack.specs.TableState.{TableState, has_room, with_entry, with_capacity}
+use Rattle.h3_qpack.specs.DecoderState.{DecoderState, insertion_of, inserting, decoder_after, greatest_capacity}
 use Rattle.h3_qpack.specs.WholeInstructions.{is_insertion}
 use Rattle.h3_qpack.specs.Instructions.{BeginsBad}
-use Rattle.h3_qpack.specs.SectionAnswers.{IsReason}
+use Rattle.h3_qpack.specs.SectionAnswers.{IsReasonFor}
 use Rattle.h3_qpack.specs.InstructionAnswers.{BeginsInsertion, BeginsNoInsertion, HasReadOne}
 
 -- a form says one instruction
@@ -43,7 +43,7 @@ has_instruction {I} says r old new o i e is answer = from r e (subst (λ (x : Op
     from Bad e h = absurd (cc)
 
 -- the field of an insertion that was read
-pub begins_insertion : {I : Type 0} (h : Held) (says : I → EncoderInstruction) (read : List ℕ → Reading InstructionForm) (old new : List ℕ) (o : Option I) (i : I) (f : Field)
+pub begins_insertion : {I : Type 0} (h : TableState) (says : I → EncoderInstruction) (read : List ℕ → Reading InstructionForm) (old new : List ℕ) (o : Option I) (i : I) (f : Field)
     → ((bytes rest : List ℕ) (form : InstructionForm) → read bytes ≡ Whole form rest → length rest < length bytes) → instruction old ≡ read old
     → o ≡ Some i → AnswersInstruction says (read old) old new (Ok o) → is_insertion (says i) ≡ true → insertion_of h (says i) ≡ Some f → BeginsInsertion h old f new
 begins_insertion h says read old new o i f shorter e is answer inserts names =
@@ -51,7 +51,7 @@ begins_insertion h says read old new o i f shorter e is answer inserts names =
     record { i = says i; here = here; inserts = inserts; names = names; less = shorter old new here.form (sym e ∙ here.whole) }
 
 -- an insertion that was read and names no field
-pub begins_no_insertion : {I : Type 0} (h : Held) (says : I → EncoderInstruction) (read : Reading InstructionForm) (old new : List ℕ) (o : Option I) (i : I) → instruction old ≡ read
+pub begins_no_insertion : {I : Type 0} (h : TableState) (says : I → EncoderInstruction) (read : Reading InstructionForm) (old new : List ℕ) (o : Option I) (i : I) → instruction old ≡ read
     → o ≡ Some i → AnswersInstruction says read old new (Ok o) → is_insertion (says i) ≡ true → insertion_of h (says i) ≡ None → BeginsNoInsertion h old
 begins_no_insertion h says read old new o i e is answer inserts none =
     let here = has_instruction says read old new o i e is answer in
@@ -62,12 +62,12 @@ not_whole says (Whole form rest) old new e h = absurd h
 not_whole says Unfinished old new e h = e
 not_whole says Bad old new e h = absurd (cc)
 
-not_said : (h : Held) (old rest : List ℕ) (form : InstructionForm) → instruction old ≡ Whole form rest → ((i : EncoderInstruction) → Says form i → ⊥) → BeginsNoInsertion h old
+not_said : (h : TableState) (old rest : List ℕ) (form : InstructionForm) → instruction old ≡ Whole form rest → ((i : EncoderInstruction) → Says form i → ⊥) → BeginsNoInsertion h old
 not_said h old rest form e none = inr (form, rest, e, λ i s. absurd (none i s))
 
 -- a refused instruction
-pub refused : {I : Type 0} (h : Held) (says : I → EncoderInstruction) (r : Reading InstructionForm) (old new : List ℕ) (e : ParseError) → instruction old ≡ r
-    → AnswersInstruction says r old new (Err e) → IsReason (BeginsNoInsertion h old) (λ count. ⊥) (decoder_parse e)
+pub refused : {I : Type 0} (h : TableState) (says : I → EncoderInstruction) (r : Reading InstructionForm) (old new : List ℕ) (e : ParseError) → instruction old ≡ r
+    → AnswersInstruction says r old new (Err e) → IsReasonFor (BeginsNoInsertion h old) (λ count. ⊥) (decoder_parse e)
 refused h says (Whole form rest) old new (String string.TheVariants.HuffmanDecoding) is k = not_said h old rest form is k.0
 refused h says (Whole form rest) old new OutOfMemory is k = tt
 refused h says (Whole form rest) old new (String string.TheVariants.OutOfMemory) is k = tt
@@ -111,29 +111,29 @@ is_repeat (first ∷ rest) some h =
     rw (lt-leb 128 first (omega (arith, most)), lt-leb 64 first (omega (arith, most)), lt-leb 32 first (omega (arith, most))) refl
 
 -- an insertion is no change of the capacity
-pub insertion_reads : (r : Receiver) (i : EncoderInstruction) → is_insertion i ≡ true → having_read r i ≡ inserting r (insertion_of r.table i)
+pub insertion_reads : (r : DecoderState) (i : EncoderInstruction) → is_insertion i ≡ true → decoder_after r i ≡ inserting r (insertion_of r.table i)
 insertion_reads r (SetCapacity n) e = absurd (cc)
 insertion_reads r (InsertWithStaticName index value) e = refl
 insertion_reads r (InsertWithEntryName index value) e = refl
 insertion_reads r (InsertLiteral name value) e = refl
 insertion_reads r (Duplicate index) e = refl
 
-pub no_insertion_bad : (r : Receiver) (bytes : List ℕ) → BeginsNoInsertion r.table bytes → BeginsBad r bytes
+pub no_insertion_bad : (r : DecoderState) (bytes : List ℕ) → BeginsNoInsertion r.table bytes → BeginsBad r bytes
 no_insertion_bad r bytes (inl bad) = inl bad
 no_insertion_bad r bytes (inr h) = inr (h.0, h.1, h.2, λ i s. let k = h.3 i s in insertion_reads r i k.0 ∙ ap (inserting r) k.1)
 
 -- a field for which there is no room
-pub no_room_bad : (r : Receiver) (bytes rest : List ℕ) (f : Field) → BeginsInsertion r.table bytes f rest → has_room r.table f ≡ false → BeginsBad r bytes
+pub no_room_bad : (r : DecoderState) (bytes rest : List ℕ) (f : Field) → BeginsInsertion r.table bytes f rest → has_room r.table f ≡ false → BeginsBad r bytes
 no_room_bad r bytes rest f b none = inr (
   b.here.form,
   rest,
   b.here.whole,
   λ i s.
       let same = says_one b.here.form i b.i s b.here.says in
-      ap (having_read r) same ∙ insertion_reads r b.i b.inserts ∙ ap (inserting r) b.names ∙ rw none refl,
+      ap (decoder_after r) same ∙ insertion_reads r b.i b.inserts ∙ ap (inserting r) b.names ∙ rw none refl,
 )
 
-pub room_reads : (r : Receiver) (bytes rest : List ℕ) (f : Field) → BeginsInsertion r.table bytes f rest → has_room r.table f ≡ true
+pub room_reads : (r : DecoderState) (bytes rest : List ℕ) (f : Field) → BeginsInsertion r.table bytes f rest → has_room r.table f ≡ true
     → HasReadOne r (record r { table = with_entry r.table f }) bytes rest
 room_reads r bytes rest f b room =
     record {
@@ -144,7 +144,7 @@ room_reads r bytes rest f b room =
       grows = omega arith;
     }
 
-pub reason_map : (a b : Type 0) (e : DecoderError) → (a → b) → IsReason a (λ count. ⊥) e → IsReason b (λ count. ⊥) e
+pub reason_map : (a b : Type 0) (e : DecoderError) → (a → b) → IsReasonFor a (λ count. ⊥) e → IsReasonFor b (λ count. ⊥) e
 reason_map a b error.OutOfMemory f n = tt
 reason_map a b (error.HeaderTooLong sum) f n = absurd n
 reason_map a b (error.InvalidInteger x) f n = f n
@@ -159,17 +159,17 @@ reason_map a b error.UnexpectedEnd f n = f n
 reason_map a b error.BufSize f n = f n
 
 -- a capacity that is set, one that is too large, and one that is refused
-pub capacity_reads : (r : Receiver) (bytes rest : List ℕ) (n : ℕ) → HasInstruction bytes (SetCapacity n) rest → length rest < length bytes → n ≤ greatest_capacity r
+pub capacity_reads : (r : DecoderState) (bytes rest : List ℕ) (n : ℕ) → HasInstruction bytes (SetCapacity n) rest → length rest < length bytes → n ≤ greatest_capacity r
     → HasReadOne r (record r { table = with_capacity r.table n }) bytes rest
 capacity_reads r bytes rest n here less le =
     record { i = SetCapacity n; here = here; table = (let yes : nat_le n (greatest_capacity r) ≡ true = grind (arith, common_steps) in rw yes refl); less = less; grows = omega arith }
 
-pub capacity_bad : (r : Receiver) (bytes rest : List ℕ) (n : ℕ) → HasInstruction bytes (SetCapacity n) rest → greatest_capacity r < n → BeginsBad r bytes
+pub capacity_bad : (r : DecoderState) (bytes rest : List ℕ) (n : ℕ) → HasInstruction bytes (SetCapacity n) rest → greatest_capacity r < n → BeginsBad r bytes
 capacity_bad r bytes rest n here above = inr (
   here.form,
   rest,
   here.whole,
   λ i s.
       let same = says_one here.form i (SetCapacity n) s here.says in
-      ap (having_read r) same ∙ (let no : nat_le n (greatest_capacity r) ≡ false = grind (arith, common_steps) in rw no refl),
+      ap (decoder_after r) same ∙ (let no : nat_le n (greatest_capacity r) ≡ false = grind (arith, common_steps) in rw no refl),
 )

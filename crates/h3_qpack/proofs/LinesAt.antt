@@ -12,7 +12,7 @@ use Rattle.h3_field.specs.Section.{HasLine}
 use Rattle.h3_field.specs.StaticTable.{static_table}
 use Rattle.h3_field.proofs.Sections.{line_one}
 use Rattle.h3_field.proofs.StaticEntries.{table_length}
-use Rattle.h3_qpack.specs.Held.{Held}
+use Rattle.h3_qpack.specs.TableState.{TableState}
 use Rattle.h3_qpack.specs.Meaning.{field_at}
 use Rattle.h3_qpack.specs.SectionAnswers.{BeginsWith, BeginsWithNone}
 
@@ -22,7 +22,7 @@ has_line line_of Unfinished old new l e h = absurd (cc)
 has_line line_of Bad old new l e h = absurd (cc)
 
 -- the field of a line that was read
-pub begins_with : {L : Type 0} (h : Held) (base : ℕ) (line_of : L → FieldLine) (read : List ℕ → Reading LineForm) (old new : List ℕ) (l : L) (f : Field)
+pub begins_with : {L : Type 0} (h : TableState) (base : ℕ) (line_of : L → FieldLine) (read : List ℕ → Reading LineForm) (old new : List ℕ) (l : L) (f : Field)
     → ((bytes rest : List ℕ) (form : LineForm) → read bytes ≡ Whole form rest → length rest < length bytes) → line old ≡ read old
     → AnswersLine line_of (read old) old new (Ok l) → field_at h base (line_of l) ≡ Some f → BeginsWith h base old f new
 begins_with h base line_of read old new l f shorter e answer names =
@@ -30,7 +30,7 @@ begins_with h base line_of read old new l f shorter e answer names =
     record { line = line_of l; here = here; names = names; less = shorter old new here.form (sym e ∙ here.whole) }
 
 -- a line that was read and is of no field
-pub begins_with_none : {L : Type 0} (h : Held) (base : ℕ) (line_of : L → FieldLine) (r : Reading LineForm) (old new : List ℕ) (l : L) → line old ≡ r
+pub begins_with_none : {L : Type 0} (h : TableState) (base : ℕ) (line_of : L → FieldLine) (r : Reading LineForm) (old new : List ℕ) (l : L) → line old ≡ r
     → AnswersLine line_of r old new (Ok l) → field_at h base (line_of l) ≡ None → BeginsWithNone h base old
 begins_with_none h base line_of r old new l e answer none rest k f here names =
     let one = line_one old new rest (line_of l) k (has_line line_of r old new l e answer) here in

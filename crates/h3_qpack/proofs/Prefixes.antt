@@ -10,14 +10,14 @@ use Rattle.h3_field.specs.declared.parse_error.ParseError.{ParseError}
 use Rattle.h3_field.specs.declared.parse_error.ParseError.TheVariants.{Integer, String, InvalidPrefix, InvalidBase, OutOfMemory}
 use Rattle.h3_field.specs.declared.decoder_error.DecoderError.{DecoderError}
 use Rattle.h3_field.specs.declared.decoder_error.DecoderError.TheVariants as error
-use Rattle.h3_qpack.specs.Receiver.{Receiver, count_capacity}
+use Rattle.h3_qpack.specs.DecoderState.{DecoderState, count_capacity}
 use Rattle.h3_qpack.specs.Meaning.{HasPrefix, HaveFields, IsBadSection}
-use Rattle.h3_qpack.specs.SectionAnswers.{BeginsWithNone, IsReason, IsRefusal}
+use Rattle.h3_qpack.specs.SectionAnswers.{BeginsWithNone, IsReasonFor, IsRefusal}
 use Rattle.h3_qpack.proofs.Counts.{one_count}
 use Rattle.h3_qpack.proofs.Standing.{Standing, stand_bad}
 
 -- the prefix that a decoder read, and what it goes by
-pub record Begun (r : Receiver) (bytes new : List ℕ) (p : EncodedPrefix) (inserted capacity : ℕ) : Type 0 where
+pub record Begun (r : DecoderState) (bytes new : List ℕ) (p : EncodedPrefix) (inserted capacity : ℕ) : Type 0 where
   pub whole : prefix bytes ≡ Whole p new
   pub inserted_is : inserted ≡ r.table.inserted
   pub capacity_is : capacity ≡ count_capacity r
@@ -59,7 +59,7 @@ both_parts : {A : Type 0} (v w : A) (r s : List ℕ) → Whole v r ≡ Whole w s
 both_parts v w r s e = (cc, cc)
 
 -- a section begins in one way
-pub begins_once : (r : Receiver) (bytes new rest : List ℕ) (p : EncodedPrefix) (inserted capacity count base other_count other_base : ℕ) → Begun r bytes new p inserted capacity
+pub begins_once : (r : DecoderState) (bytes new rest : List ℕ) (p : EncodedPrefix) (inserted capacity count base other_count other_base : ℕ) → Begun r bytes new p inserted capacity
     → IsPrefix capacity inserted p count base → HasPrefix r bytes rest other_count other_base → SamePrefix new rest count other_count base other_base
 begins_once r bytes new rest p inserted capacity count base other_count other_base b is h =
     let same = both_parts p h.encoded new rest (sym b.whole ∙ h.whole) in
@@ -68,15 +68,15 @@ begins_once r bytes new rest p inserted capacity count base other_count other_ba
     let one = prefix_is_one (count_capacity r) r.table.inserted p count base other_count other_base mine other in
     record { rest_is = same.1; count_is = one.0; base_is = one.1 }
 
-pub has_prefix : (r : Receiver) (bytes new : List ℕ) (p : EncodedPrefix) (inserted capacity count base : ℕ) → Begun r bytes new p inserted capacity
+pub has_prefix : (r : DecoderState) (bytes new : List ℕ) (p : EncodedPrefix) (inserted capacity count base : ℕ) → Begun r bytes new p inserted capacity
     → IsPrefix capacity inserted p count base → HasPrefix r bytes new count base
 has_prefix r bytes new p inserted capacity count base b is = record { encoded = p; whole = b.whole; is = rw (b.inserted_is, b.capacity_is) at is }
 
-begins_nowhere : (r : Receiver) (bytes : List ℕ) → ((rest : List ℕ) (count base : ℕ) → HasPrefix r bytes rest count base → ⊥) → IsBadSection r bytes
+begins_nowhere : (r : DecoderState) (bytes : List ℕ) → ((rest : List ℕ) (count base : ℕ) → HasPrefix r bytes rest count base → ⊥) → IsBadSection r bytes
 begins_nowhere r bytes none = record { no_fields = λ count fields m. none m.rest count m.base m.begins; none_missing = λ count m. none m.rest count m.base m.begins }
 
 -- a prefix that stands for no count and base
-pub no_prefix : (r : Receiver) (bytes new : List ℕ) (p : EncodedPrefix) (inserted capacity : ℕ) (e : ParseError) → Begun r bytes new p inserted capacity
+pub no_prefix : (r : DecoderState) (bytes new : List ℕ) (p : EncodedPrefix) (inserted capacity : ℕ) (e : ParseError) → Begun r bytes new p inserted capacity
     → HasNoPrefix capacity inserted p e → IsRefusal r bytes (decoder_parse e)
 no_prefix r bytes new p inserted capacity (InvalidPrefix encoded) b h = begins_nowhere r bytes (λ rest count base k. none rest count base k)
   where
@@ -113,7 +113,7 @@ no_prefix r bytes new p inserted capacity (String e) b h = absurd h
 no_prefix r bytes new p inserted capacity OutOfMemory b h = absurd h
 
 -- a section whose insertions came, and a line of which is of no field
-bad_line : (r : Receiver) (bytes new rest : List ℕ) (p : EncodedPrefix) (inserted capacity count base : ℕ) (fields : List Field) → Begun r bytes new p inserted capacity
+bad_line : (r : DecoderState) (bytes new rest : List ℕ) (p : EncodedPrefix) (inserted capacity count base : ℕ) (fields : List Field) → Begun r bytes new p inserted capacity
     → IsPrefix capacity inserted p count base → count ≤ inserted → Standing r.table base new fields rest → 0 < length rest → BeginsWithNone r.table base rest → IsBadSection r bytes
 bad_line r bytes new rest p inserted capacity count base fields b is came s above none =
     record {
@@ -127,15 +127,15 @@ bad_line r bytes new rest p inserted capacity count base fields b is came s abov
           omega (arith, m.missing, one.count_is, came, b.inserted_is);
     }
 
-pub refused_line : (r : Receiver) (bytes new rest : List ℕ) (p : EncodedPrefix) (inserted capacity count base : ℕ) (fields : List Field) (e : DecoderError) → Begun r bytes new p inserted capacity
+pub refused_line : (r : DecoderState) (bytes new rest : List ℕ) (p : EncodedPrefix) (inserted capacity count base : ℕ) (fields : List Field) (e : DecoderError) → Begun r bytes new p inserted capacity
     → IsPrefix capacity inserted p count base → count ≤ inserted → Standing r.table base new fields rest → 0 < length rest
-    → IsReason (BeginsWithNone r.table base rest) (λ count. ⊥) e → IsRefusal r bytes e
+    → IsReasonFor (BeginsWithNone r.table base rest) (λ count. ⊥) e → IsRefusal r bytes e
 refused_line r bytes new rest p inserted capacity count base fields e b is came s above n = from e n
   where
     bad : BeginsWithNone r.table base rest → IsBadSection r bytes
     bad none = bad_line r bytes new rest p inserted capacity count base fields b is came s above none
 
-    from : (e : DecoderError) → IsReason (BeginsWithNone r.table base rest) (λ count. ⊥) e → IsRefusal r bytes e
+    from : (e : DecoderError) → IsReasonFor (BeginsWithNone r.table base rest) (λ count. ⊥) e → IsRefusal r bytes e
     from error.OutOfMemory n = tt
     from (error.HeaderTooLong sum) n = absurd n
     from (error.InvalidInteger x) n = bad n

@@ -4,8 +4,8 @@ use Rattle.std.specs.Prelude.{◌==◌}
 use Rattle.std.specs.List.{AllByRecursion, list_any, remove}
 use Rattle.std.proofs.lemmas.List.Sums.{sum_by-cons}
 use Rattle.h3_qpack.specs.declared.tracking.TrackedSection.{TrackedSection}
-use Rattle.h3_qpack.specs.Sender.{without_newest}
-use Rattle.h3_qpack.specs.Tracking.{held_by, is_of, without_oldest_of, IsFirstOf, IsLast}
+use Rattle.h3_qpack.specs.EncoderHistory.{without_newest}
+use Rattle.h3_qpack.specs.Tracking.{reference_count, is_of, without_oldest_of, IsFirstOf, IsLast}
 
 pub All-remove : (P : TrackedSection → Type 0) (ts : List TrackedSection) (place : ℕ) → AllByRecursion P ts → AllByRecursion P (remove ts place)
 All-remove P [] zero h = tt
@@ -19,12 +19,12 @@ All-at P [] place t lt is h = absurd (omega (arith, lt))
 All-at P (u ∷ ts) zero t lt is h = subst P (sym is) h.0
 All-at P (u ∷ ts) (suc place) t lt is h = All-at P ts place t (omega (arith, lt)) is h.1
 
-pub held_by-remove : (n : ℕ) (ts : List TrackedSection) (place : ℕ) (t : TrackedSection) → place < length ts → t ≡ get_or ts place t
-    → held_by n ts ≡ held_by n (remove ts place) + (if t.oldest == n then 1 else 0)
-held_by-remove n [] place t lt is = absurd (omega (arith, lt))
-held_by-remove n (u ∷ ts) zero t lt is = rw is (omega (arith, sum_by-cons (λ (t : TrackedSection). if t.oldest == n then 1 else 0) u ts))
-held_by-remove n (u ∷ ts) (suc place) t lt is =
-    omega (arith, held_by-remove n ts place t (omega (arith, lt)) is, sum_by-cons (λ (t : TrackedSection). if t.oldest == n then 1 else 0) u ts, sum_by-cons (λ (t : TrackedSection). if t.oldest == n then 1 else 0) u (remove ts place))
+pub reference_count-remove : (n : ℕ) (ts : List TrackedSection) (place : ℕ) (t : TrackedSection) → place < length ts → t ≡ get_or ts place t
+    → reference_count n ts ≡ reference_count n (remove ts place) + (if t.oldest == n then 1 else 0)
+reference_count-remove n [] place t lt is = absurd (omega (arith, lt))
+reference_count-remove n (u ∷ ts) zero t lt is = rw is (omega (arith, sum_by-cons (λ (t : TrackedSection). if t.oldest == n then 1 else 0) u ts))
+reference_count-remove n (u ∷ ts) (suc place) t lt is =
+    omega (arith, reference_count-remove n ts place t (omega (arith, lt)) is, sum_by-cons (λ (t : TrackedSection). if t.oldest == n then 1 else 0) u ts, sum_by-cons (λ (t : TrackedSection). if t.oldest == n then 1 else 0) u (remove ts place))
 
 neither : (a b : Bool) → (a || b) ≡ false → (a ≡ false) × (b ≡ false)
 neither true b h = cc

@@ -3,9 +3,9 @@ use Rattle.std.proofs.Common.{◌≡◌, ◌∙◌, nat_lt, ℕ, Bool, true, fal
 use Rattle.std.specs.Prelude.{◌==◌}
 use Rattle.std.specs.List.{list_any}
 use Rattle.std.proofs.lemmas.Grind.{common_steps}
-use Rattle.h3_qpack.specs.Sender.{Sender, without_newest, withdrawn}
+use Rattle.h3_qpack.specs.EncoderHistory.{EncoderHistory, without_newest, withdrawn}
 use Rattle.h3_qpack.specs.Tracking.{is_of, without_newest_of}
-use Rattle.h3_qpack.specs.Stored.{stored, stored_section, stored_withdrawn}
+use Rattle.h3_qpack.specs.EncoderState.{encoder_state, tracked_section, encoder_state_withdrawn}
 use Rattle.h3_qpack.proofs.Releasing.{none_newest}
 
 any_map : {X Y : Type 0} (f : X → Y) (test : Y → Bool) (xs : List X) → list_any (λ x. test (f x)) xs ≡ list_any test (map f xs)
@@ -75,11 +75,11 @@ newest_filter keep count (n ∷ ns) false e =
     by_tests false true false e1 f none h = rw (none_newest (λ m. m == count) (filter keep ns) none) refl
     by_tests false false false e1 f none h = rw (e1, none_newest (λ m. m == count) (filter keep ns) none) refl
 
-pub withdrawn_stored : (s : Sender) (stream count : ℕ) → stored (withdrawn s stream count) ≡ stored_withdrawn (stored s) stream count
-withdrawn_stored s stream count =
+pub withdrawn_state : (s : EncoderHistory) (stream count : ℕ) → encoder_state (withdrawn s stream count) ≡ encoder_state_withdrawn (encoder_state s) stream count
+withdrawn_state s stream count =
     rw (newest_filter (λ n. nat_lt s.known_received n) count s.required_insert_counts (nat_lt s.known_received count) refl, kept (count == 0)) refl
   where
-    kept : (b : Bool) → map stored_section (if b then s.tracked else without_newest (λ t. t.stream == stream) s.tracked)
-        ≡ (if b then map stored_section s.tracked else without_newest_of stream (map stored_section s.tracked))
+    kept : (b : Bool) → map tracked_section (if b then s.tracked else without_newest (λ t. t.stream == stream) s.tracked)
+        ≡ (if b then map tracked_section s.tracked else without_newest_of stream (map tracked_section s.tracked))
     kept true = refl
-    kept false = newest_map stored_section (is_of stream) s.tracked
+    kept false = newest_map tracked_section (is_of stream) s.tracked

@@ -1,22 +1,22 @@
--- How many entries give way to a field.
+-- How many entries are evicted for a field.
 use Rattle.std.proofs.Common.{◌≡◌, ℕ, ◌+◌, ◌-◌, ◌<◌, ◌≤◌, List, [], ◌∷◌, ◌++◌, length, drop, ◌∙◌, ap, arith, length-append, length-drop}
 use Rattle.std.proofs.lemmas.Grind.{common_steps}
 use Rattle.h3_field.specs.Field.{Field, field_size, section_size}
 use Rattle.h3_qpack.specs.Table.{table}
-use Rattle.h3_qpack.specs.Held.{Held, gone, with_entry}
+use Rattle.h3_qpack.specs.TableState.{TableState, evicted, with_entry}
 use Rattle.h3_qpack.proofs.Tables.{length-table, table-one, table-whole}
 
-length-with_entry : (h : Held) (f : Field) → field_size f ≤ h.capacity → length (table h.capacity (h.entries ++ f ∷ [])) ≡ length (table (h.capacity - field_size f) h.entries) + 1
+length-with_entry : (h : TableState) (f : Field) → field_size f ≤ h.capacity → length (table h.capacity (h.entries ++ f ∷ [])) ≡ length (table (h.capacity - field_size f) h.entries) + 1
 length-with_entry h f fits = ap length (table-one h.capacity h.entries f fits) ∙ omega (arith, length-append (table (h.capacity - field_size f) h.entries) (f ∷ []))
 
--- how many are gone once the field is inserted
-pub gone_with_entry : (h : Held) (f : Field) → field_size f ≤ h.capacity → gone (with_entry h f) ≡ h.inserted - length (table (h.capacity - field_size f) h.entries)
-gone_with_entry h f fits = omega (arith, length-with_entry h f fits)
+-- how many are evicted once the field is inserted
+pub evicted_with_entry : (h : TableState) (f : Field) → field_size f ≤ h.capacity → evicted (with_entry h f) ≡ h.inserted - length (table (h.capacity - field_size f) h.entries)
+evicted_with_entry h f fits = omega (arith, length-with_entry h f fits)
 
 -- what remains of the entries when so many have given way
-pub gone_when : (es : List Field) (inserted room d : ℕ) → length es ≤ inserted → d ≤ length es → table room es ≡ table room (drop d es) → section_size (drop d es) ≤ room
+pub evicted_when : (es : List Field) (inserted room d : ℕ) → length es ≤ inserted → d ≤ length es → table room es ≡ table room (drop d es) → section_size (drop d es) ≤ room
     → inserted - length (table room es) ≡ inserted - length es + d
-gone_when es inserted room d made inside same within =
+evicted_when es inserted room d made inside same within =
     let left : length (table room es) ≡ length es - d = ap length (same ∙ table-whole room (drop d es) within) ∙ length-drop d es in
     omega (arith, left, made, inside)
 
@@ -24,9 +24,9 @@ shorter : (room : ℕ) (fs : List Field) → room < section_size fs → length (
 shorter room [] h = absurd (omega (arith, h))
 shorter room (f ∷ fs) h = grind (arith, common_steps, length-table room fs)
 
--- more give way while what remains is too large
-pub gone_further : (es : List Field) (inserted room d : ℕ) → length es ≤ inserted → d ≤ length es → table room es ≡ table room (drop d es) → room < section_size (drop d es)
+-- more are evicted while what remains is too large
+pub evicted_further : (es : List Field) (inserted room d : ℕ) → length es ≤ inserted → d ≤ length es → table room es ≡ table room (drop d es) → room < section_size (drop d es)
     → inserted - length es + d < inserted - length (table room es)
-gone_further es inserted room d made inside same above =
+evicted_further es inserted room d made inside same above =
     let left = shorter room (drop d es) above in
     omega (arith, ap length same, left, length-drop d es, made, inside)

@@ -5,14 +5,14 @@ use Rattle.std.proofs.lemmas.List.{length-map}
 use Rattle.std.proofs.lemmas.Grind.{common_steps}
 use Rattle.h3_field.specs.Field.{Field}
 use Rattle.h3_qpack.specs.Table.{newest_from}
-use Rattle.h3_qpack.specs.Held.{Held, in_range, gone, newest_in}
+use Rattle.h3_qpack.specs.TableState.{TableState, in_range, evicted, newest_in}
 use Rattle.h3_qpack.specs.Matches.{matches}
 use Rattle.h3_qpack.specs.Slots.{slot_of, name_slot, field_slot}
 use Rattle.h3_qpack.specs.Index.{IsNewestBelow, IsIndexed}
 use Rattle.h3_qpack.specs.declared.index.Index.{Index}
 use Rattle.h3_qpack.specs.declared.entries.Match.{Match}
 use Rattle.h3_qpack.specs.declared.entries.Match.TheVariants as what
-use Rattle.h3_qpack.proofs.Blocks.{same_bytes, same_field}
+use Rattle.h3_qpack.proofs.NamedFieldsOf.{same_bytes, same_field}
 
 -- what doesn't pass in a list is not found
 nothing : (test : ℕ → Field → Bool) (first : ℕ) (fs : List Field) → ((i : ℕ) (e : Field) → slice_get fs i ≡ Some e → test (first + i) e ≡ false) → newest_from test first fs ≡ None
@@ -43,29 +43,29 @@ alike what.Name f e h = ap name_slot (same_bytes e.name f.name h)
 alike what.Field f e h = ap (λ (g : Field). field_slot (name_slot g.name) g.value) (same_field e f h)
 
 -- No entry above the number is one to be found.
-abbrev pub IsPast : Held → Match → Field → ℕ → ℕ → ℕ → Type 0
+abbrev pub IsPast : TableState → Match → Field → ℕ → ℕ → ℕ → Type 0
 IsPast h what f above most number =
-    (i : ℕ) (e : Field) → slice_get h.entries i ≡ Some e → number < gone h + 1 + i → in_range (matches what f) above most (gone h + 1 + i) e ≡ false
+    (i : ℕ) (e : Field) → slice_get h.entries i ≡ Some e → number < evicted h + 1 + i → in_range (matches what f) above most (evicted h + 1 + i) e ≡ false
 
 -- A search stands at the entry of this number, where it is there.
-pub record StandsAt (h : Held) (what : Match) (f : Field) (above most number : ℕ) : Type 0 where
-  pub below : number < gone h + 1 + length h.entries
-  pub here : (i : ℕ) → number ≡ gone h + 1 + i → slice_get (map (slot_of what) h.entries) i ≡ Some (slot_of what f)
+pub record StandsAt (h : TableState) (what : Match) (f : Field) (above most number : ℕ) : Type 0 where
+  pub below : number < evicted h + 1 + length h.entries
+  pub here : (i : ℕ) → number ≡ evicted h + 1 + i → slice_get (map (slot_of what) h.entries) i ≡ Some (slot_of what f)
   pub past : IsPast h what f above most number
 
 -- the next number of the chain below a bound, above which nothing is left
-jump : (h : Held) (what : Match) (f : Field) (above most bound number : ℕ) → IsNewestBelow (gone h) (map (slot_of what) h.entries) (slot_of what f) bound number
-    → bound ≤ gone h + 1 + length h.entries
-    → ((i : ℕ) (e : Field) → slice_get h.entries i ≡ Some e → bound ≤ gone h + 1 + i → in_range (matches what f) above most (gone h + 1 + i) e ≡ false)
+jump : (h : TableState) (what : Match) (f : Field) (above most bound number : ℕ) → IsNewestBelow (evicted h) (map (slot_of what) h.entries) (slot_of what f) bound number
+    → bound ≤ evicted h + 1 + length h.entries
+    → ((i : ℕ) (e : Field) → slice_get h.entries i ≡ Some e → bound ≤ evicted h + 1 + i → in_range (matches what f) above most (evicted h + 1 + i) e ≡ false)
     → StandsAt h what f above most number
 jump h what f above most bound number n le past =
     record {
       below = omega (arith, n.below, le);
       here = n.here;
-      past = λ i e at lt. by_order i e at lt (nat_le bound (gone h + 1 + i)) refl;
+      past = λ i e at lt. by_order i e at lt (nat_le bound (evicted h + 1 + i)) refl;
     }
   where
-    unmatched : (i : ℕ) (e : Field) (b : Bool) → matches what f e ≡ b → slice_get h.entries i ≡ Some e → number < gone h + 1 + i → gone h + 1 + i < bound → b ≡ false
+    unmatched : (i : ℕ) (e : Field) (b : Bool) → matches what f e ≡ b → slice_get h.entries i ≡ Some e → number < evicted h + 1 + i → evicted h + 1 + i < bound → b ≡ false
     unmatched i e false m at lt below = refl
     unmatched i e true m at lt below =
         absurd (omega (arith, lt, n.newest i (slice_get-map (slot_of what) h.entries i ∙ ap (option_map (slot_of what)) at ∙ ap Some (alike what f e m)) below))
@@ -74,49 +74,49 @@ jump h what f above most bound number n le past =
     and_false true b h = h
     and_false false b h = refl
 
-    by_order : (i : ℕ) (e : Field) → slice_get h.entries i ≡ Some e → number < gone h + 1 + i → (b : Bool) → nat_le bound (gone h + 1 + i) ≡ b
-        → in_range (matches what f) above most (gone h + 1 + i) e ≡ false
+    by_order : (i : ℕ) (e : Field) → slice_get h.entries i ≡ Some e → number < evicted h + 1 + i → (b : Bool) → nat_le bound (evicted h + 1 + i) ≡ b
+        → in_range (matches what f) above most (evicted h + 1 + i) e ≡ false
     by_order i e at lt true o = past i e at (grind (arith, common_steps))
     by_order i e at lt false o =
         and_false _ (matches what f e) (unmatched i e (matches what f e) refl at lt (grind (arith, common_steps)))
 
-pub stands_first : (h : Held) (index : Index) (what : Match) (f : Field) (above most : ℕ) → IsIndexed index (gone h) (map (slot_of what) h.entries) → slot_of what f < 256
+pub stands_first : (h : TableState) (index : Index) (what : Match) (f : Field) (above most : ℕ) → IsIndexed index (evicted h) (map (slot_of what) h.entries) → slot_of what f < 256
     → StandsAt h what f above most (get_or index.heads.items (slot_of what f) 0)
 stands_first h index what f above most i small =
     let len = length-map h.entries (slot_of what) in
-    jump h what f above most (gone h + 1 + length (map (slot_of what) h.entries)) _ (i.heads (slot_of what f) small) (omega (arith, len))
+    jump h what f above most (evicted h + 1 + length (map (slot_of what) h.entries)) _ (i.heads (slot_of what f) small) (omega (arith, len))
     (λ place e at le. absurd (omega (arith, le, len, slice_get_within h.entries place e at)))
 
-pub stands_next : (h : Held) (index : Index) (what : Match) (f : Field) (above most number place : ℕ) (e : Field) → IsIndexed index (gone h) (map (slot_of what) h.entries)
-    → StandsAt h what f above most number → number ≡ gone h + 1 + place → slice_get h.entries place ≡ Some e → in_range (matches what f) above most number e ≡ false
+pub stands_next : (h : TableState) (index : Index) (what : Match) (f : Field) (above most number place : ℕ) (e : Field) → IsIndexed index (evicted h) (map (slot_of what) h.entries)
+    → StandsAt h what f above most number → number ≡ evicted h + 1 + place → slice_get h.entries place ≡ Some e → in_range (matches what f) above most number e ≡ false
     → StandsAt h what f above most (get_or index.links.items place 0)
 stands_next h index what f above most number place e i s at is fails =
-    jump h what f above most (gone h + 1 + place) _ (i.links place (slot_of what f) (s.here place at)) (omega (arith, at, s.below))
-    (λ j d there le. by_order j d there le (nat_lt number (gone h + 1 + j)) refl)
+    jump h what f above most (evicted h + 1 + place) _ (i.links place (slot_of what f) (s.here place at)) (omega (arith, at, s.below))
+    (λ j d there le. by_order j d there le (nat_lt number (evicted h + 1 + j)) refl)
   where
     same : (d : Field) → slice_get h.entries place ≡ Some d → e ≡ d
     same d there = sym (get_or_from_slice_get h.entries place e e is) ∙ get_or_from_slice_get h.entries place d e there
 
-    by_order : (j : ℕ) (d : Field) → slice_get h.entries j ≡ Some d → gone h + 1 + place ≤ gone h + 1 + j → (b : Bool) → nat_lt number (gone h + 1 + j) ≡ b
-        → in_range (matches what f) above most (gone h + 1 + j) d ≡ false
+    by_order : (j : ℕ) (d : Field) → slice_get h.entries j ≡ Some d → evicted h + 1 + place ≤ evicted h + 1 + j → (b : Bool) → nat_lt number (evicted h + 1 + j) ≡ b
+        → in_range (matches what f) above most (evicted h + 1 + j) d ≡ false
     by_order j d there le true o = s.past j d there (grind (arith, common_steps))
     by_order j d there le false o =
         let equal : j ≡ place = grind (arith, common_steps) in
-        let number_is : gone h + 1 + j ≡ number = omega (arith, equal, at) in
+        let number_is : evicted h + 1 + j ≡ number = omega (arith, equal, at) in
         rw (number_is, ← same d (ap (slice_get h.entries) (sym equal) ∙ there)) fails
 
-pub is_found : (h : Held) (what : Match) (f : Field) (above most number place : ℕ) (e : Field) → StandsAt h what f above most number → number ≡ gone h + 1 + place
+pub is_found : (h : TableState) (what : Match) (f : Field) (above most number place : ℕ) (e : Field) → StandsAt h what f above most number → number ≡ evicted h + 1 + place
     → slice_get h.entries place ≡ Some e → above < number → number ≤ most → matches what f e ≡ true → newest_in h (matches what f) above most ≡ Some number
 is_found h what f above most number place e s at is low high passes =
-    found (in_range (matches what f) above most) (gone h + 1) h.entries place e is (rw (← at) inside) (λ i d lt there. s.past i d there (omega (arith, at, lt))) ∙ ap Some (sym at)
+    found (in_range (matches what f) above most) (evicted h + 1) h.entries place e is (rw (← at) inside) (λ i d lt there. s.past i d there (omega (arith, at, lt))) ∙ ap Some (sym at)
   where
     inside : in_range (matches what f) above most number e ≡ true
     inside = grind (arith, common_steps)
 
-pub is_nowhere : (h : Held) (what : Match) (f : Field) (above most number : ℕ) → StandsAt h what f above most number → number ≤ above → newest_in h (matches what f) above most ≡ None
+pub is_nowhere : (h : TableState) (what : Match) (f : Field) (above most number : ℕ) → StandsAt h what f above most number → number ≤ above → newest_in h (matches what f) above most ≡ None
 is_nowhere h what f above most number s le =
-    nothing (in_range (matches what f) above most) (gone h + 1) h.entries (λ i e at. by_order i e at (nat_lt number (gone h + 1 + i)) refl)
+    nothing (in_range (matches what f) above most) (evicted h + 1) h.entries (λ i e at. by_order i e at (nat_lt number (evicted h + 1 + i)) refl)
   where
-    by_order : (i : ℕ) (e : Field) → slice_get h.entries i ≡ Some e → (b : Bool) → nat_lt number (gone h + 1 + i) ≡ b → in_range (matches what f) above most (gone h + 1 + i) e ≡ false
+    by_order : (i : ℕ) (e : Field) → slice_get h.entries i ≡ Some e → (b : Bool) → nat_lt number (evicted h + 1 + i) ≡ b → in_range (matches what f) above most (evicted h + 1 + i) e ≡ false
     by_order i e at true o = s.past i e at (grind (arith, common_steps))
     by_order i e at false o = grind (arith, common_steps)

@@ -12,19 +12,19 @@ use Rattle.h3_field.specs.Prefix.{prefix_bytes}
 use Rattle.h3_field.specs.PrefixReading.{EncodedPrefix}
 use Rattle.h3_field.specs.PrefixWriting.{written_prefix, encoded_bytes}
 use Rattle.h3_field.proofs.PrefixReadBack.{prefix_is_written}
-use Rattle.h3_qpack.specs.Sender.{Sender, Tracked}
-use Rattle.h3_qpack.specs.Stored.{StoredSender, stored, stored_section, stored_sent, least}
-use Rattle.h3_qpack.specs.Written.{Draft, draft_of, required_insert_count, encoded_section, sent_section}
-use Rattle.h3_qpack.specs.Drafting.{IsKept, IsDrafted, IsOver, IsSmall, IsSent, IsCutOff, begun, oldest_of}
+use Rattle.h3_qpack.specs.EncoderHistory.{EncoderHistory, UnacknowledgedSection}
+use Rattle.h3_qpack.specs.EncoderState.{EncoderState, encoder_state, tracked_section, encoder_state_sent, least}
+use Rattle.h3_qpack.specs.SectionEncoding.{Draft, draft_of, required_insert_count, encoded_section, sent_section}
+use Rattle.h3_qpack.specs.Drafting.{IsDraftState, IsDrafted, IsOver, IsSmall, IsSent, IsCutOff, begun, oldest_of}
 use Rattle.h3_qpack.specs.declared.section.Section.{Section}
-use Rattle.h3_qpack.proofs.Telling.{waiting_counted}
+use Rattle.h3_qpack.proofs.EncoderStates.{blocking_counted}
 
 -- a section that names an entry is over a table that can have one
 one_fits : (fs : List Field) → 0 < length fs → 32 ≤ section_size fs
 one_fits [] above = absurd (omega (arith, above))
 one_fits (f ∷ fs) above = omega (arith, sum_by-cons field_size f fs)
 
-pub named_fits : (t : StoredSender) (section : Section) → IsOver t.table section → IsSmall t → (section.newest ≡ 0) ⊎ (32 ≤ t.table.capacity)
+pub named_fits : (t : EncoderState) (section : Section) → IsOver t.table section → IsSmall t → (section.newest ≡ 0) ⊎ (32 ≤ t.table.capacity)
 named_fits t section o small = by_names o.named
   where
     by_names : (section.newest ≡ 0) ⊎ (section.oldest ≤ t.table.inserted) → (section.newest ≡ 0) ⊎ (32 ≤ t.table.capacity)
@@ -32,7 +32,7 @@ named_fits t section o small = by_names o.named
     by_names (inr some) = inr (omega (arith, one_fits t.table.entries (omega (arith, o.above, some)), small.fits))
 
 -- the oldest entry that is named is there
-pub oldest_there : (t : StoredSender) (section : Section) → IsOver t.table section → (section.newest ≡ 0 → ⊥) → section.oldest ≤ t.table.inserted
+pub oldest_there : (t : EncoderState) (section : Section) → IsOver t.table section → (section.newest ≡ 0 → ⊥) → section.oldest ≤ t.table.inserted
 oldest_there t section o some = by_names o.named
   where
     by_names : (section.newest ≡ 0) ⊎ (section.oldest ≤ t.table.inserted) → section.oldest ≤ t.table.inserted
@@ -40,27 +40,27 @@ oldest_there t section o some = by_names o.named
     by_names (inr there) = there
 
 -- the prefix and the lines
-pub section_put : (before mid block lines : List ℕ) (capacity own count base : ℕ) (p : EncodedPrefix) → own ≡ capacity → p ≡ written_prefix own count base → mid ≡ before ++ encoded_bytes p → block ≡ mid ++ lines
-    → block ≡ before ++ (prefix_bytes capacity count base ++ lines)
-section_put before mid block lines capacity own count base p same is prefix all =
+pub section_put : (before mid encoded lines : List ℕ) (capacity own count base : ℕ) (p : EncodedPrefix) → own ≡ capacity → p ≡ written_prefix own count base → mid ≡ before ++ encoded_bytes p → encoded ≡ mid ++ lines
+    → encoded ≡ before ++ (prefix_bytes capacity count base ++ lines)
+section_put before mid encoded lines capacity own count base p same is prefix all =
     all ∙ ap (λ bytes. bytes ++ lines) (prefix ∙ ap (λ q. before ++ encoded_bytes q) (is ∙ ap (λ n. written_prefix n count base) same))
     ∙ append_assoc before (encoded_bytes (written_prefix capacity count base)) lines
     ∙ ap (λ bytes. before ++ (bytes ++ lines)) (sym (prefix_is_written capacity count base))
 
 -- before the first field
-pub begun_drafted : (s : Sender) (t : StoredSender) (section : Section) (lines start : List ℕ) → t ≡ stored s → section ≡ begun t → lines ≡ [] → IsDrafted s (draft_of s []) t section lines start start
+pub begun_drafted : (s : EncoderHistory) (t : EncoderState) (section : Section) (lines start : List ℕ) → t ≡ encoder_state s → section ≡ begun t → lines ≡ [] → IsDrafted s (draft_of s []) t section lines start start
 begun_drafted s t section lines start e is none =
     record {
-      kept = record {
+      state = record {
         stores = e;
-        base = ap (λ (x : Section). x.base) is ∙ ap (λ (u : StoredSender). u.table.inserted) e;
-        may_wait = ap (λ (x : Section). x.may_wait) is ∙ ap (λ (u : StoredSender). nat_lt (length u.waiting) u.limit) e
-            ∙ ap (λ n. nat_lt n s.limit) (waiting_counted (λ n. nat_lt s.known_received n) s.required_insert_counts);
+        base = ap (λ (x : Section). x.base) is ∙ ap (λ (u : EncoderState). u.table.inserted) e;
+        may_block = ap (λ (x : Section). x.may_block) is ∙ ap (λ (u : EncoderState). nat_lt (length u.blocking_counts) u.limit) e
+            ∙ ap (λ n. nat_lt n s.limit) (blocking_counted (λ n. nat_lt s.known_received n) s.required_insert_counts);
         oldest = ap (λ (x : Section). x.oldest) is;
         newest = ap (λ (x : Section). x.newest) is;
       };
       lines_are = none;
-      told_is = sym (append-nil start);
+      instructions_are = sym (append-nil start);
     }
 
 -- each number is at most the greatest
@@ -76,8 +76,8 @@ least_is (n ∷ ns) some few =
     ap (λ m. fold min m ns) same
 
 -- the counts above what is known
-waiting_more : (known count : ℕ) (counts : List ℕ) → (if nat_lt known count then filter (λ c. nat_lt known c) counts ++ count ∷ [] else filter (λ c. nat_lt known c) counts) ≡ filter (λ c. nat_lt known c) (counts ++ count ∷ [])
-waiting_more known count counts = by_test (nat_lt known count) refl
+blocking_more : (known count : ℕ) (counts : List ℕ) → (if nat_lt known count then filter (λ c. nat_lt known c) counts ++ count ∷ [] else filter (λ c. nat_lt known c) counts) ≡ filter (λ c. nat_lt known c) (counts ++ count ∷ [])
+blocking_more known count counts = by_test (nat_lt known count) refl
   where
     by_test : (b : Bool) → nat_lt known count ≡ b → (if b then filter (λ c. nat_lt known c) counts ++ count ∷ [] else filter (λ c. nat_lt known c) counts) ≡ filter (λ c. nat_lt known c) (counts ++ count ∷ [])
     by_test true e =
@@ -87,12 +87,12 @@ waiting_more known count counts = by_test (nat_lt known count) refl
         let none : filter (λ c. nat_lt known c) (count ∷ []) ≡ [] = rw e refl in
         sym (filter-append (λ c. nat_lt known c) counts (count ∷ []) ∙ ap (λ cs. filter (λ c. nat_lt known c) counts ++ cs) none ∙ append-nil _)
 
-tracked_more : (b : Bool) (stream : ℕ) (references : List ℕ) (ts : List Tracked) → b ≡ false
-    → map stored_section ts ++ record { stream = stream; oldest = least references } ∷ [] ≡ map stored_section (ts ++ (if b then [] else record { stream = stream; references = references } ∷ []))
-tracked_more b stream references ts e = rw e (sym (map-append stored_section ts (record { stream = stream; references = references } ∷ [])))
+tracked_more : (b : Bool) (stream : ℕ) (references : List ℕ) (ts : List UnacknowledgedSection) → b ≡ false
+    → map tracked_section ts ++ record { stream = stream; oldest = least references } ∷ [] ≡ map tracked_section (ts ++ (if b then [] else record { stream = stream; references = references } ∷ []))
+tracked_more b stream references ts e = rw e (sym (map-append tracked_section ts (record { stream = stream; references = references } ∷ [])))
 
-tracked_same : (b : Bool) (more ts : List Tracked) → b ≡ true → map stored_section ts ≡ map stored_section (ts ++ (if b then [] else more))
-tracked_same b more ts e = rw e (ap (map stored_section) (sym (append-nil ts)))
+tracked_same : (b : Bool) (more ts : List UnacknowledgedSection) → b ≡ true → map tracked_section ts ≡ map tracked_section (ts ++ (if b then [] else more))
+tracked_same b more ts e = rw e (ap (map tracked_section) (sym (append-nil ts)))
 
 not_zero : (n : ℕ) → (n ≡ 0 → ⊥) → (n == 0) ≡ false
 not_zero n some = by_test (n == 0) refl
@@ -102,9 +102,9 @@ not_zero n some = by_test (n == 0) refl
     by_test false e = refl
 
 -- a section that names entries is counted and tracked
-pub sent_named : (s : Sender) (d : Draft) (stream : ℕ) (t new : StoredSender) (section : Section) → IsKept s d t section → IsSmall t → section.newest ≤ t.table.inserted → (section.newest ≡ 0 → ⊥)
-    → new ≡ stored_sent t stream section.newest section.oldest
-    → new ≡ stored (record s {
+pub sent_named : (s : EncoderHistory) (d : Draft) (stream : ℕ) (t new : EncoderState) (section : Section) → IsDraftState s d t section → IsSmall t → section.newest ≤ t.table.inserted → (section.newest ≡ 0 → ⊥)
+    → new ≡ encoder_state_sent t stream section.newest section.oldest
+    → new ≡ encoder_state (record s {
       inserted = d.inserted;
       required_insert_counts = s.required_insert_counts ++ required_insert_count d ∷ [];
       tracked = s.tracked ++ (if required_insert_count d == 0 then [] else record { stream = stream; references = d.references } ∷ []);
@@ -112,17 +112,17 @@ pub sent_named : (s : Sender) (d : Draft) (stream : ℕ) (t new : StoredSender) 
 sent_named s d stream t new section k small few some is =
     let named : required_insert_count d ≡ 0 → ⊥ = λ z. some (k.newest ∙ z) in
     let least_one : section.oldest ≡ least d.references = k.oldest ∙ least_is d.references named (omega (arith, sym k.newest, few, small.few)) in
-    is ∙ ap (λ (u : StoredSender). stored_sent u stream section.newest section.oldest) k.stores
-    ∙ ap (λ n. stored_sent (stored (record s { inserted = d.inserted })) stream n section.oldest) k.newest
-    ∙ ap (λ n. stored_sent (stored (record s { inserted = d.inserted })) stream (required_insert_count d) n) least_one
-    ∙ rw (waiting_more s.known_received (required_insert_count d) s.required_insert_counts, tracked_more (required_insert_count d == 0) stream d.references s.tracked (not_zero (required_insert_count d) named)) refl
+    is ∙ ap (λ (u : EncoderState). encoder_state_sent u stream section.newest section.oldest) k.stores
+    ∙ ap (λ n. encoder_state_sent (encoder_state (record s { inserted = d.inserted })) stream n section.oldest) k.newest
+    ∙ ap (λ n. encoder_state_sent (encoder_state (record s { inserted = d.inserted })) stream (required_insert_count d) n) least_one
+    ∙ rw (blocking_more s.known_received (required_insert_count d) s.required_insert_counts, tracked_more (required_insert_count d == 0) stream d.references s.tracked (not_zero (required_insert_count d) named)) refl
 
 none_below : (n : ℕ) → nat_lt n 0 ≡ false
 none_below n = grind (arith, common_steps)
 
 -- one that names none is not
-pub sent_plain : (s : Sender) (d : Draft) (stream : ℕ) (t : StoredSender) (section : Section) → IsKept s d t section → section.newest ≡ 0
-    → t ≡ stored (record s {
+pub sent_plain : (s : EncoderHistory) (d : Draft) (stream : ℕ) (t : EncoderState) (section : Section) → IsDraftState s d t section → section.newest ≡ 0
+    → t ≡ encoder_state (record s {
       inserted = d.inserted;
       required_insert_counts = s.required_insert_counts ++ required_insert_count d ∷ [];
       tracked = s.tracked ++ (if required_insert_count d == 0 then [] else record { stream = stream; references = d.references } ∷ []);
@@ -131,33 +131,33 @@ sent_plain s d stream t section k none =
     let zero_is : required_insert_count d ≡ 0 = sym k.newest ∙ none in
     let far : nat_lt s.known_received (required_insert_count d) ≡ false = ap (λ n. nat_lt s.known_received n) zero_is ∙ none_below s.known_received in
     let counts = ap (λ b. if b then filter (λ c. nat_lt s.known_received c) s.required_insert_counts ++ required_insert_count d ∷ [] else filter (λ c. nat_lt s.known_received c) s.required_insert_counts) (sym far)
-    ∙ waiting_more s.known_received (required_insert_count d) s.required_insert_counts in
+    ∙ blocking_more s.known_received (required_insert_count d) s.required_insert_counts in
     let none_named : (required_insert_count d == 0) ≡ true = rw zero_is refl in
-    k.stores ∙ ap (λ (ws : List ℕ). record (stored (record s { inserted = d.inserted })) { waiting = ws }) counts
-    ∙ ap (λ ts. record (stored (record s { inserted = d.inserted })) { waiting = filter (λ c. nat_lt s.known_received c) (s.required_insert_counts ++ required_insert_count d ∷ []); tracked = ts })
+    k.stores ∙ ap (λ (ws : List ℕ). record (encoder_state (record s { inserted = d.inserted })) { blocking_counts = ws }) counts
+    ∙ ap (λ ts. record (encoder_state (record s { inserted = d.inserted })) { blocking_counts = filter (λ c. nat_lt s.known_received c) (s.required_insert_counts ++ required_insert_count d ∷ []); tracked = ts })
     (tracked_same (required_insert_count d == 0) (record { stream = stream; references = d.references } ∷ []) s.tracked none_named)
 
 -- The section and its instructions were written.
-pub section_sent : (s : Sender) (stream : ℕ) (fields : List Field) (t new : StoredSender) (section : Section) (lines before block start told : List ℕ) → IsDrafted s (draft_of s fields) t section lines start told
-    → block ≡ before ++ (prefix_bytes t.table.capacity section.newest section.base ++ lines) → new ≡ stored (sent_section s stream fields)
-    → AllByRecursion IsFieldOfBytes fields → IsSent s stream fields section.newest new before block start told
-section_sent s stream fields t new section lines before block start told h is kept are_bytes =
+pub section_sent : (s : EncoderHistory) (stream : ℕ) (fields : List Field) (t new : EncoderState) (section : Section) (lines before encoded start instruction_bytes : List ℕ) → IsDrafted s (draft_of s fields) t section lines start instruction_bytes
+    → encoded ≡ before ++ (prefix_bytes t.table.capacity section.newest section.base ++ lines) → new ≡ encoder_state (sent_section s stream fields)
+    → AllByRecursion IsFieldOfBytes fields → IsSent s stream fields section.newest new before encoded start instruction_bytes
+section_sent s stream fields t new section lines before encoded start instruction_bytes h is kept are_bytes =
     let d = draft_of s fields in
-    let capacity : t.table.capacity ≡ s.capacity = ap (λ (u : StoredSender). u.table.capacity) h.kept.stores in
+    let capacity : t.table.capacity ≡ s.capacity = ap (λ (u : EncoderState). u.table.capacity) h.state.stores in
     let prefix : prefix_bytes t.table.capacity section.newest section.base ≡ prefix_bytes s.capacity (required_insert_count d) (length s.inserted) =
-    ap (λ n. prefix_bytes n section.newest section.base) capacity ∙ ap (λ n. prefix_bytes s.capacity n section.base) h.kept.newest ∙ ap (λ n. prefix_bytes s.capacity (required_insert_count d) n) h.kept.base in
+    ap (λ n. prefix_bytes n section.newest section.base) capacity ∙ ap (λ n. prefix_bytes s.capacity n section.base) h.state.newest ∙ ap (λ n. prefix_bytes s.capacity (required_insert_count d) n) h.state.base in
     let body : prefix_bytes t.table.capacity section.newest section.base ++ lines ≡ encoded_section s fields =
     ap (λ p. p ++ lines) prefix ∙ ap (λ ls. prefix_bytes s.capacity (required_insert_count d) (length s.inserted) ++ ls) h.lines_are in
     record {
       stores = kept;
-      count_is = h.kept.newest;
+      count_is = h.state.newest;
       are_bytes = are_bytes;
-      block_is = is ∙ ap (λ b. before ++ b) body;
-      told_is = h.told_is;
+      encoded_is = is ∙ ap (λ b. before ++ b) body;
+      instructions_are = h.instructions_are;
     }
 
 -- A section whose fields are all written is cut off behind the last.
-pub whole_cut_off : (s : Sender) (fields : List Field) (t new : StoredSender) (section : Section) (lines start told : List ℕ) → IsDrafted s (draft_of s fields) t section lines start told → AllByRecursion IsFieldOfBytes fields → new ≡ t → IsCutOff s fields new start told
-whole_cut_off s fields t new section lines start told h are_bytes same =
+pub whole_cut_off : (s : EncoderHistory) (fields : List Field) (t new : EncoderState) (section : Section) (lines start instruction_bytes : List ℕ) → IsDrafted s (draft_of s fields) t section lines start instruction_bytes → AllByRecursion IsFieldOfBytes fields → new ≡ t → IsCutOff s fields new start instruction_bytes
+whole_cut_off s fields t new section lines start instruction_bytes h are_bytes same =
     let all : take (length fields) fields ≡ fields = take_all (length fields) fields (omega arith) in
-    record { front = length fields; within = omega arith; are_bytes = rw all are_bytes; stores = same ∙ rw all h.kept.stores; told_is = rw all h.told_is }
+    record { front = length fields; within = omega arith; are_bytes = rw all are_bytes; stores = same ∙ rw all h.state.stores; instructions_are = rw all h.instructions_are }

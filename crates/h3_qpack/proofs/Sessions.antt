@@ -9,13 +9,13 @@ use Rattle.std.proofs.lemmas.List.Sums.{sum_by-cons, sum_by-append}
 use Rattle.h3_field.specs.Field.{Field}
 use Rattle.h3_field.specs.Instruction.{DecoderInstruction}
 use Rattle.h3_field.specs.Instruction.DecoderInstruction.{Acknowledge, CancelStream, Increment}
-use Rattle.h3_qpack.specs.Table.{dropped}
-use Rattle.h3_qpack.specs.Sender.{Sender, Tracked, released, blocks_out}
-use Rattle.h3_qpack.specs.Written.{draft_of, required_insert_count}
+use Rattle.h3_qpack.specs.Table.{evictions}
+use Rattle.h3_qpack.specs.EncoderHistory.{EncoderHistory, UnacknowledgedSection, released, blocks_out}
+use Rattle.h3_qpack.specs.SectionEncoding.{draft_of, required_insert_count}
 use Rattle.h3_qpack.proofs.Insertions.{section_read_as}
 use Rattle.h3_qpack.proofs.Drafts.{All-join, All-first, All-second, draft_is_draft, IsNamed}
-use Rattle.h3_qpack.specs.Schedule.{without_block}
-use Rattle.h3_qpack.specs.Session.{Session, UnderWay, encoded, inserted, decoded, after_cancellation, after_decoder_instruction, increments, acknowledgements, tracked_references, references_of, references_under_way, count_of, CancelsAreLast, is_canceled, oldest, without_oldest, IsWrittenOver, IsSound}
+use Rattle.h3_qpack.specs.Schedule.{without_section}
+use Rattle.h3_qpack.specs.Session.{Session, UndecodedSection, encoded, inserted, decoded, after_cancellation, after_decoder_instruction, increments, acknowledgments, tracked_references, references_of, undecoded_references, count_of, CancelsAreLast, is_canceled, oldest, without_oldest, IsWrittenOver, IsSound}
 
 increments-append : (xs ys : List DecoderInstruction) → increments (xs ++ ys) ≡ increments xs + increments ys
 increments-append [] ys = omega arith
@@ -23,13 +23,13 @@ increments-append (Increment count ∷ xs) ys = omega (arith, increments-append 
 increments-append (Acknowledge stream ∷ xs) ys = increments-append xs ys
 increments-append (CancelStream stream ∷ xs) ys = increments-append xs ys
 
-acknowledgements-append : (stream : ℕ) (xs ys : List DecoderInstruction) → acknowledgements stream (xs ++ ys) ≡ acknowledgements stream xs + acknowledgements stream ys
-acknowledgements-append stream [] ys = omega arith
-acknowledgements-append stream (Increment count ∷ xs) ys = acknowledgements-append stream xs ys
-acknowledgements-append stream (Acknowledge other ∷ xs) ys = omega (arith, acknowledgements-append stream xs ys)
-acknowledgements-append stream (CancelStream other ∷ xs) ys = acknowledgements-append stream xs ys
+acknowledgments-append : (stream : ℕ) (xs ys : List DecoderInstruction) → acknowledgments stream (xs ++ ys) ≡ acknowledgments stream xs + acknowledgments stream ys
+acknowledgments-append stream [] ys = omega arith
+acknowledgments-append stream (Increment count ∷ xs) ys = acknowledgments-append stream xs ys
+acknowledgments-append stream (Acknowledge other ∷ xs) ys = omega (arith, acknowledgments-append stream xs ys)
+acknowledgments-append stream (CancelStream other ∷ xs) ys = acknowledgments-append stream xs ys
 
-tracked_references-append : (stream : ℕ) (xs ys : List Tracked) → tracked_references stream (xs ++ ys) ≡ tracked_references stream xs ++ tracked_references stream ys
+tracked_references-append : (stream : ℕ) (xs ys : List UnacknowledgedSection) → tracked_references stream (xs ++ ys) ≡ tracked_references stream xs ++ tracked_references stream ys
 tracked_references-append stream [] ys = refl
 tracked_references-append stream (x ∷ xs) ys = grind (arith, common_steps, tracked_references-append stream xs ys)
 
@@ -38,27 +38,27 @@ cons_either : {X : Type 0} (b : Bool) (n : X) (xs ys : List X) (all : List X) �
 cons_either true n xs ys all h = ap (λ ns. n ∷ ns) h
 cons_either false n xs ys all h = h
 
-references_under_way-append : (stream : ℕ) (xs ys : List UnderWay) → references_under_way stream (xs ++ ys) ≡ references_under_way stream xs ++ references_under_way stream ys
-references_under_way-append stream [] ys = refl
-references_under_way-append stream (x ∷ xs) ys =
-    cons_either ((x.stream == stream) && nat_lt 0 (count_of x)) (references_of x) (references_under_way stream xs) (references_under_way stream ys) _ (references_under_way-append stream xs ys)
+undecoded_references-append : (stream : ℕ) (xs ys : List UndecodedSection) → undecoded_references stream (xs ++ ys) ≡ undecoded_references stream xs ++ undecoded_references stream ys
+undecoded_references-append stream [] ys = refl
+undecoded_references-append stream (x ∷ xs) ys =
+    cons_either ((x.stream == stream) && nat_lt 0 (count_of x)) (references_of x) (undecoded_references stream xs) (undecoded_references stream ys) _ (undecoded_references-append stream xs ys)
 
--- the oldest block of a stream goes, and those of other streams stay
-release_first : (stream : ℕ) (b : Tracked) (bs : List Tracked) (t : Bool) → (b.stream == stream) ≡ t
+-- the oldest section of a stream goes, and those of other streams stay
+release_first : (stream : ℕ) (b : UnacknowledgedSection) (bs : List UnacknowledgedSection) (t : Bool) → (b.stream == stream) ≡ t
     → tracked_references stream (released stream bs) ≡ drop 1 (tracked_references stream bs)
     → tracked_references stream (if t then bs else b ∷ released stream bs) ≡ drop 1 (if t then b.references ∷ tracked_references stream bs else tracked_references stream bs)
 release_first stream b bs true e h = refl
 release_first stream b bs false e h = rw e h
 
-released_names : (stream : ℕ) (bs : List Tracked) → tracked_references stream (released stream bs) ≡ drop 1 (tracked_references stream bs)
+released_names : (stream : ℕ) (bs : List UnacknowledgedSection) → tracked_references stream (released stream bs) ≡ drop 1 (tracked_references stream bs)
 released_names stream [] = refl
 released_names stream (b ∷ bs) = release_first stream b bs (b.stream == stream) refl (released_names stream bs)
 
-released_others : (stream other : ℕ) (bs : List Tracked) → stream ≢ other → tracked_references other (released stream bs) ≡ tracked_references other bs
+released_others : (stream other : ℕ) (bs : List UnacknowledgedSection) → stream ≢ other → tracked_references other (released stream bs) ≡ tracked_references other bs
 released_others stream other [] ne = refl
 released_others stream other (b ∷ bs) ne = grind (arith, common_steps, released_others stream other bs ne)
 
--- more is known, so fewer blocks are out
+-- more is known, so fewer sections are out
 fewer_out : (counts : List ℕ) (known later : ℕ) → known ≤ later → count_by (λ c. nat_lt later c) counts ≤ count_by (λ c. nat_lt known c) counts
 fewer_out [] known later le = omega arith
 fewer_out (c ∷ cs) known later le =
@@ -68,18 +68,18 @@ fewer_out (c ∷ cs) known later le =
 increment_read : (s : Session) (count : ℕ) (rest : List DecoderInstruction) → s.decoder_instructions ≡ Increment count ∷ rest → IsSound s → IsSound (after_decoder_instruction s (Increment count) rest)
 increment_read s count rest is h =
     let sum : increments s.decoder_instructions ≡ count + increments rest = ap increments is in
-    let exact : min (s.sender.known_received + count) (2 ^ 64 - 1) ≡ s.sender.known_received + count = omega (arith, h.accounted, sum, h.received, h.small) in
-    let acks : (stream : ℕ) → acknowledgements stream s.decoder_instructions ≡ acknowledgements stream rest = λ stream. ap (acknowledgements stream) is in
+    let exact : min (s.encoder.known_received + count) (2 ^ 64 - 1) ≡ s.encoder.known_received + count = omega (arith, h.accounted, sum, h.received, h.small) in
+    let acks : (stream : ℕ) → acknowledgments stream s.decoder_instructions ≡ acknowledgments stream rest = λ stream. ap (acknowledgments stream) is in
     record {
       received = h.received;
       accounted = omega (arith, h.accounted, sum, exact);
-      dropped_known = omega (arith, h.dropped_known, exact);
-      references_held = h.references_held;
-      tracked = λ stream alive. subst (λ n. drop n (tracked_references stream s.sender.tracked) ≡ references_under_way stream s.blocks) (acks stream) (h.tracked stream alive);
+      evictions_known = omega (arith, h.evictions_known, exact);
+      references_present = h.references_present;
+      tracked = λ stream alive. subst (λ n. drop n (tracked_references stream s.encoder.tracked) ≡ undecoded_references stream s.sections) (acks stream) (h.tracked stream alive);
       acknowledged = λ stream. omega (arith, h.acknowledged stream, acks stream);
       written = h.written;
       cancels = subst (CancelsAreLast s.canceled) is h.cancels;
-      within_limit = omega (arith, h.within_limit, fewer_out s.sender.required_insert_counts s.sender.known_received (min (s.sender.known_received + count) (2 ^ 64 - 1)) (omega (arith, exact)));
+      within_limit = omega (arith, h.within_limit, fewer_out s.encoder.required_insert_counts s.encoder.known_received (min (s.encoder.known_received + count) (2 ^ 64 - 1)) (omega (arith, exact)));
       read = h.read;
       small = h.small;
     }
@@ -87,21 +87,21 @@ increment_read s count rest is h =
 cancels_more : (canceled : List ℕ) (decoder_instructions : List DecoderInstruction) (count : ℕ) → CancelsAreLast canceled decoder_instructions → CancelsAreLast canceled (decoder_instructions ++ Increment count ∷ [])
 cancels_more canceled [] count h = tt
 cancels_more canceled (CancelStream stream ∷ decoder_instructions) count h =
-    (h.0, acknowledgements-append stream decoder_instructions (Increment count ∷ []) ∙ add-zero _ ∙ h.1, cancels_more canceled decoder_instructions count h.2)
+    (h.0, acknowledgments-append stream decoder_instructions (Increment count ∷ []) ∙ add-zero _ ∙ h.1, cancels_more canceled decoder_instructions count h.2)
 cancels_more canceled (Acknowledge stream ∷ decoder_instructions) count h = cancels_more canceled decoder_instructions count h
 cancels_more canceled (Increment other ∷ decoder_instructions) count h = cancels_more canceled decoder_instructions count h
 
 -- more insertions are read by the decoder
-pub insertions_read : (s : Session) (count : ℕ) → s.received + count ≤ length s.sender.inserted → IsSound s → IsSound (inserted s count)
+pub insertions_read : (s : Session) (count : ℕ) → s.received + count ≤ length s.encoder.inserted → IsSound s → IsSound (inserted s count)
 insertions_read s count fits h =
-    let acks : (stream : ℕ) → acknowledgements stream (s.decoder_instructions ++ Increment count ∷ []) ≡ acknowledgements stream s.decoder_instructions =
-    λ stream. acknowledgements-append stream s.decoder_instructions (Increment count ∷ []) ∙ add-zero _ in
+    let acks : (stream : ℕ) → acknowledgments stream (s.decoder_instructions ++ Increment count ∷ []) ≡ acknowledgments stream s.decoder_instructions =
+    λ stream. acknowledgments-append stream s.decoder_instructions (Increment count ∷ []) ∙ add-zero _ in
     record {
       received = fits;
       accounted = omega (arith, h.accounted, increments-append s.decoder_instructions (Increment count ∷ []));
-      dropped_known = h.dropped_known;
-      references_held = h.references_held;
-      tracked = λ stream alive. subst (λ n. drop n (tracked_references stream s.sender.tracked) ≡ references_under_way stream s.blocks) (sym (acks stream)) (h.tracked stream alive);
+      evictions_known = h.evictions_known;
+      references_present = h.references_present;
+      tracked = λ stream alive. subst (λ n. drop n (tracked_references stream s.encoder.tracked) ≡ undecoded_references stream s.sections) (sym (acks stream)) (h.tracked stream alive);
       acknowledged = λ stream. omega (arith, h.acknowledged stream, acks stream);
       written = h.written;
       cancels = cancels_more s.canceled s.decoder_instructions count h.cancels;
@@ -110,47 +110,47 @@ insertions_read s count fits h =
       small = h.small;
     }
 
--- of an acknowledgement under way the stream has a tracked block
-one_acknowledged : (stream : ℕ) (rest : List DecoderInstruction) → acknowledgements stream (Acknowledge stream ∷ rest) ≡ 1 + acknowledgements stream rest
+-- of an acknowledgment under way the stream has a tracked section
+one_acknowledged : (stream : ℕ) (rest : List DecoderInstruction) → acknowledgments stream (Acknowledge stream ∷ rest) ≡ 1 + acknowledgments stream rest
 one_acknowledged stream rest = grind (arith, common_steps)
 
-other_acknowledged : (stream other : ℕ) (rest : List DecoderInstruction) → stream ≢ other → acknowledgements other (Acknowledge stream ∷ rest) ≡ acknowledgements other rest
+other_acknowledged : (stream other : ℕ) (rest : List DecoderInstruction) → stream ≢ other → acknowledgments other (Acknowledge stream ∷ rest) ≡ acknowledgments other rest
 other_acknowledged stream other rest ne = grind (arith, common_steps)
 
-released_first : (P : ℕ → Type 0) (stream : ℕ) (b : Tracked) (bs : List Tracked) (t : Bool) → AllByRecursion P (flat_map (λ b. b.references) bs)
+released_first : (P : ℕ → Type 0) (stream : ℕ) (b : UnacknowledgedSection) (bs : List UnacknowledgedSection) (t : Bool) → AllByRecursion P (flat_map (λ b. b.references) bs)
     → AllByRecursion P (b.references ++ flat_map (λ b. b.references) (released stream bs)) → AllByRecursion P (flat_map (λ b. b.references) (if t then bs else b ∷ released stream bs))
 released_first P stream b bs true h k = h
 released_first P stream b bs false h k = k
 
--- the tracked blocks that remain name less
-released_entries : (P : ℕ → Type 0) (stream : ℕ) (bs : List Tracked) → AllByRecursion P (flat_map (λ b. b.references) bs) → AllByRecursion P (flat_map (λ b. b.references) (released stream bs))
+-- the tracked sections that remain name less
+released_entries : (P : ℕ → Type 0) (stream : ℕ) (bs : List UnacknowledgedSection) → AllByRecursion P (flat_map (λ b. b.references) bs) → AllByRecursion P (flat_map (λ b. b.references) (released stream bs))
 released_entries P stream [] h = h
 released_entries P stream (b ∷ bs) h = released_first P stream b bs (b.stream == stream) (All-second P b.references (flat_map (λ b. b.references) bs) h)
     (All-join P b.references (flat_map (λ b. b.references) (released stream bs)) (All-first P b.references (flat_map (λ b. b.references) bs) h) (released_entries P stream bs (All-second P b.references (flat_map (λ b. b.references) bs) h)))
 
--- an acknowledgement is read: the stream's oldest block is released
-acknowledgement_read : (s : Session) (stream : ℕ) (rest : List DecoderInstruction) → s.decoder_instructions ≡ Acknowledge stream ∷ rest → IsSound s → IsSound (after_decoder_instruction s (Acknowledge stream) rest)
-acknowledgement_read s stream rest is h =
-    let one : acknowledgements stream s.decoder_instructions ≡ 1 + acknowledgements stream rest = ap (acknowledgements stream) is ∙ one_acknowledged stream rest in
+-- an acknowledgment is read: the stream's oldest section is released
+acknowledgment_read : (s : Session) (stream : ℕ) (rest : List DecoderInstruction) → s.decoder_instructions ≡ Acknowledge stream ∷ rest → IsSound s → IsSound (after_decoder_instruction s (Acknowledge stream) rest)
+acknowledgment_read s stream rest is h =
+    let one : acknowledgments stream s.decoder_instructions ≡ 1 + acknowledgments stream rest = ap (acknowledgments stream) is ∙ one_acknowledged stream rest in
     record {
       received = h.received;
-      accounted = subst (λ decoder_instructions. s.sender.known_received + increments decoder_instructions ≡ s.received) is h.accounted;
-      dropped_known = h.dropped_known;
-      references_held = released_entries _ stream s.sender.tracked h.references_held;
+      accounted = subst (λ decoder_instructions. s.encoder.known_received + increments decoder_instructions ≡ s.received) is h.accounted;
+      evictions_known = h.evictions_known;
+      references_present = released_entries _ stream s.encoder.tracked h.references_present;
       tracked = λ other alive. ⊎_elim
-          (λ e. subst (λ t. drop (acknowledgements t rest) (tracked_references t (released stream s.sender.tracked)) ≡ references_under_way t s.blocks) e
-          (ap (drop (acknowledgements stream rest)) (released_names stream s.sender.tracked)
-          ∙ drop-drop (acknowledgements stream rest) 1 (tracked_references stream s.sender.tracked)
-          ∙ ap (λ n. drop n (tracked_references stream s.sender.tracked)) (sym one)
+          (λ e. subst (λ t. drop (acknowledgments t rest) (tracked_references t (released stream s.encoder.tracked)) ≡ undecoded_references t s.sections) e
+          (ap (drop (acknowledgments stream rest)) (released_names stream s.encoder.tracked)
+          ∙ drop-drop (acknowledgments stream rest) 1 (tracked_references stream s.encoder.tracked)
+          ∙ ap (λ n. drop n (tracked_references stream s.encoder.tracked)) (sym one)
           ∙ h.tracked stream (subst (λ t. is_canceled s t ≡ false) (sym e) alive)))
-          (λ ne. ap (drop (acknowledgements other rest)) (released_others stream other s.sender.tracked ne)
-          ∙ ap (λ n. drop n (tracked_references other s.sender.tracked)) (sym (ap (acknowledgements other) is ∙ other_acknowledged stream other rest ne))
+          (λ ne. ap (drop (acknowledgments other rest)) (released_others stream other s.encoder.tracked ne)
+          ∙ ap (λ n. drop n (tracked_references other s.encoder.tracked)) (sym (ap (acknowledgments other) is ∙ other_acknowledged stream other rest ne))
           ∙ h.tracked other alive)
           (cases_eq stream other);
       acknowledged = λ other. ⊎_elim
-          (λ e. subst (λ t. acknowledgements t rest ≤ length (tracked_references t (released stream s.sender.tracked))) e
-          (omega (arith, one, h.acknowledged stream, ap length (released_names stream s.sender.tracked), length-drop 1 (tracked_references stream s.sender.tracked))))
-          (λ ne. omega (arith, h.acknowledged other, ap length (released_others stream other s.sender.tracked ne), ap (acknowledgements other) is, other_acknowledged stream other rest ne))
+          (λ e. subst (λ t. acknowledgments t rest ≤ length (tracked_references t (released stream s.encoder.tracked))) e
+          (omega (arith, one, h.acknowledged stream, ap length (released_names stream s.encoder.tracked), length-drop 1 (tracked_references stream s.encoder.tracked))))
+          (λ ne. omega (arith, h.acknowledged other, ap length (released_others stream other s.encoder.tracked ne), ap (acknowledgments other) is, other_acknowledged stream other rest ne))
           (cases_eq stream other);
       written = h.written;
       cancels = subst (CancelsAreLast s.canceled) is h.cancels;
@@ -159,26 +159,26 @@ acknowledgement_read s stream rest is h =
       small = h.small;
     }
 
--- a cancellation is read: the stream's two oldest blocks are released, and no acknowledgement of it is under way
+-- a cancellation is read: the stream's two oldest sections are released, and no acknowledgment of it is under way
 cancellation_read : (s : Session) (stream : ℕ) (rest : List DecoderInstruction) → s.decoder_instructions ≡ CancelStream stream ∷ rest → IsSound s → IsSound (after_decoder_instruction s (CancelStream stream) rest)
 cancellation_read s stream rest is h =
-    let last : (is_canceled s stream ≡ true) × (acknowledgements stream rest ≡ 0) × CancelsAreLast s.canceled rest = subst (CancelsAreLast s.canceled) is h.cancels in
-    let others : (other : ℕ) → stream ≢ other → tracked_references other (released stream (released stream s.sender.tracked)) ≡ tracked_references other s.sender.tracked =
-    λ other ne. released_others stream other (released stream s.sender.tracked) ne ∙ released_others stream other s.sender.tracked ne in
+    let last : (is_canceled s stream ≡ true) × (acknowledgments stream rest ≡ 0) × CancelsAreLast s.canceled rest = subst (CancelsAreLast s.canceled) is h.cancels in
+    let others : (other : ℕ) → stream ≢ other → tracked_references other (released stream (released stream s.encoder.tracked)) ≡ tracked_references other s.encoder.tracked =
+    λ other ne. released_others stream other (released stream s.encoder.tracked) ne ∙ released_others stream other s.encoder.tracked ne in
     record {
       received = h.received;
-      accounted = subst (λ decoder_instructions. s.sender.known_received + increments decoder_instructions ≡ s.received) is h.accounted;
-      dropped_known = h.dropped_known;
-      references_held = released_entries _ stream (released stream s.sender.tracked) (released_entries _ stream s.sender.tracked h.references_held);
+      accounted = subst (λ decoder_instructions. s.encoder.known_received + increments decoder_instructions ≡ s.received) is h.accounted;
+      evictions_known = h.evictions_known;
+      references_present = released_entries _ stream (released stream s.encoder.tracked) (released_entries _ stream s.encoder.tracked h.references_present);
       tracked = λ other alive. ⊎_elim
           (λ e. let both : true ≡ false = sym last.0 ∙ subst (λ t. is_canceled s t ≡ false) (sym e) alive in cc)
-          (λ ne. ap (drop (acknowledgements other rest)) (others other ne)
-          ∙ ap (λ n. drop n (tracked_references other s.sender.tracked)) (sym (ap (acknowledgements other) is))
+          (λ ne. ap (drop (acknowledgments other rest)) (others other ne)
+          ∙ ap (λ n. drop n (tracked_references other s.encoder.tracked)) (sym (ap (acknowledgments other) is))
           ∙ h.tracked other alive)
           (cases_eq stream other);
       acknowledged = λ other. ⊎_elim
-          (λ e. subst (λ t. acknowledgements t rest ≤ length (tracked_references t (released stream (released stream s.sender.tracked)))) e (omega (arith, last.1)))
-          (λ ne. omega (arith, h.acknowledged other, ap length (others other ne), ap (acknowledgements other) is))
+          (λ e. subst (λ t. acknowledgments t rest ≤ length (tracked_references t (released stream (released stream s.encoder.tracked)))) e (omega (arith, last.1)))
+          (λ ne. omega (arith, h.acknowledged other, ap length (others other ne), ap (acknowledgments other) is))
           (cases_eq stream other);
       written = h.written;
       cancels = last.2;
@@ -190,15 +190,15 @@ cancellation_read s stream rest is h =
 -- the encoder reads whatever the decoder wrote
 pub reply_read : (s : Session) (instruction : DecoderInstruction) (rest : List DecoderInstruction) → s.decoder_instructions ≡ instruction ∷ rest → IsSound s → IsSound (after_decoder_instruction s instruction rest)
 reply_read s (Increment count) rest is h = increment_read s count rest is h
-reply_read s (Acknowledge stream) rest is h = acknowledgement_read s stream rest is h
+reply_read s (Acknowledge stream) rest is h = acknowledgment_read s stream rest is h
 reply_read s (CancelStream stream) rest is h = cancellation_read s stream rest is h
 
--- a block that needs more than is known names an entry that isn't known, so one more block may wait
-may_wait : (s : Sender) (ins : List Field) (names : List ℕ) (most : ℕ) → most ≤ s.known_received → AllByRecursion (IsNamed s ins) names → s.known_received < fold max most names → nat_lt (blocks_out s) s.limit ≡ true
-may_wait s ins [] most low h above = absurd (omega arith)
-may_wait s ins (n ∷ names) most low h above = known_or_not s ins n names most (nat_le n s.known_received) refl low h above (λ m l. may_wait s ins names m l h.1)
+-- a section that needs more than is known names an entry that isn't known, so one more section may be blocked
+may_block : (s : EncoderHistory) (ins : List Field) (names : List ℕ) (most : ℕ) → most ≤ s.known_received → AllByRecursion (IsNamed s ins) names → s.known_received < fold max most names → nat_lt (blocks_out s) s.limit ≡ true
+may_block s ins [] most low h above = absurd (omega arith)
+may_block s ins (n ∷ names) most low h above = known_or_not s ins n names most (nat_le n s.known_received) refl low h above (λ m l. may_block s ins names m l h.1)
   where
-    known_or_not : (s : Sender) (ins : List Field) (n : ℕ) (names : List ℕ) (most : ℕ) (b : Bool) → nat_le n s.known_received ≡ b → most ≤ s.known_received
+    known_or_not : (s : EncoderHistory) (ins : List Field) (n : ℕ) (names : List ℕ) (most : ℕ) (b : Bool) → nat_le n s.known_received ≡ b → most ≤ s.known_received
         → AllByRecursion (IsNamed s ins) (n ∷ names) → s.known_received < fold max most (n ∷ names)
         → ((m : ℕ) → m ≤ s.known_received → s.known_received < fold max m names → nat_lt (blocks_out s) s.limit ≡ true) → nat_lt (blocks_out s) s.limit ≡ true
     known_or_not s ins n names most true e low h above later = later (max most n) (grind (arith, common_steps)) above
@@ -208,7 +208,7 @@ may_wait s ins (n ∷ names) most low h above = known_or_not s ins n names most 
         usable b h = h
 
 -- one more count
-one_more_out : (s : Sender) (count : ℕ) → blocks_out s ≤ s.limit → (s.known_received < count → nat_lt (blocks_out s) s.limit ≡ true)
+one_more_out : (s : EncoderHistory) (count : ℕ) → blocks_out s ≤ s.limit → (s.known_received < count → nat_lt (blocks_out s) s.limit ≡ true)
     → count_by (λ c. nat_lt s.known_received c) (s.required_insert_counts ++ count ∷ []) ≤ s.limit
 one_more_out s count h wait = by_test (nat_lt s.known_received count) refl
   where
@@ -238,94 +238,94 @@ same_test stream stream' names false = all_names (stream' == stream)
     all_names true = refl
     all_names false = refl
 
--- the new block is tracked just where it is one of those that the receiver acknowledges
-same_block : (stream stream' count : ℕ) (names : List ℕ)
+-- the new section is tracked just where it is one of those that the decoder acknowledges
+same_section : (stream stream' count : ℕ) (names : List ℕ)
     → tracked_references stream (if count == 0 then [] else record { stream = stream'; references = names } ∷ [])
     ≡ (if (stream' == stream) && nat_lt 0 count then names ∷ [] else [])
-same_block stream stream' count names = rw (above_zero count) (same_test stream stream' names (count == 0))
+same_section stream stream' count names = rw (above_zero count) (same_test stream stream' names (count == 0))
 
 last_entries : (P : ℕ → Type 0) (stream : ℕ) (names : List ℕ) (zero_is : Bool) → AllByRecursion P names
-    → AllByRecursion P (flat_map (λ (b : Tracked). b.references) (if zero_is then [] else record { stream = stream; references = names } ∷ []))
+    → AllByRecursion P (flat_map (λ (b : UnacknowledgedSection). b.references) (if zero_is then [] else record { stream = stream; references = names } ∷ []))
 last_entries P stream names true k = tt
 last_entries P stream names false k = All-join P names [] k tt
 
-entries_more : (P : ℕ → Type 0) (bs : List Tracked) (count stream : ℕ) (names : List ℕ) → AllByRecursion P (flat_map (λ b. b.references) bs) → AllByRecursion P names
-    → AllByRecursion P (flat_map (λ (b : Tracked). b.references) (bs ++ (if count == 0 then [] else record { stream = stream; references = names } ∷ [])))
+entries_more : (P : ℕ → Type 0) (bs : List UnacknowledgedSection) (count stream : ℕ) (names : List ℕ) → AllByRecursion P (flat_map (λ b. b.references) bs) → AllByRecursion P names
+    → AllByRecursion P (flat_map (λ (b : UnacknowledgedSection). b.references) (bs ++ (if count == 0 then [] else record { stream = stream; references = names } ∷ [])))
 entries_more P [] count stream names h k = last_entries P stream names (count == 0) k
 entries_more P (b ∷ bs) count stream names h k =
     All-join P b.references _ (All-first P b.references (flat_map (λ b. b.references) bs) h) (entries_more P bs count stream names (All-second P b.references (flat_map (λ b. b.references) bs) h) k)
 
-there : (s : Sender) (ins : List Field) (names : List ℕ) → AllByRecursion (IsNamed s ins) names → AllByRecursion (λ number. dropped s.capacity ins < number) names
+there : (s : EncoderHistory) (ins : List Field) (names : List ℕ) → AllByRecursion (IsNamed s ins) names → AllByRecursion (λ number. evictions s.capacity ins < number) names
 there s ins [] h = tt
 there s ins (n ∷ names) h = (h.0.there, there s ins names h.1)
 
-longer_written : (fs gs more : List Field) → gs ≡ fs ++ more → (blocks : List UnderWay) → AllByRecursion (IsWrittenOver fs) blocks → AllByRecursion (IsWrittenOver gs) blocks
+longer_written : (fs gs more : List Field) → gs ≡ fs ++ more → (sections : List UndecodedSection) → AllByRecursion (IsWrittenOver fs) sections → AllByRecursion (IsWrittenOver gs) sections
 longer_written fs gs more e [] h = tt
 longer_written fs gs more e (b ∷ bs) h = (
-  record { more = h.0.more ++ more; begins = e ∙ ap (λ xs. xs ++ more) h.0.begins ∙ append_assoc (draft_of b.sender b.fields).inserted h.0.more more },
+  record { more = h.0.more ++ more; begins = e ∙ ap (λ xs. xs ++ more) h.0.begins ∙ append_assoc (draft_of b.encoder b.fields).inserted h.0.more more },
   longer_written fs gs more e bs h.1,
 )
 
--- a block is written
-pub block_written : (s : Session) (stream : ℕ) (fields : List Field) → IsSound s → IsSound (encoded s stream fields)
-block_written s stream fields h =
-    let d = draft_is_draft s.sender fields h.references_held in
-    let draft = draft_of s.sender fields in
+-- a section is written
+pub section_written : (s : Session) (stream : ℕ) (fields : List Field) → IsSound s → IsSound (encoded s stream fields)
+section_written s stream fields h =
+    let d = draft_is_draft s.encoder fields h.references_present in
+    let draft = draft_of s.encoder fields in
     record {
-      received = omega (arith, h.received, ap length d.begins, length-append s.sender.inserted d.more);
+      received = omega (arith, h.received, ap length d.begins, length-append s.encoder.inserted d.more);
       accounted = h.accounted;
-      dropped_known = omega (arith, d.dropped_known, h.dropped_known);
-      references_held = entries_more _ s.sender.tracked (required_insert_count draft) stream draft.references d.held (there s.sender draft.inserted draft.references d.references);
+      evictions_known = omega (arith, d.evictions_known, h.evictions_known);
+      references_present = entries_more _ s.encoder.tracked (required_insert_count draft) stream draft.references d.present (there s.encoder draft.inserted draft.references d.references);
       tracked = λ other alive.
-          ap (drop (acknowledgements other s.decoder_instructions)) (tracked_references-append other s.sender.tracked _)
-          ∙ drop-append-le (acknowledgements other s.decoder_instructions) (tracked_references other s.sender.tracked) _ (h.acknowledged other)
+          ap (drop (acknowledgments other s.decoder_instructions)) (tracked_references-append other s.encoder.tracked _)
+          ∙ drop-append-le (acknowledgments other s.decoder_instructions) (tracked_references other s.encoder.tracked) _ (h.acknowledged other)
           ∙ ap (λ xs. xs ++ tracked_references other (if required_insert_count draft == 0 then [] else record { stream = stream; references = draft.references } ∷ [])) (h.tracked other alive)
-          ∙ ap (λ ys. references_under_way other s.blocks ++ ys) (same_block other stream (required_insert_count draft) draft.references)
-          ∙ sym (references_under_way-append other s.blocks _);
+          ∙ ap (λ ys. undecoded_references other s.sections ++ ys) (same_section other stream (required_insert_count draft) draft.references)
+          ∙ sym (undecoded_references-append other s.sections _);
       acknowledged = λ other. omega (
         arith,
         h.acknowledged other,
-        ap length (tracked_references-append other s.sender.tracked (if required_insert_count draft == 0 then [] else record { stream = stream; references = draft.references } ∷ [])),
-        length-append (tracked_references other s.sender.tracked) (tracked_references other (if required_insert_count draft == 0 then [] else record { stream = stream; references = draft.references } ∷ [])),
+        ap length (tracked_references-append other s.encoder.tracked (if required_insert_count draft == 0 then [] else record { stream = stream; references = draft.references } ∷ [])),
+        length-append (tracked_references other s.encoder.tracked) (tracked_references other (if required_insert_count draft == 0 then [] else record { stream = stream; references = draft.references } ∷ [])),
       );
-      written = All-join (IsWrittenOver draft.inserted) s.blocks _
-          (longer_written s.sender.inserted draft.inserted d.more d.begins s.blocks h.written)
+      written = All-join (IsWrittenOver draft.inserted) s.sections _
+          (longer_written s.encoder.inserted draft.inserted d.more d.begins s.sections h.written)
           (record { more = []; begins = sym (append-nil draft.inserted) }, tt);
       cancels = h.cancels;
-      within_limit = one_more_out s.sender (required_insert_count draft) h.within_limit (may_wait s.sender draft.inserted draft.references 0 (omega arith) d.references);
-      read = section_read_as s.sender.capacity s.sender s.instructions fields h.read;
+      within_limit = one_more_out s.encoder (required_insert_count draft) h.within_limit (may_block s.encoder draft.inserted draft.references 0 (omega arith) d.references);
+      read = section_read_as s.encoder.capacity s.encoder s.instructions fields h.read;
       small = d.small h.small;
     }
 
--- the oldest block of a stream goes: of the names under way its own are the first
-pub taken_names : (stream : ℕ) (blocks : List UnderWay) (b : UnderWay) → oldest stream blocks ≡ Some b
-    → references_under_way stream blocks ≡ (if nat_lt 0 (count_of b) then references_of b ∷ [] else []) ++ references_under_way stream (without_oldest stream blocks)
+-- the oldest section of a stream goes: of the names under way its own are the first
+pub taken_names : (stream : ℕ) (sections : List UndecodedSection) (b : UndecodedSection) → oldest stream sections ≡ Some b
+    → undecoded_references stream sections ≡ (if nat_lt 0 (count_of b) then references_of b ∷ [] else []) ++ undecoded_references stream (without_oldest stream sections)
 taken_names stream [] b h = cc
 taken_names stream (x ∷ xs) b h = first_or_later stream x xs b (x.stream == stream) refl h (λ e. taken_names stream xs b e)
   where
-    first_or_later : (stream : ℕ) (x : UnderWay) (xs : List UnderWay) (b : UnderWay) (t : Bool) → (x.stream == stream) ≡ t
+    first_or_later : (stream : ℕ) (x : UndecodedSection) (xs : List UndecodedSection) (b : UndecodedSection) (t : Bool) → (x.stream == stream) ≡ t
         → (if t then Some x else oldest stream xs) ≡ Some b
-        → (oldest stream xs ≡ Some b → references_under_way stream xs ≡ (if nat_lt 0 (count_of b) then references_of b ∷ [] else []) ++ references_under_way stream (without_oldest stream xs))
-        → (if t && nat_lt 0 (count_of x) then references_of x ∷ references_under_way stream xs else references_under_way stream xs)
-        ≡ (if nat_lt 0 (count_of b) then references_of b ∷ [] else []) ++ references_under_way stream (if t then xs else x ∷ without_oldest stream xs)
+        → (oldest stream xs ≡ Some b → undecoded_references stream xs ≡ (if nat_lt 0 (count_of b) then references_of b ∷ [] else []) ++ undecoded_references stream (without_oldest stream xs))
+        → (if t && nat_lt 0 (count_of x) then references_of x ∷ undecoded_references stream xs else undecoded_references stream xs)
+        ≡ (if nat_lt 0 (count_of b) then references_of b ∷ [] else []) ++ undecoded_references stream (if t then xs else x ∷ without_oldest stream xs)
     first_or_later stream x xs b true e h later =
-        subst (λ (y : UnderWay). (if nat_lt 0 (count_of x) then references_of x ∷ references_under_way stream xs else references_under_way stream xs)
-        ≡ (if nat_lt 0 (count_of y) then references_of y ∷ [] else []) ++ references_under_way stream xs)
+        subst (λ (y : UndecodedSection). (if nat_lt 0 (count_of x) then references_of x ∷ undecoded_references stream xs else undecoded_references stream xs)
+        ≡ (if nat_lt 0 (count_of y) then references_of y ∷ [] else []) ++ undecoded_references stream xs)
         (ap (λ o. unwrap_or o x) h) (mine (nat_lt 0 (count_of x)))
       where
-        mine : (t : Bool) → (if t then references_of x ∷ references_under_way stream xs else references_under_way stream xs) ≡ (if t then references_of x ∷ [] else []) ++ references_under_way stream xs
+        mine : (t : Bool) → (if t then references_of x ∷ undecoded_references stream xs else undecoded_references stream xs) ≡ (if t then references_of x ∷ [] else []) ++ undecoded_references stream xs
         mine true = refl
         mine false = refl
     first_or_later stream x xs b false e h later = rw e (later h)
 
-taken_others : (stream other : ℕ) (blocks : List UnderWay) → stream ≢ other → references_under_way other (without_oldest stream blocks) ≡ references_under_way other blocks
+taken_others : (stream other : ℕ) (sections : List UndecodedSection) → stream ≢ other → undecoded_references other (without_oldest stream sections) ≡ undecoded_references other sections
 taken_others stream other [] ne = refl
 taken_others stream other (x ∷ xs) ne = skip_or_keep stream other x xs (x.stream == stream) refl ne (taken_others stream other xs ne)
   where
-    skip_or_keep : (stream other : ℕ) (x : UnderWay) (xs : List UnderWay) (t : Bool) → (x.stream == stream) ≡ t → stream ≢ other
-        → references_under_way other (without_oldest stream xs) ≡ references_under_way other xs
-        → references_under_way other (if t then xs else x ∷ without_oldest stream xs)
-        ≡ (if (x.stream == other) && nat_lt 0 (count_of x) then references_of x ∷ references_under_way other xs else references_under_way other xs)
+    skip_or_keep : (stream other : ℕ) (x : UndecodedSection) (xs : List UndecodedSection) (t : Bool) → (x.stream == stream) ≡ t → stream ≢ other
+        → undecoded_references other (without_oldest stream xs) ≡ undecoded_references other xs
+        → undecoded_references other (if t then xs else x ∷ without_oldest stream xs)
+        ≡ (if (x.stream == other) && nat_lt 0 (count_of x) then references_of x ∷ undecoded_references other xs else undecoded_references other xs)
     skip_or_keep stream other x xs true e ne ih =
         let no : (x.stream == other) ≡ false = grind (arith, common_steps) in rw no refl
     skip_or_keep stream other x xs false e ne ih = rw ih refl
@@ -336,14 +336,14 @@ cancels_without canceled [] stream alive h = tt
 cancels_without canceled (CancelStream other ∷ decoder_instructions) stream alive h = (
   h.0,
   ⊎_elim (λ e. let no : true ≡ false = sym h.0 ∙ subst (λ t. list_any (λ o. o == t) canceled ≡ false) e alive in cc)
-      (λ ne. acknowledgements-append other decoder_instructions (Acknowledge stream ∷ []) ∙ omega (arith, h.1, other_acknowledged stream other [] ne))
+      (λ ne. acknowledgments-append other decoder_instructions (Acknowledge stream ∷ []) ∙ omega (arith, h.1, other_acknowledged stream other [] ne))
       (cases_eq stream other),
   cancels_without canceled decoder_instructions stream alive h.2,
 )
 cancels_without canceled (Acknowledge other ∷ decoder_instructions) stream alive h = cancels_without canceled decoder_instructions stream alive h
 cancels_without canceled (Increment count ∷ decoder_instructions) stream alive h = cancels_without canceled decoder_instructions stream alive h
 
-without_written : (P : UnderWay → Type 0) (stream : ℕ) (blocks : List UnderWay) → AllByRecursion P blocks → AllByRecursion P (without_oldest stream blocks)
+without_written : (P : UndecodedSection → Type 0) (stream : ℕ) (sections : List UndecodedSection) → AllByRecursion P sections → AllByRecursion P (without_oldest stream sections)
 without_written P stream [] h = tt
 without_written P stream (x ∷ xs) h = either_all (x.stream == stream) h.0 h.1 (without_written P stream xs h.1)
   where
@@ -351,7 +351,7 @@ without_written P stream (x ∷ xs) h = either_all (x.stream == stream) h.0 h.1 
     either_all true p h k = h
     either_all false p h k = (p, k)
 
-kept_written : (P : UnderWay → Type 0) (test : UnderWay → Bool) (blocks : List UnderWay) → AllByRecursion P blocks → AllByRecursion P (filter test blocks)
+kept_written : (P : UndecodedSection → Type 0) (test : UndecodedSection → Bool) (sections : List UndecodedSection) → AllByRecursion P sections → AllByRecursion P (filter test sections)
 kept_written P test [] h = tt
 kept_written P test (x ∷ xs) h = either_all (test x) h.0 (kept_written P test xs h.1)
   where
@@ -359,82 +359,82 @@ kept_written P test (x ∷ xs) h = either_all (test x) h.0 (kept_written P test 
     either_all true p k = (p, k)
     either_all false p k = k
 
--- a block that needs no insertion is decoded: nothing is acknowledged
-plain_decoded : (s : Session) (b : UnderWay) → (count_of b == 0) ≡ true → oldest b.stream s.blocks ≡ Some b → IsSound s
-    → IsSound (record s { blocks = without_oldest b.stream s.blocks; decoder_instructions = s.decoder_instructions ++ [] })
+-- a section that needs no insertion is decoded: nothing is acknowledged
+plain_decoded : (s : Session) (b : UndecodedSection) → (count_of b == 0) ≡ true → oldest b.stream s.sections ≡ Some b → IsSound s
+    → IsSound (record s { sections = without_oldest b.stream s.sections; decoder_instructions = s.decoder_instructions ++ [] })
 plain_decoded s b none is h =
     let same : s.decoder_instructions ++ [] ≡ s.decoder_instructions = append-nil s.decoder_instructions in
-    let gone : references_under_way b.stream s.blocks ≡ references_under_way b.stream (without_oldest b.stream s.blocks) =
-    taken_names b.stream s.blocks b is ∙ rw (above_zero (count_of b), none) refl in
+    let evicted : undecoded_references b.stream s.sections ≡ undecoded_references b.stream (without_oldest b.stream s.sections) =
+    taken_names b.stream s.sections b is ∙ rw (above_zero (count_of b), none) refl in
     record {
       received = h.received;
       accounted = rw same h.accounted;
-      dropped_known = h.dropped_known;
-      references_held = h.references_held;
+      evictions_known = h.evictions_known;
+      references_present = h.references_present;
       tracked = λ other alive. rw same (h.tracked other alive ∙ ⊎_elim
-          (λ e. subst (λ t. references_under_way t s.blocks ≡ references_under_way t (without_oldest b.stream s.blocks)) e gone)
-          (λ ne. sym (taken_others b.stream other s.blocks ne))
+          (λ e. subst (λ t. undecoded_references t s.sections ≡ undecoded_references t (without_oldest b.stream s.sections)) e evicted)
+          (λ ne. sym (taken_others b.stream other s.sections ne))
           (cases_eq b.stream other));
       acknowledged = λ other. rw same (h.acknowledged other);
-      written = without_written (IsWrittenOver s.sender.inserted) b.stream s.blocks h.written;
+      written = without_written (IsWrittenOver s.encoder.inserted) b.stream s.sections h.written;
       cancels = rw same h.cancels;
       within_limit = h.within_limit;
       read = h.read;
       small = h.small;
     }
 
--- a block that named entries is decoded and acknowledged
-acknowledged_decoded : (s : Session) (b : UnderWay) → (count_of b == 0) ≡ false → oldest b.stream s.blocks ≡ Some b → is_canceled s b.stream ≡ false → IsSound s
-    → IsSound (record s { blocks = without_oldest b.stream s.blocks; decoder_instructions = s.decoder_instructions ++ Acknowledge b.stream ∷ [] })
+-- a section that named entries is decoded and acknowledged
+acknowledged_decoded : (s : Session) (b : UndecodedSection) → (count_of b == 0) ≡ false → oldest b.stream s.sections ≡ Some b → is_canceled s b.stream ≡ false → IsSound s
+    → IsSound (record s { sections = without_oldest b.stream s.sections; decoder_instructions = s.decoder_instructions ++ Acknowledge b.stream ∷ [] })
 acknowledged_decoded s b some is alive h =
-    let gone : references_under_way b.stream s.blocks ≡ references_of b ∷ references_under_way b.stream (without_oldest b.stream s.blocks) =
-    taken_names b.stream s.blocks b is ∙ rw (above_zero (count_of b), some) refl in
-    let own : drop (acknowledgements b.stream s.decoder_instructions) (tracked_references b.stream s.sender.tracked) ≡ references_of b ∷ references_under_way b.stream (without_oldest b.stream s.blocks) =
-    h.tracked b.stream alive ∙ gone in
-    let one : acknowledgements b.stream (s.decoder_instructions ++ Acknowledge b.stream ∷ []) ≡ acknowledgements b.stream s.decoder_instructions + 1 =
-    acknowledgements-append b.stream s.decoder_instructions (Acknowledge b.stream ∷ []) ∙ omega (arith, one_acknowledged b.stream []) in
-    let none : (other : ℕ) → b.stream ≢ other → acknowledgements other (s.decoder_instructions ++ Acknowledge b.stream ∷ []) ≡ acknowledgements other s.decoder_instructions =
-    λ other ne. acknowledgements-append other s.decoder_instructions (Acknowledge b.stream ∷ []) ∙ omega (arith, other_acknowledged b.stream other [] ne) in
+    let evicted : undecoded_references b.stream s.sections ≡ references_of b ∷ undecoded_references b.stream (without_oldest b.stream s.sections) =
+    taken_names b.stream s.sections b is ∙ rw (above_zero (count_of b), some) refl in
+    let own : drop (acknowledgments b.stream s.decoder_instructions) (tracked_references b.stream s.encoder.tracked) ≡ references_of b ∷ undecoded_references b.stream (without_oldest b.stream s.sections) =
+    h.tracked b.stream alive ∙ evicted in
+    let one : acknowledgments b.stream (s.decoder_instructions ++ Acknowledge b.stream ∷ []) ≡ acknowledgments b.stream s.decoder_instructions + 1 =
+    acknowledgments-append b.stream s.decoder_instructions (Acknowledge b.stream ∷ []) ∙ omega (arith, one_acknowledged b.stream []) in
+    let none : (other : ℕ) → b.stream ≢ other → acknowledgments other (s.decoder_instructions ++ Acknowledge b.stream ∷ []) ≡ acknowledgments other s.decoder_instructions =
+    λ other ne. acknowledgments-append other s.decoder_instructions (Acknowledge b.stream ∷ []) ∙ omega (arith, other_acknowledged b.stream other [] ne) in
     record {
       received = h.received;
       accounted = omega (arith, h.accounted, increments-append s.decoder_instructions (Acknowledge b.stream ∷ []));
-      dropped_known = h.dropped_known;
-      references_held = h.references_held;
+      evictions_known = h.evictions_known;
+      references_present = h.references_present;
       tracked = λ other up. ⊎_elim
-          (λ e. subst (λ t. drop (acknowledgements t (s.decoder_instructions ++ Acknowledge b.stream ∷ [])) (tracked_references t s.sender.tracked) ≡ references_under_way t (without_oldest b.stream s.blocks)) e
-          (ap (λ n. drop n (tracked_references b.stream s.sender.tracked)) one
-          ∙ sym (drop-drop 1 (acknowledgements b.stream s.decoder_instructions) (tracked_references b.stream s.sender.tracked))
+          (λ e. subst (λ t. drop (acknowledgments t (s.decoder_instructions ++ Acknowledge b.stream ∷ [])) (tracked_references t s.encoder.tracked) ≡ undecoded_references t (without_oldest b.stream s.sections)) e
+          (ap (λ n. drop n (tracked_references b.stream s.encoder.tracked)) one
+          ∙ sym (drop-drop 1 (acknowledgments b.stream s.decoder_instructions) (tracked_references b.stream s.encoder.tracked))
           ∙ ap (drop 1) own))
-          (λ ne. ap (λ n. drop n (tracked_references other s.sender.tracked)) (none other ne) ∙ h.tracked other up ∙ sym (taken_others b.stream other s.blocks ne))
+          (λ ne. ap (λ n. drop n (tracked_references other s.encoder.tracked)) (none other ne) ∙ h.tracked other up ∙ sym (taken_others b.stream other s.sections ne))
           (cases_eq b.stream other);
       acknowledged = λ other. ⊎_elim
-          (λ e. subst (λ t. acknowledgements t (s.decoder_instructions ++ Acknowledge b.stream ∷ []) ≤ length (tracked_references t s.sender.tracked)) e
-          (omega (arith, one, ap length own, length-drop (acknowledgements b.stream s.decoder_instructions) (tracked_references b.stream s.sender.tracked))))
+          (λ e. subst (λ t. acknowledgments t (s.decoder_instructions ++ Acknowledge b.stream ∷ []) ≤ length (tracked_references t s.encoder.tracked)) e
+          (omega (arith, one, ap length own, length-drop (acknowledgments b.stream s.decoder_instructions) (tracked_references b.stream s.encoder.tracked))))
           (λ ne. omega (arith, none other ne, h.acknowledged other))
           (cases_eq b.stream other);
-      written = without_written (IsWrittenOver s.sender.inserted) b.stream s.blocks h.written;
+      written = without_written (IsWrittenOver s.encoder.inserted) b.stream s.sections h.written;
       cancels = cancels_without s.canceled s.decoder_instructions b.stream alive h.cancels;
       within_limit = h.within_limit;
       read = h.read;
       small = h.small;
     }
 
--- the oldest block of a stream is decoded
-pub block_decoded : (s : Session) (b : UnderWay) → oldest b.stream s.blocks ≡ Some b → is_canceled s b.stream ≡ false → IsSound s → IsSound (decoded s b)
-block_decoded s b is alive h = by_count (count_of b == 0) refl
+-- the oldest section of a stream is decoded
+pub section_decoded : (s : Session) (b : UndecodedSection) → oldest b.stream s.sections ≡ Some b → is_canceled s b.stream ≡ false → IsSound s → IsSound (decoded s b)
+section_decoded s b is alive h = by_count (count_of b == 0) refl
   where
-    by_count : (t : Bool) → (count_of b == 0) ≡ t → IsSound (record s { blocks = without_oldest b.stream s.blocks; decoder_instructions = s.decoder_instructions ++ (if t then [] else Acknowledge b.stream ∷ []) })
+    by_count : (t : Bool) → (count_of b == 0) ≡ t → IsSound (record s { sections = without_oldest b.stream s.sections; decoder_instructions = s.decoder_instructions ++ (if t then [] else Acknowledge b.stream ∷ []) })
     by_count true e = plain_decoded s b e is h
     by_count false e = acknowledged_decoded s b e is alive h
 
-kept_under_way : (stream other : ℕ) (blocks : List UnderWay) → stream ≢ other → references_under_way other (filter (λ b. not (b.stream == stream)) blocks) ≡ references_under_way other blocks
-kept_under_way stream other [] ne = refl
-kept_under_way stream other (x ∷ xs) ne = skip_or_keep stream other x xs (x.stream == stream) refl ne (kept_under_way stream other xs ne)
+undecoded_kept : (stream other : ℕ) (sections : List UndecodedSection) → stream ≢ other → undecoded_references other (filter (λ b. not (b.stream == stream)) sections) ≡ undecoded_references other sections
+undecoded_kept stream other [] ne = refl
+undecoded_kept stream other (x ∷ xs) ne = skip_or_keep stream other x xs (x.stream == stream) refl ne (undecoded_kept stream other xs ne)
   where
-    skip_or_keep : (stream other : ℕ) (x : UnderWay) (xs : List UnderWay) (t : Bool) → (x.stream == stream) ≡ t → stream ≢ other
-        → references_under_way other (filter (λ b. not (b.stream == stream)) xs) ≡ references_under_way other xs
-        → references_under_way other (if not t then x ∷ filter (λ b. not (b.stream == stream)) xs else filter (λ b. not (b.stream == stream)) xs)
-        ≡ (if (x.stream == other) && nat_lt 0 (count_of x) then references_of x ∷ references_under_way other xs else references_under_way other xs)
+    skip_or_keep : (stream other : ℕ) (x : UndecodedSection) (xs : List UndecodedSection) (t : Bool) → (x.stream == stream) ≡ t → stream ≢ other
+        → undecoded_references other (filter (λ b. not (b.stream == stream)) xs) ≡ undecoded_references other xs
+        → undecoded_references other (if not t then x ∷ filter (λ b. not (b.stream == stream)) xs else filter (λ b. not (b.stream == stream)) xs)
+        ≡ (if (x.stream == other) && nat_lt 0 (count_of x) then references_of x ∷ undecoded_references other xs else undecoded_references other xs)
     skip_or_keep stream other x xs true e ne ih =
         let no : (x.stream == other) ≡ false = grind (arith, common_steps) in rw (no, ih) refl
     skip_or_keep stream other x xs false e ne ih = rw ih refl
@@ -445,7 +445,7 @@ cancels_last canceled [] stream h = (rw (same_number stream) refl, refl, tt)
     same_number : (n : ℕ) → (n == n) ≡ true
     same_number n = grind (arith, common_steps)
 cancels_last canceled (CancelStream other ∷ decoder_instructions) stream h =
-    (rw h.0 (or_true (stream == other)), acknowledgements-append other decoder_instructions (CancelStream stream ∷ []) ∙ add-zero _ ∙ h.1, cancels_last canceled decoder_instructions stream h.2)
+    (rw h.0 (or_true (stream == other)), acknowledgments-append other decoder_instructions (CancelStream stream ∷ []) ∙ add-zero _ ∙ h.1, cancels_last canceled decoder_instructions stream h.2)
   where
     or_true : (b : Bool) → (b || true) ≡ true
     or_true true = refl
@@ -460,19 +460,19 @@ neither false b h = (refl, h)
 -- a stream is given up
 pub stream_abandoned : (s : Session) (stream : ℕ) → IsSound s → IsSound (after_cancellation s stream)
 stream_abandoned s stream h =
-    let acks : (other : ℕ) → acknowledgements other (s.decoder_instructions ++ CancelStream stream ∷ []) ≡ acknowledgements other s.decoder_instructions =
-    λ other. acknowledgements-append other s.decoder_instructions (CancelStream stream ∷ []) ∙ add-zero _ in
+    let acks : (other : ℕ) → acknowledgments other (s.decoder_instructions ++ CancelStream stream ∷ []) ≡ acknowledgments other s.decoder_instructions =
+    λ other. acknowledgments-append other s.decoder_instructions (CancelStream stream ∷ []) ∙ add-zero _ in
     record {
       received = h.received;
       accounted = omega (arith, h.accounted, increments-append s.decoder_instructions (CancelStream stream ∷ []));
-      dropped_known = h.dropped_known;
-      references_held = h.references_held;
+      evictions_known = h.evictions_known;
+      references_present = h.references_present;
       tracked = λ other alive.
           let parts = neither (stream == other) (is_canceled s other) alive in
           let ne : stream ≢ other = λ e. let yes : (stream == other) ≡ true = grind (arith, common_steps) in absurd (same_no (sym yes ∙ parts.0)) in
-          ap (λ n. drop n (tracked_references other s.sender.tracked)) (acks other) ∙ h.tracked other parts.1 ∙ sym (kept_under_way stream other s.blocks ne);
+          ap (λ n. drop n (tracked_references other s.encoder.tracked)) (acks other) ∙ h.tracked other parts.1 ∙ sym (undecoded_kept stream other s.sections ne);
       acknowledged = λ other. omega (arith, acks other, h.acknowledged other);
-      written = kept_written (IsWrittenOver s.sender.inserted) _ s.blocks h.written;
+      written = kept_written (IsWrittenOver s.encoder.inserted) _ s.sections h.written;
       cancels = cancels_last s.canceled s.decoder_instructions stream h.cancels;
       within_limit = h.within_limit;
       read = h.read;
@@ -482,21 +482,21 @@ stream_abandoned s stream h =
     same_no : true ≡ false → ⊥
     same_no e = cc
 
--- what was inserted for a block that doesn't go out
-pub insertions_kept : (s : Session) (fields : List Field) → IsSound s → IsSound (without_block s fields)
+-- what was inserted for a section that doesn't go out
+pub insertions_kept : (s : Session) (fields : List Field) → IsSound s → IsSound (without_section s fields)
 insertions_kept s fields h =
-    let d = draft_is_draft s.sender fields h.references_held in
-    let draft = draft_of s.sender fields in
+    let d = draft_is_draft s.encoder fields h.references_present in
+    let draft = draft_of s.encoder fields in
     record {
-      received = omega (arith, h.received, ap length d.begins, length-append s.sender.inserted d.more);
+      received = omega (arith, h.received, ap length d.begins, length-append s.encoder.inserted d.more);
       accounted = h.accounted;
-      dropped_known = omega (arith, d.dropped_known, h.dropped_known);
-      references_held = d.held;
+      evictions_known = omega (arith, d.evictions_known, h.evictions_known);
+      references_present = d.present;
       tracked = h.tracked;
       acknowledged = h.acknowledged;
-      written = longer_written s.sender.inserted draft.inserted d.more d.begins s.blocks h.written;
+      written = longer_written s.encoder.inserted draft.inserted d.more d.begins s.sections h.written;
       cancels = h.cancels;
       within_limit = h.within_limit;
-      read = section_read_as s.sender.capacity s.sender s.instructions fields h.read;
+      read = section_read_as s.encoder.capacity s.encoder s.instructions fields h.read;
       small = d.small h.small;
     }

@@ -4,7 +4,7 @@ use Rattle.std.proofs.lemmas.List.Quantifiers.{position-Some}
 use Rattle.std.proofs.lemmas.Option.{get_or_from_slice_get}
 use Rattle.h3_field.specs.Field.{Field}
 use Rattle.h3_field.specs.StaticTable.{static_table, static_name, NamesEntry}
-use Rattle.h3_qpack.proofs.Blocks.{same_bytes}
+use Rattle.h3_qpack.proofs.NamedFieldsOf.{same_bytes}
 
 pub static_name_is : (f : Field) (index : ℕ) (name : List ℕ) → Some index ≡ static_name f.name → NamesEntry index name → record { name = name; value = f.value } ≡ f
 unfolding static_name

@@ -7,39 +7,39 @@ use Rattle.h3_field.specs.Field.{Field, field_size}
 use Rattle.h3_field.specs.Section.{with_value}
 use Rattle.h3_field.specs.Instruction.{EncoderInstruction}
 use Rattle.h3_field.specs.Instruction.EncoderInstruction.{SetCapacity, InsertWithStaticName, InsertWithEntryName, InsertLiteral, Duplicate}
-use Rattle.h3_qpack.specs.Table.{dropped}
-use Rattle.h3_qpack.specs.Block.{insertion_at}
-use Rattle.h3_qpack.specs.Held.{entry_at, with_entry}
-use Rattle.h3_qpack.specs.History.{History, held, still_at, field_inserted, longer, further, further_all, table_of, IsReadAs}
-use Rattle.h3_qpack.specs.Receiver.{Receiver, announcing, insertion_of, inserting, having_read, having_read_all}
+use Rattle.h3_qpack.specs.Table.{evictions}
+use Rattle.h3_qpack.specs.NamedFields.{insertion_at}
+use Rattle.h3_qpack.specs.TableState.{entry_at, with_entry}
+use Rattle.h3_qpack.specs.TableHistory.{TableHistory, table_state, entry_still_at, field_inserted, table_after_insertion, table_after, table_after_all, table_of, IsReadAs}
+use Rattle.h3_qpack.specs.DecoderState.{DecoderState, announcing, insertion_of, inserting, decoder_after, decoder_after_all}
 use Rattle.h3_qpack.specs.Exchange.{opening}
-use Rattle.h3_qpack.proofs.Kept.{held_of, table-end, with_entry-held}
-use Rattle.h3_qpack.proofs.Insertions.{further_all-append}
-use Rattle.h3_qpack.proofs.Hearing.{having_read_all-append}
+use Rattle.h3_qpack.proofs.TableStates.{table_state_of, table-end, with_entry-held}
+use Rattle.h3_qpack.proofs.Insertions.{table_after_all-append}
+use Rattle.h3_qpack.proofs.DecoderFronts.{decoder_after_all-append}
 use Rattle.h3_qpack.proofs.Drafts.{both}
 use Rattle.h3_qpack.proofs.Encodings.{still_held}
 
 -- a decoder that has read these insertions, and the capacity before them
-abbrev pub receiver_at : ℕ → List Field → Receiver
-receiver_at capacity inserted = record { announced = Some capacity; table = held (table_of capacity inserted) }
+abbrev pub decoder_at : ℕ → List Field → DecoderState
+decoder_at capacity inserted = record { announced = Some capacity; table = table_state (table_of capacity inserted) }
 
-held_is : (capacity : ℕ) (fs : List Field) → held (table_of capacity fs) ≡ held_of capacity fs
-held_is capacity fs = ap (λ es. record { capacity = capacity; entries = es; inserted = length fs }) (sym (table-end capacity fs))
+table_state_is : (capacity : ℕ) (fs : List Field) → table_state (table_of capacity fs) ≡ table_state_of capacity fs
+table_state_is capacity fs = ap (λ es. record { capacity = capacity; entries = es; inserted = length fs }) (sym (table-end capacity fs))
 
-entry_added : (capacity : ℕ) (fs : List Field) (f : Field) → field_size f ≤ capacity → with_entry (held (table_of capacity fs)) f ≡ held (table_of capacity (fs ++ f ∷ []))
-entry_added capacity fs f fits = ap (λ h. with_entry h f) (held_is capacity fs) ∙ with_entry-held capacity fs f fits ∙ sym (held_is capacity (fs ++ f ∷ []))
+entry_added : (capacity : ℕ) (fs : List Field) (f : Field) → field_size f ≤ capacity → with_entry (table_state (table_of capacity fs)) f ≡ table_state (table_of capacity (fs ++ f ∷ []))
+entry_added capacity fs f fits = ap (λ h. with_entry h f) (table_state_is capacity fs) ∙ with_entry-held capacity fs f fits ∙ sym (table_state_is capacity (fs ++ f ∷ []))
 
 -- an entry that is still there is held
-still_there : (capacity : ℕ) (fs : List Field) (n : ℕ) (f : Field) → still_at (table_of capacity fs) n ≡ Some f → entry_at (held (table_of capacity fs)) n ≡ Some f
-still_there capacity fs n f h = by_test (nat_lt (dropped capacity fs) n) refl h
+still_there : (capacity : ℕ) (fs : List Field) (n : ℕ) (f : Field) → entry_still_at (table_of capacity fs) n ≡ Some f → entry_at (table_state (table_of capacity fs)) n ≡ Some f
+still_there capacity fs n f h = by_test (nat_lt (evictions capacity fs) n) refl h
   where
-    left : length fs - length (drop (dropped capacity fs) fs) ≡ dropped capacity fs
-    left = omega (arith, length-drop (dropped capacity fs) fs)
+    left : length fs - length (drop (evictions capacity fs) fs) ≡ evictions capacity fs
+    left = omega (arith, length-drop (evictions capacity fs) fs)
 
-    by_test : (b : Bool) → nat_lt (dropped capacity fs) n ≡ b → (if b then insertion_at fs n else None) ≡ Some f → entry_at (held (table_of capacity fs)) n ≡ Some f
+    by_test : (b : Bool) → nat_lt (evictions capacity fs) n ≡ b → (if b then insertion_at fs n else None) ≡ Some f → entry_at (table_state (table_of capacity fs)) n ≡ Some f
     by_test true e h =
-        let there : dropped capacity fs < n = grind (arith, common_steps) in
-        rw (left, e) (still_held fs (dropped capacity fs) n f there (omega arith) h)
+        let there : evictions capacity fs < n = grind (arith, common_steps) in
+        rw (left, e) (still_held fs (evictions capacity fs) n f there (omega arith) h)
     by_test false e h = absurd (cc)
 
 with_value_more : (value : List ℕ) (a b : Option Field) (f : Field) → ((g : Field) → a ≡ Some g → b ≡ Some g) → with_value value a ≡ Some f → with_value value b ≡ Some f
@@ -47,11 +47,11 @@ with_value_more value None b f more h = absurd (cc)
 with_value_more value (Some g) b f more h = ap (with_value value) (more g refl) ∙ h
 
 -- what an insertion names at the decoder
-names_same : (capacity : ℕ) (fs : List Field) (i : EncoderInstruction) (f : Field) → field_inserted (table_of capacity fs) i ≡ Some f → insertion_of (held (table_of capacity fs)) i ≡ Some f
+names_same : (capacity : ℕ) (fs : List Field) (i : EncoderInstruction) (f : Field) → field_inserted (table_of capacity fs) i ≡ Some f → insertion_of (table_state (table_of capacity fs)) i ≡ Some f
 names_same capacity fs (SetCapacity c) f h = absurd (cc)
 names_same capacity fs (InsertWithStaticName index value) f h = h
 names_same capacity fs (InsertWithEntryName index value) f h =
-    with_value_more value (still_at (table_of capacity fs) (length fs - index)) _ f (λ g e. still_there capacity fs (length fs - index) g e) h
+    with_value_more value (entry_still_at (table_of capacity fs) (length fs - index)) _ f (λ g e. still_there capacity fs (length fs - index) g e) h
 names_same capacity fs (InsertLiteral name value) f h = h
 names_same capacity fs (Duplicate index) f h = still_there capacity fs (length fs - index) f h
 
@@ -61,37 +61,37 @@ record Longer (capacity : ℕ) (fs gs : List Field) (o : Option Field) : Type 0 
   pub room : (nat_lt (length fs + 1) (2 ^ 62) && nat_le (field_size field) capacity) ≡ true
   pub more : gs ≡ fs ++ field ∷ []
 
-longer_by : (capacity : ℕ) (fs gs : List Field) (o : Option Field) → longer (table_of capacity fs) o ≡ Some (table_of capacity gs) → Longer capacity fs gs o
+longer_by : (capacity : ℕ) (fs gs : List Field) (o : Option Field) → table_after_insertion (table_of capacity fs) o ≡ Some (table_of capacity gs) → Longer capacity fs gs o
 longer_by capacity fs gs None h = absurd (cc)
 longer_by capacity fs gs (Some f) h = by_test (nat_lt (length fs + 1) (2 ^ 62) && nat_le (field_size f) capacity) refl h
   where
     by_test : (b : Bool) → (nat_lt (length fs + 1) (2 ^ 62) && nat_le (field_size f) capacity) ≡ b
-        → ◌≡◌ {A = Option History} (if b then Some (record (table_of capacity fs) { inserted = fs ++ f ∷ []; gone = max (dropped capacity fs) (dropped capacity (fs ++ f ∷ [])) }) else None) (Some (table_of capacity gs))
+        → ◌≡◌ {A = Option TableHistory} (if b then Some (record (table_of capacity fs) { inserted = fs ++ f ∷ []; evicted = max (evictions capacity fs) (evictions capacity (fs ++ f ∷ [])) }) else None) (Some (table_of capacity gs))
         → Longer capacity fs gs (Some f)
     by_test true e h = record { field = f; is = refl; room = e; more = sym (ap (λ o. (unwrap_or o (table_of capacity fs)).inserted) h) }
     by_test false e h = absurd (cc)
 
 -- the same at the decoder
-inserted_same : (capacity : ℕ) (fs gs : List Field) (i : EncoderInstruction) → having_read (receiver_at capacity fs) i ≡ inserting (receiver_at capacity fs) (insertion_of (held (table_of capacity fs)) i)
-    → longer (table_of capacity fs) (field_inserted (table_of capacity fs) i) ≡ Some (table_of capacity gs) → having_read (receiver_at capacity fs) i ≡ Some (receiver_at capacity gs)
+inserted_same : (capacity : ℕ) (fs gs : List Field) (i : EncoderInstruction) → decoder_after (decoder_at capacity fs) i ≡ inserting (decoder_at capacity fs) (insertion_of (table_state (table_of capacity fs)) i)
+    → table_after_insertion (table_of capacity fs) (field_inserted (table_of capacity fs) i) ≡ Some (table_of capacity gs) → decoder_after (decoder_at capacity fs) i ≡ Some (decoder_at capacity gs)
 inserted_same capacity fs gs i reads h =
     let l = longer_by capacity fs gs (field_inserted (table_of capacity fs) i) h in
     let named = names_same capacity fs i l.field l.is in
     let fits : field_size l.field ≤ capacity = small (field_size l.field) capacity (both (nat_lt (length fs + 1) (2 ^ 62)) (nat_le (field_size l.field) capacity) l.room).1 in
-    let made : inserting (receiver_at capacity fs) (Some l.field) ≡ Some (receiver_at capacity (fs ++ l.field ∷ [])) =
-    rw l.room (ap (λ t. Some (record (receiver_at capacity fs) { table = t })) (entry_added capacity fs l.field fits)) in
-    reads ∙ ap (inserting (receiver_at capacity fs)) named ∙ made ∙ ap (λ hs. Some (receiver_at capacity hs)) (sym l.more)
+    let made : inserting (decoder_at capacity fs) (Some l.field) ≡ Some (decoder_at capacity (fs ++ l.field ∷ [])) =
+    rw l.room (ap (λ t. Some (record (decoder_at capacity fs) { table = t })) (entry_added capacity fs l.field fits)) in
+    reads ∙ ap (inserting (decoder_at capacity fs)) named ∙ made ∙ ap (λ hs. Some (decoder_at capacity hs)) (sym l.more)
   where
     small : (a b : ℕ) → nat_le a b ≡ true → a ≤ b
     small a b e = grind (arith, common_steps)
 
 -- One instruction that adds an insertion to the encoder's table adds it to the decoder's.
-pub step_read : (capacity : ℕ) (fs gs : List Field) (i : EncoderInstruction) → further capacity (table_of capacity fs) i ≡ Some (table_of capacity gs) → length fs < length gs
-    → having_read (receiver_at capacity fs) i ≡ Some (receiver_at capacity gs)
+pub step_read : (capacity : ℕ) (fs gs : List Field) (i : EncoderInstruction) → table_after capacity (table_of capacity fs) i ≡ Some (table_of capacity gs) → length fs < length gs
+    → decoder_after (decoder_at capacity fs) i ≡ Some (decoder_at capacity gs)
 step_read capacity fs gs (SetCapacity c) h lt = by_test (nat_le c capacity) h
   where
-    by_test : (b : Bool) → ◌≡◌ {A = Option History} (if b then Some (record (table_of capacity fs) { capacity = c; gone = max (dropped capacity fs) (dropped c fs) }) else None) (Some (table_of capacity gs))
-        → having_read (receiver_at capacity fs) (SetCapacity c) ≡ Some (receiver_at capacity gs)
+    by_test : (b : Bool) → ◌≡◌ {A = Option TableHistory} (if b then Some (record (table_of capacity fs) { capacity = c; evicted = max (evictions capacity fs) (evictions c fs) }) else None) (Some (table_of capacity gs))
+        → decoder_after (decoder_at capacity fs) (SetCapacity c) ≡ Some (decoder_at capacity gs)
     by_test true h =
         let same : fs ≡ gs = ap (λ o. (unwrap_or o (table_of capacity fs)).inserted) h in
         absurd (omega (arith, lt, ap length same))
@@ -103,51 +103,51 @@ step_read capacity fs gs (Duplicate index) h lt = inserted_same capacity fs gs (
 
 -- After any number of instructions behind the capacity the tables agree.
 pub behind_capacity : (capacity : ℕ) (instructions : List EncoderInstruction) (inserted : List Field) (k : ℕ) → IsReadAs capacity capacity instructions inserted → k ≤ length instructions
-    → having_read_all (Some (receiver_at capacity [])) (take k instructions) ≡ Some (receiver_at capacity (take k inserted))
+    → decoder_after_all (Some (decoder_at capacity [])) (take k instructions) ≡ Some (decoder_at capacity (take k inserted))
 behind_capacity capacity instructions inserted zero r le = refl
 behind_capacity capacity instructions inserted (suc k) r le = next instructions inserted (behind_capacity capacity instructions inserted k r (omega (arith, le))) (r.tables k (omega (arith, le))) (r.tables (suc k) le) r.one_each le
   where
-    next : (is : List EncoderInstruction) (fs : List Field) → having_read_all (Some (receiver_at capacity [])) (take k is) ≡ Some (receiver_at capacity (take k fs))
-        → further_all capacity (Some (table_of capacity [])) (take k is) ≡ Some (table_of capacity (take k fs))
-        → further_all capacity (Some (table_of capacity [])) (take (suc k) is) ≡ Some (table_of capacity (take (suc k) fs)) → length is ≡ length fs → suc k ≤ length is
-        → having_read_all (Some (receiver_at capacity [])) (take (suc k) is) ≡ Some (receiver_at capacity (take (suc k) fs))
+    next : (is : List EncoderInstruction) (fs : List Field) → decoder_after_all (Some (decoder_at capacity [])) (take k is) ≡ Some (decoder_at capacity (take k fs))
+        → table_after_all capacity (Some (table_of capacity [])) (take k is) ≡ Some (table_of capacity (take k fs))
+        → table_after_all capacity (Some (table_of capacity [])) (take (suc k) is) ≡ Some (table_of capacity (take (suc k) fs)) → length is ≡ length fs → suc k ≤ length is
+        → decoder_after_all (Some (decoder_at capacity [])) (take (suc k) is) ≡ Some (decoder_at capacity (take (suc k) fs))
     next [] fs before now later each le = absurd (omega (arith, le))
     next (i ∷ is) fs before now later each le =
         let at = get_or (i ∷ is) k i in
         let one : k + 1 ≡ suc k = omega arith in
         let front : take (suc k) (i ∷ is) ≡ take k (i ∷ is) ++ at ∷ [] = ap (λ n. take n (i ∷ is)) (sym one) ∙ take_more (i ∷ is) k i (omega (arith, le)) in
-        let step : further capacity (table_of capacity (take k fs)) at ≡ Some (table_of capacity (take (suc k) fs)) =
-        ap (λ o. further_all capacity o (at ∷ [])) (sym now) ∙ sym (further_all-append capacity (Some (table_of capacity [])) (take k (i ∷ is)) (at ∷ [])) ∙ ap (further_all capacity (Some (table_of capacity []))) (sym front) ∙ later in
+        let step : table_after capacity (table_of capacity (take k fs)) at ≡ Some (table_of capacity (take (suc k) fs)) =
+        ap (λ o. table_after_all capacity o (at ∷ [])) (sym now) ∙ sym (table_after_all-append capacity (Some (table_of capacity [])) (take k (i ∷ is)) (at ∷ [])) ∙ ap (table_after_all capacity (Some (table_of capacity []))) (sym front) ∙ later in
         let less : length (take k fs) < length (take (suc k) fs) = omega (arith, length-take-le k fs (omega (arith, each, le)), length-take-le (suc k) fs (omega (arith, each, le))) in
-        ap (having_read_all (Some (receiver_at capacity []))) front
-        ∙ having_read_all-append (Some (receiver_at capacity [])) (take k (i ∷ is)) (at ∷ [])
-        ∙ ap (λ o. having_read_all o (at ∷ [])) before
+        ap (decoder_after_all (Some (decoder_at capacity []))) front
+        ∙ decoder_after_all-append (Some (decoder_at capacity [])) (take k (i ∷ is)) (at ∷ [])
+        ∙ ap (λ o. decoder_after_all o (at ∷ [])) before
         ∙ step_read capacity (take k fs) (take (suc k) fs) at step less
 
 -- what a decoder is after so many instructions
 pub record AtRead (capacity : ℕ) (instructions : List EncoderInstruction) (inserted : List Field) (k : ℕ) : Type 0 where
-  pub receiver : Receiver
-  pub reads : having_read_all (Some (announcing capacity)) (take k (opening capacity ++ instructions)) ≡ Some receiver
-  pub is : ((k ≡ 0) × (receiver ≡ announcing capacity)) ⊎ (receiver ≡ receiver_at capacity (take (k - length (opening capacity)) inserted))
+  pub decoder : DecoderState
+  pub reads : decoder_after_all (Some (announcing capacity)) (take k (opening capacity ++ instructions)) ≡ Some decoder
+  pub is : ((k ≡ 0) × (decoder ≡ announcing capacity)) ⊎ (decoder ≡ decoder_at capacity (take (k - length (opening capacity)) inserted))
 
 pub at_read : (capacity : ℕ) (instructions : List EncoderInstruction) (inserted : List Field) (k : ℕ) → IsReadAs capacity capacity instructions inserted → k ≤ length (opening capacity ++ instructions)
     → AtRead capacity instructions inserted k
 at_read zero instructions inserted k r le =
     let h = behind_capacity 0 instructions inserted k r le in
     let same : k - 0 ≡ k = omega arith in
-    record { receiver = receiver_at 0 (take k inserted); reads = h; is = inr (rw same refl) }
+    record { decoder = decoder_at 0 (take k inserted); reads = h; is = inr (rw same refl) }
 at_read (suc c) instructions inserted k r le = opened k (suc c == 0) refl le
   where
     opened : (k : ℕ) (b : Bool) → (suc c == 0) ≡ b → k ≤ length ((if b then [] else SetCapacity (suc c) ∷ []) ++ instructions) → AtRead (suc c) instructions inserted k
     opened k true e le = absurd (grind (arith, common_steps))
-    opened zero false e le = record { receiver = announcing (suc c); reads = refl; is = inl (refl, refl) }
+    opened zero false e le = record { decoder = announcing (suc c); reads = refl; is = inl (refl, refl) }
     opened (suc k) false e le =
         let yes : nat_le (suc c) (suc c) ≡ true = grind (arith, common_steps) in
-        let begun : having_read (announcing (suc c)) (SetCapacity (suc c)) ≡ Some (receiver_at (suc c) []) = rw yes refl in
+        let begun : decoder_after (announcing (suc c)) (SetCapacity (suc c)) ≡ Some (decoder_at (suc c) []) = rw yes refl in
         let h = behind_capacity (suc c) instructions inserted k r (omega (arith, le)) in
         let same : suc k - 1 ≡ k = omega arith in
         record {
-          receiver = receiver_at (suc c) (take k inserted);
-          reads = rw e (ap (λ o. having_read_all o (take k instructions)) begun ∙ h);
+          decoder = decoder_at (suc c) (take k inserted);
+          reads = rw e (ap (λ o. decoder_after_all o (take k instructions)) begun ∙ h);
           is = inr (rw (e, same) refl);
         }

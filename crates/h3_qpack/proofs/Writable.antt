@@ -12,8 +12,8 @@ use Rattle.h3_field.specs.LineAnswer.{IsWritable}
 use Rattle.h3_field.specs.Instruction.{EncoderInstruction, encoder_bytes}
 use Rattle.h3_field.specs.InstructionAnswer.{IsSendable}
 use Rattle.h3_field.proofs.StaticEntries.{table_length}
-use Rattle.h3_qpack.specs.Sender.{Sender}
-use Rattle.h3_qpack.specs.Written.{Draft, found, found_name, is_insertable, remaining, insertion, add_line, add_inserted, add_literal, add_field, draft_of, entry_name_line}
+use Rattle.h3_qpack.specs.EncoderHistory.{EncoderHistory}
+use Rattle.h3_qpack.specs.SectionEncoding.{Draft, found, found_name, is_insertable, remaining, insertion, add_line, add_inserted, add_literal, add_field, draft_of, entry_name_line}
 use Rattle.h3_qpack.specs.Encodings.{IsWrittenLine, IsWrittenInstruction}
 use Rattle.h3_qpack.proofs.Newest.{chosen, newest_from-passes}
 use Rattle.h3_qpack.proofs.Drafts.{All-join, either_way, may_insert}
@@ -24,7 +24,7 @@ IsSmallLine l = IsWritable l × IsLineOfBytes l
 abbrev IsSmallInstruction : EncoderInstruction → Type 0
 IsSmallInstruction i = IsSendable i × IsInstructionOfBytes i
 
-record IsSmallDraft (s : Sender) (d : Draft) : Type 0 where
+record IsSmallDraft (s : EncoderHistory) (d : Draft) : Type 0 where
   few : length d.inserted < 2 ^ 62
   base : length s.inserted < 2 ^ 62
   lines : AllByRecursion IsSmallLine d.lines
@@ -43,7 +43,7 @@ name_below : (name : List ℕ) (index : ℕ) → static_name name ≡ Some index
 unfolding static_name
 name_below name index h = let p = position-Some (λ entry. bytes_eq entry.name name) static_table index (record { name = name; value = [] }) h in omega (arith, p.0, table_length)
 
-more_lines : (s : Sender) (d : Draft) (l : FieldLine) (names : List ℕ) → IsSmallDraft s d → IsSmallLine l → IsSmallDraft s (add_line d l names)
+more_lines : (s : EncoderHistory) (d : Draft) (l : FieldLine) (names : List ℕ) → IsSmallDraft s d → IsSmallLine l → IsSmallDraft s (add_line d l names)
 more_lines s d l names h k = record { few = h.few; base = h.base; lines = All-join IsSmallLine d.lines (l ∷ []) h.lines (k, tt); instructions = h.instructions }
 
 named_line : (base number : ℕ) (f : Field) → base < 2 ^ 62 → number < 2 ^ 62 → IsSmallField f → IsSmallLine (entry_name_line base number f.value)
@@ -53,7 +53,7 @@ named_line base number f low high k = by_order (nat_le number base)
     by_order true = ((omega (arith, low), omega (arith, k.size)), k.bytes.1)
     by_order false = ((omega (arith, high), omega (arith, k.size)), k.bytes.1)
 
-literal_small : (s : Sender) (d : Draft) (f : Field) → IsSmallDraft s d → IsSmallField f → IsSmallDraft s (add_literal s d f)
+literal_small : (s : EncoderHistory) (d : Draft) (f : Field) → IsSmallDraft s d → IsSmallField f → IsSmallDraft s (add_literal s d f)
 literal_small s d f h k =
     chosen (IsSmallDraft s) (static_name f.name) _ _ (λ index e. more_lines s d _ [] h ((name_below f.name index e, omega (arith, k.size)), k.bytes.1)) (λ none.
     chosen (IsSmallDraft s) (found_name s d f) _ _ (λ number e.
@@ -61,14 +61,14 @@ literal_small s d f h k =
     more_lines s d _ (number ∷ []) h (named_line (length s.inserted) number f h.base (omega (arith, p.below, h.few)) k)) (λ none.
     more_lines s d _ [] h ((omega (arith, k.size), omega (arith, k.size)), k.bytes)))
 
-insertion_small : (s : Sender) (d : Draft) (f : Field) → IsSmallDraft s d → IsSmallField f → IsSmallInstruction (insertion s d f)
+insertion_small : (s : EncoderHistory) (d : Draft) (f : Field) → IsSmallDraft s d → IsSmallField f → IsSmallInstruction (insertion s d f)
 insertion_small s d f h k =
     chosen IsSmallInstruction (remaining s d f (λ entry. field_eq entry f)) _ _ (λ number e. (omega (arith, h.few), tt)) (λ none.
     chosen IsSmallInstruction (static_name f.name) _ _ (λ index e. ((name_below f.name index e, omega (arith, k.size)), k.bytes.1)) (λ none.
     chosen IsSmallInstruction (remaining s d f (λ entry. bytes_eq entry.name f.name)) _ _ (λ number e. ((omega (arith, h.few), omega (arith, k.size)), k.bytes.1)) (λ none.
     ((omega (arith, k.size), omega (arith, k.size)), k.bytes))))
 
-inserted_small : (s : Sender) (d : Draft) (f : Field) → IsSmallDraft s d → IsSmallField f → is_insertable s d f ≡ true → IsSmallDraft s (add_inserted s d f)
+inserted_small : (s : EncoderHistory) (d : Draft) (f : Field) → IsSmallDraft s d → IsSmallField f → is_insertable s d f ≡ true → IsSmallDraft s (add_inserted s d f)
 inserted_small s d f h k may =
     let m = may_insert s d f may in
     record {
@@ -78,19 +78,19 @@ inserted_small s d f h k may =
       instructions = All-join IsSmallInstruction d.instructions _ h.instructions (insertion_small s d f h k, tt);
     }
 
-field_small : (s : Sender) (d : Draft) (f : Field) → IsSmallDraft s d → IsSmallField f → IsSmallDraft s (add_field s d f)
+field_small : (s : EncoderHistory) (d : Draft) (f : Field) → IsSmallDraft s d → IsSmallField f → IsSmallDraft s (add_field s d f)
 field_small s d f h k =
     chosen (IsSmallDraft s) (static_field f) _ _ (λ index e. more_lines s d _ [] h (field_below f index e, tt)) (λ none.
     chosen (IsSmallDraft s) (found s d f) _ _ (λ number e. more_lines s d _ (number ∷ []) h (omega (arith, h.base), tt)) (λ none.
     either_way (IsSmallDraft s) (is_insertable s d f) _ _ (λ e. inserted_small s d f h k e) (literal_small s d f h k)))
 
-fields_small : (s : Sender) (d : Draft) (fields : List Field) → IsSmallDraft s d → AllByRecursion IsFieldOfBytes fields → section_size fields < 2 ^ 62 → IsSmallDraft s (fold (add_field s) d fields)
+fields_small : (s : EncoderHistory) (d : Draft) (fields : List Field) → IsSmallDraft s d → AllByRecursion IsFieldOfBytes fields → section_size fields < 2 ^ 62 → IsSmallDraft s (fold (add_field s) d fields)
 fields_small s d [] h bytes size = h
 fields_small s d (f ∷ fields) h bytes size =
     let sum = sum_by-cons field_size f fields in
     fields_small s (add_field s d f) fields (field_small s d f h (record { bytes = bytes.0; size = omega (arith, size, sum) })) bytes.1 (omega (arith, size, sum))
 
-draft_small : (s : Sender) (fields : List Field) → length s.inserted < 2 ^ 62 → AllByRecursion IsFieldOfBytes fields → section_size fields < 2 ^ 62 → IsSmallDraft s (draft_of s fields)
+draft_small : (s : EncoderHistory) (fields : List Field) → length s.inserted < 2 ^ 62 → AllByRecursion IsFieldOfBytes fields → section_size fields < 2 ^ 62 → IsSmallDraft s (draft_of s fields)
 draft_small s fields few bytes size = fields_small s (record { inserted = s.inserted; instructions = []; lines = []; references = [] }) fields (record { few = few; base = few; lines = tt; instructions = tt }) bytes size
 
 lines_held : (ls : List FieldLine) → AllByRecursion IsSmallLine ls → length (flat_map line_bytes ls) < 2 ^ 63 → AllByRecursion IsWrittenLine ls
@@ -106,11 +106,11 @@ instructions_held (i ∷ is) h few =
     ((h.0.0, h.0.1, omega (arith, few, sum)), instructions_held is h.1 (omega (arith, few, sum)))
 
 -- the lines of a section
-pub lines_written : (s : Sender) (fields : List Field) → length s.inserted < 2 ^ 62 → AllByRecursion IsFieldOfBytes fields → section_size fields < 2 ^ 62
+pub lines_written : (s : EncoderHistory) (fields : List Field) → length s.inserted < 2 ^ 62 → AllByRecursion IsFieldOfBytes fields → section_size fields < 2 ^ 62
     → length (flat_map line_bytes (draft_of s fields).lines) < 2 ^ 63 → AllByRecursion IsWrittenLine (draft_of s fields).lines
 lines_written s fields few bytes size held = lines_held (draft_of s fields).lines (draft_small s fields few bytes size).lines held
 
 -- the instructions for it
-pub instructions_written : (s : Sender) (fields : List Field) → length s.inserted < 2 ^ 62 → AllByRecursion IsFieldOfBytes fields → section_size fields < 2 ^ 62
+pub instructions_written : (s : EncoderHistory) (fields : List Field) → length s.inserted < 2 ^ 62 → AllByRecursion IsFieldOfBytes fields → section_size fields < 2 ^ 62
     → length (flat_map encoder_bytes (draft_of s fields).instructions) < 2 ^ 63 → AllByRecursion IsWrittenInstruction (draft_of s fields).instructions
 instructions_written s fields few bytes size held = instructions_held (draft_of s fields).instructions (draft_small s fields few bytes size).instructions held

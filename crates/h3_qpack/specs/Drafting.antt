@@ -8,11 +8,11 @@ use Rattle.h3_field.specs.Line.{FieldLine, line_bytes}
 use Rattle.h3_field.specs.Line.{FieldLine as line}
 use Rattle.h3_field.specs.Instruction.{EncoderInstruction, encoder_bytes}
 use Rattle.h3_field.specs.Instruction.EncoderInstruction.{InsertWithStaticName, InsertWithEntryName, InsertLiteral, Duplicate}
-use Rattle.h3_qpack.specs.Held.{Held, gone, newest_in, with_entry}
+use Rattle.h3_qpack.specs.TableState.{TableState, evicted, newest_in, with_entry}
 use Rattle.h3_qpack.specs.Matches.{matches}
-use Rattle.h3_qpack.specs.Sender.{Sender, blocks_out}
-use Rattle.h3_qpack.specs.Stored.{StoredSender, stored, MayInsertInto}
-use Rattle.h3_qpack.specs.Written.{Draft, draft_of, required_insert_count, entry_name_line, encoded_section, instructions_for, sent_section}
+use Rattle.h3_qpack.specs.EncoderHistory.{EncoderHistory, blocks_out}
+use Rattle.h3_qpack.specs.EncoderState.{EncoderState, encoder_state, MayInsertInto}
+use Rattle.h3_qpack.specs.SectionEncoding.{Draft, draft_of, required_insert_count, entry_name_line, encoded_section, instructions_for, sent_section}
 use Rattle.h3_qpack.specs.declared.entries.Match.TheVariants as what
 use Rattle.h3_qpack.specs.declared.section.Section.{Section}
 use Rattle.h3_qpack.specs.declared.section.Choice.{Choice}
@@ -23,68 +23,68 @@ abbrev pub oldest_of : List ℕ → ℕ
 oldest_of ns = fold min (2 ^ 64 - 1) ns
 
 -- a section before its first field
-abbrev pub begun : StoredSender → Section
-begun t = record { base = t.table.inserted; may_wait = nat_lt (length t.waiting) t.limit; oldest = 2 ^ 64 - 1; newest = 0 }
+abbrev pub begun : EncoderState → Section
+begun t = record { base = t.table.inserted; may_block = nat_lt (length t.blocking_counts) t.limit; oldest = 2 ^ 64 - 1; newest = 0 }
 
 -- a line names this entry
 abbrev pub naming : Section → ℕ → Section
 naming section number = record section { oldest = min section.oldest number; newest = max section.newest number }
 
 -- The section was begun after entries of this table, and what it names is there.
-pub record IsOver (h : Held) (section : Section) : Type 0 where
+pub record IsOver (h : TableState) (section : Section) : Type 0 where
   pub base : section.base ≤ h.inserted
-  pub above : gone h < section.oldest
+  pub above : evicted h < section.oldest
   pub named : (section.newest ≡ 0) ⊎ (section.oldest ≤ h.inserted)
   pub newest : section.newest ≤ h.inserted
 
 -- What tracked sections name has numbers from 1, all numbers of entries are small, and the entries fit.
-pub record IsSmall (t : StoredSender) : Type 0 where
+pub record IsSmall (t : EncoderState) : Type 0 where
   pub names : AllByRecursion (λ u. 0 < u.oldest) t.tracked
   pub few : t.table.inserted < 2 ^ 62
   pub fits : section_size t.table.entries ≤ t.table.capacity
 
 -- the greatest number that a line may name, of those up to a number
-abbrev pub most_usable : StoredSender → Section → ℕ → ℕ
-most_usable t section number = if section.may_wait then number else min number t.known_received
+abbrev pub most_usable : EncoderState → Section → ℕ → ℕ
+most_usable t section number = if section.may_block then number else min number t.known_received
 
 -- the newest entry equal to the field that is older than the section and may be named
-abbrev pub older : StoredSender → Section → Field → Option ℕ
-older t section f = newest_in t.table (matches what.Field f) (gone t.table) (most_usable t section section.base)
+abbrev pub older : EncoderState → Section → Field → Option ℕ
+older t section f = newest_in t.table (matches what.Field f) (evicted t.table) (most_usable t section section.base)
 
 -- the newest entry of the field's name that may be named
-abbrev pub named : StoredSender → Section → Field → Option ℕ
-named t section f = newest_in t.table (matches what.Name f) (gone t.table) (most_usable t section t.table.inserted)
+abbrev pub named : EncoderState → Section → Field → Option ℕ
+named t section f = newest_in t.table (matches what.Name f) (evicted t.table) (most_usable t section t.table.inserted)
 
 -- There is no equal entry that may be named.
-pub record IsNowhere (t : StoredSender) (section : Section) (f : Field) : Type 0 where
+pub record IsNowhere (t : EncoderState) (section : Section) (f : Field) : Type 0 where
   pub no_static : static_field f ≡ None
   pub no_entry : older t section f ≡ None
 
 -- There is none, and the field may not be inserted.
-pub record IsLiteral (t : StoredSender) (section : Section) (f : Field) : Type 0 where
+pub record IsLiteral (t : EncoderState) (section : Section) (f : Field) : Type 0 where
   pub nowhere : IsNowhere t section f
-  pub no_room : section.may_wait ≡ true → MayInsertInto t f section.oldest → ⊥
+  pub no_room : section.may_block ≡ true → MayInsertInto t f section.oldest → ⊥
 
 -- The field is to be written like this.
-abbrev pub IsChosen : StoredSender → Section → Field → Choice → Type 0
+abbrev pub IsChosen : EncoderState → Section → Field → Choice → Type 0
 IsChosen t section f (choice.Static index) = static_field f ≡ Some index
 IsChosen t section f (choice.Entry number) = (static_field f ≡ None) × (older t section f ≡ Some number)
-IsChosen t section f (choice.Insertion after) = IsNowhere t section f × (section.may_wait ≡ true) × MayInsertInto t f section.oldest
+IsChosen t section f (choice.Insertion after) = IsNowhere t section f × (section.may_block ≡ true) × MayInsertInto t f section.oldest
 IsChosen t section f (choice.StaticName index) = IsLiteral t section f × (static_name f.name ≡ Some index)
 IsChosen t section f (choice.EntryName number) = IsLiteral t section f × (static_name f.name ≡ None) × (named t section f ≡ Some number)
 IsChosen t section f choice.Literal = IsLiteral t section f × (static_name f.name ≡ None) × (named t section f ≡ None)
 
 -- What it names is there, and what it inserts may be inserted.
-abbrev pub IsPossible : StoredSender → Section → Field → Choice → Type 0
+abbrev pub IsPossible : EncoderState → Section → Field → Choice → Type 0
 IsPossible t section f (choice.Static index) = index < 99
-IsPossible t section f (choice.Entry number) = (gone t.table < number) × (number ≤ section.base)
-IsPossible t section f (choice.Insertion after) = MayInsertInto t f section.oldest × (after ≡ gone (with_entry t.table f)) × (gone t.table ≤ after)
+IsPossible t section f (choice.Entry number) = (evicted t.table < number) × (number ≤ section.base)
+IsPossible t section f (choice.Insertion after) = MayInsertInto t f section.oldest × (after ≡ evicted (with_entry t.table f)) × (evicted t.table ≤ after)
 IsPossible t section f (choice.StaticName index) = index < 99
-IsPossible t section f (choice.EntryName number) = (gone t.table < number) × (number ≤ t.table.inserted)
+IsPossible t section f (choice.EntryName number) = (evicted t.table < number) × (number ≤ t.table.inserted)
 IsPossible t section f choice.Literal = Unit {0}
 
 -- the line for it
-abbrev pub line_for : StoredSender → Section → Field → Choice → FieldLine
+abbrev pub line_for : EncoderState → Section → Field → Choice → FieldLine
 line_for t section f (choice.Static index) = line.StaticField index
 line_for t section f (choice.Entry number) = line.RelativeField (section.base - number)
 line_for t section f (choice.Insertion after) = line.PostBaseField (t.table.inserted - section.base)
@@ -93,7 +93,7 @@ line_for t section f (choice.EntryName number) = entry_name_line section.base nu
 line_for t section f choice.Literal = line.Literal f.name f.value
 
 -- the section with this line
-abbrev pub section_after : StoredSender → Section → Choice → Section
+abbrev pub section_after : EncoderState → Section → Choice → Section
 section_after t section (choice.Static index) = section
 section_after t section (choice.Entry number) = naming section number
 section_after t section (choice.Insertion after) = naming section (t.table.inserted + 1)
@@ -101,8 +101,8 @@ section_after t section (choice.StaticName index) = section
 section_after t section (choice.EntryName number) = naming section number
 section_after t section choice.Literal = section
 
--- how a field is inserted, after which so many entries are gone
-abbrev pub insertion_for : Held → ℕ → Field → EncoderInstruction
+-- how a field is inserted, after which so many entries are evicted
+abbrev pub insertion_for : TableState → ℕ → Field → EncoderInstruction
 insertion_for h after f =
     unwrap_or (option_map (λ number. Duplicate (h.inserted - number)) (newest_in h (matches what.Field f) after h.inserted)) (
     unwrap_or (option_map (λ index. InsertWithStaticName index f.value) (static_name f.name)) (
@@ -110,42 +110,42 @@ insertion_for h after f =
     (InsertLiteral f.name f.value)))
 
 -- what is kept with it
-abbrev pub kept_after : StoredSender → Field → Choice → StoredSender
-kept_after t f (choice.Insertion after) = record t { table = with_entry t.table f }
-kept_after t f other = t
+abbrev pub encoder_state_with : EncoderState → Field → Choice → EncoderState
+encoder_state_with t f (choice.Insertion after) = record t { table = with_entry t.table f }
+encoder_state_with t f other = t
 
 -- the instructions for it
-abbrev pub instructions_after : StoredSender → Field → Choice → List EncoderInstruction
+abbrev pub instructions_after : EncoderState → Field → Choice → List EncoderInstruction
 instructions_after t f (choice.Insertion after) = insertion_for t.table after f ∷ []
 instructions_after t f other = []
 
 -- What is kept is that of a history with the draft's insertions, and the section names what the draft names.
-pub record IsKept (s : Sender) (d : Draft) (t : StoredSender) (section : Section) : Type 0 where
-  pub stores : t ≡ stored (record s { inserted = d.inserted })
+pub record IsDraftState (s : EncoderHistory) (d : Draft) (t : EncoderState) (section : Section) : Type 0 where
+  pub stores : t ≡ encoder_state (record s { inserted = d.inserted })
   pub base : section.base ≡ length s.inserted
-  pub may_wait : section.may_wait ≡ nat_lt (blocks_out s) s.limit
+  pub may_block : section.may_block ≡ nat_lt (blocks_out s) s.limit
   pub oldest : section.oldest ≡ oldest_of d.references
   pub newest : section.newest ≡ required_insert_count d
 
 -- These bytes are the draft's lines, and those are its instructions behind what was there.
-pub record IsDrafted (s : Sender) (d : Draft) (t : StoredSender) (section : Section) (lines start told : List ℕ) : Type 0 where
-  pub kept : IsKept s d t section
+pub record IsDrafted (s : EncoderHistory) (d : Draft) (t : EncoderState) (section : Section) (lines start instruction_bytes : List ℕ) : Type 0 where
+  pub state : IsDraftState s d t section
   pub lines_are : lines ≡ flat_map line_bytes d.lines
-  pub told_is : told ≡ start ++ flat_map encoder_bytes d.instructions
+  pub instructions_are : instruction_bytes ≡ start ++ flat_map encoder_bytes d.instructions
 
 -- The section was cut off behind some of its fields: what was inserted for them stays, and the instructions for that were
 -- written behind what was there.
-pub record IsCutOff (s : Sender) (fields : List Field) (t : StoredSender) (start told : List ℕ) : Type 0 where
+pub record IsCutOff (s : EncoderHistory) (fields : List Field) (t : EncoderState) (start instruction_bytes : List ℕ) : Type 0 where
   pub front : ℕ
   pub within : front ≤ length fields
   pub are_bytes : AllByRecursion IsFieldOfBytes (take front fields)
-  pub stores : t ≡ stored (record s { inserted = (draft_of s (take front fields)).inserted })
-  pub told_is : told ≡ start ++ flat_map encoder_bytes (draft_of s (take front fields)).instructions
+  pub stores : t ≡ encoder_state (record s { inserted = (draft_of s (take front fields)).inserted })
+  pub instructions_are : instruction_bytes ≡ start ++ flat_map encoder_bytes (draft_of s (take front fields)).instructions
 
 -- The section was written behind what was there, and its instructions behind what was there; it is counted and tracked.
-pub record IsSent (s : Sender) (stream : ℕ) (fields : List Field) (count : ℕ) (t : StoredSender) (before block start told : List ℕ) : Type 0 where
-  pub stores : t ≡ stored (sent_section s stream fields)
+pub record IsSent (s : EncoderHistory) (stream : ℕ) (fields : List Field) (count : ℕ) (t : EncoderState) (before encoded start instruction_bytes : List ℕ) : Type 0 where
+  pub stores : t ≡ encoder_state (sent_section s stream fields)
   pub count_is : count ≡ required_insert_count (draft_of s fields)
   pub are_bytes : AllByRecursion IsFieldOfBytes fields
-  pub block_is : block ≡ before ++ encoded_section s fields
-  pub told_is : told ≡ start ++ flat_map encoder_bytes (instructions_for s fields)
+  pub encoded_is : encoded ≡ before ++ encoded_section s fields
+  pub instructions_are : instruction_bytes ≡ start ++ flat_map encoder_bytes (instructions_for s fields)

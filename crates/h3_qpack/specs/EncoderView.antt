@@ -3,8 +3,8 @@ use Rattle.std.specs.Prelude.{◌≡◌, ◌<◌, ◌≤◌, ℕ, ◌+◌, ◌-�
 use Rattle.h3_field.specs.Field.{Field}
 use Rattle.h3_field.specs.StaticTable.{static_field, static_name}
 use Rattle.h3_field.specs.Instruction.EncoderInstruction.{InsertWithStaticName, InsertWithEntryName, InsertLiteral, Duplicate}
-use Rattle.h3_qpack.specs.Held.{Held, gone, with_entry}
-use Rattle.h3_qpack.specs.Stored.{StoredSender, MayInsertInto, stored_sent}
+use Rattle.h3_qpack.specs.TableState.{TableState, evicted, with_entry}
+use Rattle.h3_qpack.specs.EncoderState.{EncoderState, MayInsertInto, encoder_state_sent}
 use Rattle.h3_qpack.specs.Drafting.{naming, older, named, insertion_for, IsNowhere}
 use Rattle.h3_qpack.specs.declared.section.Section.{Section}
 use Rattle.h3_qpack.specs.declared.encoder_view.DynamicLookupResult.{DynamicLookupResult}
@@ -13,14 +13,14 @@ use Rattle.h3_qpack.specs.declared.encoder_view.DynamicInsertionResult.{DynamicI
 use Rattle.h3_qpack.specs.declared.encoder_view.DynamicInsertionResult.TheVariants as insertion
 
 -- The answer is an equal entry: of the static table, or the newest that is older than the section and may be named.
-abbrev pub AnswersField : StoredSender → Section → Field → DynamicLookupResult → Type 0
+abbrev pub AnswersField : EncoderState → Section → Field → DynamicLookupResult → Type 0
 AnswersField t section f (lookup.Static index) = static_field f ≡ Some index
 AnswersField t section f (lookup.Relative index absolute) = (static_field f ≡ None) × (older t section f ≡ Some absolute) × (index ≡ section.base - absolute)
 AnswersField t section f (lookup.PostBase index absolute) = ⊥
 AnswersField t section f lookup.NotFound = IsNowhere t section f
 
 -- The answer is an entry of the field's name: of the static table, or the newest that may be named.
-abbrev pub AnswersName : StoredSender → Section → Field → DynamicLookupResult → Type 0
+abbrev pub AnswersName : EncoderState → Section → Field → DynamicLookupResult → Type 0
 AnswersName t section f (lookup.Static index) = static_name f.name ≡ Some index
 AnswersName t section f (lookup.Relative index absolute) = (static_name f.name ≡ None) × (named t section f ≡ Some absolute) × (absolute ≤ section.base) × (index ≡ section.base - absolute)
 AnswersName t section f (lookup.PostBase index absolute) = (static_name f.name ≡ None) × (named t section f ≡ Some absolute) × (section.base < absolute) × (index ≡ absolute - section.base - 1)
@@ -33,8 +33,8 @@ section_found section (lookup.Relative index absolute) = naming section absolute
 section_found section (lookup.PostBase index absolute) = naming section absolute
 section_found section lookup.NotFound = section
 
--- The answer says how the next entry is inserted, after which so many entries are gone, and which entry that is.
-abbrev pub IsInsertion : Held → ℕ → ℕ → Field → DynamicInsertionResult → Type 0
+-- The answer says how the next entry is inserted, after which so many entries are evicted, and which entry that is.
+abbrev pub IsInsertion : TableState → ℕ → ℕ → Field → DynamicInsertionResult → Type 0
 IsInsertion h base after f (insertion.Inserted postbase absolute) =
     (insertion_for h after f ≡ InsertLiteral f.name f.value) × (postbase ≡ h.inserted - base) × (absolute ≡ h.inserted + 1)
 IsInsertion h base after f (insertion.Duplicated relative postbase absolute) =
@@ -46,22 +46,22 @@ IsInsertion h base after f (insertion.InsertedWithStaticNameRef index postbase a
 IsInsertion h base after f insertion.NotInserted = ⊥
 
 -- The field was to be inserted, and was, and the section names its entry.
-pub record IsInserted (t : StoredSender) (section : Section) (f : Field) (new : StoredSender) (next : Section) : Type 0 where
-  pub may_wait : section.may_wait ≡ true
+pub record IsInserted (t : EncoderState) (section : Section) (f : Field) (new : EncoderState) (next : Section) : Type 0 where
+  pub may_block : section.may_block ≡ true
   pub may : MayInsertInto t f section.oldest
   pub table : new ≡ record t { table = with_entry t.table f }
   pub names : next ≡ naming section (t.table.inserted + 1)
 
 -- The field may not be inserted, and nothing changed.
-pub record IsNotInserted (t : StoredSender) (section : Section) (f : Field) (new : StoredSender) (next : Section) : Type 0 where
-  pub may_not : section.may_wait ≡ true → MayInsertInto t f section.oldest → ⊥
+pub record IsNotInserted (t : EncoderState) (section : Section) (f : Field) (new : EncoderState) (next : Section) : Type 0 where
+  pub may_not : section.may_block ≡ true → MayInsertInto t f section.oldest → ⊥
   pub table : new ≡ t
   pub same : next ≡ section
 
-abbrev pub AnswersInsertion : StoredSender → Section → Field → StoredSender → Section → DynamicInsertionResult → Type 0
+abbrev pub AnswersInsertion : EncoderState → Section → Field → EncoderState → Section → DynamicInsertionResult → Type 0
 AnswersInsertion t section f new next insertion.NotInserted = IsNotInserted t section f new next
-AnswersInsertion t section f new next other = IsInserted t section f new next × IsInsertion t.table section.base (gone (with_entry t.table f)) f other
+AnswersInsertion t section f new next other = IsInserted t section f new next × IsInsertion t.table section.base (evicted (with_entry t.table f)) f other
 
 -- what is kept, once the section is tracked under its stream where it names entries
-abbrev pub committed : StoredSender → ℕ → Section → StoredSender
-committed t stream section = if section.newest == 0 then t else stored_sent t stream section.newest section.oldest
+abbrev pub committed : EncoderState → ℕ → Section → EncoderState
+committed t stream section = if section.newest == 0 then t else encoder_state_sent t stream section.newest section.oldest

@@ -6,10 +6,10 @@ use Rattle.h3_field.specs.LineAnswer.{IsWritable}
 use Rattle.h3_field.specs.ReadBack.{IsLineOfBytes, IsInstructionOfBytes}
 use Rattle.h3_field.specs.Instruction.{EncoderInstruction, encoder_bytes}
 use Rattle.h3_field.specs.InstructionAnswer.{IsSendable}
-use Rattle.h3_qpack.specs.Receiver.{Receiver}
-use Rattle.h3_qpack.specs.History.{held, table_of}
-use Rattle.h3_qpack.specs.Written.{draft_of}
-use Rattle.h3_qpack.specs.Session.{Session, UnderWay, count_of}
+use Rattle.h3_qpack.specs.DecoderState.{DecoderState}
+use Rattle.h3_qpack.specs.TableHistory.{table_state, table_of}
+use Rattle.h3_qpack.specs.SectionEncoding.{draft_of}
+use Rattle.h3_qpack.specs.Session.{Session, UndecodedSection, count_of}
 
 -- The indexes and strings of the line are small enough, and its strings are bytes.
 abbrev pub IsWrittenLine : FieldLine → Type 0
@@ -20,12 +20,12 @@ abbrev pub IsWrittenInstruction : EncoderInstruction → Type 0
 IsWrittenInstruction i = IsSendable i × IsInstructionOfBytes i × (length (encoder_bytes i) < 2 ^ 63)
 
 -- the decoder of a session, by the insertions that it has read
-abbrev pub decoder_of : Session → Receiver
-decoder_of s = record { announced = Some s.sender.capacity; table = held (table_of s.sender.capacity (take s.received s.sender.inserted)) }
+abbrev pub decoder_of : Session → DecoderState
+decoder_of s = record { announced = Some s.encoder.capacity; table = table_state (table_of s.encoder.capacity (take s.received s.encoder.inserted)) }
 
 -- What a writer takes: the lines, and a base and a count below 2 ^ 62. A section that names entries was written with the
--- capacity that the sender has now.
-pub record IsWritten (s : Session) (b : UnderWay) : Type 0 where
-  pub lines : AllByRecursion IsWrittenLine (draft_of b.sender b.fields).lines
-  pub base : length b.sender.inserted < 2 ^ 62
-  pub capacity : 0 < count_of b → b.sender.capacity ≡ s.sender.capacity
+-- capacity that the encoder has now.
+pub record IsWritten (s : Session) (b : UndecodedSection) : Type 0 where
+  pub lines : AllByRecursion IsWrittenLine (draft_of b.encoder b.fields).lines
+  pub base : length b.encoder.inserted < 2 ^ 62
+  pub capacity : 0 < count_of b → b.encoder.capacity ≡ s.encoder.capacity

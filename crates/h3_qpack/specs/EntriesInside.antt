@@ -1,11 +1,11 @@
 -- What the fields of a table's struct stand for.
 use Rattle.std.specs.Prelude.{◌≡◌, ◌<◌, ◌≤◌, ◌^◌, length}
 use Rattle.h3_field.specs.Field.{section_size}
-use Rattle.h3_qpack.specs.Held.{Held}
+use Rattle.h3_qpack.specs.TableState.{TableState}
 use Rattle.h3_qpack.specs.declared.entries.Entries.TheInside.{Inside}
 
-abbrev pub held_inside : Inside → Held
-held_inside e = record { capacity = e.capacity; entries = e.fields.items; inserted = e.inserted }
+abbrev pub table_state_inside : Inside → TableState
+table_state_inside e = record { capacity = e.capacity; entries = e.fields.items; inserted = e.inserted }
 
 pub record IsEntries (e : Inside) : Type 0 where
   pub sum : e.size ≡ section_size e.fields.items

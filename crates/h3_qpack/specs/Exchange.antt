@@ -15,12 +15,12 @@ use Rattle.h3_field.specs.declared.decoder_error.DecoderError.TheVariants as dec
 use Rattle.h3_field.specs.declared.dynamic.Error.TheVariants.{MaximumTableSizeTooLarge, MaxBlockedStreamsTooLarge}
 use Rattle.h3_field.specs.declared.error.Error.{Error}
 use Rattle.h3_field.specs.declared.error.Error.TheVariants as of
-use Rattle.h3_qpack.specs.Stored.{StoredSender, stored}
-use Rattle.h3_qpack.specs.Sender.{Sender, no_table, told_all}
-use Rattle.h3_qpack.specs.Written.{draft_of, required_insert_count, encoded_section, instructions_for, sent_section}
-use Rattle.h3_qpack.specs.Receiver.{Receiver, announcing}
+use Rattle.h3_qpack.specs.EncoderState.{EncoderState, encoder_state}
+use Rattle.h3_qpack.specs.EncoderHistory.{EncoderHistory, no_table, encoder_after_all}
+use Rattle.h3_qpack.specs.SectionEncoding.{draft_of, required_insert_count, encoded_section, instructions_for, sent_section}
+use Rattle.h3_qpack.specs.DecoderState.{DecoderState, announcing}
 use Rattle.h3_qpack.specs.Meaning.{MeansFields, IsMissing, IsBadSection}
-use Rattle.h3_qpack.specs.SectionAnswers.{IsReason}
+use Rattle.h3_qpack.specs.SectionAnswers.{IsReasonFor}
 use Rattle.h3_qpack.specs.Instructions.{HasRead, BeginsBad, AreDecoderInstructions, AreAccepted, BeginsRefused}
 use Rattle.h3_qpack.specs.Increments.{increment_for}
 use Rattle.h3_qpack.specs.declared.session.SessionEvent.{SessionEvent}
@@ -41,9 +41,9 @@ no_bytes = record { bytes = []; arrived = 0; read = 0 }
 abbrev pub unread : Stream → List ℕ
 unread t = take (t.arrived - t.read) (drop t.read t.bytes)
 
--- how many bytes wait
-abbrev pub waiting : Stream → ℕ
-waiting t = length t.bytes - t.arrived
+-- how many bytes are not delivered
+abbrev pub undelivered : Stream → ℕ
+undelivered t = length t.bytes - t.arrived
 
 abbrev pub writing : Stream → List ℕ → Stream
 writing t bytes = record t { bytes = t.bytes ++ bytes }
@@ -57,18 +57,18 @@ abbrev pub reading : Stream → ℕ → Stream
 reading t left = record t { read = t.arrived - left }
 
 -- an encoded field section that is not decoded yet
-pub record EncodedBlock : Type 0 where
+pub record EncodedSection : Type 0 where
   pub stream : ℕ
   pub bytes : List ℕ
 
-pub record Ends : Type 0 where
-  pub sender : Sender
-  pub receiver : Receiver
+pub record ExchangeHistory : Type 0 where
+  pub encoder : EncoderHistory
+  pub decoder : DecoderState
   -- from the encoder to the decoder, and from the decoder to the encoder (RFC 9204, section 4.2)
   pub encoder_stream : Stream
   pub decoder_stream : Stream
   -- the oldest first
-  pub blocks : List EncodedBlock
+  pub sections : List EncodedSection
   -- the streams that were given up
   pub canceled : List ℕ
 
@@ -77,28 +77,28 @@ abbrev pub opening : ℕ → List EncoderInstruction
 opening capacity = if capacity == 0 then [] else SetCapacity capacity ∷ []
 
 -- an encoder and a decoder of that capacity, before anything
-abbrev pub start : ℕ → ℕ → Ends
+abbrev pub start : ℕ → ℕ → ExchangeHistory
 start capacity limit =
     record {
-      sender = record no_table { capacity = capacity; limit = limit };
-      receiver = announcing capacity;
+      encoder = record no_table { capacity = capacity; limit = limit };
+      decoder = announcing capacity;
       encoder_stream = writing no_bytes (if capacity == 0 then [] else encoder_bytes (SetCapacity capacity));
       decoder_stream = no_bytes;
-      blocks = [];
+      sections = [];
       canceled = [];
     }
 
--- what is kept of both ends
-pub record Kept : Type 0 where
-  pub encoder : StoredSender
-  pub decoder : Receiver
+-- the state of both ends
+pub record ExchangeState : Type 0 where
+  pub encoder : EncoderState
+  pub decoder : DecoderState
   pub encoder_stream : Stream
   pub decoder_stream : Stream
-  pub blocks : List EncodedBlock
+  pub sections : List EncodedSection
   pub canceled : List ℕ
 
-abbrev pub kept : Ends → Kept
-kept w = record { encoder = stored w.sender; decoder = w.receiver; encoder_stream = w.encoder_stream; decoder_stream = w.decoder_stream; blocks = w.blocks; canceled = w.canceled }
+abbrev pub exchange_state : ExchangeHistory → ExchangeState
+exchange_state w = record { encoder = encoder_state w.encoder; decoder = w.decoder; encoder_stream = w.encoder_stream; decoder_stream = w.decoder_stream; sections = w.sections; canceled = w.canceled }
 
 -- streams and sizes that a writer takes
 abbrev pub IsEvent : SessionEvent → Type 0
@@ -111,99 +111,99 @@ IsEvent (event.Cancel stream) = stream < 2 ^ 62
 abbrev pub is_given_up : List ℕ → ℕ → Bool
 is_given_up canceled stream = list_any (λ other. other == stream) canceled
 
-abbrev pub block_of : ℕ → List EncodedBlock → Option EncodedBlock
-block_of stream [] = None
-block_of stream (b ∷ bs) = if b.stream == stream then Some b else block_of stream bs
+abbrev pub section_of : ℕ → List EncodedSection → Option EncodedSection
+section_of stream [] = None
+section_of stream (b ∷ bs) = if b.stream == stream then Some b else section_of stream bs
 
-abbrev pub without_block_of : ℕ → List EncodedBlock → List EncodedBlock
-without_block_of stream [] = []
-without_block_of stream (b ∷ bs) = if b.stream == stream then bs else b ∷ without_block_of stream bs
+abbrev pub without_section_of : ℕ → List EncodedSection → List EncodedSection
+without_section_of stream [] = []
+without_section_of stream (b ∷ bs) = if b.stream == stream then bs else b ∷ without_section_of stream bs
 
 -- The fields are of bytes, and all that was written of them is held in memory.
-pub record AreHeld (fields : List Field) (bytes : List ℕ) : Type 0 where
+pub record AreInMemory (fields : List Field) (bytes : List ℕ) : Type 0 where
   pub are_bytes : AllByRecursion IsFieldOfBytes fields
   pub few : length bytes < 2 ^ 63
 
 -- The section is written, or cut off behind some of its fields for want of memory.
-abbrev pub Encodes : Ends → ℕ → List Field → SessionAnswer → Ends → Type 0
+abbrev pub Encodes : ExchangeHistory → ℕ → List Field → SessionAnswer → ExchangeHistory → Type 0
 Encodes w stream fields (answer.Encoded count) new =
-    (count ≡ required_insert_count (draft_of w.sender fields)) × AreHeld fields new.encoder_stream.bytes × (length (encoded_section w.sender fields) < 2 ^ 63)
+    (count ≡ required_insert_count (draft_of w.encoder fields)) × AreInMemory fields new.encoder_stream.bytes × (length (encoded_section w.encoder fields) < 2 ^ 63)
     × (new ≡ record w {
-      sender = sent_section w.sender stream fields;
-      encoder_stream = writing w.encoder_stream (flat_map encoder_bytes (instructions_for w.sender fields));
-      blocks = w.blocks ++ record { stream = stream; bytes = encoded_section w.sender fields } ∷ [];
+      encoder = sent_section w.encoder stream fields;
+      encoder_stream = writing w.encoder_stream (flat_map encoder_bytes (instructions_for w.encoder fields));
+      sections = w.sections ++ record { stream = stream; bytes = encoded_section w.encoder fields } ∷ [];
     })
 Encodes w stream fields (answer.Refused e) new =
     (e ≡ of.Encoder encoder_error.OutOfMemory)
-    × ((front : ℕ) × (front ≤ length fields) × AreHeld (take front fields) new.encoder_stream.bytes × (new ≡ record w {
-      sender = record w.sender { inserted = (draft_of w.sender (take front fields)).inserted };
-      encoder_stream = writing w.encoder_stream (flat_map encoder_bytes (instructions_for w.sender (take front fields)));
+    × ((front : ℕ) × (front ≤ length fields) × AreInMemory (take front fields) new.encoder_stream.bytes × (new ≡ record w {
+      encoder = record w.encoder { inserted = (draft_of w.encoder (take front fields)).inserted };
+      encoder_stream = writing w.encoder_stream (flat_map encoder_bytes (instructions_for w.encoder (take front fields)));
     }))
 Encodes w stream fields other new = ⊥
 
 -- So many bytes more came to the decoder, which read the whole instructions and left the rest.
-pub record DecoderReads (w : Ends) (count : ℕ) (new : Ends) : Type 0 where
-  pub enough : count ≤ waiting w.encoder_stream
+pub record DecoderReads (w : ExchangeHistory) (count : ℕ) (new : ExchangeHistory) : Type 0 where
+  pub enough : count ≤ undelivered w.encoder_stream
   pub left : List ℕ
-  pub read : HasRead w.receiver new.receiver (unread (arriving w.encoder_stream count)) left
+  pub read : HasRead w.decoder new.decoder (unread (arriving w.encoder_stream count)) left
   pub is : new ≡ record w {
-    receiver = new.receiver;
+    decoder = new.decoder;
     encoder_stream = reading (arriving w.encoder_stream count) (length left);
-    decoder_stream = writing w.decoder_stream (increment_for (new.receiver.table.inserted - w.receiver.table.inserted));
+    decoder_stream = writing w.decoder_stream (increment_for (new.decoder.table.inserted - w.decoder.table.inserted));
   }
 
-abbrev pub DeliversToDecoder : Ends → ℕ → SessionAnswer → Ends → Type 0
-DeliversToDecoder w count (answer.Short most) new = (most ≡ waiting w.encoder_stream) × (most < count) × (new ≡ w)
+abbrev pub DeliversToDecoder : ExchangeHistory → ℕ → SessionAnswer → ExchangeHistory → Type 0
+DeliversToDecoder w count (answer.Short most) new = (most ≡ undelivered w.encoder_stream) × (most < count) × (new ≡ w)
 DeliversToDecoder w count answer.Delivered new = (d : DecoderReads w count new) × (instruction d.left ≡ Unfinished)
-DeliversToDecoder w count (answer.Refused (of.Decoder e)) new = (d : DecoderReads w count new) × IsReason (BeginsBad new.receiver d.left) (λ count. ⊥) e
+DeliversToDecoder w count (answer.Refused (of.Decoder e)) new = (d : DecoderReads w count new) × IsReasonFor (BeginsBad new.decoder d.left) (λ count. ⊥) e
 DeliversToDecoder w count other new = ⊥
 
 -- So many bytes more came to the encoder, which read the whole instructions and left the rest.
-pub record EncoderReads (w : Ends) (count : ℕ) (new : Ends) : Type 0 where
-  pub enough : count ≤ waiting w.decoder_stream
+pub record EncoderReads (w : ExchangeHistory) (count : ℕ) (new : ExchangeHistory) : Type 0 where
+  pub enough : count ≤ undelivered w.decoder_stream
   pub left : List ℕ
   pub instructions : List DecoderInstruction
   pub split : AreDecoderInstructions (unread (arriving w.decoder_stream count)) instructions left
-  pub accepted : AreAccepted w.sender instructions
-  pub is : new ≡ record w { sender = told_all w.sender instructions; decoder_stream = reading (arriving w.decoder_stream count) (length left) }
+  pub accepted : AreAccepted w.encoder instructions
+  pub is : new ≡ record w { encoder = encoder_after_all w.encoder instructions; decoder_stream = reading (arriving w.decoder_stream count) (length left) }
 
-abbrev pub DeliversToEncoder : Ends → ℕ → SessionAnswer → Ends → Type 0
-DeliversToEncoder w count (answer.Short most) new = (most ≡ waiting w.decoder_stream) × (most < count) × (new ≡ w)
+abbrev pub DeliversToEncoder : ExchangeHistory → ℕ → SessionAnswer → ExchangeHistory → Type 0
+DeliversToEncoder w count (answer.Short most) new = (most ≡ undelivered w.decoder_stream) × (most < count) × (new ≡ w)
 DeliversToEncoder w count answer.Delivered new = (d : EncoderReads w count new) × (decoder_instruction d.left ≡ Unfinished)
-DeliversToEncoder w count (answer.Refused (of.Encoder e)) new = (d : EncoderReads w count new) × BeginsRefused new.sender d.left
+DeliversToEncoder w count (answer.Refused (of.Encoder e)) new = (d : EncoderReads w count new) × BeginsRefused new.encoder d.left
 DeliversToEncoder w count other new = ⊥
 
 -- The stream's oldest section is decoded and acknowledged where it names entries, or is left.
-pub record HasBlock (w : Ends) (stream : ℕ) : Type 0 where
+pub record HasSection (w : ExchangeHistory) (stream : ℕ) : Type 0 where
   pub alive : is_given_up w.canceled stream ≡ false
-  pub block : EncodedBlock
-  pub is : block_of stream w.blocks ≡ Some block
+  pub section : EncodedSection
+  pub is : section_of stream w.sections ≡ Some section
 
-abbrev pub Decodes : Ends → ℕ → SessionAnswer → Ends → Type 0
+abbrev pub Decodes : ExchangeHistory → ℕ → SessionAnswer → ExchangeHistory → Type 0
 Decodes w stream answer.Canceled new = (is_given_up w.canceled stream ≡ true) × (new ≡ w)
-Decodes w stream answer.NoBlock new = (is_given_up w.canceled stream ≡ false) × (block_of stream w.blocks ≡ None) × (new ≡ w)
+Decodes w stream answer.NoBlock new = (is_given_up w.canceled stream ≡ false) × (section_of stream w.sections ≡ None) × (new ≡ w)
 Decodes w stream (answer.Decoded fields) new =
-    (b : HasBlock w stream) × (count : ℕ) × MeansFields w.receiver b.block.bytes count fields.items
-    × (new ≡ record w { blocks = without_block_of stream w.blocks; decoder_stream = writing w.decoder_stream (if count == 0 then [] else decoder_bytes (Acknowledge stream)) })
-Decodes w stream (answer.Missing count) new = (b : HasBlock w stream) × IsMissing w.receiver b.block.bytes count × (new ≡ w)
-Decodes w stream (answer.Refused (of.Decoder e)) new = (b : HasBlock w stream) × IsReason (IsBadSection w.receiver b.block.bytes) (λ count. ⊥) e × (new ≡ w)
+    (b : HasSection w stream) × (count : ℕ) × MeansFields w.decoder b.section.bytes count fields.items
+    × (new ≡ record w { sections = without_section_of stream w.sections; decoder_stream = writing w.decoder_stream (if count == 0 then [] else decoder_bytes (Acknowledge stream)) })
+Decodes w stream (answer.Missing count) new = (b : HasSection w stream) × IsMissing w.decoder b.section.bytes count × (new ≡ w)
+Decodes w stream (answer.Refused (of.Decoder e)) new = (b : HasSection w stream) × IsReasonFor (IsBadSection w.decoder b.section.bytes) (λ count. ⊥) e × (new ≡ w)
 Decodes w stream other new = ⊥
 
 -- the stream is given up, once
-abbrev pub giving_up : Ends → ℕ → Ends
+abbrev pub giving_up : ExchangeHistory → ℕ → ExchangeHistory
 giving_up w stream =
     record w {
       decoder_stream = writing w.decoder_stream (decoder_bytes (CancelStream stream));
-      blocks = filter (λ b. not (b.stream == stream)) w.blocks;
+      sections = filter (λ b. not (b.stream == stream)) w.sections;
       canceled = w.canceled ++ stream ∷ [];
     }
 
-abbrev pub Cancels : Ends → ℕ → SessionAnswer → Ends → Type 0
+abbrev pub Cancels : ExchangeHistory → ℕ → SessionAnswer → ExchangeHistory → Type 0
 Cancels w stream answer.Canceled new = new ≡ (if is_given_up w.canceled stream then w else giving_up w stream)
 Cancels w stream (answer.Refused e) new = (e ≡ of.Decoder decoder_error.OutOfMemory) × (new ≡ w)
 Cancels w stream other new = ⊥
 
-abbrev pub Happens : Ends → SessionEvent → SessionAnswer → Ends → Type 0
+abbrev pub Happens : ExchangeHistory → SessionEvent → SessionAnswer → ExchangeHistory → Type 0
 Happens w (event.Encode stream fields) a new = Encodes w stream fields.items a new
 Happens w (event.EncoderBytes count) a new = DeliversToDecoder w count a new
 Happens w (event.DecoderBytes count) a new = DeliversToEncoder w count a new
@@ -211,19 +211,19 @@ Happens w (event.Decode stream) a new = Decodes w stream a new
 Happens w (event.Cancel stream) a new = Cancels w stream a new
 
 -- One event after the other.
-pub data Exchange (first : Ends) : List SessionEvent → List SessionAnswer → Ends → Type 0 where
+pub data Exchange (first : ExchangeHistory) : List SessionEvent → List SessionAnswer → ExchangeHistory → Type 0 where
   Before : Exchange first [] [] first
-  Then : (events : List SessionEvent) (answers : List SessionAnswer) (mid new : Ends) (e : SessionEvent) (a : SessionAnswer) →
+  Then : (events : List SessionEvent) (answers : List SessionAnswer) (mid new : ExchangeHistory) (e : SessionEvent) (a : SessionAnswer) →
       Exchange first events answers mid → IsEvent e → Happens mid e a new → Exchange first (events ++ e ∷ []) (answers ++ a ∷ []) new
 
-abbrev pub is_of : ℕ → EncodedBlock → Bool
+abbrev pub is_of : ℕ → EncodedSection → Bool
 is_of stream b = b.stream == stream
 
 -- The section at the place is the first of its stream.
-pub record IsPlace (stream : ℕ) (blocks : List EncodedBlock) (place : ℕ) : Type 0 where
-  pub inside : place < length blocks
-  pub before : list_any (is_of stream) (take place blocks) ≡ false
-  pub here : (b : EncodedBlock) → b ≡ slice_index_or blocks place b → is_of stream b ≡ true
+pub record IsPlace (stream : ℕ) (sections : List EncodedSection) (place : ℕ) : Type 0 where
+  pub inside : place < length sections
+  pub before : list_any (is_of stream) (take place sections) ≡ false
+  pub here : (b : EncodedSection) → b ≡ slice_index_or sections place b → is_of stream b ≡ true
 
 -- what a refused section answers
 abbrev pub refused_section : DecoderError → SessionAnswer

@@ -5,9 +5,9 @@ use Rattle.h3_field.specs.Field.{Field}
 use Rattle.h3_field.specs.declared.encoder_error.EncoderError.TheVariants as encoder_error
 use Rattle.h3_field.specs.declared.decoder_error.DecoderError.TheVariants as decoder_error
 use Rattle.h3_field.specs.declared.error.Error.TheVariants as of
-use Rattle.h3_qpack.specs.Sender.{told_all}
-use Rattle.h3_qpack.specs.Session.{Session, UnderWay, is_canceled, count_of, encoded, inserted, oldest, decoded, after_cancellation}
-use Rattle.h3_qpack.specs.Schedule.{without_block}
+use Rattle.h3_qpack.specs.EncoderHistory.{encoder_after_all}
+use Rattle.h3_qpack.specs.Session.{Session, UndecodedSection, is_canceled, count_of, encoded, inserted, oldest, decoded, after_cancellation}
+use Rattle.h3_qpack.specs.Schedule.{without_section}
 use Rattle.h3_qpack.specs.declared.session.SessionEvent.{SessionEvent}
 use Rattle.h3_qpack.specs.declared.session.SessionEvent.TheVariants as event
 use Rattle.h3_qpack.specs.declared.session.SessionAnswer.{SessionAnswer}
@@ -15,14 +15,14 @@ use Rattle.h3_qpack.specs.declared.session.SessionAnswer.TheVariants as answer
 
 -- the section, or the insertions for a front of its fields where memory is refused
 abbrev pub EncodesTo : Session → ℕ → List Field → SessionAnswer → Session → Type 0
-EncodesTo s stream fields (answer.Encoded count) new = (new ≡ encoded s stream fields) × (count ≡ count_of (record { stream = stream; fields = fields; sender = s.sender }))
+EncodesTo s stream fields (answer.Encoded count) new = (new ≡ encoded s stream fields) × (count ≡ count_of (record { stream = stream; fields = fields; encoder = s.encoder }))
 EncodesTo s stream fields (answer.Refused e) new =
-    (e ≡ of.Encoder encoder_error.OutOfMemory) × ((front : ℕ) × (front ≤ length fields) × (new ≡ without_block s (take front fields)))
+    (e ≡ of.Encoder encoder_error.OutOfMemory) × ((front : ℕ) × (front ≤ length fields) × (new ≡ without_section s (take front fields)))
 EncodesTo s stream fields other new = ⊥
 
 -- some more insertions are read, and none is refused
 abbrev pub ReadsInsertions : Session → Session → Type 0
-ReadsInsertions s new = (count : ℕ) × (s.received + count ≤ length s.sender.inserted) × (new ≡ (if count == 0 then s else inserted s count))
+ReadsInsertions s new = (count : ℕ) × (s.received + count ≤ length s.encoder.inserted) × (new ≡ (if count == 0 then s else inserted s count))
 
 abbrev pub DeliversInsertions : Session → SessionAnswer → Session → Type 0
 DeliversInsertions s (answer.Short most) new = new ≡ s
@@ -31,20 +31,20 @@ DeliversInsertions s (answer.Refused e) new = (e ≡ of.Decoder decoder_error.Ou
 DeliversInsertions s other new = ⊥
 
 -- the oldest of the decoder's instructions are read, and none is refused
-abbrev pub DeliversReplies : Session → SessionAnswer → Session → Type 0
-DeliversReplies s (answer.Short most) new = new ≡ s
-DeliversReplies s answer.Delivered new =
-    (count : ℕ) × (new ≡ record s { sender = told_all s.sender (take count s.decoder_instructions); decoder_instructions = drop count s.decoder_instructions })
-DeliversReplies s other new = ⊥
+abbrev pub DeliversDecoderInstructions : Session → SessionAnswer → Session → Type 0
+DeliversDecoderInstructions s (answer.Short most) new = new ≡ s
+DeliversDecoderInstructions s answer.Delivered new =
+    (count : ℕ) × (new ≡ record s { encoder = encoder_after_all s.encoder (take count s.decoder_instructions); decoder_instructions = drop count s.decoder_instructions })
+DeliversDecoderInstructions s other new = ⊥
 
 -- exactly the fields that were encoded, or the count that was answered then, which is above the insertions read
 abbrev pub DecodesAs : Session → ℕ → SessionAnswer → Session → Type 0
 DecodesAs s stream answer.Canceled new = (is_canceled s stream ≡ true) × (new ≡ s)
-DecodesAs s stream answer.NoBlock new = (is_canceled s stream ≡ false) × (oldest stream s.blocks ≡ None) × (new ≡ s)
+DecodesAs s stream answer.NoBlock new = (is_canceled s stream ≡ false) × (oldest stream s.sections ≡ None) × (new ≡ s)
 DecodesAs s stream (answer.Decoded fields) new =
-    (is_canceled s stream ≡ false) × ((b : UnderWay) × (oldest stream s.blocks ≡ Some b) × (fields.items ≡ b.fields) × (count_of b ≤ s.received) × (new ≡ decoded s b))
+    (is_canceled s stream ≡ false) × ((b : UndecodedSection) × (oldest stream s.sections ≡ Some b) × (fields.items ≡ b.fields) × (count_of b ≤ s.received) × (new ≡ decoded s b))
 DecodesAs s stream (answer.Missing count) new =
-    (is_canceled s stream ≡ false) × ((b : UnderWay) × (oldest stream s.blocks ≡ Some b) × (count ≡ count_of b) × (s.received < count) × (new ≡ s))
+    (is_canceled s stream ≡ false) × ((b : UndecodedSection) × (oldest stream s.sections ≡ Some b) × (count ≡ count_of b) × (s.received < count) × (new ≡ s))
 DecodesAs s stream (answer.Refused e) new = (e ≡ of.Decoder decoder_error.OutOfMemory) × (new ≡ s)
 DecodesAs s stream other new = ⊥
 
@@ -56,7 +56,7 @@ CancelsAs s stream other new = ⊥
 abbrev pub Expects : Session → SessionEvent → SessionAnswer → Session → Type 0
 Expects s (event.Encode stream fields) a new = EncodesTo s stream fields.items a new
 Expects s (event.EncoderBytes count) a new = DeliversInsertions s a new
-Expects s (event.DecoderBytes count) a new = DeliversReplies s a new
+Expects s (event.DecoderBytes count) a new = DeliversDecoderInstructions s a new
 Expects s (event.Decode stream) a new = DecodesAs s stream a new
 Expects s (event.Cancel stream) a new = CancelsAs s stream a new
 

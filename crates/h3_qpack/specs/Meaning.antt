@@ -7,11 +7,11 @@ use Rattle.h3_field.specs.Line.{FieldLine}
 use Rattle.h3_field.specs.Line.FieldLine.{StaticField, RelativeField, PostBaseField, StaticName, RelativeName, PostBaseName, Literal}
 use Rattle.h3_field.specs.Reading.{Whole}
 use Rattle.h3_field.specs.PrefixReading.{EncodedPrefix, prefix, IsPrefix}
-use Rattle.h3_qpack.specs.Held.{Held, entry_at}
-use Rattle.h3_qpack.specs.Receiver.{Receiver, count_capacity}
+use Rattle.h3_qpack.specs.TableState.{TableState, entry_at}
+use Rattle.h3_qpack.specs.DecoderState.{DecoderState, count_capacity}
 
 -- the field of a line, where what it names is there
-abbrev pub field_at : Held → ℕ → FieldLine → Option Field
+abbrev pub field_at : TableState → ℕ → FieldLine → Option Field
 field_at h base (StaticField index) = slice_get static_table index
 field_at h base (RelativeField index) = entry_at h (base - index)
 field_at h base (PostBaseField index) = entry_at h (base + index + 1)
@@ -21,20 +21,20 @@ field_at h base (PostBaseName index value) = with_value value (entry_at h (base 
 field_at h base (Literal name value) = Some (record { name = name; value = value })
 
 -- The lines are of these fields, one of each.
-abbrev pub HaveFields : Held → ℕ → List FieldLine → List Field → Type 0
+abbrev pub HaveFields : TableState → ℕ → List FieldLine → List Field → Type 0
 HaveFields h base [] [] = Unit {0}
 HaveFields h base (line ∷ lines) (field ∷ fields) = (field_at h base line ≡ Some field) × HaveFields h base lines fields
 HaveFields h base [] (field ∷ fields) = ⊥
 HaveFields h base (line ∷ lines) [] = ⊥
 
 -- The section begins with this required insert count and base, and its lines are the rest.
-pub record HasPrefix (r : Receiver) (bytes rest : List ℕ) (count base : ℕ) : Type 0 where
+pub record HasPrefix (r : DecoderState) (bytes rest : List ℕ) (count base : ℕ) : Type 0 where
   pub encoded : EncodedPrefix
   pub whole : prefix bytes ≡ Whole encoded rest
   pub is : IsPrefix (count_capacity r) r.table.inserted encoded count base
 
 -- The section is of these fields and has this required insert count, which is not above the insertions.
-pub record MeansFields (r : Receiver) (bytes : List ℕ) (count : ℕ) (fields : List Field) : Type 0 where
+pub record MeansFields (r : DecoderState) (bytes : List ℕ) (count : ℕ) (fields : List Field) : Type 0 where
   pub rest : List ℕ
   pub base : ℕ
   pub lines : List FieldLine
@@ -44,13 +44,13 @@ pub record MeansFields (r : Receiver) (bytes : List ℕ) (count : ℕ) (fields :
   pub named : HaveFields r.table base lines fields
 
 -- The section needs so many insertions, and not all were read.
-pub record IsMissing (r : Receiver) (bytes : List ℕ) (count : ℕ) : Type 0 where
+pub record IsMissing (r : DecoderState) (bytes : List ℕ) (count : ℕ) : Type 0 where
   pub rest : List ℕ
   pub base : ℕ
   pub begins : HasPrefix r bytes rest count base
   pub missing : r.table.inserted < count
 
 -- The section means nothing.
-pub record IsBadSection (r : Receiver) (bytes : List ℕ) : Type 0 where
+pub record IsBadSection (r : DecoderState) (bytes : List ℕ) : Type 0 where
   pub no_fields : (count : ℕ) (fields : List Field) → MeansFields r bytes count fields → ⊥
   pub none_missing : (count : ℕ) → IsMissing r bytes count → ⊥

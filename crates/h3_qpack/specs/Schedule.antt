@@ -2,39 +2,39 @@
 use Rattle.std.specs.Prelude.{◌≡◌, ℕ, ◌+◌, ◌++◌, ◌<◌, ◌≤◌, false, List, [], ◌∷◌, length, Some}
 use Rattle.h3_field.specs.Field.{Field}
 use Rattle.h3_field.specs.Instruction.{DecoderInstruction}
-use Rattle.h3_qpack.specs.Sender.{no_table}
-use Rattle.h3_qpack.specs.Written.{draft_of, instructions_for}
-use Rattle.h3_qpack.specs.Session.{Session, UnderWay, encoded, inserted, oldest, is_canceled, count_of, decoded, after_cancellation, after_decoder_instruction}
+use Rattle.h3_qpack.specs.EncoderHistory.{no_table}
+use Rattle.h3_qpack.specs.SectionEncoding.{draft_of, instructions_for}
+use Rattle.h3_qpack.specs.Session.{Session, UndecodedSection, encoded, inserted, oldest, is_canceled, count_of, decoded, after_cancellation, after_decoder_instruction}
 
 pub data SessionEvent : Type 0 where
   -- the peer's limits come, before anything was inserted
   UseTable : (capacity limit : ℕ) → SessionEvent
   Encode : (stream : ℕ) (fields : List Field) → SessionEvent
-  -- a block is withdrawn, or was cut off behind these fields: what was inserted for it stays
+  -- a section is withdrawn, or was cut off behind these fields: what was inserted for it stays
   CutOff : (fields : List Field) → SessionEvent
   InsertionsRead : (count : ℕ) → SessionEvent
-  Decode : (block : UnderWay) → SessionEvent
+  Decode : (section : UndecodedSection) → SessionEvent
   Cancel : (stream : ℕ) → SessionEvent
   DecoderInstructionRead : (instruction : DecoderInstruction) (rest : List DecoderInstruction) → SessionEvent
 
--- the sender may use a table from now on
+-- the encoder may use a table from now on
 abbrev pub with_table : Session → ℕ → ℕ → Session
-with_table s capacity limit = record s { sender = record s.sender { capacity = capacity; limit = limit } }
+with_table s capacity limit = record s { encoder = record s.encoder { capacity = capacity; limit = limit } }
 
-abbrev pub without_block : Session → List Field → Session
-without_block s fields =
+abbrev pub without_section : Session → List Field → Session
+without_section s fields =
     record s {
-      sender = record s.sender { inserted = (draft_of s.sender fields).inserted };
-      instructions = s.instructions ++ instructions_for s.sender fields;
+      encoder = record s.encoder { inserted = (draft_of s.encoder fields).inserted };
+      instructions = s.instructions ++ instructions_for s.encoder fields;
     }
 
 abbrev pub SessionStep : Session → SessionEvent → Session → Type 0
-SessionStep s (UseTable capacity limit) new = (s.sender.inserted ≡ []) × (s.sender.limit ≡ 0) × (new ≡ with_table s capacity limit)
+SessionStep s (UseTable capacity limit) new = (s.encoder.inserted ≡ []) × (s.encoder.limit ≡ 0) × (new ≡ with_table s capacity limit)
 SessionStep s (Encode stream fields) new = new ≡ encoded s stream fields
-SessionStep s (CutOff fields) new = new ≡ without_block s fields
-SessionStep s (InsertionsRead count) new = (0 < count) × (s.received + count ≤ length s.sender.inserted) × (new ≡ inserted s count)
-SessionStep s (Decode block) new =
-    (oldest block.stream s.blocks ≡ Some block) × (is_canceled s block.stream ≡ false) × (count_of block ≤ s.received) × (new ≡ decoded s block)
+SessionStep s (CutOff fields) new = new ≡ without_section s fields
+SessionStep s (InsertionsRead count) new = (0 < count) × (s.received + count ≤ length s.encoder.inserted) × (new ≡ inserted s count)
+SessionStep s (Decode section) new =
+    (oldest section.stream s.sections ≡ Some section) × (is_canceled s section.stream ≡ false) × (count_of section ≤ s.received) × (new ≡ decoded s section)
 SessionStep s (Cancel stream) new = (is_canceled s stream ≡ false) × (new ≡ after_cancellation s stream)
 SessionStep s (DecoderInstructionRead instruction rest) new = (s.decoder_instructions ≡ instruction ∷ rest) × (new ≡ after_decoder_instruction s instruction rest)
 
@@ -45,4 +45,4 @@ SessionRun s (event ∷ events) new = (mid : Session) × SessionStep s event mid
 -- an encoder with this capacity and limit, and a decoder, before anything
 abbrev pub beginning : ℕ → ℕ → Session
 beginning capacity limit =
-    record { sender = record no_table { capacity = capacity; limit = limit }; instructions = []; received = 0; blocks = []; decoder_instructions = []; canceled = [] }
+    record { encoder = record no_table { capacity = capacity; limit = limit }; instructions = []; received = 0; sections = []; decoder_instructions = []; canceled = [] }

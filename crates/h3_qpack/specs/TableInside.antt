@@ -1,25 +1,25 @@
 -- What the fields of `DynamicTable` stand for.
 use Rattle.std.specs.Prelude.{◌≡◌, ◌≤◌, map}
-use Rattle.h3_qpack.specs.Held.{Held, gone}
+use Rattle.h3_qpack.specs.TableState.{TableState, evicted}
 use Rattle.h3_qpack.specs.Index.{IsIndexed}
 use Rattle.h3_qpack.specs.Slots.{slot_of}
 use Rattle.h3_qpack.specs.declared.index.Index.{Index}
 use Rattle.h3_qpack.specs.declared.entries.Match.{Match}
 use Rattle.h3_qpack.specs.declared.entries.Match.TheVariants as what
-use Rattle.h3_qpack.specs.Stored.{StoredSender}
+use Rattle.h3_qpack.specs.EncoderState.{EncoderState}
 use Rattle.h3_qpack.specs.declared.dynamic.DynamicTable.TheInside.{Inside}
 
-abbrev pub stored_inside : Inside → StoredSender
-stored_inside d =
-    record { table = d.entries; limit = d.limit; known_received = d.known_received; waiting = d.waiting.items; tracked = d.tracking.sections }
+abbrev pub encoder_state_inside : Inside → EncoderState
+encoder_state_inside d =
+    record { table = d.entries; limit = d.limit; known_received = d.known_received; blocking_counts = d.blocking_counts.items; tracked = d.tracking.sections }
 
 -- The entries are indexed by this.
-abbrev pub IsIndexedBy : Index → Match → Held → Type 0
-IsIndexedBy index what h = IsIndexed index (gone h) (map (slot_of what) h.entries)
+abbrev pub IsIndexedBy : Index → Match → TableState → Type 0
+IsIndexedBy index what h = IsIndexed index (evicted h) (map (slot_of what) h.entries)
 
 -- The sections are tracked over the entries that are there.
 pub record IsTable (d : Inside) : Type 0 where
-  pub from : d.tracking.gone ≡ gone d.entries
+  pub from : d.tracking.evicted ≡ evicted d.entries
   pub to : d.tracking.made ≡ d.entries.inserted
   pub names : IsIndexedBy d.names what.Name d.entries
   pub fields : IsIndexedBy d.fields what.Field d.entries

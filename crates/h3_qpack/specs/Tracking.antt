@@ -1,12 +1,12 @@
 -- Which sections hold which entries (RFC 9204, section 2.1.1).
 use Rattle.std.specs.Prelude.{◌≡◌, ◌<◌, ℕ, zero, suc, ◌+◌, Bool, true, false, length, take, drop, slice_index_or, List, [], ◌∷◌, count_by, nat_lt, if◌then◌else◌, ◌==◌}
 use Rattle.std.specs.List.{list_all, list_any}
-use Rattle.h3_qpack.specs.Sender.{without_newest}
+use Rattle.h3_qpack.specs.EncoderHistory.{without_newest}
 use Rattle.h3_qpack.specs.declared.tracking.TrackedSection.{TrackedSection}
 
 -- Sections over the entries from one number up to another, each with the oldest entry that it names.
-pub record Holds : Type 0 where
-  pub gone : ℕ
+pub record TrackingState : Type 0 where
+  pub evicted : ℕ
   pub made : ℕ
   pub sections : List TrackedSection
 
@@ -23,17 +23,17 @@ abbrev pub without_newest_of : ℕ → List TrackedSection → List TrackedSecti
 without_newest_of stream ts = without_newest (is_of stream) ts
 
 -- how many sections have this entry as their oldest
-abbrev pub held_by : ℕ → List TrackedSection → ℕ
-held_by number ts = count_by (λ t. t.oldest == number) ts
+abbrev pub reference_count : ℕ → List TrackedSection → ℕ
+reference_count number ts = count_by (λ t. t.oldest == number) ts
 
 -- no section names an entry up to that number
 abbrev pub is_free_to : ℕ → List TrackedSection → Bool
 is_free_to number ts = list_all (λ t. nat_lt number t.oldest) ts
 
 -- the same of so many entries, the first of that number
-abbrev pub held_from : ℕ → ℕ → List TrackedSection → List ℕ
-held_from number zero ts = []
-held_from number (suc count) ts = held_by number ts ∷ held_from (number + 1) count ts
+abbrev pub reference_counts : ℕ → ℕ → List TrackedSection → List ℕ
+reference_counts number zero ts = []
+reference_counts number (suc count) ts = reference_count number ts ∷ reference_counts (number + 1) count ts
 
 -- The section at the place is the first of its stream.
 pub record IsFirstOf (stream : ℕ) (ts : List TrackedSection) (place : ℕ) : Type 0 where

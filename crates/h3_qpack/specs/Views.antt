@@ -3,11 +3,11 @@ use Rattle.std.specs.Prelude.{◌≡◌, ◌⊎◌, ℕ, Option, Some, None, Res
 use Rattle.h3_field.specs.Field.{Field}
 use Rattle.h3_field.specs.declared.dynamic.Error.{Error}
 use Rattle.h3_field.specs.declared.dynamic.Error.TheVariants.{OutOfMemory}
-use Rattle.h3_qpack.specs.Held.{Held}
+use Rattle.h3_qpack.specs.TableState.{TableState}
 
 -- a table, and the base of a section
 pub record Based : Type 0 where
-  pub table : Held
+  pub table : TableState
   pub base : ℕ
 
 -- The entry, or why there is none: it is not there, or its copy found no memory.

@@ -2,14 +2,14 @@
 use Rattle.std.specs.Prelude.{ℕ, List, [], ◌∷◌, codes}
 use Rattle.h3_field.specs.Field.{Field}
 use Rattle.h3_field.specs.Instruction.DecoderInstruction.{Increment}
-use Rattle.h3_qpack.specs.Sender.{Sender, no_table, told}
+use Rattle.h3_qpack.specs.EncoderHistory.{EncoderHistory, no_table, encoder_after}
 use Rattle.h3_field.specs.Instruction.EncoderInstruction.{SetCapacity, InsertLiteral, InsertWithEntryName, Duplicate}
 use Rattle.std.specs.Prelude.{Option, Some}
-use Rattle.h3_qpack.specs.Receiver.{Receiver, announcing, having_read_all}
-use Rattle.h3_qpack.specs.Written.{sent_section}
+use Rattle.h3_qpack.specs.DecoderState.{DecoderState, announcing, decoder_after_all}
+use Rattle.h3_qpack.specs.SectionEncoding.{sent_section}
 
--- a sender that has written nothing
-abbrev pub fresh : ℕ → ℕ → Sender
+-- an encoder that has written nothing
+abbrev pub fresh : ℕ → ℕ → EncoderHistory
 fresh capacity limit = record no_table { capacity = capacity; limit = limit }
 
 abbrev pub sample : List Field
@@ -38,10 +38,10 @@ with_header f = record { name = codes ":status"; value = codes "200" } ∷ f ∷
 abbrev pub x_a_of : List ℕ → Field
 x_a_of value = record { name = codes "x-a"; value = value }
 
--- Two entries of one name, of which the older one alone is known, and no further block may wait.
-abbrev pub older_known : Sender
-older_known = sent_section (told (sent_section (fresh 200 1) 0 (x_a_of (codes "1") ∷ [])) (Increment 1)) 4 (x_a_of (codes "2") ∷ [])
+-- Two entries of one name, of which the older one alone is known, and no further section may be blocked.
+abbrev pub older_known : EncoderHistory
+older_known = sent_section (encoder_after (sent_section (fresh 200 1) 0 (x_a_of (codes "1") ∷ [])) (Increment 1)) 4 (x_a_of (codes "2") ∷ [])
 
 -- a table of two entries that three were inserted into
-abbrev pub three : Option Receiver
-three = having_read_all (Some (announcing 100)) (SetCapacity 100 ∷ InsertLiteral (codes "x-a") (codes "1") ∷ Duplicate 0 ∷ InsertWithEntryName 0 (codes "2") ∷ [])
+abbrev pub three : Option DecoderState
+three = decoder_after_all (Some (announcing 100)) (SetCapacity 100 ∷ InsertLiteral (codes "x-a") (codes "1") ∷ Duplicate 0 ∷ InsertWithEntryName 0 (codes "2") ∷ [])

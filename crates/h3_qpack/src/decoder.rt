@@ -9,11 +9,11 @@ ghost use Rattle.h3_field.specs.Field.{Field, section_size};
 ghost use Rattle.h3_field.specs.Shapes.{begins};
 ghost use Rattle.h3_field.specs.declared.decoder_error.DecoderError.TheVariants.{InvalidIndex};
 ghost use Rattle.h3_field.specs.declared.vas.Error.TheVariants.{RelativeIndex, PostbaseIndex};
-ghost use Rattle.h3_qpack.specs.Held.{Held, entry_at};
-ghost use Rattle.h3_qpack.specs.Receiver.{Receiver, announcing, count_capacity};
+ghost use Rattle.h3_qpack.specs.TableState.{TableState, entry_at};
+ghost use Rattle.h3_qpack.specs.DecoderState.{DecoderState, announcing, count_capacity};
 ghost use Rattle.h3_qpack.specs.Meaning.{MeansFields};
-ghost use Rattle.h3_qpack.specs.SectionAnswers.{AnswersLineAt, IsRefusal, IsReason};
-ghost use Rattle.h3_qpack.specs.InstructionAnswers.{AnswersInsertion, AnswersOne};
+ghost use Rattle.h3_qpack.specs.SectionAnswers.{AnswersLineAt, IsRefusal, IsReasonFor};
+ghost use Rattle.h3_qpack.specs.InstructionAnswers.{AnswersInsertionRead, AnswersOne};
 ghost use Rattle.h3_qpack.specs.Instructions.{HasRead, BeginsBad};
 
 use crate::dynamic::DynamicTable;
@@ -44,9 +44,9 @@ pub struct Decoder {
 }
 
 impl Model for Decoder {
-    ghost use Rattle.h3_qpack.specs.Receiver.{Receiver};
+    ghost use Rattle.h3_qpack.specs.DecoderState.{DecoderState};
 
-    ghost Value = { Receiver };
+    ghost Value = { DecoderState };
 
     ghost use Rattle.std.specs.Prelude.{◌<◌, ◌-◌, ◌^◌, unwrap_or};
 
@@ -317,7 +317,7 @@ impl Decoder {
     fn read_named(&self, buf: &mut SliceCursor<'_>) -> Result<Option<HeaderField>, DecoderError>
         requires some { 0 < length buf.old }
         requires own { begins 128 255 buf.old ≡ true }
-        ensures { AnswersInsertion self.now.table buf.old buf.new result }
+        ensures { AnswersInsertionRead self.now.table buf.old buf.new result }
     {
         match InsertWithNameRef::decode(self.alloc, buf) {
             Ok(Some(InsertWithNameRef::Static { index, value })) => match StaticTable::get_name(
@@ -344,7 +344,7 @@ impl Decoder {
     fn read_literal(&self, buf: &mut SliceCursor<'_>) -> Result<Option<HeaderField>, DecoderError>
         requires some { 0 < length buf.old }
         requires own { begins 64 127 buf.old ≡ true }
-        ensures { AnswersInsertion self.now.table buf.old buf.new result }
+        ensures { AnswersInsertionRead self.now.table buf.old buf.new result }
     {
         match InsertWithoutNameRef::decode(self.alloc, buf) {
             Ok(Some(InsertWithoutNameRef { name, value })) => Ok(Some(HeaderField::new(
@@ -360,7 +360,7 @@ impl Decoder {
     fn read_duplicate(&self, buf: &mut SliceCursor<'_>) -> Result<Option<HeaderField>, DecoderError>
         requires some { 0 < length buf.old }
         requires own { begins 0 31 buf.old ≡ true }
-        ensures { AnswersInsertion self.now.table buf.old buf.new result }
+        ensures { AnswersInsertionRead self.now.table buf.old buf.new result }
     {
         match Duplicate::decode(buf) {
             Ok(Some(Duplicate(index))) => {
@@ -381,7 +381,7 @@ impl Decoder {
     fn read_insertion(&self, buf: &mut SliceCursor<'_>) -> Result<Option<HeaderField>, DecoderError>
         requires some { 0 < length buf.old }
         requires own { begins 32 63 buf.old ≡ false }
-        ensures { AnswersInsertion self.now.table buf.old buf.new result }
+        ensures { AnswersInsertionRead self.now.table buf.old buf.new result }
     {
         match EncoderInstruction::decode(buf.chunk()[0]) {
             EncoderInstruction::InsertWithNameRef => self.read_named(buf),
@@ -455,7 +455,7 @@ impl Decoder {
         ensures read { HasRead self.old self.new buf.old buf.new }
         ensures grows { self.old.table.inserted ≤ self.new.table.inserted }
         ensures ok { OnOk result (instruction buf.new ≡ Unfinished) }
-        ensures err { IfErr result (IsReason (BeginsBad self.new buf.new) (λ count. ⊥)) }
+        ensures err { IfErr result (IsReasonFor (BeginsBad self.new buf.new) (λ count. ⊥)) }
     {
         while buf.remaining() > 0 {
             let is_read = match self.take_instruction(buf) {
@@ -480,7 +480,7 @@ impl Decoder {
         ensures read { HasRead self.old self.new read.old read.new }
         ensures rest { read.new ≡ drop (length read.old - length read.new) read.old }
         ensures ok { IfOk result (λ n. (n ≡ self.new.table.inserted) × (instruction read.new ≡ Unfinished)) }
-        ensures err { IfErr result (IsReason (BeginsBad self.new read.new) (λ count. ⊥)) }
+        ensures err { IfErr result (IsReasonFor (BeginsBad self.new read.new) (λ count. ⊥)) }
         ensures increment { write.new.items ≡ write.old.items ++ increment_for (self.new.table.inserted - self.old.table.inserted) }
     {
         if write.reserve(INCREMENT_LEN).is_err() {

@@ -1,14 +1,14 @@
-//! The dynamic table with what its sender goes by (RFC 9204, sections 2.1 and 3.2).
+//! The dynamic table with what its encoder goes by (RFC 9204, sections 2.1 and 3.2).
 ghost use Rattle.std.specs.Prelude.{◌≡◌, ℕ, ◌+◌, ◌-◌, ◌^◌, ◌<◌, ◌≤◌, List, [], ◌∷◌, ◌++◌, length, min, max, true, false, None, filter, nat_lt, IfSome, IfNone, ◌==◌, IfOk, IfErr, OnErr, OnOk};
 ghost use Rattle.std.specs.List.{list_any};
 ghost use Rattle.std.specs.Option.{option_copied};
 ghost use Rattle.h3_field.specs.Field.{Field, field_size};
-ghost use Rattle.h3_qpack.specs.Held.{Held, no_entries, gone, entry_at, newest_in, with_entry, with_capacity};
+ghost use Rattle.h3_qpack.specs.TableState.{TableState, no_entries, evicted, entry_at, newest_in, with_entry, with_capacity};
 ghost use Rattle.h3_qpack.specs.Matches.{matches};
 ghost use Rattle.h3_qpack.specs.Index.{IsIndexed, HasRoom};
-ghost use Rattle.h3_qpack.specs.Sender.{without_newest};
+ghost use Rattle.h3_qpack.specs.EncoderHistory.{without_newest};
 ghost use Rattle.h3_qpack.specs.Tracking.{IsLast, is_of, is_free_to, without_oldest_of, without_newest_of};
-ghost use Rattle.h3_qpack.specs.Stored.{StoredSender, MayInsertInto, MayHaveCapacity, IsCapacityRefusal, raised, stored_sent, stored_withdrawn};
+ghost use Rattle.h3_qpack.specs.EncoderState.{EncoderState, MayInsertInto, MayHaveCapacity, IsCapacityRefusal, raised, encoder_state_sent, encoder_state_withdrawn};
 ghost use Rattle.h3_qpack.specs.Drafting.{begun, IsOver, IsSmall};
 ghost use Rattle.h3_field.specs.declared.dynamic.Error.TheVariants.{MaxBlockedStreamsTooLarge};
 
@@ -22,11 +22,11 @@ use h3_field::dynamic::Error;
 use std::alloc::{AllocError, Global};
 use std::marker::Model;
 
-/// The most sections that may wait at a receiver.
+/// The most sections that may be blocked at a decoder.
 const MAX_BLOCKED: usize = 65535;
 
-/// The entries of a table, and what a sender knows of its receiver: the greatest number of insertions known to be
-/// received, the sections that may wait there, and those that hold entries.
+/// The entries of a table, and what an encoder knows of its decoder: the greatest number of insertions known to be
+/// received, the sections that may be blocked there, and those that hold entries.
 #[derive(Drop)]
 pub struct DynamicTable {
     entries: Entries,
@@ -34,21 +34,21 @@ pub struct DynamicTable {
     names: Index,
     fields: Index,
     tracking: Tracking,
-    // how many sections may wait at the receiver
+    // how many sections may be blocked at the decoder
     limit: usize,
     known_received: usize,
     // the required insert counts above the known received count
-    waiting: Vec<usize>,
+    blocking_counts: Vec<usize>,
 }
 
 impl Model for DynamicTable {
-    ghost use Rattle.h3_qpack.specs.Stored.{StoredSender};
+    ghost use Rattle.h3_qpack.specs.EncoderState.{EncoderState};
 
-    ghost Value = { StoredSender };
+    ghost Value = { EncoderState };
 
-    ghost use Rattle.h3_qpack.specs.TableInside.{stored_inside, IsTable};
+    ghost use Rattle.h3_qpack.specs.TableInside.{encoder_state_inside, IsTable};
 
-    ghost view = { stored_inside };
+    ghost view = { encoder_state_inside };
 
     ghost invariant = { IsTable };
 }
@@ -79,8 +79,8 @@ fn remove_newest(counts: &mut Vec<usize>, count: usize)
 
 /// Takes memory for one entry more in both.
 fn reserve(names: &mut Index, fields: &mut Index) -> Result<(), AllocError>
-    ensures names { (gone : ℕ) (slots : List ℕ) → IsIndexed names.old gone slots → IsIndexed names.new gone slots }
-    ensures fields { (gone : ℕ) (slots : List ℕ) → IsIndexed fields.old gone slots → IsIndexed fields.new gone slots }
+    ensures names { (evicted : ℕ) (slots : List ℕ) → IsIndexed names.old evicted slots → IsIndexed names.new evicted slots }
+    ensures fields { (evicted : ℕ) (slots : List ℕ) → IsIndexed fields.old evicted slots → IsIndexed fields.new evicted slots }
     ensures ok { OnOk result (HasRoom names.new × HasRoom fields.new) }
 {
     names.reserve()?;
@@ -88,9 +88,9 @@ fn reserve(names: &mut Index, fields: &mut Index) -> Result<(), AllocError>
 }
 
 impl DynamicTable {
-    /// A table of capacity 0, whose sections may not wait.
+    /// A table of capacity 0, whose sections may not be blocked.
     pub fn new(alloc: Global) -> DynamicTable
-        ensures { result ≡ record { table = no_entries; limit = 0; known_received = 0; waiting = []; tracked = [] } }
+        ensures { result ≡ record { table = no_entries; limit = 0; known_received = 0; blocking_counts = []; tracked = [] } }
     {
         DynamicTable {
             entries: Entries::new(alloc),
@@ -99,7 +99,7 @@ impl DynamicTable {
             tracking: Tracking::new(alloc),
             limit: 0,
             known_received: 0,
-            waiting: Vec::new(alloc),
+            blocking_counts: Vec::new(alloc),
         }
     }
 
@@ -111,7 +111,7 @@ impl DynamicTable {
 
     /// Where the table takes its memory.
     pub(crate) fn alloc(&self) -> Global {
-        *self.waiting.allocator()
+        *self.blocking_counts.allocator()
     }
 
     pub(crate) fn capacity(&self) -> usize
@@ -128,11 +128,11 @@ impl DynamicTable {
         self.entries.inserted()
     }
 
-    pub(crate) fn gone(&self) -> usize
-        ensures value { result ≡ gone self.now.table }
+    pub(crate) fn evicted(&self) -> usize
+        ensures value { result ≡ evicted self.now.table }
         ensures small { result ≤ self.now.table.inserted }
     {
-        self.entries.gone()
+        self.entries.evicted()
     }
 
     /// How many insertions are known to be received.
@@ -142,11 +142,11 @@ impl DynamicTable {
         self.known_received
     }
 
-    /// How many sections may wait at the receiver.
+    /// How many sections may be blocked at the decoder.
     pub(crate) fn blocks_out(&self) -> usize
-        ensures { result ≡ length self.now.waiting }
+        ensures { result ≡ length self.now.blocking_counts }
     {
-        self.waiting.len()
+        self.blocking_counts.len()
     }
 
     pub(crate) fn limit(&self) -> usize
@@ -197,7 +197,7 @@ impl DynamicTable {
         above: usize,
         most: usize,
     ) -> Option<usize>
-        requires { gone self.now.table ≤ above }
+        requires { evicted self.now.table ≤ above }
         ensures value { result ≡ newest_in self.now.table (matches what field.now) above most }
         ensures within { IfSome result (λ n. (above < n) × (n ≤ most) × (n ≤ self.now.table.inserted)) }
     {
@@ -207,7 +207,7 @@ impl DynamicTable {
         }
     }
 
-    /// Sets how many sections may wait at the receiver, at most 65535.
+    /// Sets how many sections may be blocked at the decoder, at most 65535.
     pub fn set_max_blocked(&mut self, limit: usize) -> Result<(), Error>
         ensures ok { OnOk result ((limit ≤ 65535) × (self.new ≡ record self.old { limit = limit })) }
         ensures err { IfErr result (λ e. (65535 < limit) × (e ≡ MaxBlockedStreamsTooLarge) × (self.new ≡ self.old)) }
@@ -219,7 +219,7 @@ impl DynamicTable {
         Ok(())
     }
 
-    /// Sets the capacity, at most 2^30 - 1: the oldest entries give way, unless a tracked section names one of them.
+    /// Sets the capacity, at most 2^30 - 1: the oldest entries are evicted, unless a tracked section names one of them.
     pub fn set_max_size(&mut self, size: usize) -> Result<(), Error>
         ensures ok { OnOk result (MayHaveCapacity self.old size × (self.new ≡ record self.old { table = with_capacity self.old.table size })) }
         ensures err { IfErr result (λ e. IsCapacityRefusal self.old size e × (self.new ≡ self.old)) }
@@ -228,24 +228,24 @@ impl DynamicTable {
             return Err(Error::MaximumTableSizeTooLarge);
         }
         let inserted = self.entries.inserted();
-        let Some(after) = self.entries.gone_within(size, inserted) else {
+        let Some(after) = self.entries.evicted_within(size, inserted) else {
             return Err(Error::MaxTableSizeReached);
         };
         if !self.tracking.is_free_to(after) {
             return Err(Error::MaxTableSizeReached);
         }
-        let count = after - self.entries.gone();
+        let count = after - self.entries.evicted();
         self.entries.set_capacity(size);
-        self.names.drop_oldest(count);
-        self.fields.drop_oldest(count);
+        self.names.evict_oldest(count);
+        self.fields.evict_oldest(count);
         self.tracking.drop_to(after);
         Ok(())
     }
 
-    /// How many entries are gone once the field is inserted, where it may be: the entries in the way are known to be
+    /// How many entries are evicted once the field is inserted, where it may be: the entries to be evicted are known to be
     /// received, no tracked section names them, and they are below `oldest`.
     pub(crate) fn room_for(&self, field: &HeaderField, oldest: usize) -> Option<usize>
-        ensures some { IfSome result (λ n. MayInsertInto self.now field.now oldest × (n ≡ gone (with_entry self.now.table field.now)) × (gone self.now.table ≤ n)) }
+        ensures some { IfSome result (λ n. MayInsertInto self.now field.now oldest × (n ≡ evicted (with_entry self.now.table field.now)) × (evicted self.now.table ≤ n)) }
         ensures none { IfNone result (MayInsertInto self.now field.now oldest → ⊥) }
     {
         if self.entries.inserted() + 1 >= MOST_INSERTIONS
@@ -253,9 +253,9 @@ impl DynamicTable {
         {
             return None;
         }
-        let gone = self.entries.gone();
-        let most = self.known_received.max(gone);
-        let after = self.entries.gone_after(field, most)?;
+        let evicted = self.entries.evicted();
+        let most = self.known_received.max(evicted);
+        let after = self.entries.evicted_after(field, most)?;
         if after >= oldest || !self.tracking.is_free_to(after) {
             return None;
         }
@@ -270,23 +270,23 @@ impl DynamicTable {
     {
         let known = self.known_received.saturating_add(increment);
         self.known_received = known;
-        self.waiting.retain(|count| *count > known);
+        self.blocking_counts.retain(|count| *count > known);
     }
 
-    /// Inserts a field that may be: the oldest entries, up to `after`, give way. Where memory is refused nothing changes.
+    /// Inserts a field that may be: the oldest entries, up to `after`, are evicted. Where memory is refused nothing changes.
     pub(crate) fn insert(&mut self, field: HeaderField, after: usize) -> Result<(), AllocError>
-        requires after { after ≡ gone (with_entry self.old.table field) }
-        requires from { gone self.old.table ≤ after }
+        requires after { after ≡ evicted (with_entry self.old.table field) }
+        requires from { evicted self.old.table ≤ after }
         requires few { self.old.table.inserted + 1 < 2 ^ 62 }
         requires fits { field_size field ≤ self.old.table.capacity }
-        requires free { is_free_to (gone (with_entry self.old.table field)) self.old.tracked ≡ true }
+        requires free { is_free_to (evicted (with_entry self.old.table field)) self.old.tracked ≡ true }
         ensures ok { OnOk result (self.new ≡ record self.old { table = with_entry self.old.table field }) }
         ensures err { OnErr result (self.new ≡ self.old) }
     {
         reserve(&mut self.names, &mut self.fields)?;
         let name = Match::Name.slot(&field);
         let whole = Match::Field.slot(&field);
-        let gone = self.entries.gone();
+        let evicted = self.entries.evicted();
         self.tracking.add_entry()?;
         let Ok(()) = self.entries.insert(field) else {
             self.tracking.remove_entry();
@@ -295,9 +295,9 @@ impl DynamicTable {
         self.tracking.drop_to(after);
         let number = self.entries.inserted();
         self.names.add(name, number);
-        self.names.drop_oldest(after - gone);
+        self.names.evict_oldest(after - evicted);
         self.fields.add(whole, number);
-        self.fields.drop_oldest(after - gone);
+        self.fields.evict_oldest(after - evicted);
         Ok(())
     }
 
@@ -308,15 +308,15 @@ impl DynamicTable {
         count: usize,
         oldest: usize,
     ) -> Result<(), AllocError>
-        requires from { gone self.old.table < oldest }
+        requires from { evicted self.old.table < oldest }
         requires to { oldest ≤ self.old.table.inserted }
-        ensures ok { OnOk result (self.new ≡ stored_sent self.old stream count oldest) }
+        ensures ok { OnOk result (self.new ≡ encoder_state_sent self.old stream count oldest) }
         ensures err { OnErr result (self.new ≡ self.old) }
     {
-        self.waiting.reserve(1)?;
+        self.blocking_counts.reserve(1)?;
         self.tracking.track(TrackedSection { stream, oldest })?;
         if count > self.known_received {
-            self.waiting.push_reserved(count);
+            self.blocking_counts.push_reserved(count);
         }
         Ok(())
     }
@@ -330,9 +330,9 @@ impl DynamicTable {
     }
     /// Takes back the newest section of a stream, which has that required insert count, as if it had not been sent.
     pub(crate) fn withdraw(&mut self, stream: u64, count: usize)
-        ensures { self.new ≡ stored_withdrawn self.old stream count }
+        ensures { self.new ≡ encoder_state_withdrawn self.old stream count }
     {
-        remove_newest(&mut self.waiting, count);
+        remove_newest(&mut self.blocking_counts, count);
         if count != 0 {
             self.tracking.release_newest(stream);
         }

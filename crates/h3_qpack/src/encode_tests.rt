@@ -5,7 +5,7 @@ use std::test::Fail;
 
 /// An encoder, and what it has written.
 #[derive(Drop)]
-struct Sender {
+struct TestEncoder {
     encoder: Encoder,
     out: Vec<u8>,
     block: Vec<u8>,
@@ -15,13 +15,13 @@ fn field(name: &'static [u8], value: &'static [u8]) -> HeaderField {
     HeaderField::new(CowSlice::Borrowed(name), CowSlice::Borrowed(value))
 }
 
-/// A sender whose table has that capacity, and which so many sections may wait for.
-fn new_sender(alloc: Global, capacity: usize, limit: usize) -> Result<Sender, Fail> {
+/// An encoder whose table has that capacity, and which so many sections may be blocked on.
+fn new_test_encoder(alloc: Global, capacity: usize, limit: usize) -> Result<TestEncoder, Fail> {
     let mut table = DynamicTable::new(alloc);
     let mut out = Vec::new(alloc);
     table.set_max_blocked(limit).map_err(|_| "limit")?;
     set_dynamic_table_size(&mut table, &mut out, capacity).map_err(|_| "capacity")?;
-    Ok(Sender {
+    Ok(TestEncoder {
         encoder: Encoder::from(table),
         out,
         block: Vec::new(alloc),
@@ -29,21 +29,30 @@ fn new_sender(alloc: Global, capacity: usize, limit: usize) -> Result<Sender, Fa
 }
 
 /// Writes a section of one field.
-fn send_one(sender: &mut Sender, stream: u64, field: HeaderField) -> Result<usize, Fail> {
+fn send_one(
+    test_encoder: &mut TestEncoder,
+    stream: u64,
+    field: HeaderField,
+) -> Result<usize, Fail> {
     let fields = [field];
     if fields[0].mem_size() > 1000 {
         return Err(Fail::from("size"));
     }
-    sender.block.clear();
-    let count = sender
+    test_encoder.block.clear();
+    let count = test_encoder
         .encoder
-        .encode(stream, &mut sender.block, &mut sender.out, &fields)
+        .encode(
+            stream,
+            &mut test_encoder.block,
+            &mut test_encoder.out,
+            &fields,
+        )
         .map_err(|_| "refused")?;
     Ok(count)
 }
 
 /// Writes a request for https://www.example.com/sample/path.
-fn send_request(sender: &mut Sender, stream: u64) -> Result<usize, Fail> {
+fn send_request(test_encoder: &mut TestEncoder, stream: u64) -> Result<usize, Fail> {
     let fields = [
         field(b":method", b"GET"),
         field(b":scheme", b"https"),
@@ -55,59 +64,70 @@ fn send_request(sender: &mut Sender, stream: u64) -> Result<usize, Fail> {
     if first.saturating_add(last) > 1000 {
         return Err(Fail::from("size"));
     }
-    sender.block.clear();
-    let count = sender
+    test_encoder.block.clear();
+    let count = test_encoder
         .encoder
-        .encode(stream, &mut sender.block, &mut sender.out, &fields)
+        .encode(
+            stream,
+            &mut test_encoder.block,
+            &mut test_encoder.out,
+            &fields,
+        )
         .map_err(|_| "refused")?;
     Ok(count)
 }
 
 #[test]
 fn inserts_what_it_names(rt: HostRuntime) -> Result<(), Fail> {
-    let mut sender = new_sender(rt.alloc(), 220, 2)?;
-    assert_eq!(rt; send_request(&mut sender, 0)?, 2);
+    let mut test_encoder = new_test_encoder(rt.alloc(), 220, 2)?;
+    assert_eq!(rt; send_request(&mut test_encoder, 0)?, 2);
     assert_eq!(rt;
-        sender.block.as_slice(),
+        test_encoder.block.as_slice(),
         [3, 129, 209, 215, 16, 17].as_slice()
     );
     let written = [
         63, 189, 1, 192, 140, 241, 227, 194, 229, 242, 58, 107, 160, 171, 144, 244, 255, 193, 137,
         97, 3, 166, 186, 10, 197, 99, 76, 255,
     ];
-    assert_eq!(rt; sender.out.as_slice(), written.as_slice());
+    assert_eq!(rt; test_encoder.out.as_slice(), written.as_slice());
     Ok(())
 }
 
 #[test]
 fn names_entries_up_to_the_limit(rt: HostRuntime) -> Result<(), Fail> {
-    let mut sender = new_sender(rt.alloc(), 220, 2)?;
-    assert_eq!(rt; send_request(&mut sender, 0)?, 2);
-    assert_eq!(rt; send_request(&mut sender, 4)?, 2);
+    let mut test_encoder = new_test_encoder(rt.alloc(), 220, 2)?;
+    assert_eq!(rt; send_request(&mut test_encoder, 0)?, 2);
+    assert_eq!(rt; send_request(&mut test_encoder, 4)?, 2);
     assert_eq!(rt;
-        sender.block.as_slice(),
+        test_encoder.block.as_slice(),
         [3, 0, 209, 215, 129, 128].as_slice()
     );
-    assert_eq!(rt; send_request(&mut sender, 8)?, 0);
+    assert_eq!(rt; send_request(&mut test_encoder, 8)?, 0);
     let literals = [
         0, 0, 209, 215, 80, 140, 241, 227, 194, 229, 242, 58, 107, 160, 171, 144, 244, 255, 81,
         137, 97, 3, 166, 186, 10, 197, 99, 76, 255,
     ];
-    assert_eq!(rt; sender.block.as_slice(), literals.as_slice());
-    assert_eq!(rt; sender.out.len(), 28);
+    assert_eq!(rt; test_encoder.block.as_slice(), literals.as_slice());
+    assert_eq!(rt; test_encoder.out.len(), 28);
     Ok(())
 }
 
 #[test]
 fn names_an_older_entry_that_is_known(rt: HostRuntime) -> Result<(), Fail> {
-    let mut sender = new_sender(rt.alloc(), 200, 1)?;
-    assert_eq!(rt; send_one(&mut sender, 0, field(b"x-a", b"1"))?, 1);
+    let mut test_encoder = new_test_encoder(rt.alloc(), 200, 1)?;
+    assert_eq!(rt; send_one(&mut test_encoder, 0, field(b"x-a", b"1"))?, 1);
     let mut increment = SliceCursor::new(&[1]);
-    assert_eq!(rt; sender.encoder.on_decoder_recv(&mut increment), Ok(()));
-    assert_eq!(rt; send_one(&mut sender, 4, field(b"x-a", b"2"))?, 2);
-    let told = sender.out.len();
-    assert_eq!(rt; send_one(&mut sender, 8, field(b"x-a", b"3"))?, 1);
-    assert_eq!(rt; sender.block.as_slice(), [2, 1, 65, 129, 103].as_slice());
-    assert_eq!(rt; sender.out.len(), told);
+    assert_eq!(rt;
+        test_encoder.encoder.on_decoder_recv(&mut increment),
+        Ok(())
+    );
+    assert_eq!(rt; send_one(&mut test_encoder, 4, field(b"x-a", b"2"))?, 2);
+    let before = test_encoder.out.len();
+    assert_eq!(rt; send_one(&mut test_encoder, 8, field(b"x-a", b"3"))?, 1);
+    assert_eq!(rt;
+        test_encoder.block.as_slice(),
+        [2, 1, 65, 129, 103].as_slice()
+    );
+    assert_eq!(rt; test_encoder.out.len(), before);
     Ok(())
 }

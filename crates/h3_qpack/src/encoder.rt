@@ -1,4 +1,4 @@
-//! An encoder with its dynamic table: what it writes, and what it is told of its receiver (RFC 9204, sections 2.1 and 4).
+//! An encoder with its dynamic table: what it writes, and what it reads of its decoder (RFC 9204, sections 2.1 and 4).
 ghost use Rattle.std.specs.Prelude.{◌≡◌, ◌<◌, ◌≤◌, ◌^◌, ◌++◌, ◌-◌, ℕ, true, false, length, drop, IfOk, IfErr, OnOk, OnErr};
 ghost use Rattle.std.specs.Result.{IsOkUnless};
 ghost use Rattle.h3_field.specs.Field.{section_size};
@@ -6,14 +6,14 @@ ghost use Rattle.h3_field.specs.declared.encoder_error.EncoderError.TheVariants.
 ghost use Rattle.h3_field.specs.Reading.{Unfinished};
 ghost use Rattle.h3_field.specs.Shapes.{begins};
 ghost use Rattle.h3_field.specs.InstructionReading.{decoder_instruction};
-ghost use Rattle.h3_qpack.specs.Sender.{Sender, no_table, blocks_out, withdrawn};
-ghost use Rattle.h3_qpack.specs.Stored.{stored, MayHaveCapacity};
+ghost use Rattle.h3_qpack.specs.EncoderHistory.{EncoderHistory, no_table, blocks_out, withdrawn};
+ghost use Rattle.h3_qpack.specs.EncoderState.{encoder_state, MayHaveCapacity};
 ghost use Rattle.h3_qpack.specs.Drafting.{IsSent, IsCutOff};
-ghost use Rattle.h3_qpack.specs.Held.{with_capacity};
+ghost use Rattle.h3_qpack.specs.TableState.{with_capacity};
 ghost use Rattle.h3_field.specs.Instruction.{encoder_bytes};
 ghost use Rattle.h3_field.specs.Instruction.EncoderInstruction.{SetCapacity};
 ghost use Rattle.h3_qpack.specs.Instructions.{BeginsRefused};
-ghost use Rattle.h3_qpack.specs.Telling.{HasHeard, AnswersReplyAt, IsReplyRefusal, IsSizeRefusal};
+ghost use Rattle.h3_qpack.specs.EncoderAnswers.{HasReadDecoderInstructions, AnswersDecoderInstruction, IsDecoderInstructionRefusal, IsSizeRefusal};
 
 use crate::dynamic::DynamicTable;
 use crate::entries::MAX_CAPACITY;
@@ -26,7 +26,7 @@ use h3_field::{EncoderError, HeaderField, SliceCursor, dynamic};
 use std::alloc::Global;
 use std::marker::Model;
 
-/// Writes field sections over one dynamic table, and keeps what its receiver says of it.
+/// Writes field sections over one dynamic table, and keeps what its decoder says of it.
 #[derive(Drop)]
 pub struct Encoder {
     table: DynamicTable,
@@ -35,9 +35,9 @@ pub struct Encoder {
 }
 
 impl Model for Encoder {
-    ghost use Rattle.h3_qpack.specs.Stored.{StoredSender};
+    ghost use Rattle.h3_qpack.specs.EncoderState.{EncoderState};
 
-    ghost Value = { StoredSender };
+    ghost Value = { EncoderState };
 
     ghost view = { λ e. e.table };
 }
@@ -45,7 +45,7 @@ impl Model for Encoder {
 impl Encoder {
     /// An encoder that may not use a table.
     pub fn new(alloc: Global) -> Encoder
-        ensures { result ≡ stored no_table }
+        ensures { result ≡ encoder_state no_table }
     {
         Encoder {
             table: DynamicTable::new(alloc),
@@ -64,15 +64,15 @@ impl Encoder {
     /// How many insertions are known to be received.
     pub fn known_received(&self) -> usize
         ensures value { result ≡ self.now.known_received }
-        ensures history { (s : Sender) → self.now ≡ stored s → result ≡ s.known_received }
+        ensures history { (s : EncoderHistory) → self.now ≡ encoder_state s → result ≡ s.known_received }
     {
         self.table.known_received()
     }
 
-    /// How many sections may wait at the receiver.
+    /// How many sections may be blocked at the decoder.
     pub fn blocks_out(&self) -> usize
-        ensures value { result ≡ length self.now.waiting }
-        ensures history { (s : Sender) → self.now ≡ stored s → result ≡ blocks_out s }
+        ensures value { result ≡ length self.now.blocking_counts }
+        ensures history { (s : EncoderHistory) → self.now ≡ encoder_state s → result ≡ blocks_out s }
     {
         self.table.blocks_out()
     }
@@ -81,7 +81,7 @@ impl Encoder {
     fn take_acknowledgment(&mut self, buf: &mut SliceCursor<'_>) -> Result<bool, EncoderError>
         requires some { 0 < length buf.old }
         requires own { begins 128 255 buf.old ≡ true }
-        ensures { AnswersReplyAt self.old self.new buf.old buf.new result }
+        ensures { AnswersDecoderInstruction self.old self.new buf.old buf.new result }
     {
         let mut ahead = SliceCursor::new(buf.chunk());
         match HeaderAck::decode(&mut ahead) {
@@ -102,7 +102,7 @@ impl Encoder {
     fn take_cancellation(&mut self, buf: &mut SliceCursor<'_>) -> Result<bool, EncoderError>
         requires some { 0 < length buf.old }
         requires own { begins 64 127 buf.old ≡ true }
-        ensures { AnswersReplyAt self.old self.new buf.old buf.new result }
+        ensures { AnswersDecoderInstruction self.old self.new buf.old buf.new result }
     {
         let mut ahead = SliceCursor::new(buf.chunk());
         match StreamCancel::decode(&mut ahead) {
@@ -121,7 +121,7 @@ impl Encoder {
     fn take_increment(&mut self, buf: &mut SliceCursor<'_>) -> Result<bool, EncoderError>
         requires some { 0 < length buf.old }
         requires own { begins 0 63 buf.old ≡ true }
-        ensures { AnswersReplyAt self.old self.new buf.old buf.new result }
+        ensures { AnswersDecoderInstruction self.old self.new buf.old buf.new result }
     {
         let mut ahead = SliceCursor::new(buf.chunk());
         match InsertCountIncrement::decode(&mut ahead) {
@@ -138,7 +138,7 @@ impl Encoder {
     /// Reads the instruction at the front, and does as it says. What is refused is left unread.
     fn take_instruction(&mut self, buf: &mut SliceCursor<'_>) -> Result<bool, EncoderError>
         requires { 0 < length buf.old }
-        ensures { AnswersReplyAt self.old self.new buf.old buf.new result }
+        ensures { AnswersDecoderInstruction self.old self.new buf.old buf.new result }
     {
         match DecoderInstruction::decode(buf.chunk()[0]) {
             DecoderInstruction::HeaderAck => self.take_acknowledgment(buf),
@@ -151,10 +151,10 @@ impl Encoder {
     /// whole, or is refused, is left unread; those before it stand. Refused are an integer out of range, and an
     /// acknowledgment of a stream without a tracked section. What is left unread is an end of what was there.
     pub fn on_decoder_recv(&mut self, read: &mut SliceCursor<'_>) -> Result<(), EncoderError>
-        ensures heard { HasHeard self.old self.new read.old read.new }
+        ensures read_before { HasReadDecoderInstructions self.old self.new read.old read.new }
         ensures rest { read.new ≡ drop (length read.old - length read.new) read.old }
         ensures ok { OnOk result (decoder_instruction read.new ≡ Unfinished) }
-        ensures err { IfErr result (λ e. ((s : Sender) → self.new ≡ stored s → BeginsRefused s read.new) × IsReplyRefusal (decoder_instruction read.new) e) }
+        ensures err { IfErr result (λ e. ((s : EncoderHistory) → self.new ≡ encoder_state s → BeginsRefused s read.new) × IsDecoderInstructionRefusal (decoder_instruction read.new) e) }
     {
         while read.remaining() > 0 {
             let is_read = match self.take_instruction(read) {
@@ -181,11 +181,11 @@ impl Encoder {
     ) -> Result<usize, EncoderError>
         requires { section_size fields.now < 2 ^ 62 }
         ensures memory { IsOkUnless result OutOfMemory }
-        ensures sent { IfOk result (λ count. (s : Sender) → self.old ≡ stored s →
+        ensures sent { IfOk result (λ count. (s : EncoderHistory) → self.old ≡ encoder_state s →
             IsSent s stream fields.now count self.new block.old.items block.new.items encoder_buf.old.items encoder_buf.new.items) }
         ensures grows { length encoder_buf.old.items ≤ length encoder_buf.new.items }
         ensures unwritten { OnErr result (block.new.items ≡ block.old.items) }
-        ensures cut_off { OnErr result ((s : Sender) → self.old ≡ stored s → IsCutOff s fields.now self.new encoder_buf.old.items encoder_buf.new.items) }
+        ensures cut_off { OnErr result ((s : EncoderHistory) → self.old ≡ encoder_state s → IsCutOff s fields.now self.new encoder_buf.old.items encoder_buf.new.items) }
     {
         self.lines.clear();
         let mut section = Section::begin(&self.table);
@@ -211,7 +211,7 @@ impl Encoder {
     /// Takes back the newest section of a stream, where `count` is its required insert count, as if it had not been
     /// written: for a section that is not sent after all. Its insertions stay.
     pub fn withdraw(&mut self, stream: u64, count: usize)
-        ensures { (s : Sender) → self.old ≡ stored s → self.new ≡ stored (withdrawn s stream count) }
+        ensures { (s : EncoderHistory) → self.old ≡ encoder_state s → self.new ≡ encoder_state (withdrawn s stream count) }
     {
         self.table.withdraw(stream, count);
     }

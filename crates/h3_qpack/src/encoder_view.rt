@@ -2,7 +2,7 @@
 ghost use Rattle.std.specs.Prelude.{◌≡◌, ◌≤◌, IfOk, IfErr};
 ghost use Rattle.h3_field.specs.StaticTable.{static_name};
 ghost use Rattle.h3_field.specs.declared.dynamic.Error.TheVariants.{OutOfMemory};
-ghost use Rattle.h3_qpack.specs.Held.{gone, with_entry};
+ghost use Rattle.h3_qpack.specs.TableState.{evicted, with_entry};
 ghost use Rattle.h3_qpack.specs.Drafting.{begun, IsOver};
 ghost use Rattle.h3_qpack.specs.EncoderView.{AnswersField, AnswersName, section_found, IsInsertion, AnswersInsertion, committed};
 
@@ -59,7 +59,7 @@ pub enum DynamicInsertionResult {
     NotInserted,
 }
 
-/// How a field is inserted, after which so many entries are gone.
+/// How a field is inserted, after which so many entries are evicted.
 fn insertion_of(
     table: &DynamicTable,
     base: usize,
@@ -68,7 +68,7 @@ fn insertion_of(
     after: usize,
 ) -> DynamicInsertionResult
     requires index { static_index ≡ static_name field.now.name }
-    requires after { gone table.now.table ≤ after }
+    requires after { evicted table.now.table ≤ after }
     requires base { base ≤ table.now.table.inserted }
     ensures { IsInsertion table.now.table base after field.now result }
 {
@@ -163,8 +163,8 @@ impl<'a> DynamicTableEncoder<'a> {
             return DynamicLookupResult::Static(index);
         }
         let most = self.section.most_usable(self.table, self.section.base);
-        let gone = self.table.gone();
-        let Some(absolute) = self.table.newest(Match::Field, field, gone, most) else {
+        let evicted = self.table.evicted();
+        let Some(absolute) = self.table.newest(Match::Field, field, evicted, most) else {
             return DynamicLookupResult::NotFound;
         };
         let index = self.section.base - absolute;
@@ -186,8 +186,8 @@ impl<'a> DynamicTableEncoder<'a> {
             return DynamicLookupResult::Static(index);
         }
         let most = self.section.most_usable(self.table, self.table.inserted());
-        let gone = self.table.gone();
-        let Some(absolute) = self.table.newest(Match::Name, field, gone, most) else {
+        let evicted = self.table.evicted();
+        let Some(absolute) = self.table.newest(Match::Name, field, evicted, most) else {
             return DynamicLookupResult::NotFound;
         };
         let base = self.section.base;
@@ -200,7 +200,7 @@ impl<'a> DynamicTableEncoder<'a> {
         DynamicLookupResult::PostBase { index, absolute }
     }
 
-    /// Inserts a field where it may be: the section may wait at its receiver, and the entries in the way are known to be
+    /// Inserts a field where it may be: the section may be blocked at its decoder, and the entries to be evicted are known to be
     /// received and named by no section (RFC 9204, sections 2.1.1 and 2.1.2). A line then names the new entry. Where memory
     /// is refused nothing changes.
     pub fn insert(&mut self, field: &HeaderField) -> Result<DynamicInsertionResult, Error>
@@ -211,7 +211,7 @@ impl<'a> DynamicTableEncoder<'a> {
         ensures same_reference { self.new.table.ghost_name ≡ self.old.table.ghost_name }
         ensures stream { self.new.stream ≡ self.old.stream }
     {
-        if !self.section.may_wait {
+        if !self.section.may_block {
             return Ok(DynamicInsertionResult::NotInserted);
         }
         let Some(after) = self.table.room_for(field, self.section.oldest) else {

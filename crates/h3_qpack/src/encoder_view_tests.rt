@@ -12,7 +12,7 @@ fn field(name: &'static [u8], value: &'static [u8]) -> HeaderField {
     HeaderField::new(CowSlice::Borrowed(name), CowSlice::Borrowed(value))
 }
 
-/// A table of capacity 220, which one section may wait for.
+/// A table of capacity 220, which one section may be blocked on.
 fn new_table(alloc: Global) -> Result<DynamicTable, Fail> {
     let mut table = DynamicTable::new(alloc);
     table.set_max_blocked(1).map_err(|_| "limit")?;

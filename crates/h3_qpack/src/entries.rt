@@ -4,7 +4,7 @@ ghost use Rattle.std.specs.Option.{option_copied};
 ghost use Rattle.std.specs.VecDeque.{deque_capacity, deque_len};
 ghost use Rattle.h3_field.specs.Field.{Field, field_size, section_size};
 ghost use Rattle.h3_qpack.specs.Table.{table};
-ghost use Rattle.h3_qpack.specs.Held.{Held, no_entries, gone, entry_at, newest_in, with_entry, with_capacity};
+ghost use Rattle.h3_qpack.specs.TableState.{TableState, no_entries, evicted, entry_at, newest_in, with_entry, with_capacity};
 ghost use Rattle.h3_qpack.specs.Matches.{matches};
 ghost use Rattle.h3_qpack.specs.Slots.{slot_of};
 ghost use Rattle.h3_qpack.specs.Index.{IsIndexed};
@@ -63,7 +63,7 @@ impl Match {
 }
 
 /// Drops the oldest fields until the sizes of the others sum to at most that, and answers this sum.
-fn drop_oldest(fields: &mut VecDeque<HeaderField>, size: usize, most: usize) -> usize
+fn evict_oldest(fields: &mut VecDeque<HeaderField>, size: usize, most: usize) -> usize
     requires { size ≡ section_size fields.old.items }
     ensures items { fields.new.items ≡ table most fields.old.items }
     ensures sum { result ≡ section_size fields.new.items }
@@ -92,13 +92,13 @@ pub(crate) struct Entries {
 }
 
 impl Model for Entries {
-    ghost use Rattle.h3_qpack.specs.Held.{Held};
+    ghost use Rattle.h3_qpack.specs.TableState.{TableState};
 
-    ghost Value = { Held };
+    ghost Value = { TableState };
 
-    ghost use Rattle.h3_qpack.specs.EntriesInside.{held_inside, IsEntries};
+    ghost use Rattle.h3_qpack.specs.EntriesInside.{table_state_inside, IsEntries};
 
-    ghost view = { held_inside };
+    ghost view = { table_state_inside };
 
     ghost invariant = { IsEntries };
 }
@@ -130,9 +130,9 @@ impl Entries {
         self.inserted
     }
 
-    /// How many entries are gone.
-    pub(crate) fn gone(&self) -> usize
-        ensures value { result ≡ gone self.now }
+    /// How many entries are evicted.
+    pub(crate) fn evicted(&self) -> usize
+        ensures value { result ≡ evicted self.now }
         ensures small { result ≤ self.now.inserted }
         ensures made { length self.now.entries ≤ self.now.inserted }
     {
@@ -152,11 +152,11 @@ impl Entries {
         ensures value { option_copied result ≡ entry_at self.now number }
         ensures beyond { (n : ℕ) → 2 ^ 62 ≤ n → entry_at self.now n ≡ None }
     {
-        let gone = self.inserted - self.fields.len();
-        if number <= gone {
+        let evicted = self.inserted - self.fields.len();
+        if number <= evicted {
             return None;
         }
-        self.fields.get(number - gone - 1)
+        self.fields.get(number - evicted - 1)
     }
 
     /// The number of the newest entry that matches the field, of those above one number and up to another. The search
@@ -169,15 +169,15 @@ impl Entries {
         above: usize,
         most: usize,
     ) -> Option<usize>
-        requires indexed { IsIndexed index.now (gone self.now) (map (slot_of what) self.now.entries) }
-        requires above { gone self.now ≤ above }
+        requires indexed { IsIndexed index.now (evicted self.now) (map (slot_of what) self.now.entries) }
+        requires above { evicted self.now ≤ above }
         ensures value { result ≡ newest_in self.now (matches what field.now) above most }
         ensures within { IfSome result (λ n. (above < n) × (n ≤ most) × (n ≤ self.now.inserted)) }
     {
-        let gone = self.inserted - self.fields.len();
+        let evicted = self.inserted - self.fields.len();
         let mut number = index.newest(what.slot(field));
         while number > above {
-            let place = number - gone - 1;
+            let place = number - evicted - 1;
             let Some(entry) = self.fields.get(place) else {
                 return None;
             };
@@ -189,50 +189,50 @@ impl Entries {
         None
     }
 
-    /// How many entries are gone once the sizes of the others sum to at most the room, unless that is above the most.
-    pub(crate) fn gone_within(&self, room: usize, most: usize) -> Option<usize>
-        requires { gone self.now ≤ most }
+    /// How many entries are evicted once the sizes of the others sum to at most the room, unless that is above the most.
+    pub(crate) fn evicted_within(&self, room: usize, most: usize) -> Option<usize>
+        requires { evicted self.now ≤ most }
         ensures some { IfSome result (λ n. (n ≡ self.now.inserted - length (table room self.now.entries)) × (n ≤ most)) }
-        ensures made { IfSome result (λ n. (gone self.now ≤ n) × (n ≤ self.now.inserted)) }
+        ensures made { IfSome result (λ n. (evicted self.now ≤ n) × (n ≤ self.now.inserted)) }
         ensures none { IfNone result (most < self.now.inserted - length (table room self.now.entries)) }
     {
-        let gone = self.inserted - self.fields.len();
+        let evicted = self.inserted - self.fields.len();
         let mut sum = self.size;
-        let mut dropped = 0;
+        let mut evictions = 0;
         while sum > room {
-            if gone + dropped >= most {
+            if evicted + evictions >= most {
                 return None;
             }
-            let Some(entry) = self.fields.get(dropped) else {
+            let Some(entry) = self.fields.get(evictions) else {
                 return None;
             };
             sum -= size_of(entry);
-            dropped += 1;
+            evictions += 1;
         }
-        Some(gone + dropped)
+        Some(evicted + evictions)
     }
 
-    /// How many entries are gone once this field is inserted, unless that is above the most.
-    pub(crate) fn gone_after(&self, field: &HeaderField, most: usize) -> Option<usize>
+    /// How many entries are evicted once this field is inserted, unless that is above the most.
+    pub(crate) fn evicted_after(&self, field: &HeaderField, most: usize) -> Option<usize>
         requires fits { field_size field.now ≤ self.now.capacity }
-        requires may { gone self.now ≤ most }
-        ensures some { IfSome result (λ n. (n ≡ gone (with_entry self.now field.now)) × (n ≤ most)) }
-        ensures made { IfSome result (λ n. (gone self.now ≤ n) × (n ≤ self.now.inserted)) }
-        ensures none { IfNone result (most < gone (with_entry self.now field.now)) }
+        requires may { evicted self.now ≤ most }
+        ensures some { IfSome result (λ n. (n ≡ evicted (with_entry self.now field.now)) × (n ≤ most)) }
+        ensures made { IfSome result (λ n. (evicted self.now ≤ n) × (n ≤ self.now.inserted)) }
+        ensures none { IfNone result (most < evicted (with_entry self.now field.now)) }
     {
-        self.gone_within(self.capacity - size_of(field), most)
+        self.evicted_within(self.capacity - size_of(field), most)
     }
 
-    /// Sets the capacity: the oldest entries give way.
+    /// Sets the capacity: the oldest entries are evicted.
     pub(crate) fn set_capacity(&mut self, capacity: usize)
         requires { capacity < 2 ^ 30 }
         ensures { self.new ≡ with_capacity self.old capacity }
     {
-        self.size = drop_oldest(&mut self.fields, self.size, capacity);
+        self.size = evict_oldest(&mut self.fields, self.size, capacity);
         self.capacity = capacity;
     }
 
-    /// Inserts a field for which there is room: the oldest entries give way. Where memory is refused nothing changes.
+    /// Inserts a field for which there is room: the oldest entries are evicted. Where memory is refused nothing changes.
     pub(crate) fn insert(&mut self, field: HeaderField) -> Result<(), AllocError>
         requires few { self.old.inserted + 1 < 2 ^ 62 }
         requires fits { field_size field ≤ self.old.capacity }
@@ -241,7 +241,7 @@ impl Entries {
     {
         self.fields.reserve(1)?;
         let size = size_of(&field);
-        self.size = drop_oldest(&mut self.fields, self.size, self.capacity - size) + size;
+        self.size = evict_oldest(&mut self.fields, self.size, self.capacity - size) + size;
         self.fields.push_back_reserved(field);
         self.inserted += 1;
         Ok(())

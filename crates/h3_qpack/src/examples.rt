@@ -3,14 +3,14 @@ ghost use Rattle.std.specs.Prelude.{◌≡◌, ℕ, ◌∷◌, ◌++◌, [], Lis
 ghost use Rattle.h3_field.specs.Field.{Field};
 ghost use Rattle.h3_field.specs.Instruction.{encoder_bytes};
 ghost use Rattle.h3_field.specs.Instruction.DecoderInstruction.{CancelStream, Increment};
-ghost use Rattle.h3_qpack.specs.Sender.{told};
-ghost use Rattle.h3_qpack.specs.Written.{encoded_section, instructions_for, sent_section};
+ghost use Rattle.h3_qpack.specs.EncoderHistory.{encoder_after};
+ghost use Rattle.h3_qpack.specs.SectionEncoding.{encoded_section, instructions_for, sent_section};
 ghost use Rattle.std.specs.Prelude.{Some, None, option_map, true, false};
 ghost use Rattle.h3_field.specs.Instruction.DecoderInstruction.{Acknowledge};
 ghost use Rattle.h3_field.specs.Instruction.EncoderInstruction.{SetCapacity, InsertWithEntryName};
-ghost use Rattle.h3_qpack.specs.Sender.{is_refused, told_front, withdrawn};
+ghost use Rattle.h3_qpack.specs.EncoderHistory.{is_refused, encoder_after_front, withdrawn};
 ghost use Rattle.h3_qpack.specs.Table.{table};
-ghost use Rattle.h3_qpack.specs.Receiver.{announcing, having_read, having_read_all};
+ghost use Rattle.h3_qpack.specs.DecoderState.{announcing, decoder_after, decoder_after_all};
 ghost use Rattle.h3_qpack.specs.Worked.{three, fresh, sample, host_text, path_text, with_header, x_a, x_b, x_a_of, older_known};
 
 /// Three requests for the same page: the first inserts two fields, the second names them, and the third may not.
@@ -22,12 +22,12 @@ pub fn requests()
     ensures third { encoded_section (sent_section (sent_section (fresh 220 2) 0 sample) 4 sample) sample ≡ 0 ∷ 0 ∷ 209 ∷ 215 ∷ 80 ∷ host_text ++ 81 ∷ path_text }
 {}
 
-/// A small table: after a cancellation the entry stays, and after an increment and an acknowledgement it may go.
+/// A small table: after a cancellation the entry stays, and after an increment and an acknowledgment it may go.
 #[tactic(auto, unfolding(h3_field::specs::StaticTable::static_table, h3_field::specs::StaticTable::static_field, h3_field::specs::StaticTable::static_name, h3_huffman::specs::Huffman::huffman, h3_huffman::specs::Huffman::octets, h3_huffman::specs::Huffman::code_word, h3_huffman::specs::Huffman::bits))]
 pub fn responses()
     ensures first { encoded_section (fresh 64 10) (with_header x_a) ≡ 2 ∷ 128 ∷ 217 ∷ 16 ∷ [] }
     ensures inserts { flat_map encoder_bytes (instructions_for (fresh 64 10) (with_header x_a)) ≡ 99 ∷ 242 ∷ 176 ∷ 255 ∷ 129 ∷ 15 ∷ [] }
-    ensures canceled { encoded_section (told (sent_section (fresh 64 10) 0 (with_header x_a)) (CancelStream 0)) (with_header x_b) ≡ 0 ∷ 0 ∷ 217 ∷ 43 ∷ 242 ∷ 180 ∷ 127 ∷ 129 ∷ 23 ∷ [] }
+    ensures canceled { encoded_section (encoder_after (sent_section (fresh 64 10) 0 (with_header x_a)) (CancelStream 0)) (with_header x_b) ≡ 0 ∷ 0 ∷ 217 ∷ 43 ∷ 242 ∷ 180 ∷ 127 ∷ 129 ∷ 23 ∷ [] }
 {}
 
 /// The newest entry of a name that may be used is not always the newest of the name.
@@ -36,25 +36,25 @@ pub fn older_entry()
     ensures { encoded_section older_known (x_a_of (codes "3") ∷ []) ≡ 2 ∷ 1 ∷ 65 ∷ 129 ∷ 103 ∷ [] }
 {}
 
-/// A receiver's table: a smaller capacity drops entries for good, and what is gone, too large or above the announced
+/// A decoder's table: a smaller capacity evicts entries for good, and what is evicted, too large or above the announced
 /// capacity is refused.
 #[tactic(auto, unfolding(h3_field::specs::StaticTable::static_table, h3_field::specs::StaticTable::static_field, h3_field::specs::StaticTable::static_name, h3_huffman::specs::Huffman::huffman, h3_huffman::specs::Huffman::octets, h3_huffman::specs::Huffman::code_word, h3_huffman::specs::Huffman::bits))]
-pub fn receiver()
+pub fn decoder()
     ensures two { option_map (λ r. r.table.entries) three ≡ Some (x_a ∷ x_a_of (codes "2") ∷ []) }
-    ensures one { option_map (λ r. r.table.entries) (having_read_all three (SetCapacity 40 ∷ SetCapacity 100 ∷ [])) ≡ Some (x_a_of (codes "2") ∷ []) }
-    ensures gone { having_read_all three (SetCapacity 40 ∷ InsertWithEntryName 1 (codes "3") ∷ []) ≡ None }
-    ensures above { having_read_all three (SetCapacity 101 ∷ []) ≡ None }
-    ensures too_large { having_read_all (Some (announcing 220)) (SetCapacity 221 ∷ []) ≡ None }
-    ensures early { having_read_all (Some (announcing 100)) (InsertWithEntryName 0 [] ∷ []) ≡ None }
+    ensures one { option_map (λ r. r.table.entries) (decoder_after_all three (SetCapacity 40 ∷ SetCapacity 100 ∷ [])) ≡ Some (x_a_of (codes "2") ∷ []) }
+    ensures evicted { decoder_after_all three (SetCapacity 40 ∷ InsertWithEntryName 1 (codes "3") ∷ []) ≡ None }
+    ensures above { decoder_after_all three (SetCapacity 101 ∷ []) ≡ None }
+    ensures too_large { decoder_after_all (Some (announcing 220)) (SetCapacity 221 ∷ []) ≡ None }
+    ensures early { decoder_after_all (Some (announcing 100)) (InsertWithEntryName 0 [] ∷ []) ≡ None }
 {}
 
-/// An acknowledgement needs a tracked block, and what follows a refused one is left.
+/// An acknowledgment needs a tracked section, and what follows a refused one is left.
 #[tactic(auto, unfolding(h3_field::specs::StaticTable::static_table, h3_field::specs::StaticTable::static_field, h3_field::specs::StaticTable::static_name, h3_huffman::specs::Huffman::huffman, h3_huffman::specs::Huffman::octets, h3_huffman::specs::Huffman::code_word, h3_huffman::specs::Huffman::bits))]
 pub fn refusals()
     ensures none { is_refused (fresh 64 10) (Acknowledge 0) ≡ true }
     ensures tracked { is_refused (sent_section (fresh 64 10) 0 (with_header x_a)) (Acknowledge 0) ≡ false }
-    ensures front { (told_front (fresh 64 10) (Increment 1 ∷ Acknowledge 0 ∷ Increment 1 ∷ [])).1 ≡ Acknowledge 0 ∷ Increment 1 ∷ [] }
-    ensures known { (told_front (fresh 64 10) (Increment 1 ∷ Acknowledge 0 ∷ Increment 1 ∷ [])).0.known_received ≡ 1 }
+    ensures front { (encoder_after_front (fresh 64 10) (Increment 1 ∷ Acknowledge 0 ∷ Increment 1 ∷ [])).1 ≡ Acknowledge 0 ∷ Increment 1 ∷ [] }
+    ensures known { (encoder_after_front (fresh 64 10) (Increment 1 ∷ Acknowledge 0 ∷ Increment 1 ∷ [])).0.known_received ≡ 1 }
 {}
 
 /// A section that is withdrawn leaves its insertions and nothing else.

@@ -52,7 +52,7 @@ fn fill(heads: &mut Vec<usize>) -> Result<(), AllocError>
     Ok(())
 }
 
-/// For each slot the newest entry, and for each entry the next older one of its slot. Numbers of entries that are gone
+/// For each slot the newest entry, and for each entry the next older one of its slot. Numbers of entries that are evicted
 /// may stand for none. It takes no memory before the first entry.
 #[derive(Drop)]
 pub(crate) struct Index {
@@ -64,7 +64,7 @@ pub(crate) struct Index {
 
 impl Index {
     pub(crate) fn new(alloc: Global) -> Index
-        ensures { (gone : ℕ) → IsIndexed result gone [] }
+        ensures { (evicted : ℕ) → IsIndexed result evicted [] }
     {
         Index {
             heads: Vec::new(alloc),
@@ -74,7 +74,7 @@ impl Index {
 
     /// Takes memory for one entry more.
     pub(crate) fn reserve(&mut self) -> Result<(), AllocError>
-        ensures same { (gone : ℕ) (slots : List ℕ) → IsIndexed self.old gone slots → IsIndexed self.new gone slots }
+        ensures same { (evicted : ℕ) (slots : List ℕ) → IsIndexed self.old evicted slots → IsIndexed self.new evicted slots }
         ensures ok { OnOk result (HasRoom self.new) }
     {
         fill(&mut self.heads)?;
@@ -85,20 +85,20 @@ impl Index {
     pub(crate) fn add(&mut self, slot: usize, number: usize)
         requires room { HasRoom self.old }
         requires slot { slot < 256 }
-        ensures { (gone : ℕ) (slots : List ℕ) → IsIndexed self.old gone slots → number ≡ gone + 1 + length slots → IsIndexed self.new gone (slots ++ slot ∷ []) }
+        ensures { (evicted : ℕ) (slots : List ℕ) → IsIndexed self.old evicted slots → number ≡ evicted + 1 + length slots → IsIndexed self.new evicted (slots ++ slot ∷ []) }
     {
         self.links.push_back_reserved(self.heads[slot]);
         self.heads[slot] = number;
     }
 
-    /// Drops the oldest entries, so many.
-    pub(crate) fn drop_oldest(&mut self, count: usize)
-        ensures { (gone : ℕ) (slots : List ℕ) → IsIndexed self.old gone slots → count ≤ length slots → IsIndexed self.new (gone + count) (drop count slots) }
+    /// Evicts the oldest entries, so many.
+    pub(crate) fn evict_oldest(&mut self, count: usize)
+        ensures { (evicted : ℕ) (slots : List ℕ) → IsIndexed self.old evicted slots → count ≤ length slots → IsIndexed self.new (evicted + count) (drop count slots) }
     {
         drop_front(&mut self.links, count);
     }
 
-    /// The number of the newest entry of a slot. Where none is there it is that of one that is gone, or 0.
+    /// The number of the newest entry of a slot. Where none is there it is that of one that is evicted, or 0.
     pub(crate) fn newest(&self, slot: usize) -> usize
         ensures { result ≡ slice_index_or self.now.heads.items slot 0 }
     {

@@ -2,20 +2,20 @@
 
 ghost use Rattle.std.specs.Prelude.{◌≡◌, ℕ, ◌+◌, ◌*◌, ◌%◌, ◌^◌, ◌<◌, ◌≤◌, false, List, Some};
 ghost use Rattle.std.specs.Prelude.{take, length, [], ◌++◌};
-ghost use Rattle.h3_qpack.specs.Receiver.{Receiver};
+ghost use Rattle.h3_qpack.specs.DecoderState.{DecoderState};
 ghost use Rattle.std.specs.Prelude.{flat_map};
 ghost use Rattle.std.specs.List.{AllByRecursion};
 ghost use Rattle.h3_field.specs.Instruction.{EncoderInstruction, encoder_bytes};
 ghost use Rattle.h3_qpack.specs.Instructions.{HasRead, AreInstructions};
-ghost use Rattle.h3_qpack.specs.History.{further_all, table_of};
+ghost use Rattle.h3_qpack.specs.TableHistory.{table_after_all, table_of};
 ghost use Rattle.h3_qpack.specs.Meaning.{MeansFields};
-ghost use Rattle.h3_qpack.specs.Written.{encoded_section};
+ghost use Rattle.h3_qpack.specs.SectionEncoding.{encoded_section};
 ghost use Rattle.h3_qpack.specs.Encodings.{decoder_of, IsWritten, IsWrittenInstruction};
 ghost use Rattle.h3_field.specs.Prefix.{most_entries, IsRequiredCount};
-ghost use Rattle.h3_qpack.specs.Session.{Session, UnderWay, oldest, is_canceled, count_of, IsSound, DecodesTo};
+ghost use Rattle.h3_qpack.specs.Session.{Session, UndecodedSection, oldest, is_canceled, count_of, IsSound, DecodesTo};
 ghost use Rattle.h3_qpack.specs.Schedule.{SessionEvent, SessionRun, beginning};
-ghost use Rattle.h3_qpack.specs.Sender.{blocks_out};
-ghost use Rattle.h3_qpack.specs.Exchange.{Ends, Exchange, start, opening};
+ghost use Rattle.h3_qpack.specs.EncoderHistory.{blocks_out};
+ghost use Rattle.h3_qpack.specs.Exchange.{ExchangeHistory, Exchange, start, opening};
 ghost use Rattle.h3_qpack.specs.Expected.{Expected};
 ghost use Rattle.h3_qpack.specs.declared.session.SessionEvent.{SessionEvent as RunEvent};
 ghost use Rattle.h3_qpack.specs.declared.session.SessionAnswer.{SessionAnswer};
@@ -25,48 +25,48 @@ pub fn every_session_is_sound()
     ensures { (capacity limit : ℕ) (events : List SessionEvent) (s : Session) → SessionRun (beginning capacity limit) events s → IsSound s }
 {}
 
-/// Over every schedule, a block that is tried once its insertions came decodes to its fields, and its encoded count is
+/// Over every schedule, a section that is tried once its insertions came decodes to its fields, and its encoded count is
 /// read as its count whenever it is tried.
-pub fn every_block_decodes()
-    ensures fields { (capacity limit : ℕ) (events : List SessionEvent) (s : Session) (b : UnderWay) → SessionRun (beginning capacity limit) events s →
-        oldest b.stream s.blocks ≡ Some b → is_canceled s b.stream ≡ false → count_of b ≤ s.received → DecodesTo s b }
-    ensures count { (capacity limit : ℕ) (events : List SessionEvent) (s : Session) (b : UnderWay) → SessionRun (beginning capacity limit) events s →
-        oldest b.stream s.blocks ≡ Some b → is_canceled s b.stream ≡ false → 0 < count_of b →
-        IsRequiredCount s.sender.capacity s.received (count_of b % (2 * most_entries s.sender.capacity) + 1) (count_of b) }
+pub fn every_section_decodes()
+    ensures fields { (capacity limit : ℕ) (events : List SessionEvent) (s : Session) (b : UndecodedSection) → SessionRun (beginning capacity limit) events s →
+        oldest b.stream s.sections ≡ Some b → is_canceled s b.stream ≡ false → count_of b ≤ s.received → DecodesTo s b }
+    ensures count { (capacity limit : ℕ) (events : List SessionEvent) (s : Session) (b : UndecodedSection) → SessionRun (beginning capacity limit) events s →
+        oldest b.stream s.sections ≡ Some b → is_canceled s b.stream ≡ false → 0 < count_of b →
+        IsRequiredCount s.encoder.capacity s.received (count_of b % (2 * most_entries s.encoder.capacity) + 1) (count_of b) }
 {}
 
 /// Over every schedule, the encoding of a section that is tried once its insertions came means the section's fields to the
 /// decoder, whose table is that of the insertions read.
 pub fn every_encoding_means_its_fields()
-    ensures { (capacity limit : ℕ) (events : List SessionEvent) (s : Session) (b : UnderWay) → SessionRun (beginning capacity limit) events s →
-        oldest b.stream s.blocks ≡ Some b → is_canceled s b.stream ≡ false → count_of b ≤ s.received → IsWritten s b →
-        MeansFields (decoder_of s) (encoded_section b.sender b.fields) (count_of b) b.fields }
+    ensures { (capacity limit : ℕ) (events : List SessionEvent) (s : Session) (b : UndecodedSection) → SessionRun (beginning capacity limit) events s →
+        oldest b.stream s.sections ≡ Some b → is_canceled s b.stream ≡ false → count_of b ≤ s.received → IsWritten s b →
+        MeansFields (decoder_of s) (encoded_section b.encoder b.fields) (count_of b) b.fields }
 {}
 
 /// Every run in bytes is a session, and answers what is expected of it: each decode exactly the fields that were encoded, or
 /// the count that was answered then, which is above the insertions read; and nothing is refused but for want of memory. Where
 /// the bytes of the first n insertions were read, n insertions were.
 pub fn every_run_answers_as_expected()
-    ensures { (capacity limit : ℕ) (events : List RunEvent) (answers : List SessionAnswer) (end : Ends) → capacity < 2 ^ 30 → Exchange (start capacity limit) events answers end →
+    ensures { (capacity limit : ℕ) (events : List RunEvent) (answers : List SessionAnswer) (end : ExchangeHistory) → capacity < 2 ^ 30 → Exchange (start capacity limit) events answers end →
         (s : Session) × Expected (beginning capacity limit) events answers s
         × ((n : ℕ) → n ≤ length s.instructions → length (flat_map encoder_bytes (opening capacity ++ take n s.instructions)) ≤ end.encoder_stream.read → n ≤ s.received) }
 {}
 
-/// After any number of events as expected, the session is sound, and at most the limit of its sections wait.
+/// After any number of events as expected, the session is sound, and at most the limit of its sections are blocked.
 pub fn every_expected_session_is_sound()
     ensures { (capacity limit : ℕ) (events : List RunEvent) (answers : List SessionAnswer) (s : Session) → Expected (beginning capacity limit) events answers s →
-        IsSound s × (blocks_out s.sender ≤ limit) }
+        IsSound s × (blocks_out s.encoder ≤ limit) }
 {}
 
 /// After any number of the encoder's instructions a decoder's table is the encoder's after as many insertions.
 pub fn tables_agree()
     ensures { (capacity limit : ℕ) (events : List SessionEvent) (s : Session) (k : ℕ) → SessionRun (beginning capacity limit) events s → k ≤ length s.instructions →
-        further_all s.sender.capacity (Some (table_of s.sender.capacity [])) (take k s.instructions) ≡ Some (table_of s.sender.capacity (take k s.sender.inserted)) }
+        table_after_all s.encoder.capacity (Some (table_of s.encoder.capacity [])) (take k s.instructions) ≡ Some (table_of s.encoder.capacity (take k s.encoder.inserted)) }
 {}
 
 /// What was read of the first bytes is read of all, and then what is left.
 pub fn pieces_do_not_matter()
-    ensures { (old mid new : Receiver) (bytes more left rest : List ℕ) → HasRead old mid bytes left → HasRead mid new (left ++ more) rest → HasRead old new (bytes ++ more) rest }
+    ensures { (old mid new : DecoderState) (bytes more left rest : List ℕ) → HasRead old mid bytes left → HasRead mid new (left ++ more) rest → HasRead old new (bytes ++ more) rest }
 {}
 
 /// What an encoder writes is read as its instructions, and what follows is left.

@@ -31,11 +31,11 @@ fn request(alloc: Global, stream: u64) -> Result<SessionEvent, Fail>
 }
 
 /// A number for each answer, in the order of its variants, with what it counts.
-fn told(answer: &SessionAnswer) -> (u8, usize) {
+fn summary(answer: &SessionAnswer) -> (u8, usize) {
     match answer {
         SessionAnswer::Encoded(count) => (0, *count),
         SessionAnswer::Delivered => (1, 0),
-        SessionAnswer::Short(waiting) => (2, *waiting),
+        SessionAnswer::Short(undelivered) => (2, *undelivered),
         SessionAnswer::Decoded(fields) => (3, fields.len()),
         SessionAnswer::Missing(count) => (4, *count),
         SessionAnswer::NoBlock => (5, 0),
@@ -60,7 +60,7 @@ fn decodes_what_came(rt: HostRuntime) -> Result<(), Fail> {
     let expected = [(0, 2), (4, 2), (1, 0), (2, 8), (1, 0), (3, 4), (5, 0)];
     assert_eq!(rt; answers.len(), 7);
     for i in 0..7 {
-        assert_eq!(rt; told(&answers[i]), expected[i]);
+        assert_eq!(rt; summary(&answers[i]), expected[i]);
     }
     Ok(())
 }
@@ -79,7 +79,7 @@ fn decodes_nothing_of_a_canceled_stream(rt: HostRuntime) -> Result<(), Fail> {
     let expected = [(0, 2), (6, 0), (6, 0), (6, 0), (1, 0), (2, 0)];
     assert_eq!(rt; answers.len(), 6);
     for i in 0..6 {
-        assert_eq!(rt; told(&answers[i]), expected[i]);
+        assert_eq!(rt; summary(&answers[i]), expected[i]);
     }
     Ok(())
 }

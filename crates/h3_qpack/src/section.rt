@@ -1,6 +1,6 @@
 //! A field section under way, and the choice of how each field is written (RFC 9204, section 2.1).
 ghost use Rattle.std.specs.Prelude.{◌≡◌, ◌+◌, ◌<◌, ◌≤◌};
-ghost use Rattle.h3_qpack.specs.Stored.{StoredSender};
+ghost use Rattle.h3_qpack.specs.EncoderState.{EncoderState};
 ghost use Rattle.h3_qpack.specs.Drafting.{begun, naming, most_usable, IsOver, IsNowhere, IsLiteral, IsChosen, IsPossible};
 
 use crate::dynamic::DynamicTable;
@@ -15,7 +15,7 @@ pub(crate) enum Choice {
     Static(usize),
     /// A line that is the dynamic entry of that number, which is older than the section.
     Entry(usize),
-    /// An insertion, after which so many entries are gone, and a line that is the new entry.
+    /// An insertion, after which so many entries are evicted, and a line that is the new entry.
     Insertion(usize),
     /// A literal value with the name of the static entry of that index.
     StaticName(usize),
@@ -25,12 +25,12 @@ pub(crate) enum Choice {
     Literal,
 }
 
-/// A section under way: how many insertions there were before it, whether it may wait at the receiver, and the oldest and
+/// A section under way: how many insertions there were before it, whether it may be blocked at the decoder, and the oldest and
 /// the newest entry that its lines name so far. Where they name none, these are the greatest number and 0.
 #[derive(Clone, Copy)]
 pub(crate) struct Section {
     pub base: usize,
-    pub may_wait: bool,
+    pub may_block: bool,
     pub oldest: usize,
     pub newest: usize,
 }
@@ -43,7 +43,7 @@ impl Section {
     {
         Section {
             base: table.inserted(),
-            may_wait: table.blocks_out() < table.limit(),
+            may_block: table.blocks_out() < table.limit(),
             oldest: usize::MAX,
             newest: 0,
         }
@@ -61,7 +61,7 @@ impl Section {
     pub(crate) fn most_usable(&self, table: &DynamicTable, number: usize) -> usize
         ensures { result ≡ most_usable table.now self.now number }
     {
-        if self.may_wait {
+        if self.may_block {
             return number;
         }
         number.min(table.known_received())
@@ -77,7 +77,7 @@ impl Section {
             return Choice::StaticName(index);
         }
         let most = self.most_usable(table, table.inserted());
-        if let Some(number) = table.newest(Match::Name, field, table.gone(), most) {
+        if let Some(number) = table.newest(Match::Name, field, table.evicted(), most) {
             return Choice::EntryName(number);
         }
         Choice::Literal
@@ -93,10 +93,10 @@ impl Section {
             return Choice::Static(index);
         }
         let most = self.most_usable(table, self.base);
-        if let Some(number) = table.newest(Match::Field, field, table.gone(), most) {
+        if let Some(number) = table.newest(Match::Field, field, table.evicted(), most) {
             return Choice::Entry(number);
         }
-        if self.may_wait {
+        if self.may_block {
             if let Some(after) = table.room_for(field, self.oldest) {
                 return Choice::Insertion(after);
             }

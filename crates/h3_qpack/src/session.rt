@@ -6,14 +6,14 @@ ghost use Rattle.std.specs.List.{AllByRecursion, list_any};
 ghost use Rattle.h3_field.specs.Field.{section_size};
 ghost use Rattle.h3_qpack.specs.Meaning.{MeansFields};
 ghost use Rattle.h3_qpack.specs.SectionAnswers.{IsRefusal};
-ghost use Rattle.h3_qpack.specs.Sender.{blocks_out};
+ghost use Rattle.h3_qpack.specs.EncoderHistory.{blocks_out};
 ghost use Rattle.h3_qpack.specs.Session as sessions;
 ghost use Rattle.h3_qpack.specs.Session.{IsSound};
 ghost use Rattle.h3_qpack.specs.Schedule.{beginning};
 ghost use Rattle.h3_qpack.specs.Expected.{Expected};
-ghost use Rattle.h3_qpack.specs.Exchange.{Ends, Kept, kept, start, is_given_up, is_of, Encodes, DeliversToDecoder, DeliversToEncoder, Decodes, Cancels, Happens, Exchange, IsEvent, IsPlace, refused_section, IsNoBeginning, IsNoRun};
+ghost use Rattle.h3_qpack.specs.Exchange.{ExchangeHistory, ExchangeState, exchange_state, start, is_given_up, is_of, Encodes, DeliversToDecoder, DeliversToEncoder, Decodes, Cancels, Happens, Exchange, IsEvent, IsPlace, refused_section, IsNoBeginning, IsNoRun};
 
-use crate::block::Block;
+use crate::pending_section::PendingSection;
 use crate::{Decoder, DynamicTable, Encoder, ack_header, set_dynamic_table_size, stream_canceled};
 use h3_field::{Decoded, DecoderError, EncoderError, Error, HeaderField, SliceCursor, dynamic};
 use std::alloc::{AllocError, Global};
@@ -41,7 +41,7 @@ pub enum SessionAnswer {
     Encoded(usize),
     /// The bytes came, and what is whole was read.
     Delivered,
-    /// Only so many bytes wait. Nothing was done.
+    /// Only so many bytes are not delivered. Nothing was done.
     Short(usize),
     /// The fields of the section.
     Decoded(Vec<HeaderField>),
@@ -70,29 +70,29 @@ pub(crate) struct Session {
     decoder: Decoder,
     encoder_stream: ByteStream,
     decoder_stream: ByteStream,
-    blocks: Vec<Block>,
+    sections: Vec<PendingSection>,
     canceled: Vec<u64>,
 }
 
 impl Model for Session {
-    ghost use Rattle.h3_qpack.specs.Exchange.{Kept};
+    ghost use Rattle.h3_qpack.specs.Exchange.{ExchangeState};
 
-    ghost Value = { Kept };
+    ghost Value = { ExchangeState };
 
-    ghost use Rattle.h3_qpack.specs.SessionInside.{kept_inside, IsSession};
+    ghost use Rattle.h3_qpack.specs.SessionInside.{exchange_state_inside, IsSession};
 
-    ghost view = { kept_inside };
+    ghost view = { exchange_state_inside };
 
     ghost invariant = { IsSession };
 }
 
 /// The place of the oldest section of a stream.
-fn place_of(blocks: &Vec<Block>, stream: u64) -> Option<usize>
-    ensures some { IfSome result (λ place. IsPlace stream blocks.now.items place) }
-    ensures none { IfNone result (list_any (is_of stream) blocks.now.items ≡ false) }
+fn place_of(sections: &Vec<PendingSection>, stream: u64) -> Option<usize>
+    ensures some { IfSome result (λ place. IsPlace stream sections.now.items place) }
+    ensures none { IfNone result (list_any (is_of stream) sections.now.items ≡ false) }
 {
-    for place in 0..blocks.len() {
-        if blocks[place].stream() == stream {
+    for place in 0..sections.len() {
+        if sections[place].stream() == stream {
             return Some(place);
         }
     }
@@ -112,11 +112,14 @@ fn is_given_up(canceled: &Vec<u64>, stream: u64) -> bool
 }
 
 /// The fields of a section, and whether it names entries.
-fn decode_block(decoder: &Decoder, block: &Block) -> Result<(Vec<HeaderField>, bool), DecoderError>
-    ensures ok { IfOk result (λ d. (count : ℕ) × MeansFields decoder.now block.now.bytes count d.0.items × (d.1 ≡ nat_lt 0 count)) }
-    ensures err { IfErr result (IsRefusal decoder.now block.now.bytes) }
+fn decode_section(
+    decoder: &Decoder,
+    section: &PendingSection,
+) -> Result<(Vec<HeaderField>, bool), DecoderError>
+    ensures ok { IfOk result (λ d. (count : ℕ) × MeansFields decoder.now section.now.bytes count d.0.items × (d.1 ≡ nat_lt 0 count)) }
+    ensures err { IfErr result (IsRefusal decoder.now section.now.bytes) }
 {
-    let mut cursor = SliceCursor::new(block.bytes());
+    let mut cursor = SliceCursor::new(section.bytes());
     match decoder.decode_header(&mut cursor) {
         Ok(
             Decoded {
@@ -155,18 +158,16 @@ impl Session {
     /// The section is encoded, and waits to be decoded.
     fn encode(&mut self, stream: u64, fields: &[HeaderField]) -> SessionAnswer
         requires { section_size fields.now < 2 ^ 62 }
-        ensures { (w : Ends) → self.old ≡ kept w → (new : Ends) × Encodes w stream fields.now result new × (self.new ≡ kept new) }
+        ensures { (w : ExchangeHistory) → self.old ≡ exchange_state w → (new : ExchangeHistory) × Encodes w stream fields.now result new × (self.new ≡ exchange_state new) }
     {
-        if self.blocks.reserve(1).is_err() {
+        if self.sections.reserve(1).is_err() {
             return SessionAnswer::Refused(Error::Encoder(EncoderError::OutOfMemory));
         }
-        let mut block = Vec::new(self.alloc);
-        match self
-            .encoder
-            .encode(stream, &mut block, &mut self.encoder_stream.bytes, fields)
-        {
+        let mut section = Vec::new(self.alloc);
+        match self.encoder.encode(stream, &mut section, &mut self.encoder_stream.bytes, fields) {
             Ok(count) => {
-                self.blocks.push_reserved(Block::new(stream, block));
+                self.sections
+                    .push_reserved(PendingSection::new(stream, section));
                 SessionAnswer::Encoded(count)
             }
             Err(e) => SessionAnswer::Refused(Error::Encoder(e)),
@@ -175,11 +176,11 @@ impl Session {
 
     /// More bytes come to the decoder, and what is whole is read.
     fn deliver_to_decoder(&mut self, count: usize) -> SessionAnswer
-        ensures { (w : Ends) → self.old ≡ kept w → (new : Ends) × DeliversToDecoder w count result new × (self.new ≡ kept new) }
+        ensures { (w : ExchangeHistory) → self.old ≡ exchange_state w → (new : ExchangeHistory) × DeliversToDecoder w count result new × (self.new ≡ exchange_state new) }
     {
-        let waiting = self.encoder_stream.bytes.len() - self.encoder_stream.arrived;
-        if count > waiting {
-            return SessionAnswer::Short(waiting);
+        let undelivered = self.encoder_stream.bytes.len() - self.encoder_stream.arrived;
+        if count > undelivered {
+            return SessionAnswer::Short(undelivered);
         }
         self.encoder_stream.arrived += count;
         let mut cursor = SliceCursor::new(
@@ -198,11 +199,11 @@ impl Session {
 
     /// More bytes come to the encoder, and what is whole is read.
     fn deliver_to_encoder(&mut self, count: usize) -> SessionAnswer
-        ensures { (w : Ends) → self.old ≡ kept w → (new : Ends) × DeliversToEncoder w count result new × (self.new ≡ kept new) }
+        ensures { (w : ExchangeHistory) → self.old ≡ exchange_state w → (new : ExchangeHistory) × DeliversToEncoder w count result new × (self.new ≡ exchange_state new) }
     {
-        let waiting = self.decoder_stream.bytes.len() - self.decoder_stream.arrived;
-        if count > waiting {
-            return SessionAnswer::Short(waiting);
+        let undelivered = self.decoder_stream.bytes.len() - self.decoder_stream.arrived;
+        if count > undelivered {
+            return SessionAnswer::Short(undelivered);
         }
         self.decoder_stream.arrived += count;
         let mut cursor = SliceCursor::new(
@@ -220,29 +221,29 @@ impl Session {
     /// The oldest section of a stream is decoded.
     fn decode(&mut self, stream: u64) -> SessionAnswer
         requires { stream < 2 ^ 62 }
-        ensures { (w : Ends) → self.old ≡ kept w → (new : Ends) × Decodes w stream result new × (self.new ≡ kept new) }
+        ensures { (w : ExchangeHistory) → self.old ≡ exchange_state w → (new : ExchangeHistory) × Decodes w stream result new × (self.new ≡ exchange_state new) }
     {
         if is_given_up(&self.canceled, stream) {
             return SessionAnswer::Canceled;
         }
-        let Some(place) = place_of(&self.blocks, stream) else {
+        let Some(place) = place_of(&self.sections, stream) else {
             return SessionAnswer::NoBlock;
         };
-        let (fields, names_entries) = match decode_block(&self.decoder, &self.blocks[place]) {
+        let (fields, names_entries) = match decode_section(&self.decoder, &self.sections[place]) {
             Ok(decoded) => decoded,
             Err(e) => return refusal(e),
         };
         let Ok(()) = acknowledge(names_entries, stream, &mut self.decoder_stream.bytes) else {
             return SessionAnswer::Refused(Error::Decoder(DecoderError::OutOfMemory));
         };
-        self.blocks.remove(place);
+        self.sections.remove(place);
         SessionAnswer::Decoded(fields)
     }
 
     /// A stream is given up.
     fn cancel(&mut self, stream: u64) -> SessionAnswer
         requires { stream < 2 ^ 62 }
-        ensures { (w : Ends) → self.old ≡ kept w → (new : Ends) × Cancels w stream result new × (self.new ≡ kept new) }
+        ensures { (w : ExchangeHistory) → self.old ≡ exchange_state w → (new : ExchangeHistory) × Cancels w stream result new × (self.new ≡ exchange_state new) }
     {
         if is_given_up(&self.canceled, stream) {
             return SessionAnswer::Canceled;
@@ -254,14 +255,14 @@ impl Session {
             return SessionAnswer::Refused(Error::Decoder(DecoderError::OutOfMemory));
         }
         self.canceled.push_reserved(stream);
-        self.blocks.retain(|block| block.stream() != stream);
+        self.sections.retain(|section| section.stream() != stream);
         SessionAnswer::Canceled
     }
 
     /// One event.
     fn step(&mut self, event: &SessionEvent) -> SessionAnswer
         requires { IsEvent event.now }
-        ensures { (w : Ends) → self.old ≡ kept w → (new : Ends) × Happens w event.now result new × (self.new ≡ kept new) }
+        ensures { (w : ExchangeHistory) → self.old ≡ exchange_state w → (new : ExchangeHistory) × Happens w event.now result new × (self.new ≡ exchange_state new) }
     {
         match event {
             SessionEvent::Encode(stream, fields) => self.encode(*stream, fields.as_slice()),
@@ -275,7 +276,7 @@ impl Session {
     /// An encoder that may use a table of that capacity, and a decoder that announced it. For a capacity above 0 the
     /// encoder's stream begins with the instruction for it.
     fn begin(alloc: Global, capacity: usize, blocked: usize) -> Result<Session, EncoderError>
-        ensures ok { IfOk result (λ session. (capacity < 2 ^ 30) × (session ≡ kept (start capacity blocked))) }
+        ensures ok { IfOk result (λ session. (capacity < 2 ^ 30) × (session ≡ exchange_state (start capacity blocked))) }
         ensures err { IfErr result (IsNoBeginning capacity blocked) }
     {
         let mut table = DynamicTable::new(alloc);
@@ -298,7 +299,7 @@ impl Session {
                 arrived: 0,
                 read: 0,
             },
-            blocks: Vec::new(alloc),
+            sections: Vec::new(alloc),
             canceled: Vec::new(alloc),
         })
     }
@@ -314,8 +315,8 @@ pub fn run(
     events: &[SessionEvent],
 ) -> Result<Vec<SessionAnswer>, Error>
     requires { AllByRecursion IsEvent events.now }
-    ensures ok { IfOk result (λ answers. (end : Ends) × Exchange (start capacity blocked) events.now answers.items end) }
-    ensures expected { IfOk result (λ answers. (s : sessions.Session) × Expected (beginning capacity blocked) events.now answers.items s × IsSound s × (blocks_out s.sender ≤ blocked)) }
+    ensures ok { IfOk result (λ answers. (end : ExchangeHistory) × Exchange (start capacity blocked) events.now answers.items end) }
+    ensures expected { IfOk result (λ answers. (s : sessions.Session) × Expected (beginning capacity blocked) events.now answers.items s × IsSound s × (blocks_out s.encoder ≤ blocked)) }
     ensures err { IfErr result (IsNoRun capacity blocked) }
 {
     let mut session = Session::begin(alloc, capacity, blocked)?;

@@ -2,7 +2,7 @@
 //! them hold each entry.
 ghost use Rattle.std.specs.Prelude.{◌≡◌, ℕ, ◌+◌, ◌-◌, ◌^◌, ◌<◌, ◌≤◌, List, [], ◌∷◌, ◌++◌, length, true, false, drop, IfSome, IfNone, OnErr, OnOk};
 ghost use Rattle.std.specs.List.{list_any, remove, AllByRecursion};
-ghost use Rattle.h3_qpack.specs.Tracking.{Holds, is_of, held_by, is_free_to, without_oldest_of, without_newest_of, IsFirstOf, IsLastOf};
+ghost use Rattle.h3_qpack.specs.Tracking.{TrackingState, is_of, reference_count, is_free_to, without_oldest_of, without_newest_of, IsFirstOf, IsLastOf};
 
 use std::alloc::{AllocError, Global};
 use std::collections::VecDeque;
@@ -20,18 +20,18 @@ pub struct TrackedSection {
 pub(crate) struct Tracking {
     // of each entry, how many sections have it as their oldest
     references: VecDeque<usize>,
-    gone: usize,
+    evicted: usize,
     sections: VecDeque<TrackedSection>,
 }
 
 impl Model for Tracking {
-    ghost use Rattle.h3_qpack.specs.Tracking.{Holds};
+    ghost use Rattle.h3_qpack.specs.Tracking.{TrackingState};
 
-    ghost Value = { Holds };
+    ghost Value = { TrackingState };
 
-    ghost use Rattle.h3_qpack.specs.TrackingInside.{holds_inside, IsTracking};
+    ghost use Rattle.h3_qpack.specs.TrackingInside.{tracking_state_inside, IsTracking};
 
-    ghost view = { holds_inside };
+    ghost view = { tracking_state_inside };
 
     ghost invariant = { IsTracking };
 }
@@ -75,11 +75,11 @@ fn last_of(sections: &VecDeque<TrackedSection>, stream: u64) -> Option<usize>
 
 impl Tracking {
     pub(crate) fn new(alloc: Global) -> Tracking
-        ensures { result ≡ record { gone = 0; made = 0; sections = [] } }
+        ensures { result ≡ record { evicted = 0; made = 0; sections = [] } }
     {
         Tracking {
             references: VecDeque::new(alloc),
-            gone: 0,
+            evicted: 0,
             sections: VecDeque::new(alloc),
         }
     }
@@ -93,11 +93,11 @@ impl Tracking {
 
     /// Whether no section names an entry up to that number.
     pub(crate) fn is_free_to(&self, number: usize) -> bool
-        requires from { self.now.gone ≤ number }
+        requires from { self.now.evicted ≤ number }
         requires to { number ≤ self.now.made }
         ensures { result ≡ is_free_to number self.now.sections }
     {
-        let count = number - self.gone;
+        let count = number - self.evicted;
         let mut place = 0;
         while place < count {
             if self.references[place] != 0 {
@@ -112,7 +112,7 @@ impl Tracking {
     pub(crate) fn add_entry(&mut self) -> Result<(), AllocError>
         requires { self.old.made + 1 < 2 ^ 62 }
         ensures ok { OnOk result (self.new ≡ record self.old { made = self.old.made + 1 }) }
-        ensures unnamed { OnOk result (held_by (self.old.made + 1) self.old.sections ≡ 0) }
+        ensures unnamed { OnOk result (reference_count (self.old.made + 1) self.old.sections ≡ 0) }
         ensures err { OnErr result (self.new ≡ self.old) }
     {
         self.references.reserve(1)?;
@@ -122,8 +122,8 @@ impl Tracking {
 
     /// The newest entry, which no section names, is not there after all.
     pub(crate) fn remove_entry(&mut self)
-        requires some { self.old.gone < self.old.made }
-        requires unnamed { held_by self.old.made self.old.sections ≡ 0 }
+        requires some { self.old.evicted < self.old.made }
+        requires unnamed { reference_count self.old.made self.old.sections ≡ 0 }
         ensures { self.new ≡ record self.old { made = self.old.made - 1 } }
     {
         self.references.pop_back();
@@ -131,25 +131,25 @@ impl Tracking {
 
     /// The entries up to that number, which no section names, are no longer there.
     pub(crate) fn drop_to(&mut self, number: usize)
-        requires from { self.old.gone ≤ number }
+        requires from { self.old.evicted ≤ number }
         requires to { number ≤ self.old.made }
         requires free { is_free_to number self.old.sections ≡ true }
-        ensures { self.new ≡ record self.old { gone = number } }
+        ensures { self.new ≡ record self.old { evicted = number } }
     {
-        drop_front(&mut self.references, number - self.gone);
-        self.gone = number;
+        drop_front(&mut self.references, number - self.evicted);
+        self.evicted = number;
     }
 
     /// Tracks a section whose oldest entry is there.
     pub(crate) fn track(&mut self, section: TrackedSection) -> Result<(), AllocError>
-        requires from { self.old.gone < section.oldest }
+        requires from { self.old.evicted < section.oldest }
         requires to { section.oldest ≤ self.old.made }
         ensures ok { OnOk result (self.new ≡ record self.old { sections = self.old.sections ++ section ∷ [] }) }
         ensures err { OnErr result (self.new ≡ self.old) }
     {
         self.sections.reserve(1)?;
         self.sections.push_back_reserved(section);
-        let place = section.oldest - self.gone - 1;
+        let place = section.oldest - self.evicted - 1;
         self.references[place] += 1;
         Ok(())
     }
@@ -162,7 +162,7 @@ impl Tracking {
         let Some(section) = self.sections.remove(place) else {
             return;
         };
-        let at = section.oldest - self.gone - 1;
+        let at = section.oldest - self.evicted - 1;
         self.references[at] -= 1;
     }
 

@@ -1,7 +1,7 @@
 //! A dynamic table as the lines of one section name its entries (RFC 9204, sections 3.2.5 and 3.2.6).
 ghost use Rattle.std.specs.Prelude.{◌≡◌, ◌+◌, ◌-◌};
 ghost use Rattle.h3_field.specs.declared.dynamic.Error.TheVariants.{BadRelativeIndex, BadPostbaseIndex};
-ghost use Rattle.h3_qpack.specs.Held.{entry_at};
+ghost use Rattle.h3_qpack.specs.TableState.{entry_at};
 ghost use Rattle.h3_qpack.specs.Views.{AnswersEntry};
 
 use crate::decoder::copy_of;

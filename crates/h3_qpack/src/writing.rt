@@ -10,11 +10,11 @@ ghost use Rattle.h3_field.specs.Instruction.{encoder_bytes};
 ghost use Rattle.h3_field.specs.Prefix.{prefix_bytes};
 ghost use Rattle.h3_field.specs.StaticTable.{static_name};
 ghost use Rattle.h3_field.specs.declared.encoder_error.EncoderError.TheVariants.{OutOfMemory};
-ghost use Rattle.h3_qpack.specs.Held.{gone, with_entry};
-ghost use Rattle.h3_qpack.specs.Stored.{MayInsertInto};
-ghost use Rattle.h3_qpack.specs.Sender.{Sender};
-ghost use Rattle.h3_qpack.specs.Written.{Draft, add_field, draft_of, entry_name_line};
-ghost use Rattle.h3_qpack.specs.Drafting.{naming, IsOver, IsPossible, line_for, section_after, kept_after, instructions_after, insertion_for, IsDrafted, IsCutOff};
+ghost use Rattle.h3_qpack.specs.TableState.{evicted, with_entry};
+ghost use Rattle.h3_qpack.specs.EncoderState.{MayInsertInto};
+ghost use Rattle.h3_qpack.specs.EncoderHistory.{EncoderHistory};
+ghost use Rattle.h3_qpack.specs.SectionEncoding.{Draft, add_field, draft_of, entry_name_line};
+ghost use Rattle.h3_qpack.specs.Drafting.{naming, IsOver, IsPossible, line_for, section_after, encoder_state_with, instructions_after, insertion_for, IsDrafted, IsCutOff};
 
 use crate::decoder::copy_of;
 use crate::dynamic::DynamicTable;
@@ -48,7 +48,7 @@ pub(crate) fn entry_of(
     Ok(HeaderField::with_static_name(name, value))
 }
 
-/// Appends the instruction that inserts a field, after which so many entries are gone. The index is that of the static
+/// Appends the instruction that inserts a field, after which so many entries are evicted. The index is that of the static
 /// entry with its name.
 fn put_insertion(
     table: &DynamicTable,
@@ -59,7 +59,7 @@ fn put_insertion(
 ) -> Result<(), EncoderError>
     requires index { static_index ≡ static_name field.now.name }
     requires below { IfSome static_index (λ index. index < 99) }
-    requires after { gone table.now.table ≤ after }
+    requires after { evicted table.now.table ≤ after }
     requires size { field_size field.now < 2 ^ 62 }
     ensures memory { IsOkUnless result OutOfMemory }
     ensures ok { OnOk result (encoder_buf.new.items ≡ encoder_buf.old.items ++ encoder_bytes (insertion_for table.now.table after field.now)) }
@@ -93,14 +93,14 @@ fn put_inserted(
     encoder_buf: &mut Vec<u8>,
 ) -> Result<(), EncoderError>
     requires may { (oldest : ℕ) × MayInsertInto table.old field.now oldest }
-    requires after { after ≡ gone (with_entry table.old.table field.now) }
-    requires from { gone table.old.table ≤ after }
+    requires after { after ≡ evicted (with_entry table.old.table field.now) }
+    requires from { evicted table.old.table ≤ after }
     requires size { field_size field.now < 2 ^ 62 }
     requires base { base ≤ table.old.table.inserted }
     ensures memory { IsOkUnless result OutOfMemory }
     ensures ok { OnOk result (table.new ≡ record table.old { table = with_entry table.old.table field.now }) }
     ensures line { OnOk result (lines.new.items ≡ lines.old.items ++ line_bytes (PostBaseField (table.old.table.inserted - base))) }
-    ensures told { OnOk result (encoder_buf.new.items ≡ encoder_buf.old.items ++ encoder_bytes (insertion_for table.old.table after field.now)) }
+    ensures instructions { OnOk result (encoder_buf.new.items ≡ encoder_buf.old.items ++ encoder_bytes (insertion_for table.old.table after field.now)) }
     ensures err { OnErr result ((table.new ≡ table.old) × (encoder_buf.new.items ≡ encoder_buf.old.items)) }
 {
     let static_index = StaticTable::find_name(field.name());
@@ -149,10 +149,10 @@ fn put_chosen(
     requires possible { IsPossible table.old section.old field.now choice }
     requires size { field_size field.now < 2 ^ 62 }
     ensures memory { IsOkUnless result OutOfMemory }
-    ensures table { OnOk result (table.new ≡ kept_after table.old field.now choice) }
+    ensures table { OnOk result (table.new ≡ encoder_state_with table.old field.now choice) }
     ensures section { OnOk result (section.new ≡ section_after table.old section.old choice) }
     ensures line { OnOk result (lines.new.items ≡ lines.old.items ++ line_bytes (line_for table.old section.old field.now choice)) }
-    ensures told { OnOk result (encoder_buf.new.items ≡ encoder_buf.old.items ++ flat_map encoder_bytes (instructions_after table.old field.now choice)) }
+    ensures instructions { OnOk result (encoder_buf.new.items ≡ encoder_buf.old.items ++ flat_map encoder_bytes (instructions_after table.old field.now choice)) }
     ensures err { OnErr result ((table.new ≡ table.old) × (encoder_buf.new.items ≡ encoder_buf.old.items)) }
 {
     let inserted = table.inserted();
@@ -191,7 +191,7 @@ fn put_field(
     ensures memory { IsOkUnless result OutOfMemory }
     ensures over { OnOk result (IsOver table.new.table section.new) }
     ensures grows { length encoder_buf.old.items ≤ length encoder_buf.new.items }
-    ensures ok { OnOk result ((s : Sender) (d : Draft) (start : List ℕ) → IsDrafted s d table.old section.old lines.old.items start encoder_buf.old.items →
+    ensures ok { OnOk result ((s : EncoderHistory) (d : Draft) (start : List ℕ) → IsDrafted s d table.old section.old lines.old.items start encoder_buf.old.items →
         IsDrafted s (add_field s d field.now) table.new section.new lines.new.items start encoder_buf.new.items) }
     ensures err { OnErr result ((table.new ≡ table.old) × (encoder_buf.new.items ≡ encoder_buf.old.items)) }
 {
@@ -213,10 +213,10 @@ pub(crate) fn put_fields(
     ensures memory { IsOkUnless result OutOfMemory }
     ensures over { OnOk result (IsOver table.new.table section.new) }
     ensures grows { length encoder_buf.old.items ≤ length encoder_buf.new.items }
-    ensures ok { OnOk result ((s : Sender) (start : List ℕ) → IsDrafted s (draft_of s []) table.old section.old lines.old.items start encoder_buf.old.items →
+    ensures ok { OnOk result ((s : EncoderHistory) (start : List ℕ) → IsDrafted s (draft_of s []) table.old section.old lines.old.items start encoder_buf.old.items →
         IsDrafted s (draft_of s fields.now) table.new section.new lines.new.items start encoder_buf.new.items) }
     ensures bytes { OnOk result (AllByRecursion IsFieldOfBytes fields.now) }
-    ensures err { OnErr result ((s : Sender) (start : List ℕ) → IsDrafted s (draft_of s []) table.old section.old lines.old.items start encoder_buf.old.items →
+    ensures err { OnErr result ((s : EncoderHistory) (start : List ℕ) → IsDrafted s (draft_of s []) table.old section.old lines.old.items start encoder_buf.old.items →
         IsCutOff s fields.now table.new start encoder_buf.new.items) }
 {
     'fields: for field in fields {

@@ -4,4 +4,4 @@ use Rattle.h3_qpack.specs.Exchange.{is_of}
 use Rattle.h3_qpack.proofs.session.place_of.Given as goal
 
 abbrev pub invariant-loop-place : goal.invariant-loop-place
-invariant-loop-place l = list_any (is_of l.stream) (take l.place l.blocks.items) ≡ false
+invariant-loop-place l = list_any (is_of l.stream) (take l.place l.sections.items) ≡ false

@@ -1,7 +1,7 @@
 use Rattle.std.proofs.Common.{◌≡◌, ◌+◌, ◌-◌, ◌^◌, ◌++◌, ◌∷◌, [], ℕ, List, min, unwrap_or, refl, sym, ◌∙◌, ap, arith}
 use Rattle.std.proofs.lemmas.List.Sums.{sum_by-append}
 use Rattle.h3_field.specs.Field.{Field, field_size, section_size}
-use Rattle.h3_qpack.specs.Receiver.{count_capacity}
+use Rattle.h3_qpack.specs.DecoderState.{count_capacity}
 use Rattle.h3_qpack.proofs.Standing.{stand_next, stand_end}
 use Rattle.h3_qpack.proofs.Prefixes.{Begun, prefix_read, has_prefix, no_prefix, refused_line}
 use Rattle.h3_qpack.proofs.decoder.Decoder.decode_header.Goals as goal

@@ -1,5 +1,5 @@
 use Rattle.std.proofs.Common.{◌≡◌, ◌-◌, refl, sym, ◌∙◌, ap, Some}
-use Rattle.h3_qpack.specs.Held.{entry_at}
+use Rattle.h3_qpack.specs.TableState.{entry_at}
 use Rattle.h3_field.specs.InstructionReading.{repeat}
 use Rattle.h3_field.specs.InstructionAnswer.{duplication}
 use Rattle.h3_qpack.proofs.Shortening.{repeat_less}

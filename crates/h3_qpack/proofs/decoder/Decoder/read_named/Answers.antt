@@ -1,5 +1,5 @@
 use Rattle.std.proofs.Common.{◌≡◌, ◌-◌, refl, sym, ◌∙◌, ap, Some, None}
-use Rattle.h3_qpack.specs.Held.{entry_at}
+use Rattle.h3_qpack.specs.TableState.{entry_at}
 use Rattle.h3_field.specs.InstructionReading.{name_reference}
 use Rattle.h3_field.specs.InstructionAnswer.{named_insertion}
 use Rattle.h3_field.proofs.Sections.{named_entry}

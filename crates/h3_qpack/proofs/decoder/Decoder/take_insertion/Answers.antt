@@ -1,14 +1,14 @@
 use Rattle.std.proofs.Common.{◌≡◌, ◌+◌, ◌-◌, ◌^◌, ◌<◌, ◌≤◌, min, ℕ, false, refl, ap, arith}
 use Rattle.std.proofs.lemmas.Grind.{common_steps}
 use Rattle.h3_field.specs.Field.{Field, field_size}
-use Rattle.h3_qpack.specs.Held.{Held, has_room}
+use Rattle.h3_qpack.specs.TableState.{TableState, has_room}
 use Rattle.h3_qpack.proofs.InsertionsAt.{no_insertion_bad, no_room_bad, reason_map}
 use Rattle.h3_qpack.proofs.decoder.Decoder.take_insertion.Goals as goal
 
-too_many : (h : Held) (f : Field) → 2 ^ 62 ≤ h.inserted + 1 → has_room h f ≡ false
+too_many : (h : TableState) (f : Field) → 2 ^ 62 ≤ h.inserted + 1 → has_room h f ≡ false
 too_many h f le = grind (arith, common_steps)
 
-too_large : (h : Held) (f : Field) (size : ℕ) → size ≡ min (2 ^ 64 - 1) (field_size f) → h.capacity < size → has_room h f ≡ false
+too_large : (h : TableState) (f : Field) (size : ℕ) → size ≡ min (2 ^ 64 - 1) (field_size f) → h.capacity < size → has_room h f ≡ false
 too_large h f size is lt = let far : h.capacity < field_size f = omega (arith, is, lt) in grind (arith, common_steps)
 
 pub returns-then-inserted-ge-MOST_INSERTIONS : goal.returns-then-inserted-ge-MOST_INSERTIONS

@@ -6,10 +6,10 @@ use Rattle.h3_qpack.proofs.dynamic.DynamicTable.set_max_size.Goals as goal
 pub invariant_of-self : goal.invariant_of-self
 invariant_of-self c =
     let i = c.self.invariant in
-    let g = c.gone.ensures in
+    let g = c.evicted.ensures in
     let h = c.self.inside.entries in
     let after_is = c.in-Some.ensures.some.0 in
-    let low : c.gone.result ≤ c.in-Some.after = omega (arith, g.value, c.in-Some.ensures.made.0) in
-    let names = indexed_with_capacity h what.Name c.args.size c.in-Some.after c.gone.result c.self.inside.names c.drop_oldest.new.self g.made g.value after_is low i.names c.drop_oldest.ensures in
-    let fields = indexed_with_capacity h what.Field c.args.size c.in-Some.after c.gone.result c.self.inside.fields c.drop_oldest-2.new.self g.made g.value after_is low i.fields c.drop_oldest-2.ensures in
+    let low : c.evicted.result ≤ c.in-Some.after = omega (arith, g.value, c.in-Some.ensures.made.0) in
+    let names = indexed_with_capacity h what.Name c.args.size c.in-Some.after c.evicted.result c.self.inside.names c.evict_oldest.new.self g.made g.value after_is low i.names c.evict_oldest.ensures in
+    let fields = indexed_with_capacity h what.Field c.args.size c.in-Some.after c.evicted.result c.self.inside.fields c.evict_oldest-2.new.self g.made g.value after_is low i.fields c.evict_oldest-2.ensures in
     rw (c.set_capacity.ensures, c.drop_to.ensures) (record { from = after_is; to = i.to; names = names; fields = fields; few = i.few })

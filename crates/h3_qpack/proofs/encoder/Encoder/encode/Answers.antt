@@ -25,7 +25,7 @@ returns-in-Ok-clause-sent c =
     λ s e.
     let h = c.in_ok-put_fields.ensures.ok s _ (begun_drafted s _ _ _ _ (c.self.view_is ∙ e) c.begin-section.ensures.value c.clear.ensures.items) in
     section_sent s c.args.stream c.args.fields.now _ _ _ _ _ _ _ _ h put
-    (sent_named s _ c.args.stream _ _ _ h.kept c.is_small.ensures c.in_ok-put_fields.ensures.over.newest c.if-section-ne0.true c.in-Ok.ensures.ok) c.in_ok-put_fields.ensures.bytes
+    (sent_named s _ c.args.stream _ _ _ h.state c.is_small.ensures c.in_ok-put_fields.ensures.over.newest c.if-section-ne0.true c.in-Ok.ensures.ok) c.in_ok-put_fields.ensures.bytes
 
 pub returns-else-section-ne0-clause-sent : goal.returns-else-section-ne0-clause-sent
 returns-else-section-ne0-clause-sent c =
@@ -33,4 +33,4 @@ returns-else-section-ne0-clause-sent c =
     λ s e.
     let h = c.in_ok-put_fields.ensures.ok s _ (begun_drafted s _ _ _ _ (c.self.view_is ∙ e) c.begin-section.ensures.value c.clear.ensures.items) in
     section_sent s c.args.stream c.args.fields.now _ _ _ _ _ _ _ _ h put
-    (sent_plain s _ c.args.stream _ _ h.kept c.if-section-ne0.false) c.in_ok-put_fields.ensures.bytes
+    (sent_plain s _ c.args.stream _ _ h.state c.if-section-ne0.false) c.in_ok-put_fields.ensures.bytes

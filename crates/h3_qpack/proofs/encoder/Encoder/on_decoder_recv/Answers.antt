@@ -1,6 +1,6 @@
 use Rattle.std.proofs.Common.{rules, ◌≡◌, true, false}
 use Rattle.h3_qpack.proofs.Ends.{heard_to_an_end}
-use Rattle.h3_qpack.proofs.Replies.{heard_none, heard_on}
+use Rattle.h3_qpack.proofs.DecoderInstructionsRead.{heard_none, heard_on}
 use Rattle.h3_qpack.proofs.encoder.Encoder.on_decoder_recv.Goals as goal
 
 pub loop-self-init : goal.loop-self-init

@@ -4,7 +4,7 @@ use Rattle.h3_field.specs.InstructionReading.{acknowledgment}
 use Rattle.h3_field.specs.InstructionAnswer.{section_acknowledgment}
 use Rattle.h3_qpack.specs.Tracking.{is_of}
 use Rattle.h3_qpack.proofs.Releasing.{none_removed}
-use Rattle.h3_qpack.proofs.Replies.{is_acknowledgment, acknowledgment_less, reply_here, heard_one, acknowledged}
+use Rattle.h3_qpack.proofs.DecoderInstructionsRead.{is_acknowledgment, acknowledgment_less, reply_here, heard_one, acknowledged}
 use Rattle.h3_qpack.proofs.encoder.Encoder.take_acknowledgment.Goals as goal
 
 pub returns-then-not-release : goal.returns-then-not-release

@@ -1,7 +1,7 @@
 use Rattle.std.proofs.Common.{refl, ◌∙◌}
 use Rattle.h3_field.specs.InstructionReading.{cancellation}
 use Rattle.h3_field.specs.InstructionAnswer.{stream_cancellation}
-use Rattle.h3_qpack.proofs.Replies.{is_cancellation, cancellation_less, reply_here, heard_one}
+use Rattle.h3_qpack.proofs.DecoderInstructionsRead.{is_cancellation, cancellation_less, reply_here, heard_one}
 use Rattle.h3_qpack.proofs.encoder.Encoder.take_cancellation.Goals as goal
 
 pub returns-in-Ok-Some : goal.returns-in-Ok-Some

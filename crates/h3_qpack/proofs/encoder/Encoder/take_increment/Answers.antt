@@ -1,7 +1,7 @@
 use Rattle.std.proofs.Common.{refl, ◌∙◌}
 use Rattle.h3_field.specs.InstructionReading.{increment}
 use Rattle.h3_field.specs.InstructionAnswer.{count_increment}
-use Rattle.h3_qpack.proofs.Replies.{is_increment, increment_less, reply_here, heard_one}
+use Rattle.h3_qpack.proofs.DecoderInstructionsRead.{is_increment, increment_less, reply_here, heard_one}
 use Rattle.h3_qpack.proofs.encoder.Encoder.take_increment.Goals as goal
 
 pub returns-in-Ok-Some : goal.returns-in-Ok-Some

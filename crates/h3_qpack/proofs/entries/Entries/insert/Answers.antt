@@ -7,7 +7,7 @@ use Rattle.h3_qpack.proofs.entries.Entries.insert.Goals as goal
 
 pub push_back_reserved-requires : goal.push_back_reserved-requires
 push_back_reserved-requires c =
-    let shorter = c.drop_oldest.ensures.len in
+    let shorter = c.evict_oldest.ensures.len in
     let room = c.in_ok-reserve.ensures.ok in
     omega arith
 
@@ -30,10 +30,10 @@ invariant_of-self-2 c =
     let fits : field_size c.args.field ≤ c.self.inside.capacity = omega (arith, c.requires.fits, capacity_is) in
     let size = size_is c.self.inside.capacity _ c.args.field i.small fits c.size_of-size.ensures in
     record {
-      sum = sum_is _ _ c.args.field _ _ c.push_back_reserved.ensures.items c.drop_oldest.ensures.sum size;
-      fits = omega (arith, c.drop_oldest.ensures.within, size, fits);
+      sum = sum_is _ _ c.args.field _ _ c.push_back_reserved.ensures.items c.evict_oldest.ensures.sum size;
+      fits = omega (arith, c.evict_oldest.ensures.within, size, fits);
       small = i.small;
-      made = omega (arith, ap length c.push_back_reserved.ensures.items, length-append c.drop_oldest.new.fields.items (c.args.field ∷ []), c.drop_oldest.ensures.len, ap length c.in_ok-reserve.ensures.items, i.made);
+      made = omega (arith, ap length c.push_back_reserved.ensures.items, length-append c.evict_oldest.new.fields.items (c.args.field ∷ []), c.evict_oldest.ensures.len, ap length c.in_ok-reserve.ensures.items, i.made);
       few = omega (arith, c.requires.few, ap (λ h. h.inserted) c.self.view_is);
     }
 
@@ -43,5 +43,5 @@ returns-clause-ok c =
     let capacity_is = ap (λ h. h.capacity) c.self.view_is in
     let fits : field_size c.args.field ≤ c.self.inside.capacity = omega (arith, c.requires.fits, capacity_is) in
     let size = size_is c.self.inside.capacity _ c.args.field i.small fits c.size_of-size.ensures in
-    let items = items_are c.self.inside.capacity _ _ _ _ _ c.args.field fits size c.in_ok-reserve.ensures.items c.drop_oldest.ensures.items c.push_back_reserved.ensures.items in
+    let items = items_are c.self.inside.capacity _ _ _ _ _ c.args.field fits size c.in_ok-reserve.ensures.items c.evict_oldest.ensures.items c.push_back_reserved.ensures.items in
     rw (← c.self.view_is, items) refl

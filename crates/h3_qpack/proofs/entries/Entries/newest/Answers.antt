@@ -2,7 +2,7 @@ use Rattle.std.proofs.Common.{◌≡◌, ◌<◌, ◌≤◌, ◌+◌, ◌-◌, �
 use Rattle.std.proofs.lemmas.Option.{slice_get_read}
 use Rattle.std.proofs.lemmas.Grind.{common_steps}
 use Rattle.h3_field.specs.Field.{Field}
-use Rattle.h3_qpack.specs.Held.{Held, gone, in_range}
+use Rattle.h3_qpack.specs.TableState.{TableState, evicted, in_range}
 use Rattle.h3_qpack.specs.Matches.{matches}
 use Rattle.h3_qpack.specs.Slots.{slot_of}
 use Rattle.h3_qpack.proofs.Searches.{stands_first, stands_next, is_found, is_nowhere}
@@ -10,20 +10,20 @@ use Rattle.h3_qpack.proofs.entries.Entries.newest.Goals as goal
 use Rattle.h3_qpack.proofs.entries.Entries.newest.Goals.{else-number-most-via-then-number-most+else-is_met, else-number-most-via-else-number-most}
 
 -- the place of the number's entry
-pub record IsPlace (h : Held) (number place : ℕ) : Type 0 where
-  pub at : number ≡ gone h + 1 + place
+pub record IsPlace (h : TableState) (number place : ℕ) : Type 0 where
+  pub at : number ≡ evicted h + 1 + place
   pub inside : place < length h.entries
 
-place_is : (h : Held) (capacity inserted len above number : ℕ) (items : List Field) → record { capacity = capacity; entries = items; inserted = inserted } ≡ h → len ≡ length items
-    → gone h ≤ above → above < number → number < gone h + 1 + length h.entries → IsPlace h number (number - (inserted - len) - 1)
+place_is : (h : TableState) (capacity inserted len above number : ℕ) (items : List Field) → record { capacity = capacity; entries = items; inserted = inserted } ≡ h → len ≡ length items
+    → evicted h ≤ above → above < number → number < evicted h + 1 + length h.entries → IsPlace h number (number - (inserted - len) - 1)
 place_is h capacity inserted len above number items is len_is low more below =
-    let gone_is : inserted - len ≡ gone h = ap (λ n. inserted - n) len_is ∙ ap (λ (k : Held). k.inserted - length k.entries) is in
-    record { at = omega (arith, gone_is, low, more); inside = omega (arith, gone_is, low, more, below) }
+    let evicted_is : inserted - len ≡ evicted h = ap (λ n. inserted - n) len_is ∙ ap (λ (k : TableState). k.inserted - length k.entries) is in
+    record { at = omega (arith, evicted_is, low, more); inside = omega (arith, evicted_is, low, more, below) }
 
-entry_is : (h : Held) (capacity inserted place : ℕ) (items : List Field) (e : Field) → record { capacity = capacity; entries = items; inserted = inserted } ≡ h → place < length h.entries
+entry_is : (h : TableState) (capacity inserted place : ℕ) (items : List Field) (e : Field) → record { capacity = capacity; entries = items; inserted = inserted } ≡ h → place < length h.entries
     → e ≡ get_or items place e → slice_get h.entries place ≡ Some e
 entry_is h capacity inserted place items e is inside read =
-    slice_get_read h.entries (length h.entries) place e refl inside (read ∙ ap (λ (k : Held). get_or k.entries place e) is)
+    slice_get_read h.entries (length h.entries) place e refl inside (read ∙ ap (λ (k : TableState). get_or k.entries place e) is)
 
 outside : (test : Field → Bool) (above most number : ℕ) (e : Field) → most < number → in_range test above most number e ≡ false
 outside test above most number e far = grind (arith, common_steps, far)

@@ -8,7 +8,7 @@ use Rattle.h3_qpack.proofs.session.Session.decode.Goals as goal
 
 pub returns-in_default : goal.returns-in_default
 returns-in_default c = λ w e.
-    let none : list_any (is_of c.args.stream) c.self.inside.blocks.items ≡ false = search rules in
+    let none : list_any (is_of c.args.stream) c.self.inside.sections.items ≡ false = search rules in
     rw (← c.self.view_is) (decoding_none w _ c.args.stream (c.self.view_is ∙ e) (sym c.is_given_up.ensures ∙ c.if-is_given_up.false) none)
 
 pub returns-in-Err : goal.returns-in-Err

@@ -13,4 +13,4 @@ returns-in_default-clause-after c =
 
 pub returns-clause-after : goal.returns-clause-after
 returns-clause-after c =
-    c.forget.ensures ∙ rw (← c.self.view_is) (ap (λ (ts : List TrackedSection). record { gone = c.self.inside.gone; made = c.self.inside.gone + length c.self.inside.references.items; sections = ts }) (first_removed c.args.stream c.self.inside.sections.items c.in-Some.place c.in-Some.ensures.some))
+    c.forget.ensures ∙ rw (← c.self.view_is) (ap (λ (ts : List TrackedSection). record { evicted = c.self.inside.evicted; made = c.self.inside.evicted + length c.self.inside.references.items; sections = ts }) (first_removed c.args.stream c.self.inside.sections.items c.in-Some.place c.in-Some.ensures.some))

@@ -12,4 +12,4 @@ returns-in_default c =
 
 pub returns : goal.returns
 returns c =
-    c.forget.ensures ∙ rw (← c.self.view_is) (ap (λ (ts : List TrackedSection). record { gone = c.self.inside.gone; made = c.self.inside.gone + length c.self.inside.references.items; sections = ts }) (last_removed (is_of c.args.stream) c.self.inside.sections.items c.in-Some.place c.in-Some.ensures.some))
+    c.forget.ensures ∙ rw (← c.self.view_is) (ap (λ (ts : List TrackedSection). record { evicted = c.self.inside.evicted; made = c.self.inside.evicted + length c.self.inside.references.items; sections = ts }) (last_removed (is_of c.args.stream) c.self.inside.sections.items c.in-Some.place c.in-Some.ensures.some))

@@ -8,46 +8,46 @@ use Rattle.h3_field.specs.Line.FieldLine.{StaticField, RelativeField, PostBaseFi
 use Rattle.h3_field.specs.Instruction.{EncoderInstruction}
 use Rattle.h3_field.specs.Instruction.EncoderInstruction.{InsertWithStaticName, InsertWithEntryName, InsertLiteral, Duplicate}
 use Rattle.h3_field.specs.Prefix.{prefix_bytes}
-use Rattle.h3_qpack.specs.Table.{dropped, newest}
-use Rattle.h3_qpack.specs.Sender.{Sender, blocks_out, referenced_entries}
+use Rattle.h3_qpack.specs.Table.{evictions, newest}
+use Rattle.h3_qpack.specs.EncoderHistory.{EncoderHistory, blocks_out, referenced_entries}
 
--- a block under way: what was inserted so far, the instructions for that, the lines, and the entries that they name
+-- a section under way: what was inserted so far, the instructions for that, the lines, and the entries that they name
 pub record Draft : Type 0 where
   pub inserted : List Field
   pub instructions : List EncoderInstruction
   pub lines : List FieldLine
   pub references : List ℕ
 
--- The receiver has the entry, or one more block may wait for it.
-abbrev pub is_usable : Sender → ℕ → Bool
+-- The decoder has the entry, or one more section may be blocked on it.
+abbrev pub is_usable : EncoderHistory → ℕ → Bool
 is_usable s number = nat_le number s.known_received || nat_lt (blocks_out s) s.limit
 
--- the newest entry equal to the field that is older than the block, still there and usable
-abbrev pub found : Sender → Draft → Field → Option ℕ
+-- the newest entry equal to the field that is older than the section, still there and usable
+abbrev pub found : EncoderHistory → Draft → Field → Option ℕ
 found s draft f = newest
-    (λ number entry. field_eq entry f && nat_lt (dropped s.capacity draft.inserted) number
+    (λ number entry. field_eq entry f && nat_lt (evictions s.capacity draft.inserted) number
     && nat_le number (length s.inserted) && is_usable s number)
     draft.inserted
 
--- how many insertions are gone once the field is inserted
-abbrev pub dropped_by : Sender → Draft → Field → ℕ
-dropped_by s draft f = dropped s.capacity (draft.inserted ++ f ∷ [])
+-- how many insertions are evicted once the field is inserted
+abbrev pub evictions_by : EncoderHistory → Draft → Field → ℕ
+evictions_by s draft f = evictions s.capacity (draft.inserted ++ f ∷ [])
 
--- There is room, and each entry in the way is known to be received and named by no block that counts. Numbers of entries
+-- There is room, and each entry to be evicted is known to be received and named by no section that counts. Numbers of entries
 -- stay below 2 ^ 62.
-abbrev pub is_insertable : Sender → Draft → Field → Bool
+abbrev pub is_insertable : EncoderHistory → Draft → Field → Bool
 is_insertable s draft f =
     nat_lt (length draft.inserted + 1) (2 ^ 62)
     && nat_lt (blocks_out s) s.limit && nat_le (field_size f) s.capacity
-    && nat_le (dropped_by s draft f) (max s.known_received (dropped s.capacity draft.inserted))
-    && list_all (λ number. nat_lt (dropped_by s draft f) number) (referenced_entries s ++ draft.references)
+    && nat_le (evictions_by s draft f) (max s.known_received (evictions s.capacity draft.inserted))
+    && list_all (λ number. nat_lt (evictions_by s draft f) number) (referenced_entries s ++ draft.references)
 
 -- the newest entry that remains after the insertion and passes
-abbrev pub remaining : Sender → Draft → Field → (Field → Bool) → Option ℕ
-remaining s draft f test = newest (λ number entry. nat_lt (dropped_by s draft f) number && test entry) draft.inserted
+abbrev pub remaining : EncoderHistory → Draft → Field → (Field → Bool) → Option ℕ
+remaining s draft f test = newest (λ number entry. nat_lt (evictions_by s draft f) number && test entry) draft.inserted
 
 -- how the field is inserted
-abbrev pub insertion : Sender → Draft → Field → EncoderInstruction
+abbrev pub insertion : EncoderHistory → Draft → Field → EncoderInstruction
 insertion s draft f =
     unwrap_or (option_map (λ number. Duplicate (length draft.inserted - number)) (remaining s draft f (λ entry. field_eq entry f))) (
     unwrap_or (option_map (λ index. InsertWithStaticName index f.value) (static_name f.name)) (
@@ -55,28 +55,28 @@ insertion s draft f =
     (InsertLiteral f.name f.value)))
 
 -- the newest entry of the field's name that is still there and usable
-abbrev pub found_name : Sender → Draft → Field → Option ℕ
+abbrev pub found_name : EncoderHistory → Draft → Field → Option ℕ
 found_name s draft f = newest
-    (λ number entry. bytes_eq entry.name f.name && nat_lt (dropped s.capacity draft.inserted) number && is_usable s number)
+    (λ number entry. bytes_eq entry.name f.name && nat_lt (evictions s.capacity draft.inserted) number && is_usable s number)
     draft.inserted
 
 -- a further line, and the entry that it names
 abbrev pub add_line : Draft → FieldLine → List ℕ → Draft
 add_line draft line names = record draft { lines = draft.lines ++ line ∷ []; references = draft.references ++ names }
 
--- the line that names an entry's name, counted from the base of the block
+-- the line that names an entry's name, counted from the base of the section
 abbrev pub entry_name_line : ℕ → ℕ → List ℕ → FieldLine
 entry_name_line base number value =
     if nat_le number base then RelativeName (base - number) value else PostBaseName (number - base - 1) value
 
-abbrev pub add_literal : Sender → Draft → Field → Draft
+abbrev pub add_literal : EncoderHistory → Draft → Field → Draft
 add_literal s draft f =
     unwrap_or (option_map (λ index. add_line draft (StaticName index f.value) []) (static_name f.name)) (
     unwrap_or (option_map (λ number. add_line draft (entry_name_line (length s.inserted) number f.value) (number ∷ [])) (found_name s draft f))
     (add_line draft (Literal f.name f.value) []))
 
 -- the field goes into the table, and its line names the new entry
-abbrev pub add_inserted : Sender → Draft → Field → Draft
+abbrev pub add_inserted : EncoderHistory → Draft → Field → Draft
 add_inserted s draft f =
     record {
       inserted = draft.inserted ++ f ∷ [];
@@ -86,32 +86,32 @@ add_inserted s draft f =
     }
 
 -- a static entry, else an older entry, else a new entry, else a literal
-abbrev pub add_field : Sender → Draft → Field → Draft
+abbrev pub add_field : EncoderHistory → Draft → Field → Draft
 add_field s draft f =
     unwrap_or (option_map (λ index. add_line draft (StaticField index) []) (static_field f)) (
     unwrap_or (option_map (λ number. add_line draft (RelativeField (length s.inserted - number)) (number ∷ [])) (found s draft f))
     (if is_insertable s draft f then add_inserted s draft f else add_literal s draft f))
 
 -- all fields of a section
-abbrev pub draft_of : Sender → List Field → Draft
+abbrev pub draft_of : EncoderHistory → List Field → Draft
 draft_of s fields = fold (add_field s) (record { inserted = s.inserted; instructions = []; lines = []; references = [] }) fields
 
 -- the greatest number that a line names, or 0
 abbrev pub required_insert_count : Draft → ℕ
 required_insert_count draft = fold max 0 draft.references
 
--- the bytes of the block
-abbrev pub encoded_section : Sender → List Field → List ℕ
+-- the bytes of the section
+abbrev pub encoded_section : EncoderHistory → List Field → List ℕ
 encoded_section s fields =
     let draft = draft_of s fields in
     prefix_bytes s.capacity (required_insert_count draft) (length s.inserted) ++ flat_map line_bytes draft.lines
 
 -- the instructions that go out with it
-abbrev pub instructions_for : Sender → List Field → List EncoderInstruction
+abbrev pub instructions_for : EncoderHistory → List Field → List EncoderInstruction
 instructions_for s fields = (draft_of s fields).instructions
 
--- the sender after the block, which is tracked where it names an entry
-abbrev pub sent_section : Sender → ℕ → List Field → Sender
+-- the encoder after the section, which is tracked where it names an entry
+abbrev pub sent_section : EncoderHistory → ℕ → List Field → EncoderHistory
 sent_section s stream fields =
     let draft = draft_of s fields in
     record s {

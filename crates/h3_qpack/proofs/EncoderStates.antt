@@ -1,4 +1,4 @@
--- What an encoder keeps, after an instruction of its receiver.
+-- What an encoder keeps, after an instruction of its decoder.
 use Rattle.std.proofs.Common.{◌≡◌, ℕ, ◌+◌, ◌-◌, ◌^◌, ◌≤◌, Bool, true, false, ◌||◌, List, [], ◌∷◌, length, map, filter, cond, min, refl, ap, arith, nat_lt, if◌then◌else◌}
 use Rattle.std.specs.Prelude.{◌==◌}
 use Rattle.std.specs.List.{list_any, count_by}
@@ -6,23 +6,23 @@ use Rattle.std.proofs.lemmas.List.Sums.{sum_by-cons}
 use Rattle.std.proofs.lemmas.Grind.{common_steps}
 use Rattle.h3_field.specs.Instruction.{DecoderInstruction}
 use Rattle.h3_field.specs.Instruction.DecoderInstruction.{Acknowledge, CancelStream, Increment}
-use Rattle.h3_qpack.specs.Sender.{Sender, Tracked, released, told}
+use Rattle.h3_qpack.specs.EncoderHistory.{EncoderHistory, UnacknowledgedSection, released, encoder_after}
 use Rattle.h3_qpack.specs.Tracking.{is_of, without_oldest_of}
-use Rattle.h3_qpack.specs.Stored.{stored, stored_section, stored_told}
+use Rattle.h3_qpack.specs.EncoderState.{encoder_state, tracked_section, encoder_state_after}
 
-released_stored : (stream : ℕ) (ts : List Tracked) → map stored_section (released stream ts) ≡ without_oldest_of stream (map stored_section ts)
-released_stored stream [] = refl
-released_stored stream (t ∷ ts) = by_test (t.stream == stream) (released_stored stream ts)
+released_state : (stream : ℕ) (ts : List UnacknowledgedSection) → map tracked_section (released stream ts) ≡ without_oldest_of stream (map tracked_section ts)
+released_state stream [] = refl
+released_state stream (t ∷ ts) = by_test (t.stream == stream) (released_state stream ts)
   where
-    by_test : (b : Bool) → map stored_section (released stream ts) ≡ without_oldest_of stream (map stored_section ts)
-        → map stored_section (if b then ts else t ∷ released stream ts) ≡ (if b then map stored_section ts else stored_section t ∷ without_oldest_of stream (map stored_section ts))
+    by_test : (b : Bool) → map tracked_section (released stream ts) ≡ without_oldest_of stream (map tracked_section ts)
+        → map tracked_section (if b then ts else t ∷ released stream ts) ≡ (if b then map tracked_section ts else tracked_section t ∷ without_oldest_of stream (map tracked_section ts))
     by_test true h = refl
-    by_test false h = ap (λ us. stored_section t ∷ us) h
+    by_test false h = ap (λ us. tracked_section t ∷ us) h
 
 -- a stream has a tracked section where it is kept with one
-pub tracked_stored : (stream : ℕ) (ts : List Tracked) → list_any (λ t. t.stream == stream) ts ≡ list_any (is_of stream) (map stored_section ts)
-tracked_stored stream [] = refl
-tracked_stored stream (t ∷ ts) = ap (λ b. (t.stream == stream) || b) (tracked_stored stream ts)
+pub tracked_state : (stream : ℕ) (ts : List UnacknowledgedSection) → list_any (λ t. t.stream == stream) ts ≡ list_any (is_of stream) (map tracked_section ts)
+tracked_state stream [] = refl
+tracked_state stream (t ∷ ts) = ap (λ b. (t.stream == stream) || b) (tracked_state stream ts)
 
 filter_twice : (known later : ℕ) (counts : List ℕ) → known ≤ later → filter (λ c. nat_lt later c) counts ≡ filter (λ c. nat_lt later c) (filter (λ c. nat_lt known c) counts)
 filter_twice known later [] le = refl
@@ -35,16 +35,16 @@ filter_twice known later (c ∷ cs) le = by_tests (nat_lt known c) (nat_lt later
     by_tests false true e f h = absurd (grind (arith, common_steps))
     by_tests false false e f h = h
 
-pub told_stored : (s : Sender) (i : DecoderInstruction) → ((count : ℕ) → i ≡ Increment count → s.known_received ≤ 2 ^ 64 - 1) → stored (told s i) ≡ stored_told (stored s) i
-told_stored s (Acknowledge stream) small = rw (released_stored stream s.tracked) refl
-told_stored s (CancelStream stream) small = rw (released_stored stream (released stream s.tracked), released_stored stream s.tracked) refl
-told_stored s (Increment count) small =
+pub encoder_after_state : (s : EncoderHistory) (i : DecoderInstruction) → ((count : ℕ) → i ≡ Increment count → s.known_received ≤ 2 ^ 64 - 1) → encoder_state (encoder_after s i) ≡ encoder_state_after (encoder_state s) i
+encoder_after_state s (Acknowledge stream) small = rw (released_state stream s.tracked) refl
+encoder_after_state s (CancelStream stream) small = rw (released_state stream (released stream s.tracked), released_state stream s.tracked) refl
+encoder_after_state s (Increment count) small =
     rw (filter_twice s.known_received (min (s.known_received + count) (2 ^ 64 - 1)) s.required_insert_counts (omega (arith, small count refl))) refl
 
 -- the counts above what is known, counted
-pub waiting_counted : (test : ℕ → Bool) (counts : List ℕ) → length (filter test counts) ≡ count_by test counts
-waiting_counted test [] = refl
-waiting_counted test (c ∷ cs) = by_test (test c) refl (waiting_counted test cs)
+pub blocking_counted : (test : ℕ → Bool) (counts : List ℕ) → length (filter test counts) ≡ count_by test counts
+blocking_counted test [] = refl
+blocking_counted test (c ∷ cs) = by_test (test c) refl (blocking_counted test cs)
   where
     one : count_by test (c ∷ cs) ≡ ◌+◌ (if test c then 1 else 0) (count_by test cs)
     one = sum_by-cons (λ n. if test n then 1 else 0) c cs

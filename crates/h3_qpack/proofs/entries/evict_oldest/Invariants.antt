@@ -3,7 +3,7 @@ use Rattle.std.specs.VecDeque.{deque_capacity, deque_len}
 use Rattle.std.proofs.Common.{List}
 use Rattle.h3_field.specs.Field.{Field, section_size}
 use Rattle.h3_qpack.specs.Table.{table}
-use Rattle.h3_qpack.proofs.entries.drop_oldest.Given as goal
+use Rattle.h3_qpack.proofs.entries.evict_oldest.Given as goal
 
 pub record Invariant (sum capacity capacity_then : ℕ) (most : ℕ) (items items_then : List Field) : Type 0 where
   pub sum_is : sum ≡ section_size items

@@ -1,4 +1,4 @@
--- What the lines of a block name, over the list of all insertions.
+-- What the lines of a section name, over the list of all insertions.
 use Rattle.std.specs.Prelude.{◌≡◌, ℕ, zero, suc, ◌+◌, ◌-◌, List, [], ◌∷◌, slice_get, Option, Some, None}
 use Rattle.h3_field.specs.Field.{Field}
 use Rattle.h3_field.specs.Section.{with_value}
@@ -11,7 +11,7 @@ abbrev pub insertion_at : List Field → ℕ → Option Field
 insertion_at inserted zero = None
 insertion_at inserted (suc n) = slice_get inserted n
 
--- the field that a line stands for, where the block has this base
+-- the field that a line stands for, where the section has this base
 abbrev pub named_field : List Field → ℕ → FieldLine → Option Field
 named_field inserted base (StaticField index) = slice_get static_table index
 named_field inserted base (RelativeField index) = insertion_at inserted (base - index)

@@ -5,44 +5,44 @@ use Rattle.h3_field.specs.Section.{with_value}
 use Rattle.h3_field.specs.StaticTable.{static_table}
 use Rattle.h3_field.specs.Instruction.{EncoderInstruction}
 use Rattle.h3_field.specs.Instruction.EncoderInstruction.{SetCapacity, InsertWithStaticName, InsertWithEntryName, InsertLiteral, Duplicate}
-use Rattle.h3_qpack.specs.Held.{Held, no_entries, entry_at, has_room, with_entry, with_capacity}
+use Rattle.h3_qpack.specs.TableState.{TableState, no_entries, entry_at, has_room, with_entry, with_capacity}
 
-pub record Receiver : Type 0 where
+pub record DecoderState : Type 0 where
   -- the greatest capacity that was announced; none where the table came with a capacity of its own
   pub announced : Option ℕ
-  pub table : Held
+  pub table : TableState
 
 -- a decoder that announced this capacity, before anything: its table has capacity 0
-abbrev pub announcing : ℕ → Receiver
+abbrev pub announcing : ℕ → DecoderState
 announcing capacity = record { announced = Some capacity; table = no_entries }
 
 -- the greatest capacity that may be set
-abbrev pub greatest_capacity : Receiver → ℕ
+abbrev pub greatest_capacity : DecoderState → ℕ
 greatest_capacity r = unwrap_or r.announced (2 ^ 30 - 1)
 
 -- the capacity by which required insert counts are encoded
-abbrev pub count_capacity : Receiver → ℕ
+abbrev pub count_capacity : DecoderState → ℕ
 count_capacity r = unwrap_or r.announced r.table.capacity
 
 -- the field that an instruction inserts, or none where it names none
-abbrev pub insertion_of : Held → EncoderInstruction → Option Field
+abbrev pub insertion_of : TableState → EncoderInstruction → Option Field
 insertion_of h (SetCapacity capacity) = None
 insertion_of h (InsertWithStaticName index value) = with_value value (slice_get static_table index)
 insertion_of h (InsertWithEntryName index value) = with_value value (entry_at h (h.inserted - index))
 insertion_of h (InsertLiteral name value) = Some (record { name = name; value = value })
 insertion_of h (Duplicate index) = entry_at h (h.inserted - index)
 
-abbrev pub inserting : Receiver → Option Field → Option Receiver
+abbrev pub inserting : DecoderState → Option Field → Option DecoderState
 inserting r None = None
 inserting r (Some f) = if has_room r.table f then Some (record r { table = with_entry r.table f }) else None
 
 -- after an instruction, or none where it is bad
-abbrev pub having_read : Receiver → EncoderInstruction → Option Receiver
-having_read r (SetCapacity capacity) =
+abbrev pub decoder_after : DecoderState → EncoderInstruction → Option DecoderState
+decoder_after r (SetCapacity capacity) =
     if nat_le capacity (greatest_capacity r) then Some (record r { table = with_capacity r.table capacity }) else None
-having_read r instruction = inserting r (insertion_of r.table instruction)
+decoder_after r instruction = inserting r (insertion_of r.table instruction)
 
-abbrev pub having_read_all : Option Receiver → List EncoderInstruction → Option Receiver
-having_read_all r [] = r
-having_read_all None (instruction ∷ rest) = None
-having_read_all (Some r) (instruction ∷ rest) = having_read_all (having_read r instruction) rest
+abbrev pub decoder_after_all : Option DecoderState → List EncoderInstruction → Option DecoderState
+decoder_after_all r [] = r
+decoder_after_all None (instruction ∷ rest) = None
+decoder_after_all (Some r) (instruction ∷ rest) = decoder_after_all (decoder_after r instruction) rest

@@ -7,7 +7,7 @@ use Rattle.h3_qpack.specs.Encodings.{IsWrittenInstruction}
 use Rattle.h3_field.specs.Instruction.{EncoderInstruction}
 use Rattle.h3_field.specs.InstructionLaws.{instruction_stable}
 use Rattle.h3_field.specs.ReadBack.{HasInstruction}
-use Rattle.h3_qpack.specs.Receiver.{Receiver, having_read, having_read_all}
+use Rattle.h3_qpack.specs.DecoderState.{DecoderState, decoder_after, decoder_after_all}
 use Rattle.h3_qpack.specs.Instructions.{AreInstructions, NoInstruction, NextInstruction, HasRead}
 use Rattle.h3_qpack.specs.InstructionAnswers.{HasReadOne}
 
@@ -16,21 +16,21 @@ one_further bytes left rest [] i (NoInstruction b) here = NextInstruction bytes 
 one_further bytes left rest (j ∷ is) i (NextInstruction b middle l k ks first others) here =
     NextInstruction bytes middle rest j (is ++ i ∷ []) first (one_further middle left rest is i others here)
 
-pub having_read_all-append : (r : Option Receiver) (is js : List EncoderInstruction) → having_read_all r (is ++ js) ≡ having_read_all (having_read_all r is) js
-having_read_all-append r [] js = refl
-having_read_all-append None (i ∷ is) js = nothing js
+pub decoder_after_all-append : (r : Option DecoderState) (is js : List EncoderInstruction) → decoder_after_all r (is ++ js) ≡ decoder_after_all (decoder_after_all r is) js
+decoder_after_all-append r [] js = refl
+decoder_after_all-append None (i ∷ is) js = nothing js
   where
-    nothing : (js : List EncoderInstruction) → None ≡ having_read_all None js
+    nothing : (js : List EncoderInstruction) → None ≡ decoder_after_all None js
     nothing [] = refl
     nothing (j ∷ js) = refl
-having_read_all-append (Some r) (i ∷ is) js = having_read_all-append (having_read r i) is js
+decoder_after_all-append (Some r) (i ∷ is) js = decoder_after_all-append (decoder_after r i) is js
 
-pub read_on : (start mid new : Receiver) (bytes left rest : List ℕ) → HasRead start mid bytes left → HasReadOne mid new left rest → HasRead start new bytes rest
+pub read_on : (start mid new : DecoderState) (bytes left rest : List ℕ) → HasRead start mid bytes left → HasReadOne mid new left rest → HasRead start new bytes rest
 read_on start mid new bytes left rest h one =
     record {
       instructions = h.instructions ++ one.i ∷ [];
       split = one_further bytes left rest h.instructions one.i h.split one.here;
-      table = having_read_all-append (Some start) h.instructions (one.i ∷ []) ∙ ap (λ o. having_read_all o (one.i ∷ [])) h.table ∙ one.table;
+      table = decoder_after_all-append (Some start) h.instructions (one.i ∷ []) ∙ ap (λ o. decoder_after_all o (one.i ∷ [])) h.table ∙ one.table;
     }
 
 pub longer_instruction : (bytes rest more : List ℕ) (i : EncoderInstruction) → HasInstruction bytes i rest → HasInstruction (bytes ++ more) i (rest ++ more)
@@ -48,12 +48,12 @@ joined bytes left rest [] js (NoInstruction b) k = k
 joined bytes left rest (i ∷ is) js (NextInstruction b middle l n ns here others) k = NextInstruction bytes middle rest i (is ++ js) here (joined middle left rest is js others k)
 
 -- What was read of the first bytes is read of all.
-pub read_pieces : (old mid new : Receiver) (bytes more left rest : List ℕ) → HasRead old mid bytes left → HasRead mid new (left ++ more) rest → HasRead old new (bytes ++ more) rest
+pub read_pieces : (old mid new : DecoderState) (bytes more left rest : List ℕ) → HasRead old mid bytes left → HasRead mid new (left ++ more) rest → HasRead old new (bytes ++ more) rest
 read_pieces old mid new bytes more left rest h k =
     record {
       instructions = h.instructions ++ k.instructions;
       split = joined (bytes ++ more) (left ++ more) rest h.instructions k.instructions (longer_instructions bytes left more h.instructions h.split) k.split;
-      table = having_read_all-append (Some old) h.instructions k.instructions ∙ ap (λ o. having_read_all o k.instructions) h.table ∙ k.table;
+      table = decoder_after_all-append (Some old) h.instructions k.instructions ∙ ap (λ o. decoder_after_all o k.instructions) h.table ∙ k.table;
     }
 
 -- What is written is read as it was, whatever follows.

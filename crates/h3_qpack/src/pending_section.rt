@@ -5,24 +5,24 @@ use std::marker::Model;
 
 /// An encoded field section of a stream.
 #[derive(Drop)]
-pub(crate) struct Block {
+pub(crate) struct PendingSection {
     stream: u64,
     bytes: Vec<u8>,
 }
 
-impl Model for Block {
-    ghost use Rattle.h3_qpack.specs.Exchange.{EncodedBlock};
+impl Model for PendingSection {
+    ghost use Rattle.h3_qpack.specs.Exchange.{EncodedSection};
 
-    ghost Value = { EncodedBlock };
+    ghost Value = { EncodedSection };
 
     ghost view = { λ b. record { stream = b.stream; bytes = b.bytes.items } };
 }
 
-impl Block {
-    pub(crate) fn new(stream: u64, bytes: Vec<u8>) -> Block
+impl PendingSection {
+    pub(crate) fn new(stream: u64, bytes: Vec<u8>) -> PendingSection
         ensures { result ≡ record { stream = stream; bytes = bytes.items } }
     {
-        Block { stream, bytes }
+        PendingSection { stream, bytes }
     }
 
     pub(crate) fn stream(&self) -> u64

@@ -1,4 +1,4 @@
--- The lines of a block stand for its fields.
+-- The lines of a section stand for its fields.
 use Rattle.std.proofs.Common.{◌≡◌, ℕ, zero, suc, ◌+◌, ◌-◌, ◌<◌, ◌≤◌, Bool, true, false, List, [], ◌∷◌, ◌++◌, length, refl, ◌∙◌, ap, arith, length-append, append_assoc, append-nil, add-one, Option, Some, None, nat_le, bytes_eq, if◌then◌else◌, fold, slice_get}
 use Rattle.std.proofs.lemmas.Grind.{common_steps}
 use Rattle.std.proofs.lemmas.Slice.Eq.{bytes_eq-Decides}
@@ -12,9 +12,9 @@ use Rattle.h3_field.specs.Line.{FieldLine}
 use Rattle.h3_field.specs.Line.FieldLine.{StaticField, RelativeField, PostBaseField, StaticName, RelativeName, PostBaseName, Literal}
 use Rattle.h3_field.specs.StaticTable.{static_table, static_field, static_name}
 use Rattle.h3_qpack.specs.Table.{newest}
-use Rattle.h3_qpack.specs.Sender.{Sender}
-use Rattle.h3_qpack.specs.Written.{Draft, is_usable, found, found_name, is_insertable, add_line, add_literal, add_inserted, add_field, draft_of, entry_name_line}
-use Rattle.h3_qpack.specs.Block.{insertion_at, named_field, StandFor}
+use Rattle.h3_qpack.specs.EncoderHistory.{EncoderHistory}
+use Rattle.h3_qpack.specs.SectionEncoding.{Draft, is_usable, found, found_name, is_insertable, add_line, add_literal, add_inserted, add_field, draft_of, entry_name_line}
+use Rattle.h3_qpack.specs.NamedFields.{insertion_at, named_field, StandFor}
 use Rattle.h3_qpack.proofs.Newest.{chosen, newest_from-passes}
 use Rattle.h3_qpack.proofs.Drafts.{either_way, both}
 
@@ -88,11 +88,11 @@ insertion_found test fs number h = at_number fs number (newest_from-passes test 
     at_number fs (suc n) e above place = let same : suc n - 1 ≡ n = omega arith in rw same at place
 
 -- The lines so far stand for the fields so far.
-pub record IsWritten (s : Sender) (d : Draft) (fields : List Field) : Type 0 where
+pub record IsWritten (s : EncoderHistory) (d : Draft) (fields : List Field) : Type 0 where
   pub longer : length s.inserted ≤ length d.inserted
   pub lines : StandFor d.inserted (length s.inserted) d.lines fields
 
-line_written : (s : Sender) (d : Draft) (line : FieldLine) (names : List ℕ) (fields : List Field) (f : Field)
+line_written : (s : EncoderHistory) (d : Draft) (line : FieldLine) (names : List ℕ) (fields : List Field) (f : Field)
     → IsWritten s d fields → named_field d.inserted (length s.inserted) line ≡ Some f → IsWritten s (add_line d line names) (fields ++ f ∷ [])
 line_written s d line names fields f h e = record { longer = h.longer; lines = one_more d.inserted (length s.inserted) d.lines fields line f h.lines e }
 
@@ -103,7 +103,7 @@ last_insertion fs f = rw add-one (here fs f)
     here [] f = refl
     here (g ∷ fs) f = here fs f
 
-inserted_written : (s : Sender) (d : Draft) (fields : List Field) (f : Field) → IsWritten s d fields → IsWritten s (add_inserted s d f) (fields ++ f ∷ [])
+inserted_written : (s : EncoderHistory) (d : Draft) (fields : List Field) (f : Field) → IsWritten s d fields → IsWritten s (add_inserted s d f) (fields ++ f ∷ [])
 inserted_written s d fields f h =
     let at : length s.inserted + (length d.inserted - length s.inserted) + 1 ≡ length d.inserted + 1 = omega (arith, h.longer) in
     record {
@@ -113,7 +113,7 @@ inserted_written s d fields f h =
           (ap (insertion_at (d.inserted ++ f ∷ [])) at ∙ last_insertion d.inserted f);
     }
 
-found_line : (s : Sender) (d : Draft) (f : Field) (number : ℕ) → found s d f ≡ Some number
+found_line : (s : EncoderHistory) (d : Draft) (f : Field) (number : ℕ) → found s d f ≡ Some number
     → named_field d.inserted (length s.inserted) (RelativeField (length s.inserted - number)) ≡ Some f
 found_line s d f number h =
     let p = newest_from-passes _ 1 d.inserted number h in
@@ -134,7 +134,7 @@ named_line inserted base number f true e above h =
 named_line inserted base number f false e above h =
     let back : base + (number - base - 1) + 1 ≡ number = grind (arith, common_steps) in ap (λ n. with_value f.value (insertion_at inserted n)) back ∙ h
 
-found_name_line : (s : Sender) (d : Draft) (f : Field) (number : ℕ) → found_name s d f ≡ Some number
+found_name_line : (s : EncoderHistory) (d : Draft) (f : Field) (number : ℕ) → found_name s d f ≡ Some number
     → named_field d.inserted (length s.inserted) (entry_name_line (length s.inserted) number f.value) ≡ Some f
 found_name_line s d f number h =
     let p = newest_from-passes _ 1 d.inserted number h in
@@ -144,7 +144,7 @@ found_name_line s d f number h =
     named_line d.inserted (length s.inserted) number f (nat_le number (length s.inserted)) refl p.above
     (ap (with_value f.value) (insertion_found _ d.inserted number h) ∙ ap Some (λ i. record { name = n i; value = f.value }))
 
-literal_written : (s : Sender) (d : Draft) (fields : List Field) (f : Field) → IsWritten s d fields → IsWritten s (add_literal s d f) (fields ++ f ∷ [])
+literal_written : (s : EncoderHistory) (d : Draft) (fields : List Field) (f : Field) → IsWritten s d fields → IsWritten s (add_literal s d f) (fields ++ f ∷ [])
 unfolding static_table static_name
 literal_written s d fields f h =
     let P : Draft → Type 0 = λ e. IsWritten s e (fields ++ f ∷ []) in
@@ -152,7 +152,7 @@ literal_written s d fields f h =
     chosen P (found_name s d f) _ _ (λ number e. line_written s d _ (number ∷ []) fields f h (found_name_line s d f number e)) (λ none.
     line_written s d _ [] fields f h refl))
 
-field_written : (s : Sender) (d : Draft) (fields : List Field) (f : Field) → IsWritten s d fields → IsWritten s (add_field s d f) (fields ++ f ∷ [])
+field_written : (s : EncoderHistory) (d : Draft) (fields : List Field) (f : Field) → IsWritten s d fields → IsWritten s (add_field s d f) (fields ++ f ∷ [])
 unfolding static_table static_field
 field_written s d fields f h =
     let P : Draft → Type 0 = λ e. IsWritten s e (fields ++ f ∷ []) in
@@ -160,10 +160,10 @@ field_written s d fields f h =
     chosen P (found s d f) _ _ (λ number e. line_written s d _ (number ∷ []) fields f h (found_line s d f number e)) (λ none.
     either_way P (is_insertable s d f) _ _ (λ e. inserted_written s d fields f h) (literal_written s d fields f h)))
 
-all_written : (s : Sender) (d : Draft) (before fields : List Field) → IsWritten s d before → IsWritten s (fold (add_field s) d fields) (before ++ fields)
+all_written : (s : EncoderHistory) (d : Draft) (before fields : List Field) → IsWritten s d before → IsWritten s (fold (add_field s) d fields) (before ++ fields)
 all_written s d before [] h = rw append-nil h
 all_written s d before (f ∷ fields) h = rw (← append_assoc before (f ∷ []) fields) (all_written s (add_field s d f) (before ++ f ∷ []) fields (field_written s d before f h))
 
--- The lines of a block stand for its fields over the insertions that it was written to need.
-pub block_stands : (s : Sender) (fields : List Field) → StandFor (draft_of s fields).inserted (length s.inserted) (draft_of s fields).lines fields
-block_stands s fields = (all_written s (record { inserted = s.inserted; instructions = []; lines = []; references = [] }) [] fields (record { longer = omega arith; lines = tt })).lines
+-- The lines of a section stand for its fields over the insertions that it was written to need.
+pub section_stands : (s : EncoderHistory) (fields : List Field) → StandFor (draft_of s fields).inserted (length s.inserted) (draft_of s fields).lines fields
+section_stands s fields = (all_written s (record { inserted = s.inserted; instructions = []; lines = []; references = [] }) [] fields (record { longer = omega arith; lines = tt })).lines

@@ -3,25 +3,25 @@ use Rattle.std.proofs.Common.{◌≡◌, ℕ, suc, ◌+◌, ◌-◌, ◌<◌, �
 use Rattle.std.proofs.lemmas.Grind.{common_steps}
 use Rattle.std.proofs.lemmas.List.{take-append-drop, length-take-le}
 use Rattle.h3_field.specs.Field.{Field, field_size, section_size}
-use Rattle.h3_qpack.specs.Table.{table, dropped, newest, newest_from, or_else}
-use Rattle.h3_qpack.specs.Held.{Held, in_range, newest_in, with_entry}
+use Rattle.h3_qpack.specs.Table.{table, evictions, newest, newest_from, or_else}
+use Rattle.h3_qpack.specs.TableState.{TableState, in_range, newest_in, with_entry}
 use Rattle.h3_qpack.proofs.Tables.{length-table, table-one}
 use Rattle.h3_qpack.proofs.Newest.{newest_from-none}
 
 -- the table of all these insertions, as it is held
-abbrev pub held_of : ℕ → List Field → Held
-held_of capacity inserted = record { capacity = capacity; entries = table capacity inserted; inserted = length inserted }
+abbrev pub table_state_of : ℕ → List Field → TableState
+table_state_of capacity inserted = record { capacity = capacity; entries = table capacity inserted; inserted = length inserted }
 
 -- what is there is an end of the insertions
-pub table-end : (capacity : ℕ) (fs : List Field) → table capacity fs ≡ drop (dropped capacity fs) fs
+pub table-end : (capacity : ℕ) (fs : List Field) → table capacity fs ≡ drop (evictions capacity fs) fs
 table-end capacity [] = refl
 table-end capacity (f ∷ fs) = by_test (nat_le (section_size (f ∷ fs)) capacity) refl (table-end capacity fs)
   where
-    by_test : (b : Bool) → nat_le (section_size (f ∷ fs)) capacity ≡ b → table capacity fs ≡ drop (dropped capacity fs) fs
+    by_test : (b : Bool) → nat_le (section_size (f ∷ fs)) capacity ≡ b → table capacity fs ≡ drop (evictions capacity fs) fs
         → (if b then f ∷ fs else table capacity fs) ≡ drop (length (f ∷ fs) - length (if b then f ∷ fs else table capacity fs)) (f ∷ fs)
     by_test true e h = let none : length (f ∷ fs) - length (f ∷ fs) ≡ 0 = omega arith in rw none refl
     by_test false e h =
-        let one : length (f ∷ fs) - length (table capacity fs) ≡ suc (dropped capacity fs) = omega (arith, length-table capacity fs) in
+        let one : length (f ∷ fs) - length (table capacity fs) ≡ suc (evictions capacity fs) = omega (arith, length-table capacity fs) in
         rw one h
 
 -- a smaller table of a table is a table of all
@@ -35,7 +35,7 @@ table-table small large (f ∷ fs) le = by_test (nat_le (section_size (f ∷ fs)
     by_test false e h = let far : nat_le (section_size (f ∷ fs)) small ≡ false = grind (arith, common_steps) in rw far h
 
 -- a further insertion, held
-pub with_entry-held : (capacity : ℕ) (fs : List Field) (f : Field) → field_size f ≤ capacity → with_entry (held_of capacity fs) f ≡ held_of capacity (fs ++ f ∷ [])
+pub with_entry-held : (capacity : ℕ) (fs : List Field) (f : Field) → field_size f ≤ capacity → with_entry (table_state_of capacity fs) f ≡ table_state_of capacity (fs ++ f ∷ [])
 with_entry-held capacity fs f fits =
     let entries : table capacity (table capacity fs ++ f ∷ []) ≡ table capacity (fs ++ f ∷ []) =
     table-one capacity (table capacity fs) f fits
@@ -70,16 +70,16 @@ newest_from-same test other first (f ∷ fs) same =
 
 -- A search of what is held finds what a search of all insertions finds, where it wants an entry that is there.
 pub search_held : (capacity : ℕ) (fs : List Field) (test : Field → Bool) (above most : ℕ) (whole : ℕ → Field → Bool)
-    → ((n : ℕ) (e : Field) → n ≤ dropped capacity fs → whole n e ≡ false)
-    → ((n : ℕ) (e : Field) → dropped capacity fs < n → n ≤ length fs → in_range test above most n e ≡ whole n e)
-    → newest_in (held_of capacity fs) test above most ≡ newest whole fs
-search_held capacity fs test above most whole gone_none same =
-    let g = dropped capacity fs in
+    → ((n : ℕ) (e : Field) → n ≤ evictions capacity fs → whole n e ≡ false)
+    → ((n : ℕ) (e : Field) → evictions capacity fs < n → n ≤ length fs → in_range test above most n e ≡ whole n e)
+    → newest_in (table_state_of capacity fs) test above most ≡ newest whole fs
+search_held capacity fs test above most whole evicted_none same =
+    let g = evictions capacity fs in
     let len : length (table capacity fs) ≡ length fs - g = omega (arith, length-table capacity fs) in
     let front : length (take g fs) ≡ g = length-take-le g fs (omega arith) in
     let split : newest whole fs ≡ or_else (newest_from whole (1 + length (take g fs)) (drop g fs)) (newest_from whole 1 (take g fs)) =
     ap (newest whole) (sym (take-append-drop g fs)) ∙ newest_from-append whole 1 (take g fs) (drop g fs) in
-    let none : newest_from whole 1 (take g fs) ≡ None = newest_from-none whole 1 (take g fs) (λ n e lt. gone_none n e (omega (arith, lt, front))) in
+    let none : newest_from whole 1 (take g fs) ≡ None = newest_from-none whole 1 (take g fs) (λ n e lt. evicted_none n e (omega (arith, lt, front))) in
     let first : 1 + length (take g fs) ≡ g + 1 = omega (arith, front) in
     newest_from-same (in_range test above most) whole (g + 1) (table capacity fs) (λ n e low high. same n e (omega (arith, low)) (omega (arith, high, len, length-table capacity fs)))
     ∙ ap (newest_from whole (g + 1)) (table-end capacity fs)

@@ -1,0 +1,74 @@
+-- What an encoder goes by: the insertions that it made, and what it read of the decoder.
+use Rattle.std.specs.Prelude.{ℕ, ◌+◌, ◌-◌, ◌^◌, min, Bool, false, not, List, [], ◌∷◌, flat_map, count_by, nat_lt, if◌then◌else◌, ◌==◌}
+use Rattle.std.specs.List.{list_any}
+use Rattle.h3_field.specs.Field.{Field}
+use Rattle.h3_field.specs.Instruction.{DecoderInstruction}
+use Rattle.h3_field.specs.Instruction.DecoderInstruction.{Acknowledge, CancelStream, Increment}
+
+-- a section that names entries and is neither acknowledged nor canceled
+pub record UnacknowledgedSection : Type 0 where
+  pub stream : ℕ
+  pub references : List ℕ
+
+pub record EncoderHistory : Type 0 where
+  pub capacity : ℕ
+  -- how many sections may be blocked at the decoder
+  pub limit : ℕ
+  pub inserted : List Field
+  -- how many insertions are known to be received
+  pub known_received : ℕ
+  -- the required counts of all sections written
+  pub required_insert_counts : List ℕ
+  pub tracked : List UnacknowledgedSection
+
+-- an encoder that may not use a table
+abbrev pub no_table : EncoderHistory
+no_table = record { capacity = 0; limit = 0; inserted = []; known_received = 0; required_insert_counts = []; tracked = [] }
+
+-- how many sections may still be blocked for insertions
+abbrev pub blocks_out : EncoderHistory → ℕ
+blocks_out s = count_by (λ count. nat_lt s.known_received count) s.required_insert_counts
+
+-- the entries that tracked sections name
+abbrev pub referenced_entries : EncoderHistory → List ℕ
+referenced_entries s = flat_map (λ section. section.references) s.tracked
+
+-- the sections without the oldest one of the stream
+abbrev pub released : ℕ → List UnacknowledgedSection → List UnacknowledgedSection
+released stream [] = []
+released stream (section ∷ sections) = if section.stream == stream then sections else section ∷ released stream sections
+
+-- the encoder after an instruction of the decoder. The known received count stops at the greatest number of 64 bits
+abbrev pub encoder_after : EncoderHistory → DecoderInstruction → EncoderHistory
+encoder_after s (Acknowledge stream) = record s { tracked = released stream s.tracked }
+encoder_after s (CancelStream stream) = record s { tracked = released stream (released stream s.tracked) }
+encoder_after s (Increment count) = record s { known_received = min (s.known_received + count) (2 ^ 64 - 1) }
+
+abbrev pub encoder_after_all : EncoderHistory → List DecoderInstruction → EncoderHistory
+encoder_after_all s [] = s
+encoder_after_all s (instruction ∷ rest) = encoder_after_all (encoder_after s instruction) rest
+
+-- an acknowledgment of a stream without a tracked section
+abbrev pub is_refused : EncoderHistory → DecoderInstruction → Bool
+is_refused s (Acknowledge stream) = not (list_any (λ section. section.stream == stream) s.tracked)
+is_refused s (CancelStream stream) = false
+is_refused s (Increment count) = false
+
+-- the encoder after the instructions of any peer up to the first that it refuses, and what is left of them
+abbrev pub encoder_after_front : EncoderHistory → List DecoderInstruction → EncoderHistory × List DecoderInstruction
+encoder_after_front s [] = (s, [])
+encoder_after_front s (instruction ∷ rest) =
+    if is_refused s instruction then (s, instruction ∷ rest) else encoder_after_front (encoder_after s instruction) rest
+
+-- without the last one that passes
+abbrev pub without_newest : {X : Type 0} → (X → Bool) → List X → List X
+without_newest test [] = []
+without_newest test (x ∷ xs) = if list_any test xs then x ∷ without_newest test xs else (if test x then xs else x ∷ xs)
+
+-- the encoder without the newest section of the stream, which has that required insert count, as if it had not been sent
+abbrev pub withdrawn : EncoderHistory → ℕ → ℕ → EncoderHistory
+withdrawn s stream count =
+    record s {
+      required_insert_counts = without_newest (λ other. other == count) s.required_insert_counts;
+      tracked = if count == 0 then s.tracked else without_newest (λ section. section.stream == stream) s.tracked;
+    }

@@ -1,0 +1,85 @@
+-- What an encoder keeps of its history.
+use Rattle.std.specs.Prelude.{◌≡◌, ◌⊎◌, false, ◌<◌, ◌≤◌, ℕ, ◌+◌, ◌-◌, ◌^◌, true, min, max, List, [], ◌∷◌, ◌++◌, length, map, filter, fold, nat_lt, if◌then◌else◌, ◌==◌}
+use Rattle.h3_field.specs.Instruction.{DecoderInstruction}
+use Rattle.h3_field.specs.Instruction.DecoderInstruction.{Acknowledge, CancelStream, Increment}
+use Rattle.h3_qpack.specs.Tracking.{is_free_to, without_oldest_of, without_newest_of}
+use Rattle.h3_field.specs.Field.{Field, field_size}
+use Rattle.h3_qpack.specs.Table.{table}
+use Rattle.h3_qpack.specs.TableState.{TableState, evicted, with_entry, with_capacity}
+use Rattle.h3_field.specs.declared.dynamic.Error.{Error}
+use Rattle.h3_field.specs.declared.dynamic.Error.TheVariants.{MaximumTableSizeTooLarge, MaxTableSizeReached}
+use Rattle.h3_qpack.specs.EncoderHistory.{EncoderHistory, UnacknowledgedSection, without_newest}
+use Rattle.h3_qpack.specs.declared.tracking.TrackedSection.{TrackedSection}
+
+pub record EncoderState : Type 0 where
+  pub table : TableState
+  pub limit : ℕ
+  pub known_received : ℕ
+  -- the required insert counts above what is known to be received
+  pub blocking_counts : List ℕ
+  pub tracked : List TrackedSection
+
+-- the least of some numbers
+abbrev pub least : List ℕ → ℕ
+least [] = 0
+least (n ∷ ns) = fold min n ns
+
+abbrev pub tracked_section : UnacknowledgedSection → TrackedSection
+tracked_section t = record { stream = t.stream; oldest = least t.references }
+
+abbrev pub encoder_state : EncoderHistory → EncoderState
+encoder_state s =
+    record {
+      table = record { capacity = s.capacity; entries = table s.capacity s.inserted; inserted = length s.inserted };
+      limit = s.limit;
+      known_received = s.known_received;
+      blocking_counts = filter (λ count. nat_lt s.known_received count) s.required_insert_counts;
+      tracked = map tracked_section s.tracked;
+    }
+
+-- what is known to be received, after a further increment
+abbrev pub raised : EncoderState → ℕ → EncoderState
+raised s count =
+    let known = min (s.known_received + count) (2 ^ 64 - 1) in
+    record s { known_received = known; blocking_counts = filter (λ c. nat_lt known c) s.blocking_counts }
+
+-- the state after an instruction of the decoder
+abbrev pub encoder_state_after : EncoderState → DecoderInstruction → EncoderState
+encoder_state_after s (Acknowledge stream) = record s { tracked = without_oldest_of stream s.tracked }
+encoder_state_after s (CancelStream stream) = record s { tracked = without_oldest_of stream (without_oldest_of stream s.tracked) }
+encoder_state_after s (Increment count) = raised s count
+
+-- The field may be inserted: it fits, and the entries that it evicts are known to be received, named by no section that is
+-- tracked, and below the oldest entry that is otherwise named.
+pub record MayInsertInto (s : EncoderState) (f : Field) (oldest : ℕ) : Type 0 where
+  pub few : s.table.inserted + 1 < 2 ^ 62
+  pub fits : field_size f ≤ s.table.capacity
+  pub known : evicted (with_entry s.table f) ≤ max s.known_received (evicted s.table)
+  pub free : is_free_to (evicted (with_entry s.table f)) s.tracked ≡ true
+  pub own : evicted (with_entry s.table f) < oldest
+
+-- the state after a section was written that names entries
+abbrev pub encoder_state_sent : EncoderState → ℕ → ℕ → ℕ → EncoderState
+encoder_state_sent s stream count oldest =
+    record s {
+      blocking_counts = if nat_lt s.known_received count then s.blocking_counts ++ count ∷ [] else s.blocking_counts;
+      tracked = s.tracked ++ record { stream = stream; oldest = oldest } ∷ [];
+    }
+
+-- the state after the newest section of the stream, which has that required insert count, was withdrawn
+abbrev pub encoder_state_withdrawn : EncoderState → ℕ → ℕ → EncoderState
+encoder_state_withdrawn s stream count =
+    record s {
+      blocking_counts = without_newest (λ other. other == count) s.blocking_counts;
+      tracked = if count == 0 then s.tracked else without_newest_of stream s.tracked;
+    }
+
+-- The table may be given this capacity: no section that is tracked names an entry to be evicted.
+pub record MayHaveCapacity (s : EncoderState) (capacity : ℕ) : Type 0 where
+  pub small : capacity < 2 ^ 30
+  pub free : is_free_to (evicted (with_capacity s.table capacity)) s.tracked ≡ true
+
+-- why it is not given
+abbrev pub IsCapacityRefusal : EncoderState → ℕ → Error → Type 0
+IsCapacityRefusal s capacity e = ((2 ^ 30 ≤ capacity) × (e ≡ MaximumTableSizeTooLarge))
+    ⊎ ((capacity < 2 ^ 30) × (is_free_to (evicted (with_capacity s.table capacity)) s.tracked ≡ false) × (e ≡ MaxTableSizeReached))
