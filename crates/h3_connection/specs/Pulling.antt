@@ -125,6 +125,22 @@ acknowledgment id count = if count == 0 then [] else Acknowledge id ∷ []
 abbrev pub tried : Incoming → Incoming
 tried i = record i { tries = if i.waits_for == 0 then 1 else i.tries + 1 }
 
+-- no section is next any more
+abbrev pub past_section : Incoming → Incoming
+past_section i = record (tried i) { waits_for = 0; section = None }
+
+-- the frame of a section was read, and it was not tried
+abbrev pub begun_section : Incoming → List ℕ → Incoming
+begun_section i bytes = record i { section = Some bytes; waits_for = 0 }
+
+-- the head of DATA was read
+abbrev pub begun_payload : Incoming → ℕ → Incoming
+begun_payload i size = record i { body_left = size }
+
+-- these bytes are left
+abbrev pub left_with : Incoming → List ℕ → Incoming
+left_with i bytes = record i { unread = ending (length bytes) i.unread }
+
 -- what of a payload is handed out: the first piece, as far as the payload goes
 abbrev pub body_of : Incoming → Option (List ℕ) × List (List ℕ) → Pulled
 body_of i (None, pieces) = just pull.Pending i
@@ -150,13 +166,13 @@ module _ (side : Side) (own : Announced) (id : ℕ) (r : DecoderState) where
       then record { answer = pull.Item (item.TooLarge (told_size fields)); incoming = record i { place = next_place side i.place fields }; replies = replies }
       else judged side id i replies (head_of fields)
 
-  -- a section was tried
+  -- A section was tried. One that is bad, or that misses entries a second time, is a fault of the connection, and no more tried.
   abbrev pub decoded : Incoming → Decoded → Pulled
-  decoded i (Fields fields count) = read_section (record (tried i) { waits_for = 0; section = None }) (acknowledgment id count) fields
+  decoded i (Fields fields count) = read_section (past_section i) (acknowledgment id count) fields
   decoded i (Missing count) =
       if i.waits_for == 0 then just (pull.Waiting count) (record (tried i) { waits_for = count })
-      else connection_fault decompression_failed (tried i)
-  decoded i BadSection = connection_fault decompression_failed (tried i)
+      else connection_fault decompression_failed (past_section i)
+  decoded i BadSection = connection_fault decompression_failed (past_section i)
 
   -- the section that is next
   abbrev pub at_section : Incoming → List ℕ → Pulled
@@ -165,28 +181,27 @@ module _ (side : Side) (own : Announced) (id : ℕ) (r : DecoderState) where
       else decoded i (decode_section r bytes)
 
   -- a section's frame was read
-  abbrev pub new_section : Incoming → List ℕ → List ℕ → Pulled
-  new_section i bytes rest = at_section (record i { unread = ending (length rest) i.unread; section = Some bytes; waits_for = 0 }) bytes
+  abbrev pub new_section : Incoming → List ℕ → Pulled
+  new_section i bytes = at_section (begun_section i bytes) bytes
 
   -- no more bytes came
   abbrev pub at_end : Incoming → Place → Pulled
   at_end i BeforeHead = malformed id malformation.NoHead i []
-  at_end i _ = just (pull.Item item.End) (record i { is_over = true })
+  at_end i _ = just (pull.Item item.End) (record i { unread = []; is_over = true })
 
-  -- a frame at a place (RFC 9114, sections 4.1 and 7.2)
-  abbrev pub at_frame : Side → Incoming → Place → Frame PayloadLen → List ℕ → Pulled
-  at_frame _ i BeforeHead (frame.Headers bytes) rest = new_section i bytes rest
-  at_frame _ i InBody (frame.Headers bytes) rest = new_section i bytes rest
-  at_frame _ i InBody (frame.Data len) rest = in_payload (record i { unread = ending (length rest) i.unread; body_left = len.0 })
-  at_frame Server i BeforeHead (frame.WebTransportStream session) rest =
-      just (pull.Item (item.Session session)) (record i { unread = ending (length rest) i.unread; place = InSession })
-  at_frame Client i place (frame.PushPromise promise) rest = connection_fault id_error i
-  at_frame _ i place _ rest = connection_fault frame_unexpected i
+  -- a frame that was read, at its place (RFC 9114, sections 4.1 and 7.2)
+  abbrev pub at_frame : Side → Incoming → Place → Frame PayloadLen → Pulled
+  at_frame _ i BeforeHead (frame.Headers bytes) = new_section i bytes
+  at_frame _ i InBody (frame.Headers bytes) = new_section i bytes
+  at_frame _ i InBody (frame.Data len) = in_payload (begun_payload i len.0)
+  at_frame Server i BeforeHead (frame.WebTransportStream session) = just (pull.Item (item.Session session)) (record i { place = InSession })
+  at_frame Client i place (frame.PushPromise promise) = connection_fault id_error i
+  at_frame _ i place _ = connection_fault frame_unexpected i
 
   -- what stands behind all frames that give nothing
   abbrev pub framed : Incoming → Front → Pulled
   framed i (Unfinished least) = if i.ended then connection_fault frame_error i else just pull.Pending i
-  framed i (Whole f rest) = at_frame side i i.place f rest
+  framed i (Whole f rest) = at_frame side (left_with i rest) i.place f
   framed i (Unknown kind rest) = just pull.Pending i
   framed i (Refused e) = connection_fault (refusal_code e) i
 
@@ -197,7 +212,7 @@ module _ (side : Side) (own : Announced) (id : ℕ) (r : DecoderState) where
   abbrev pub between_frames : Incoming → Pulled
   between_frames i =
       let bytes = skipped (is_body i.place) (concat i.unread) in
-      next_frame (record i { unread = ending (length bytes) i.unread }) bytes
+      next_frame (left_with i bytes) bytes
 
   abbrev pub in_message : Incoming → Option (List ℕ) → Pulled
   in_message i (Some bytes) = at_section i bytes

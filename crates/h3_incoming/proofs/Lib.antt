@@ -1,0 +1,4 @@
+pub mod FrontLaws
+pub mod PullLaws
+pub mod ResumeLaws
+pub mod JudgeLaws

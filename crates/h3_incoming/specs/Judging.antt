@@ -1,0 +1,13 @@
+-- What a decoded field section is at its place.
+use Rattle.std.specs.Prelude.{ℕ, List}
+use Rattle.h3_field.specs.Instruction.{DecoderInstruction}
+use Rattle.h3_connection.specs.Incoming.{Incoming}
+use Rattle.h3_connection.specs.Pulling.{Pulled, malformed}
+use Rattle.h3_connection.specs.declared.event.Pull.TheVariants as pull
+use Rattle.h3_incoming.specs.declared.judge.Judged.{Judged}
+use Rattle.h3_incoming.specs.declared.judge.Judged.TheVariants as judged
+
+-- what a pull makes of it
+abbrev pub judged_as : ℕ → Incoming → List DecoderInstruction → Judged → Pulled
+judged_as id i replies (judged.HandsOut item place) = record { answer = pull.Item item; incoming = record i { place = place }; replies = replies }
+judged_as id i replies (judged.Malformed why) = malformed id why i replies

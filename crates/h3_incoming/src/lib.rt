@@ -1,0 +1,10 @@
+//! A request stream at its receiver (RFC 9114, section 4): what came on it, and how far its message was handed out. What a pull
+//! answers rests on this stream, the decoder's table and what was announced alone.
+#![tactic(auto)]
+
+mod judge;
+mod replies;
+mod section;
+pub mod stream;
+
+pub use stream::IncomingStream;

@@ -1,0 +1,231 @@
+//! What came on a request stream, and how far it was handed out.
+ghost use Rattle.std.specs.Prelude.{◌≡◌, ◌+◌, ◌<◌, ◌≤◌, ◌^◌, ◌++◌, length, true, IfErr, OnOk, OnErr};
+ghost use Rattle.std.specs.List.{concat};
+ghost use Rattle.h3_connection.specs.declared.event.StreamFault.TheVariants.{Reset, Canceled};
+ghost use Rattle.h3_connection.specs.Incoming.{nothing_came, given_up};
+ghost use Rattle.h3_connection.specs.Delivering.{kept, with_end, given_up_once, cancellation};
+ghost use Rattle.h3_incoming.specs.Replying.{encodings};
+
+use crate::replies::reply;
+use bytes::{Buf, Bytes};
+use h3_connection::event::StreamFault;
+use h3_connection::place::Place;
+use h3_proto::stream::StreamId;
+use h3_wire::buf::BufList;
+use h3_wire::frame::FrameDecoder;
+use std::alloc::{AllocError, Global};
+use std::marker::Model;
+
+mod body;
+mod frames;
+mod front;
+mod pull;
+mod sections;
+
+/// What came on a request stream, and how far its message was handed out. A contract sees it as the definitions' `Incoming`.
+#[derive(Drop)]
+pub struct IncomingStream {
+    unread: BufList<Bytes>,
+    decoder: FrameDecoder,
+    // the field section that is next: its frame was read, and it was not decoded
+    section: Option<Bytes>,
+    // how much of a begun payload of DATA is still to come out
+    body_left: usize,
+    place: Place,
+    // the required insert count that the section waited for, or 0
+    waits_for: usize,
+    // how often that section was tried, else the last one
+    tries: u8,
+    ended: bool,
+    was_reset: bool,
+    is_over: bool,
+    fault: Option<StreamFault>,
+}
+
+impl Model for IncomingStream {
+    ghost use Rattle.h3_wire.specs.Tries.{Expects};
+    ghost use Rattle.h3_connection.specs.Incoming.{Incoming};
+
+    ghost Value = { Incoming };
+
+    ghost view = { λ s. record {
+      unread = s.unread.pieces;
+      section = s.section;
+      body_left = s.body_left;
+      place = s.place;
+      waits_for = s.waits_for;
+      tries = s.tries;
+      ended = s.ended;
+      was_reset = s.was_reset;
+      is_over = s.is_over;
+      fault = s.fault;
+    } };
+
+    ghost use Rattle.std.specs.Prelude.{◌≡◌, ◌<◌, ◌≤◌, true, [], None};
+    ghost use Rattle.std.specs.Option.{is_some};
+
+    ghost invariant = { λ s. Expects s.decoder s.unread.bytes
+        × (0 < s.body_left → s.decoder.expected ≡ None)
+        × (is_some s.fault ≡ true → s.unread.pieces ≡ [])
+        × (s.tries ≤ 2)
+        × (0 < s.waits_for → s.tries ≡ 1)
+        × (s.section ≡ None → s.waits_for ≡ 0) };
+}
+
+impl IncomingStream {
+    /// A stream of which nothing came.
+    pub fn new(alloc: Global) -> IncomingStream
+        ensures { result ≡ nothing_came }
+    {
+        IncomingStream {
+            unread: BufList::new(alloc),
+            decoder: FrameDecoder::default(),
+            section: None,
+            body_left: 0,
+            place: Place::BeforeHead,
+            waits_for: 0,
+            tries: 0,
+            ended: false,
+            was_reset: false,
+            is_over: false,
+            fault: None,
+        }
+    }
+
+    /// More bytes came. They are kept as they are, with no copy; those of a stream that was given up are thrown away. An `Err`
+    /// changes nothing, and hands the bytes back: memory was refused.
+    pub fn deliver(&mut self, bytes: Bytes) -> Result<(), Bytes>
+        requires { length (concat self.old.unread) + length bytes < 2 ^ 64 }
+        ensures ok { OnOk result (self.new ≡ kept self.old bytes) }
+        ensures same { OnErr result (self.new ≡ self.old) }
+        ensures back { IfErr result (λ b. b ≡ bytes) }
+    {
+        if self.fault.is_some() {
+            return Ok(());
+        }
+        self.unread.known();
+        match self.unread.push(bytes) {
+            Ok(()) => Ok(()),
+            Err(e) => Err(e.value),
+        }
+    }
+
+    /// Its end came.
+    pub fn end(&mut self)
+        ensures { self.new ≡ with_end self.old }
+    {
+        self.ended = true;
+    }
+
+    /// Its sender cut it off, with this code of an application. It is given up, unless it was before. The first time, the peer's
+    /// encoder is told (RFC 9204, section 2.2.2.2). An `Err` changes nothing.
+    pub fn reset(
+        &mut self,
+        alloc: Global,
+        id: StreamId,
+        code: u64,
+        replies: &mut Vec<u8>,
+    ) -> Result<(), AllocError>
+        ensures ok { OnOk result (self.new ≡ given_up_once (record self.old { was_reset = true }) (Reset code)) }
+        ensures replies { OnOk result (replies.new.items ≡ replies.old.items ++ encodings (cancellation id self.old.fault)) }
+        ensures err { OnErr result ((self.new ≡ self.old) × (replies.new.items ≡ replies.old.items)) }
+    {
+        if self.fault.is_none() {
+            reply(alloc, id, false, true, replies)?;
+            self.give_up(alloc, StreamFault::Reset(code));
+        }
+        self.was_reset = true;
+        Ok(())
+    }
+
+    /// Nothing more of it is wanted. It is given up, unless it was before. The first time, the peer's encoder is told. An `Err`
+    /// changes nothing.
+    pub fn cancel(
+        &mut self,
+        alloc: Global,
+        id: StreamId,
+        replies: &mut Vec<u8>,
+    ) -> Result<(), AllocError>
+        ensures ok { OnOk result (self.new ≡ given_up_once self.old Canceled) }
+        ensures replies { OnOk result (replies.new.items ≡ replies.old.items ++ encodings (cancellation id self.old.fault)) }
+        ensures err { OnErr result ((self.new ≡ self.old) × (replies.new.items ≡ replies.old.items)) }
+    {
+        if self.fault.is_none() {
+            reply(alloc, id, false, true, replies)?;
+            self.give_up(alloc, StreamFault::Canceled);
+        }
+        Ok(())
+    }
+
+    // What is there is thrown away, and nothing more of it is read.
+    fn give_up(&mut self, alloc: Global, fault: StreamFault)
+        ensures { self.new ≡ given_up self.old fault }
+    {
+        self.unread = BufList::new(alloc);
+        self.decoder = FrameDecoder::default();
+        self.section = None;
+        self.body_left = 0;
+        self.waits_for = 0;
+        self.fault = Some(fault);
+    }
+
+    /// The section that is next waits for nothing any more: the connection has a fault.
+    pub fn stop_waiting(&mut self)
+        ensures { self.new ≡ record self.old { waits_for = 0 } }
+    {
+        self.waits_for = 0;
+    }
+
+    /// How many bytes came and were not read.
+    pub fn unread(&self) -> usize
+        ensures { result ≡ length (concat self.now.unread) }
+    {
+        self.unread.known();
+        self.unread.remaining()
+    }
+
+    /// The required insert count that the next field section waited for at its try (RFC 9204, section 2.2.1), or 0. It waits where
+    /// the decoder's insert count is below.
+    pub fn waits_for(&self) -> usize
+        ensures { result ≡ self.now.waits_for }
+    {
+        self.waits_for
+    }
+
+    /// How often the field section that is next was tried, or else the last one; 0 before the first. No section is tried a third
+    /// time. A try does not count that ends for want of memory.
+    pub fn tries(&self) -> u8
+        ensures value { result ≡ self.now.tries }
+        ensures bound { result ≤ 2 }
+    {
+        self.tries
+    }
+
+    /// Its end came.
+    pub fn ended(&self) -> bool
+        ensures { result ≡ self.now.ended }
+    {
+        self.ended
+    }
+
+    /// Its sender cut it off.
+    pub fn was_reset(&self) -> bool
+        ensures { result ≡ self.now.was_reset }
+    {
+        self.was_reset
+    }
+
+    /// Its end was handed out.
+    pub fn is_over(&self) -> bool
+        ensures { result ≡ self.now.is_over }
+    {
+        self.is_over
+    }
+
+    /// Why it was given up.
+    pub fn fault(&self) -> Option<StreamFault>
+        ensures { result ≡ self.now.fault }
+    {
+        self.fault
+    }
+}

@@ -1,0 +1,53 @@
+//! The payload of DATA that is under way, and the bytes of a session.
+ghost use Rattle.std.specs.Prelude.{◌≡◌, true, false, None};
+ghost use Rattle.h3_connection.specs.Pulling.{just, in_payload, raw, is_memory};
+
+use super::IncomingStream;
+use bytes::Buf;
+use h3_connection::event::{Fault, Item, Pull};
+use h3_proto::error::Code;
+use h3_wire::buf::BufList;
+use h3_wire::frame::FrameDecoder;
+use std::alloc::Global;
+
+impl IncomingStream {
+    /// The next bytes of the payload under way. One that the end cuts short is a fault of the connection (RFC 9114, section 7.1).
+    pub(super) fn pull_payload(&mut self) -> Pull
+        ensures answer { is_memory result ≡ false → in_payload self.old ≡ just result self.new }
+        ensures memory { is_memory result ≡ true → self.new ≡ self.old }
+    {
+        self.unread.known();
+        if self.ended && self.unread.remaining() < self.body_left {
+            return Pull::Fault(Fault::Connection(Code::H3_FRAME_ERROR));
+        }
+        match self.unread.take_chunk(self.body_left) {
+            Err(_) => Pull::Fault(Fault::Memory),
+            Ok(None) => Pull::Pending,
+            Ok(Some(bytes)) => {
+                self.body_left = self.body_left.saturating_sub(bytes.len());
+                Pull::Item(Item::Body(bytes))
+            }
+        }
+    }
+
+    /// The next bytes of a session. At its end no buffer is kept.
+    pub(super) fn pull_raw(&mut self, alloc: Global) -> Pull
+        requires { self.old.fault ≡ None }
+        ensures answer { raw self.old ≡ just result self.new }
+        ensures memory { is_memory result ≡ false }
+    {
+        // no frame is under way in a session
+        self.decoder = FrameDecoder::default();
+        match self.unread.take_first_chunk() {
+            Some(bytes) => Pull::Item(Item::Raw(bytes)),
+            None => {
+                if !self.ended {
+                    return Pull::Pending;
+                }
+                self.unread = BufList::new(alloc);
+                self.is_over = true;
+                Pull::Item(Item::End)
+            }
+        }
+    }
+}

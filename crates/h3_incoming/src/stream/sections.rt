@@ -1,0 +1,154 @@
+//! The field section that is next.
+ghost use Rattle.std.specs.Prelude.{◌≡◌, ℕ, true, false, [], IfSome, is_some, nat_lt};
+ghost use Rattle.h3_qpack.specs.DecoderState.{DecoderState};
+ghost use Rattle.h3_connection.specs.DecodedSection.{Missing};
+ghost use Rattle.h3_connection.specs.declared.event.Fault.TheVariants.{Stream, Connection};
+ghost use Rattle.h3_connection.specs.Codes.{decompression_failed};
+ghost use Rattle.h3_connection.specs.declared.event.StreamFault.TheVariants.{Malformed};
+ghost use Rattle.h3_connection.specs.Incoming.{given_up};
+ghost use Rattle.h3_connection.specs.Pulling.{is_memory, told_size, at_section, decoded, read_section, past_section, acknowledgment, just};
+ghost use Rattle.h3_incoming.specs.Judging.{judged_as};
+ghost use Rattle.h3_incoming.specs.Gives.{Gives};
+
+use super::IncomingStream;
+use crate::judge::{Judged, judge};
+use crate::replies::reply;
+use crate::section::{Tried, try_section};
+use h3_connection::event::{Fault, Item, Malformation, Pull, StreamFault};
+use h3_connection::place::Place;
+use h3_connection::setup::Announced;
+use h3_proto::error::Code;
+use h3_proto::stream::{Side, StreamId};
+use h3_qpack::{Decoded, Decoder};
+use std::alloc::Global;
+
+impl IncomingStream {
+    /// The field section that is next: it waits for entries that it is known to need, or is decoded and judged (RFC 9204, section
+    /// 2.2.1).
+    pub(super) fn pull_section(
+        &mut self,
+        alloc: Global,
+        side: Side,
+        announced: &Announced,
+        id: StreamId,
+        decoder: &Decoder,
+        replies: &mut Vec<u8>,
+    ) -> Pull
+        requires { is_some self.old.section ≡ true }
+        ensures answer { IfSome self.old.section (λ bytes. is_memory result ≡ false
+            → Gives (at_section side announced.now id decoder.now self.old bytes) result self.new replies.old.items replies.new.items) }
+        ensures memory { is_memory result ≡ true → (self.new ≡ self.old) × (replies.new.items ≡ replies.old.items) }
+    {
+        if decoder.inserted() < self.waits_for {
+            return Pull::Waiting(self.waits_for);
+        }
+        let tried = match &self.section {
+            Some(section) => try_section(decoder, section.as_slice()),
+            None => unreachable!(),
+        };
+        match tried {
+            Tried::Fields(decoded) => {
+                self.finish_section(alloc, side, announced, id, decoded, replies)
+            }
+            Tried::Missing(count) => self.miss_entries(count),
+            Tried::Bad => self.fail_section(),
+            Tried::OutOfMemory => Pull::Fault(Fault::Memory),
+        }
+    }
+
+    // The section was decoded.
+    fn finish_section(
+        &mut self,
+        alloc: Global,
+        side: Side,
+        announced: &Announced,
+        id: StreamId,
+        decoded: Decoded,
+        replies: &mut Vec<u8>,
+    ) -> Pull
+        requires { decoded.mem_size ≡ told_size decoded.fields.items }
+        ensures answer { (r : DecoderState) (count : ℕ) → decoded.dyn_ref ≡ nat_lt 0 count → is_memory result ≡ false
+            → Gives (read_section side announced.now id r (past_section self.old) (acknowledgment id count) decoded.fields.items) result self.new replies.old.items replies.new.items }
+        ensures memory { is_memory result ≡ true → (self.new ≡ self.old) × (replies.new.items ≡ replies.old.items) }
+    {
+        let acknowledges = decoded.dyn_ref;
+        match judge(alloc, side, self.place, announced, decoded) {
+            Err(_) => Pull::Fault(Fault::Memory),
+            Ok(judged) => self.answer_section(alloc, id, acknowledges, judged, replies),
+        }
+    }
+
+    // The section was judged. What is said of it is written first, so that refused memory changes nothing.
+    fn answer_section(
+        &mut self,
+        alloc: Global,
+        id: StreamId,
+        acknowledges: bool,
+        judged: Judged,
+        replies: &mut Vec<u8>,
+    ) -> Pull
+        ensures answer { (count : ℕ) → acknowledges ≡ nat_lt 0 count → is_memory result ≡ false
+            → Gives (judged_as id (past_section self.old) (acknowledgment id count) judged) result self.new replies.old.items replies.new.items }
+        ensures memory { is_memory result ≡ true → (self.new ≡ self.old) × (replies.new.items ≡ replies.old.items) }
+    {
+        match judged {
+            Judged::HandsOut(item, place) => {
+                if reply(alloc, id, acknowledges, false, replies).is_err() {
+                    return Pull::Fault(Fault::Memory);
+                }
+                self.pass_section();
+                self.place = place;
+                Pull::Item(item)
+            }
+            Judged::Malformed(why) => {
+                if reply(alloc, id, acknowledges, true, replies).is_err() {
+                    return Pull::Fault(Fault::Memory);
+                }
+                self.pass_section();
+                self.fail_message(alloc, why)
+            }
+        }
+    }
+
+    /// The message is malformed: the stream gives no more (RFC 9114, section 4.1.2).
+    pub(super) fn fail_message(&mut self, alloc: Global, why: Malformation) -> Pull
+        ensures stream { self.new ≡ given_up self.old (Malformed why) }
+        ensures answer { result ≡ Pull.Fault (Stream (Malformed why)) }
+    {
+        let fault = StreamFault::Malformed(why);
+        self.give_up(alloc, fault);
+        Pull::Fault(Fault::Stream(fault))
+    }
+
+    // The section needs so many insertions. One that waited already names what is not there.
+    fn miss_entries(&mut self, count: usize) -> Pull
+        requires { is_some self.old.section ≡ true }
+        ensures answer { (side : Side) (own : Announced) (id : ℕ) (r : DecoderState) → decoded side own id r self.old (Missing count) ≡ just result self.new }
+        ensures memory { is_memory result ≡ false }
+    {
+        if self.waits_for > 0 {
+            return self.fail_section();
+        }
+        self.tries = 1;
+        self.waits_for = count;
+        Pull::Waiting(count)
+    }
+
+    // The section is bad (RFC 9204, section 2.2.3).
+    fn fail_section(&mut self) -> Pull
+        ensures stream { self.new ≡ past_section self.old }
+        ensures answer { result ≡ Pull.Fault (Connection decompression_failed) }
+    {
+        self.pass_section();
+        Pull::Fault(Fault::Connection(Code::QPACK_DECOMPRESSION_FAILED))
+    }
+
+    // A try was made, and no section is next any more.
+    fn pass_section(&mut self)
+        ensures { self.new ≡ past_section self.old }
+    {
+        self.tries = if self.waits_for == 0 { 1 } else { 2 };
+        self.waits_for = 0;
+        self.section = None;
+    }
+}
