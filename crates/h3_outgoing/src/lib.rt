@@ -2,3 +2,7 @@
 #![tactic(auto)]
 
 pub mod outgoing;
+#[cfg(test)]
+mod tests;
+
+pub use outgoing::OutgoingStream;

@@ -1,13 +1,12 @@
 //! What is sent on a request stream: where its message is, and the frames that wait.
-ghost use Rattle.std.specs.Prelude.{◌≡◌, ◌≢◌, ◌+◌, ◌-◌, ◌<◌, ◌≤◌, ◌^◌, [], length, true, false, OnOk, OnErr, IfErr};
+ghost use Rattle.std.specs.Prelude.{◌≡◌, ◌≢◌, ◌+◌, ◌-◌, ◌<◌, ◌≤◌, ◌^◌, [], length, true, false, OnOk, OnErr, IfErr, IsTrue};
 ghost use Rattle.h3_connection.specs.WaitingPieces.{bytes_of, lent, without_front};
 ghost use Rattle.h3_connection.specs.State.{nothing_waits};
 ghost use Rattle.h3_outgoing.specs.Sent.{has_section, has_body, has_ended, was_cut_off, taken_from, takes_head, takes_body, takes_end, is_sent_off};
 
 use bytes::{Buf, Bytes};
 use h3_connection::place::SendPlace;
-use h3_wire::proto::frame::Frame;
-use h3_wire::stream::WriteBuf;
+use h3_wire::stream::MessageBuf;
 use std::alloc::{AllocError, Global};
 use std::collections::VecDeque;
 use std::marker::Model;
@@ -16,7 +15,7 @@ use std::marker::Model;
 /// copied. A contract sees the pieces that wait.
 #[derive(Drop)]
 pub struct OutgoingStream {
-    pieces: VecDeque<WriteBuf<Bytes>>,
+    pieces: VecDeque<MessageBuf<Bytes>>,
     waiting: usize,
     place: SendPlace,
     is_finished: bool,
@@ -83,19 +82,28 @@ impl OutgoingStream {
         self.pieces.reserve(1)
     }
 
+    // No queue of 2^62 bytes fits into memory: a longer one is refused as such.
+    fn has_room_for(&self, payload: usize) -> bool
+        ensures { IsTrue result → (payload < 2 ^ 61) × (length (bytes_of self.now.pieces) < 2 ^ 61) }
+    {
+        payload < 1 << 61 && self.waiting < 1 << 61
+    }
+
     /// The HEADERS frame of an encoded field section goes out, and the message is at that place then. An `Err` changes nothing, and
     /// hands the section back.
-    #[tactic(auto, using(crate::proofs::Waiting::section_some))]
+    #[tactic(auto, using(crate::proofs::Waiting::headers_some))]
     pub fn send_section(&mut self, section: Bytes, place: SendPlace) -> Result<(), Bytes>
-        requires fits { length (bytes_of self.old.pieces) + length section + 16 < 2 ^ 62 }
         ensures ok { OnOk result (self.new ≡ has_section self.old section place) }
         ensures err { IfErr result (λ b. (b ≡ section) × (self.new ≡ self.old)) }
     {
+        if !self.has_room_for(section.len()) {
+            return Err(section);
+        }
         let Ok(()) = self.pieces.reserve(1) else {
             return Err(section);
         };
         self.place = place;
-        let piece = WriteBuf::from(Frame::Headers(section));
+        let piece = MessageBuf::headers(section);
         self.waiting += piece.remaining();
         self.pieces.push_back_reserved(piece);
         Ok(())
@@ -103,17 +111,19 @@ impl OutgoingStream {
 
     /// A body goes out as the payload of a DATA frame; an empty one writes nothing. An `Err` changes nothing, and hands the body back.
     pub fn send_body(&mut self, body: Bytes) -> Result<(), Bytes>
-        requires fits { length (bytes_of self.old.pieces) + length body + 16 < 2 ^ 62 }
         ensures ok { OnOk result (self.new ≡ has_body self.old body) }
         ensures err { IfErr result (λ b. (b ≡ body) × (self.new ≡ self.old)) }
     {
         if !body.has_remaining() {
             return Ok(());
         }
+        if !self.has_room_for(body.len()) {
+            return Err(body);
+        }
         let Ok(()) = self.pieces.reserve(1) else {
             return Err(body);
         };
-        let piece = WriteBuf::from(Frame::Data(body));
+        let piece = MessageBuf::data(body);
         self.waiting += piece.remaining();
         self.pieces.push_back_reserved(piece);
         Ok(())
@@ -141,7 +151,7 @@ impl OutgoingStream {
         ensures { result.now ≡ lent self.now.pieces }
     {
         match self.pieces.front() {
-            Some(piece) => piece.chunk(),
+            Some(piece) => piece.first_part(),
             None => &[],
         }
     }
