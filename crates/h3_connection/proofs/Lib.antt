@@ -1,9 +1,6 @@
-pub mod StringValues
-pub mod FormValues
 pub mod Shorter
 pub mod HearingLaws
 pub mod DecodedLaws
-pub mod Ends
 pub mod Cuts
 pub mod Quiet
 pub mod Seen
@@ -13,3 +10,7 @@ pub mod Isolated
 pub mod Fronts
 pub mod Brought
 pub mod Distinct
+pub mod PullBounds
+pub mod WaitingCounts
+pub mod Bounded
+pub mod Closed

@@ -1,9 +1,11 @@
-//! Lines with a literal value (RFC 9204, sections 4.5.4 to 4.5.6). The bit N is written 0, and read either way.
+//! Lines with a literal value (RFC 9204, sections 4.5.4 to 4.5.6). The bit N is written 0, and read either way: that a line
+//! with N stays a literal at a next hop is not enforced (docs/RFC.md).
 ghost use Rattle.std.specs.Prelude.{◌≡◌, ◌<◌, ◌^◌, ◌++◌, true, false, length, slice_index, OnOk, OnErr, Err};
 ghost use Rattle.std.specs.Result.{IsOkUnless};
 ghost use Rattle.h3_field.specs.Line.{line_bytes};
 ghost use Rattle.h3_field.specs.Line.FieldLine.{StaticName, RelativeName, PostBaseName};
 ghost use Rattle.h3_field.specs.Line.{FieldLine as line};
+ghost use Rattle.h3_field.specs.Ends.{IsEndOf};
 ghost use Rattle.h3_field.specs.Shapes.{begins};
 ghost use Rattle.h3_field.specs.LineReading.{named, post_base_named, literal};
 ghost use Rattle.h3_field.specs.LineAnswer.{AnswersLine, IsWritable, named_line, post_base_named_line, literal_line};
@@ -19,7 +21,8 @@ use crate::shapes::{
 };
 use std::alloc::Global;
 
-/// A line with the name of a static entry, or of a dynamic one by its distance below the base.
+/// A line with the name of a static entry, or of a dynamic one by its distance below the base: the literal field line with
+/// name reference, `| 0 | 1 | N | T | name index (4+) | H | value length (7+) | value |` (RFC 9204, section 4.5.4).
 #[derive(PartialEq, Debug, Drop)]
 pub enum LiteralWithNameRef {
     Static { index: usize, value: Vec<u8> },
@@ -40,12 +43,14 @@ impl LiteralWithNameRef {
     }
 
     /// Takes the line from the front. A refused read takes nothing.
+    #[tactic(auto, using(crate::specs::EndLaws::none_dropped))]
     pub fn decode(
         alloc: Global,
         buf: &mut SliceCursor<'_>,
     ) -> Result<LiteralWithNameRef, ParseError>
         ensures own { begins 64 127 buf.old ≡ true → AnswersLine named_line (named buf.old) buf.old buf.new result }
         ensures other { begins 64 127 buf.old ≡ false → (result ≡ Err (InvalidPrefix (slice_index buf.old 0))) × (buf.new ≡ buf.old) }
+        ensures rest { IsEndOf buf.old buf.new }
     {
         if let Some(first) = other_first(buf, 64, 127) {
             return Err(ParseError::InvalidPrefix(u64::from(first)));
@@ -112,7 +117,8 @@ impl LiteralWithNameRef {
     }
 }
 
-/// A line with the name of a dynamic entry, by its distance from the base on.
+/// A line with the name of a dynamic entry, by its distance from the base on: the literal field line with post-base name
+/// reference, `| 0 | 0 | 0 | 0 | N | name index (3+) | H | value length (7+) | value |` (RFC 9204, section 4.5.5).
 #[derive(PartialEq, Debug, Drop)]
 pub struct LiteralWithPostBaseNameRef {
     pub index: usize,
@@ -127,12 +133,14 @@ impl LiteralWithPostBaseNameRef {
     }
 
     /// Takes the line from the front. A refused read takes nothing.
+    #[tactic(auto, using(crate::specs::EndLaws::none_dropped))]
     pub fn decode(
         alloc: Global,
         buf: &mut SliceCursor<'_>,
     ) -> Result<LiteralWithPostBaseNameRef, ParseError>
         ensures own { begins 0 15 buf.old ≡ true → AnswersLine post_base_named_line (post_base_named buf.old) buf.old buf.new result }
         ensures other { begins 0 15 buf.old ≡ false → (result ≡ Err (InvalidPrefix (slice_index buf.old 0))) × (buf.new ≡ buf.old) }
+        ensures rest { IsEndOf buf.old buf.new }
     {
         if let Some(first) = other_first(buf, 0, 15) {
             return Err(ParseError::InvalidPrefix(u64::from(first)));
@@ -168,7 +176,8 @@ impl LiteralWithPostBaseNameRef {
     }
 }
 
-/// A line with a literal name.
+/// A line with a literal name, `| 0 | 0 | 1 | N | H | name length (3+) | name | H | value length (7+) | value |` (RFC 9204,
+/// section 4.5.6).
 #[derive(PartialEq, Debug, Drop)]
 pub struct Literal {
     pub name: Vec<u8>,
@@ -183,9 +192,11 @@ impl Literal {
     }
 
     /// Takes the line from the front. A refused read takes nothing.
+    #[tactic(auto, using(crate::specs::EndLaws::none_dropped))]
     pub fn decode(alloc: Global, buf: &mut SliceCursor<'_>) -> Result<Literal, ParseError>
         ensures own { begins 32 63 buf.old ≡ true → AnswersLine literal_line (literal buf.old) buf.old buf.new result }
         ensures other { begins 32 63 buf.old ≡ false → (result ≡ Err (InvalidPrefix (slice_index buf.old 0))) × (buf.new ≡ buf.old) }
+        ensures rest { IsEndOf buf.old buf.new }
     {
         if let Some(first) = other_first(buf, 32, 63) {
             return Err(ParseError::InvalidPrefix(u64::from(first)));

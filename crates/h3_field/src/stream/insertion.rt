@@ -3,6 +3,7 @@ ghost use Rattle.std.specs.Prelude.{◌≡◌, ◌<◌, ◌^◌, ◌++◌, true,
 ghost use Rattle.std.specs.Result.{IsOkUnless};
 ghost use Rattle.h3_field.specs.Instruction.{encoder_bytes};
 ghost use Rattle.h3_field.specs.Instruction.{EncoderInstruction as instruction};
+ghost use Rattle.h3_field.specs.Ends.{IsEndOf};
 ghost use Rattle.h3_field.specs.Shapes.{begins};
 ghost use Rattle.h3_field.specs.InstructionReading.{name_reference, literal_name, capacity, repeat};
 ghost use Rattle.h3_field.specs.InstructionAnswer.{AnswersInstruction, IsSendable, named_insertion, literal_insertion, duplication, capacity_setting};
@@ -18,7 +19,8 @@ use crate::shapes::{
 use crate::{prefix_int, prefix_string};
 use std::alloc::Global;
 
-/// An insertion with the name of a static entry, or of a dynamic one by its distance from the newest.
+/// An insertion with the name of a static entry, or of a dynamic one by its distance from the newest: insert with name
+/// reference, `| 1 | T | name index (6+) | H | value length (7+) | value |` (RFC 9204, section 4.3.2).
 #[derive(PartialEq, Debug, Drop)]
 pub enum InsertWithNameRef {
     Static { index: usize, value: Vec<u8> },
@@ -40,12 +42,14 @@ impl InsertWithNameRef {
 
     /// Takes the instruction from the front, or answers `None` where it is not whole. Then, and on a refusal, nothing is
     /// taken.
+    #[tactic(auto, using(crate::specs::EndLaws::none_dropped))]
     pub fn decode(
         alloc: Global,
         buf: &mut SliceCursor<'_>,
     ) -> Result<Option<InsertWithNameRef>, ParseError>
         ensures own { begins 128 255 buf.old ≡ true → AnswersInstruction named_insertion (name_reference buf.old) buf.old buf.new result }
         ensures other { begins 128 255 buf.old ≡ false → (result ≡ Err (InvalidPrefix (slice_index buf.old 0))) × (buf.new ≡ buf.old) }
+        ensures rest { IsEndOf buf.old buf.new }
     {
         if let Some(first) = other_first(buf, 128, 255) {
             return Err(ParseError::InvalidPrefix(u64::from(first)));
@@ -113,7 +117,8 @@ impl InsertWithNameRef {
     }
 }
 
-/// An insertion with a literal name.
+/// An insertion with a literal name, `| 0 | 1 | H | name length (5+) | name | H | value length (7+) | value |` (RFC 9204,
+/// section 4.3.3).
 #[derive(PartialEq, Debug, Drop)]
 pub struct InsertWithoutNameRef {
     pub name: Vec<u8>,
@@ -129,12 +134,14 @@ impl InsertWithoutNameRef {
 
     /// Takes the instruction from the front, or answers `None` where it is not whole. Then, and on a refusal, nothing is
     /// taken.
+    #[tactic(auto, using(crate::specs::EndLaws::none_dropped))]
     pub fn decode(
         alloc: Global,
         buf: &mut SliceCursor<'_>,
     ) -> Result<Option<InsertWithoutNameRef>, ParseError>
         ensures own { begins 64 127 buf.old ≡ true → AnswersInstruction literal_insertion (literal_name buf.old) buf.old buf.new result }
         ensures other { begins 64 127 buf.old ≡ false → (result ≡ Err (InvalidPrefix (slice_index buf.old 0))) × (buf.new ≡ buf.old) }
+        ensures rest { IsEndOf buf.old buf.new }
     {
         if let Some(first) = other_first(buf, 64, 127) {
             return Err(ParseError::InvalidPrefix(u64::from(first)));

@@ -1,6 +1,7 @@
 //! Instructions of an encoder that carry no string (RFC 9204, sections 4.3.1 and 4.3.4).
 ghost use Rattle.std.specs.Prelude.{◌≡◌, ◌++◌, true, false, slice_index, OnOk, OnErr, Err};
 ghost use Rattle.h3_field.specs.Instruction.{encoder_bytes};
+ghost use Rattle.h3_field.specs.Ends.{IsEndOf};
 ghost use Rattle.h3_field.specs.Shapes.{begins};
 ghost use Rattle.h3_field.specs.InstructionReading.{capacity, repeat};
 ghost use Rattle.h3_field.specs.InstructionAnswer.{AnswersInstruction, IsSendable, duplication, capacity_setting};
@@ -12,16 +13,19 @@ use crate::prefix_int;
 use crate::shapes::other_first;
 use std::alloc::AllocError;
 
-/// An insertion of a present entry anew, by its distance from the newest.
+/// An insertion of a present entry anew, by its distance from the newest: duplicate, `| 0 | 0 | 0 | index (5+) |` (RFC 9204,
+/// section 4.3.4).
 #[derive(Copy, Clone, PartialEq, Eq, Debug)]
 pub struct Duplicate(pub usize);
 
 impl Duplicate {
     /// Takes the instruction from the front, or answers `None` where it is not whole. Then, and on a refusal, nothing is
     /// taken.
+    #[tactic(auto, using(crate::specs::EndLaws::none_dropped))]
     pub fn decode(buf: &mut SliceCursor<'_>) -> Result<Option<Duplicate>, ParseError>
         ensures own { begins 0 31 buf.old ≡ true → AnswersInstruction duplication (repeat buf.old) buf.old buf.new result }
         ensures other { begins 0 31 buf.old ≡ false → (result ≡ Err (InvalidPrefix (slice_index buf.old 0))) × (buf.new ≡ buf.old) }
+        ensures rest { IsEndOf buf.old buf.new }
     {
         if let Some(first) = other_first(buf, 0, 31) {
             return Err(ParseError::InvalidPrefix(u64::from(first)));
@@ -43,16 +47,19 @@ impl Duplicate {
     }
 }
 
-/// A new capacity of the table, in bytes.
+/// A new capacity of the table, in bytes: set dynamic table capacity, `| 0 | 0 | 1 | capacity (5+) |` (RFC 9204, section
+/// 4.3.1).
 #[derive(Copy, Clone, PartialEq, Eq, Debug)]
 pub struct DynamicTableSizeUpdate(pub usize);
 
 impl DynamicTableSizeUpdate {
     /// Takes the instruction from the front, or answers `None` where it is not whole. Then, and on a refusal, nothing is
     /// taken.
+    #[tactic(auto, using(crate::specs::EndLaws::none_dropped))]
     pub fn decode(buf: &mut SliceCursor<'_>) -> Result<Option<DynamicTableSizeUpdate>, ParseError>
         ensures own { begins 32 63 buf.old ≡ true → AnswersInstruction capacity_setting (capacity buf.old) buf.old buf.new result }
         ensures other { begins 32 63 buf.old ≡ false → (result ≡ Err (InvalidPrefix (slice_index buf.old 0))) × (buf.new ≡ buf.old) }
+        ensures rest { IsEndOf buf.old buf.new }
     {
         if let Some(first) = other_first(buf, 32, 63) {
             return Err(ParseError::InvalidPrefix(u64::from(first)));
