@@ -30,3 +30,9 @@ pub mod Expected
 pub mod Views
 pub mod EncoderView
 pub mod Worked
+pub mod StringValue
+pub mod Readings
+pub mod DecodedSection
+pub mod LineFields
+pub mod Sizes
+pub mod Hearing

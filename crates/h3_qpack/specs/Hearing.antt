@@ -1,0 +1,71 @@
+-- What a decoder makes of any bytes of an encoder, and an encoder of any bytes of a decoder, as values.
+use Rattle.std.specs.Prelude.{ℕ, zero, suc, Bool, true, false, List, ◌++◌, length, Option, Some, None}
+use Rattle.h3_field.specs.Reading.{Reading, Whole, Unfinished, Bad}
+use Rattle.h3_field.specs.Instruction.{EncoderInstruction, DecoderInstruction}
+use Rattle.h3_field.specs.InstructionReading.{InstructionForm, instruction, decoder_instruction}
+use Rattle.h3_qpack.specs.DecoderState.{DecoderState, decoder_after}
+use Rattle.h3_qpack.specs.EncoderHistory.{EncoderHistory, encoder_after, is_refused}
+use Rattle.h3_qpack.specs.Readings.{instruction_of}
+
+-- the table after the whole instructions at the front up to the first bad one, the bytes left, and whether a bad one is there
+pub record Heard : Type 0 where
+  pub decoder : DecoderState
+  pub left : List ℕ
+  pub is_bad : Bool
+
+abbrev pub read_before : DecoderState → List ℕ → Bool → Heard
+read_before r left is_bad = record { decoder = r; left = left; is_bad = is_bad }
+
+-- the table after the instruction of a form, or none where it is bad
+abbrev pub having_read_one : DecoderState → Option EncoderInstruction → Option DecoderState
+having_read_one r None = None
+having_read_one r (Some i) = decoder_after r i
+
+abbrev pub hear_next : (DecoderState → List ℕ → Heard) → DecoderState → List ℕ → List ℕ → Option DecoderState → Heard
+hear_next go r bytes rest None = read_before r bytes true
+hear_next go r bytes rest (Some new) = go new rest
+
+abbrev pub hear_form : (DecoderState → List ℕ → Heard) → DecoderState → List ℕ → Reading InstructionForm → Heard
+hear_form go r bytes (Whole form rest) = hear_next go r bytes rest (having_read_one r (instruction_of form))
+hear_form go r bytes Unfinished = read_before r bytes false
+hear_form go r bytes Bad = read_before r bytes true
+
+abbrev pub hear_within : ℕ → DecoderState → List ℕ → Heard
+hear_within zero r bytes = read_before r bytes false
+hear_within (suc most) r bytes = hear_form (hear_within most) r bytes (instruction bytes)
+
+unfoldable pub hear : DecoderState → List ℕ → Heard
+hear r bytes = hear_within (length bytes) r bytes
+
+-- more bytes are heard behind what is left, unless a bad instruction stands there
+abbrev pub heard_with : Heard → List ℕ → Bool → Heard
+heard_with h more true = read_before h.decoder (h.left ++ more) true
+heard_with h more false = hear h.decoder (h.left ++ more)
+
+abbrev pub heard_then : Heard → List ℕ → Heard
+heard_then h more = heard_with h more h.is_bad
+
+-- the same of an encoder that is told
+pub record Listened : Type 0 where
+  pub encoder : EncoderHistory
+  pub left : List ℕ
+  pub is_bad : Bool
+
+abbrev pub listened : EncoderHistory → List ℕ → Bool → Listened
+listened s left is_bad = record { encoder = s; left = left; is_bad = is_bad }
+
+abbrev pub listen_next : (EncoderHistory → List ℕ → Listened) → EncoderHistory → List ℕ → DecoderInstruction → List ℕ → Bool → Listened
+listen_next go s bytes i rest true = listened s bytes true
+listen_next go s bytes i rest false = go (encoder_after s i) rest
+
+abbrev pub listen_form : (EncoderHistory → List ℕ → Listened) → EncoderHistory → List ℕ → Reading DecoderInstruction → Listened
+listen_form go s bytes (Whole i rest) = listen_next go s bytes i rest (is_refused s i)
+listen_form go s bytes Unfinished = listened s bytes false
+listen_form go s bytes Bad = listened s bytes true
+
+abbrev pub listen_within : ℕ → EncoderHistory → List ℕ → Listened
+listen_within zero s bytes = listened s bytes false
+listen_within (suc most) s bytes = listen_form (listen_within most) s bytes (decoder_instruction bytes)
+
+unfoldable pub listen : EncoderHistory → List ℕ → Listened
+listen s bytes = listen_within (length bytes) s bytes
