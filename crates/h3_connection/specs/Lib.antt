@@ -1,5 +1,3 @@
-pub mod StringValue
-pub mod Readings
 pub mod Hearing
 pub mod DecodedSection
 pub mod Announcing
@@ -9,12 +7,15 @@ pub mod Lasts
 pub mod PeerReading
 pub mod Listeners
 pub mod StreamSets
+pub mod StreamSetLaws
 pub mod Arrivals
 pub mod Skipping
 pub mod Incoming
 pub mod Pulling
 pub mod Unidirectional
 pub mod Outgoing
+pub mod WaitingPieces
+pub mod WaitingPieceLaws
 pub mod Endpoint
 pub mod Control
 pub mod Delivering
@@ -28,3 +29,4 @@ pub mod Answers
 pub mod CallLists
 pub mod Isolation
 pub mod Shown
+pub mod StandsLaws

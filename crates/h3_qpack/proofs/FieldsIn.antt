@@ -8,9 +8,9 @@ use Rattle.h3_field.specs.Section.{AreLines, NoLine, NextLine}
 use Rattle.h3_qpack.specs.TableState.{TableState}
 use Rattle.h3_qpack.specs.Meaning.{HaveFields}
 use Rattle.h3_qpack.specs.SectionAnswers.{BeginsWith, BeginsWithNone}
-use Rattle.h3_qpack.specs.Readings.{line_of}
+use Rattle.h3_field.specs.Values.{line_of}
 use Rattle.h3_qpack.specs.DecodedSection.{field_of, then_fields, fields_from, fields_within, fields_in}
-use Rattle.h3_qpack.proofs.FormValues.{line_some}
+use Rattle.h3_field.specs.ValueLaws.{line_some}
 use Rattle.h3_qpack.proofs.Shorter.{line_less}
 use Rattle.h3_qpack.proofs.DecodedLaws.{LinesOf, fields_are}
 

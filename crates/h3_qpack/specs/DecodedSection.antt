@@ -11,7 +11,7 @@ use Rattle.h3_qpack.specs.TableState.{TableState}
 use Rattle.h3_qpack.specs.DecoderState.{DecoderState, count_capacity}
 use Rattle.h3_qpack.specs.Meaning.{field_at, MeansFields, IsMissing, IsBadSection}
 use Rattle.h3_qpack.specs.SectionAnswers.{IsReasonFor}
-use Rattle.h3_qpack.specs.Readings.{line_of}
+use Rattle.h3_field.specs.Values.{line_of}
 
 pub data DecodedSection : Type 0 where
   -- its fields, and its required insert count

@@ -30,8 +30,6 @@ pub mod Expected
 pub mod Views
 pub mod EncoderView
 pub mod Worked
-pub mod StringValue
-pub mod Readings
 pub mod DecodedSection
 pub mod LineFields
 pub mod Sizes
