@@ -369,6 +369,35 @@ section_is_its_value r bytes = value_from r bytes (prefix bytes) refl (value_unf
 pub section_of_value : (r : DecoderState) (bytes : List ℕ) (d : DecodedSection) → decode_section r bytes ≡ d → IsDecodedAs r bytes d
 section_of_value r bytes d e = subst (IsDecodedAs r bytes) e (section_is_its_value r bytes)
 
+-- what is said of the section is its value
+pub value_of_section : (r : DecoderState) (bytes : List ℕ) (d : DecodedSection) → IsDecodedAs r bytes d → decode_section r bytes ≡ d
+value_of_section r bytes (Fields fields count) h = section_fields r bytes count fields h
+value_of_section r bytes (Missing count) h = section_missing r bytes count h
+value_of_section r bytes BadSection h = section_bad r bytes h
+
+fields_among : DecodedSection → List Field
+fields_among (Fields fields count) = fields
+fields_among (Missing count) = []
+fields_among BadSection = []
+
+count_among : DecodedSection → ℕ
+count_among (Fields fields count) = count
+count_among (Missing count) = count
+count_among BadSection = 0
+
+pub one_meaning : (r : DecoderState) (bytes : List ℕ) (n m : ℕ) (fs gs : List Field) → MeansFields r bytes n fs → MeansFields r bytes m gs → (n ≡ m) × (fs ≡ gs)
+unfolding fields_among count_among
+one_meaning r bytes n m fs gs a b =
+    let same = sym (section_fields r bytes n fs a) ∙ section_fields r bytes m gs b in
+    (ap count_among same, ap fields_among same)
+
+pub one_missing : (r : DecoderState) (bytes : List ℕ) (n m : ℕ) → IsMissing r bytes n → IsMissing r bytes m → n ≡ m
+unfolding count_among
+one_missing r bytes n m a b = ap count_among (sym (section_missing r bytes n a) ∙ section_missing r bytes m b)
+
+pub not_both : (r : DecoderState) (bytes : List ℕ) (n m : ℕ) (fs : List Field) → MeansFields r bytes n fs → IsMissing r bytes m → ⊥
+not_both r bytes n m fs a b = let same : Fields fs n ≡ Missing m = sym (section_fields r bytes n fs a) ∙ section_missing r bytes m b in absurd (cc)
+
 pub refused_section : (r : DecoderState) (bytes : List ℕ) (e : DecoderError) → IsRefusalOf (decode_section r bytes) e → IsRefusal r bytes e
 refused_section r bytes OutOfMemory h = h
 refused_section r bytes (MissingRefs count) h = section_of_value r bytes (Missing count) h

@@ -207,3 +207,7 @@ has_listened s old new bytes left is_bad is h stops =
       rest = ap (λ (x : Listened). x.left) (sym value);
       bad = ap (λ (x : Listened). x.is_bad) (sym value);
     }
+
+pub nothing_left : (bytes : List ℕ) → length bytes ≤ 0 → decoder_instruction bytes ≡ Unfinished
+nothing_left [] none = refl
+nothing_left (byte ∷ bytes) none = absurd (omega (arith, none))

@@ -14,6 +14,7 @@ ghost use Rattle.h3_qpack.specs.Sizes.{IsWithin};
 ghost use Rattle.h3_qpack.specs.SectionAnswers.{IsRefusal, IsReasonFor};
 ghost use Rattle.h3_qpack.specs.InstructionAnswers.{AnswersInsertionRead, AnswersOne};
 ghost use Rattle.h3_qpack.specs.Instructions.{HasRead, BeginsBad};
+ghost use Rattle.h3_qpack.specs.Hearing.{heard, hear};
 
 use crate::dynamic::DynamicTable;
 use crate::entries::{Entries, MAX_CAPACITY, MOST_INSERTIONS, size_of};
@@ -321,6 +322,8 @@ impl Decoder {
         ensures rest { read.new ≡ drop (length read.old - length read.new) read.old }
         ensures ok { IfOk result (λ n. (n ≡ self.new.table.inserted) × (instruction read.new ≡ Unfinished)) }
         ensures err { IfErr result (IsReasonFor (BeginsBad self.new read.new) (λ count. ⊥)) }
+        ensures value { OnOk result (hear self.old read.old ≡ heard self.new read.new false) }
+        ensures bad { IfErr result (IsReasonFor (hear self.old read.old ≡ heard self.new read.new true) (λ count. ⊥)) }
         ensures increment { write.new.items ≡ write.old.items ++ increment_for (self.new.table.inserted - self.old.table.inserted) }
     {
         if write.reserve(INCREMENT_LEN).is_err() {
@@ -330,10 +333,10 @@ impl Decoder {
         let outcome = self.take_instructions(read);
         let count = self.entries.inserted() - before;
         put_increment(count, write);
-        match outcome {
-            Ok(()) => Ok(self.entries.inserted()),
-            Err(e) => Err(e),
+        if let Err(e) = outcome {
+            return Err(e);
         }
+        Ok(self.entries.inserted())
     }
 }
 

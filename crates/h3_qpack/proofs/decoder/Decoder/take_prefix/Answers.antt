@@ -5,11 +5,11 @@ use Rattle.h3_qpack.proofs.DecodedLaws.{section_lines, section_missing, section_
 use Rattle.h3_qpack.proofs.decoder.Decoder.take_prefix.Goals as goal
 
 pub returns-in-Err-clause-err : goal.returns-in-Err-clause-err
-returns-in-Err-clause-err c = rw c.from.ensures (prefix_refused _ _ _ c.in-Err.e c.in-Err.ensures)
+returns-in-Err-clause-err c = rw c.from.ensures (prefix_refused _ _ _ c.in-Err.e c.in-Err.ensures.answer)
 
 pub returns-in-Err-get-clause-err : goal.returns-in-Err-get-clause-err
 returns-in-Err-get-clause-err c =
-    let read = prefix_read c.args.buf.now c.decode.new.buf c.in-Ok.prefix c.in-Ok.ensures in
+    let read = prefix_read c.args.buf.now c.decode.new.buf c.in-Ok.prefix c.in-Ok.ensures.answer in
     let begun : Begun c.args.self.now c.args.buf.now c.decode.new.buf c.in-Ok.prefix c.inserted-inserted.result c.unwrap_or-capacity.result = record {
       whole = read;
       inserted_is = c.inserted-inserted.ensures.value ∙ ap (λ r. r.table.inserted) c.self.view_is;
@@ -19,7 +19,7 @@ returns-in-Err-get-clause-err c =
 
 pub returns-then-count-inserted-clause-err : goal.returns-then-count-inserted-clause-err
 returns-then-count-inserted-clause-err c =
-    let read = prefix_read c.args.buf.now c.decode.new.buf c.in-Ok.prefix c.in-Ok.ensures in
+    let read = prefix_read c.args.buf.now c.decode.new.buf c.in-Ok.prefix c.in-Ok.ensures.answer in
     let begun : Begun c.args.self.now c.args.buf.now c.decode.new.buf c.in-Ok.prefix c.inserted-inserted.result c.unwrap_or-capacity.result = record {
       whole = read;
       inserted_is = c.inserted-inserted.ensures.value ∙ ap (λ r. r.table.inserted) c.self.view_is;
@@ -29,7 +29,7 @@ returns-then-count-inserted-clause-err c =
 
 pub returns-clause-ok : goal.returns-clause-ok
 returns-clause-ok c =
-    let read = prefix_read c.args.buf.now c.decode.new.buf c.in-Ok.prefix c.in-Ok.ensures in
+    let read = prefix_read c.args.buf.now c.decode.new.buf c.in-Ok.prefix c.in-Ok.ensures.answer in
     let begun : Begun c.args.self.now c.args.buf.now c.decode.new.buf c.in-Ok.prefix c.inserted-inserted.result c.unwrap_or-capacity.result = record {
       whole = read;
       inserted_is = c.inserted-inserted.ensures.value ∙ ap (λ r. r.table.inserted) c.self.view_is;
