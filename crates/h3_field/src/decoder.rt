@@ -88,11 +88,7 @@ fn take_field(alloc: Global, buf: &mut SliceCursor<'_>) -> Result<HeaderField, D
 const FIRST_ROOM: usize = 16;
 
 /// Adds a field behind which so many bytes are left: each may be a field.
-fn keep(
-    fields: &mut Vec<HeaderField>,
-    field: HeaderField,
-    left: usize,
-) -> Result<(), AllocError>
+fn keep(fields: &mut Vec<HeaderField>, field: HeaderField, left: usize) -> Result<(), AllocError>
     ensures { OnOk result (fields.new.items ≡ fields.old.items ++ field ∷ []) }
 {
     if fields.is_empty() {

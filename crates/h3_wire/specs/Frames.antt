@@ -1,5 +1,5 @@
 -- What bytes begin with, as frames (RFC 9114, section 7.1).
-use Rattle.std.specs.Prelude.{◌≡◌, ℕ, ◌<◌, ◌+◌, ◌-◌, ◌==◌, Bool, false, List, [], ◌∷◌, ◌++◌, length, take, drop, nat_lt, if◌then◌else◌, Option, Some, None, Result, Ok, Err}
+use Rattle.std.specs.Prelude.{◌≡◌, ℕ, ◌<◌, ◌≤◌, ◌+◌, ◌-◌, ◌==◌, Bool, false, List, [], ◌∷◌, ◌++◌, length, take, drop, nat_lt, if◌then◌else◌, Option, Some, None, Result, Ok, Err}
 use Rattle.std.specs.List.{list_any}
 use Rattle.std.specs.Option.{is_some}
 use Rattle.h3_coding.specs.Varint.{varint_at}
@@ -45,7 +45,8 @@ promise_frame (Some p) rest = Whole (frame.PushPromise (record { id = p.0; secti
 abbrev pub is_http2 : ℕ → Bool
 is_http2 kind = list_any (λ k. k == kind) (2 ∷ 6 ∷ 8 ∷ 9 ∷ [])
 
--- the frame of a type and a whole payload
+-- the frame of a type and a whole payload (RFC 9114, section 7.2): | type (i) | length (i) | payload |, with the types HEADERS 1,
+-- CANCEL_PUSH 3, SETTINGS 4, PUSH_PROMISE 5, GOAWAY 7 and MAX_PUSH_ID 13; DATA, 0, is in `with_head`, as its payload is not waited for
 unfoldable pub frame_of : ℕ → List ℕ → List ℕ → Front
 frame_of kind payload rest =
     if kind == 1 then Whole (frame.Headers payload) rest
@@ -85,6 +86,15 @@ is_followed (Some p) = is_some (varint_at p.1)
 -- the bytes begin with a whole head: a type, and the number behind it
 abbrev pub has_head : List ℕ → Bool
 has_head bytes = is_followed (varint_at bytes)
+
+-- The bytes begin with a type and a number, and these follow.
+abbrev pub BeginsWithHead : ℕ → ℕ → List ℕ → List ℕ → Type 0
+BeginsWithHead kind number bytes behind = (mid : List ℕ) × (varint_at bytes ≡ Some (kind, mid)) × (varint_at mid ≡ Some (number, behind))
+
+-- The bytes begin with a HEADERS frame: a head of so many bytes, and a field section of so many.
+pub record IsHeadersFrame (bytes : List ℕ) (head size : ℕ) : Type 0 where
+  pub read : BeginsWithHead 1 size bytes (drop head bytes)
+  pub there : head + size ≤ length bytes
 
 -- only a frame whose payload is handed out wants memory
 abbrev pub TakesMemory : Front → Type 0

@@ -12,7 +12,8 @@ use crate::prefix_int;
 use std::alloc::AllocError;
 use std::marker::Model;
 
-/// The encoded required insert count, and the base by its sign and its distance from that count.
+/// The encoded required insert count, and the base by its sign and its distance from that count:
+/// `| encoded insert count (8+) | S | delta base (7+) |` (RFC 9204, section 4.5.1).
 #[derive(PartialEq, Debug, Drop)]
 pub struct HeaderPrefix {
     count: u64,
