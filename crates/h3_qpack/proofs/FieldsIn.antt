@@ -1,5 +1,5 @@
 -- The fields of the lines of a section, line by line.
-use Rattle.std.proofs.Common.{◌≡◌, ℕ, zero, suc, ◌+◌, ◌<◌, ◌≤◌, List, [], ◌∷◌, ◌++◌, length, Option, Some, None, option_map, refl, ap, sym, ◌∙◌, arith, append_assoc, append-nil}
+use Rattle.std.proofs.Common.{◌≡◌, ℕ, zero, suc, ◌<◌, ◌≤◌, List, [], ◌∷◌, ◌++◌, length, Option, Some, None, option_map, refl, ap, sym, ◌∙◌, arith, append_assoc, append-nil}
 use Rattle.h3_field.specs.Field.{Field}
 use Rattle.h3_field.specs.Line.{FieldLine}
 use Rattle.h3_field.specs.LineReading.{LineForm, line}
@@ -12,7 +12,7 @@ use Rattle.h3_field.specs.Values.{line_of}
 use Rattle.h3_qpack.specs.DecodedSection.{field_of, then_fields, fields_from, fields_within, fields_in}
 use Rattle.h3_field.specs.ValueLaws.{line_some}
 use Rattle.h3_qpack.proofs.Shorter.{line_less}
-use Rattle.h3_qpack.proofs.DecodedLaws.{LinesOf, fields_are}
+use Rattle.h3_qpack.proofs.DecodedLaws.{fields_are}
 
 from_same : (go other : List ℕ → Option (List Field)) (h : TableState) (base : ℕ) (x : Reading LineForm) → ((form : LineForm) (rest : List ℕ) → x ≡ Whole form rest → go rest ≡ other rest)
     → fields_from go h base x ≡ fields_from other h base x

@@ -9,7 +9,7 @@ use Rattle.h3_qpack.specs.DecoderState.{DecoderState, decoder_after, decoder_aft
 use Rattle.h3_qpack.specs.EncoderHistory.{EncoderHistory, encoder_after, encoder_after_all, is_refused}
 use Rattle.h3_qpack.specs.EncoderState.{EncoderState, encoder_state}
 use Rattle.h3_qpack.specs.EncoderAnswers.{HasReadDecoderInstructions}
-use Rattle.h3_qpack.specs.Instructions.{AreInstructions, NoInstruction, NextInstruction, HasRead, BeginsBad, AreDecoderInstructions, NoDecoderInstruction, NextDecoderInstruction, AreAccepted, BeginsRefused}
+use Rattle.h3_qpack.specs.Instructions.{AreInstructions, NoInstruction, NextInstruction, BeginsBad, AreDecoderInstructions, NoDecoderInstruction, NextDecoderInstruction, AreAccepted, BeginsRefused}
 use Rattle.h3_qpack.specs.Hearing.{Heard, heard, decoder_after_form, hear_next, hear_form, hear_within, hear, StopsAt, IsHeardAs, Listened, listened, listen_next, listen_form, listen_within, listen, StopsBefore, IsListenedAs, HasListened}
 use Rattle.h3_qpack.proofs.Shorter.{instruction_less, decoder_instruction_less}
 

@@ -1,14 +1,14 @@
 -- Fields that are counted one by one.
-use Rattle.std.proofs.Common.{◌≡◌, ℕ, ◌+◌, ◌-◌, ◌^◌, ◌<◌, ◌≤◌, min, Bool, List, [], ◌∷◌, ◌++◌, Option, Some, None, option_map, Result, Ok, Err, refl, sym, ◌∙◌, ap, arith}
+use Rattle.std.proofs.Common.{◌≡◌, ℕ, ◌+◌, ◌-◌, ◌^◌, ◌<◌, min, Bool, List, [], ◌∷◌, ◌++◌, Option, Some, None, option_map, Result, Ok, Err, sym, ◌∙◌, ap, arith}
 use Rattle.std.proofs.lemmas.List.Sums.{sum_by-append, fold-append}
-use Rattle.h3_field.specs.Field.{Field, field_size, section_size}
+use Rattle.h3_field.specs.Field.{Field, field_size}
 use Rattle.std.specs.Prelude.{IfOk}
 use Rattle.h3_field.specs.declared.decoder_error.DecoderError.{DecoderError}
 use Rattle.h3_qpack.specs.declared.within.DecodedWithin.{DecodedWithin}
 use Rattle.h3_qpack.specs.declared.within.DecodedWithin.TheVariants.{Fields, TooLarge}
 use Rattle.h3_qpack.specs.TableState.{TableState}
 use Rattle.h3_qpack.specs.DecodedSection.{fields_in}
-use Rattle.h3_qpack.specs.Sizes.{told_size, value_after, last_value, Counted, counted, counted_on, IsTooLarge, IsWithin}
+use Rattle.h3_qpack.specs.Sizes.{told_size, value_after, last_value, counted, counted_on, IsTooLarge, IsWithin}
 use Rattle.h3_qpack.proofs.FieldsIn.{AreRead}
 
 pub size_more : (fields : List Field) (f : Field) → min (told_size fields + field_size f) (2 ^ 64 - 1) ≡ told_size (fields ++ f ∷ [])

@@ -1,13 +1,11 @@
 -- However the bytes of an encoder or of a decoder are cut, they come to the same.
 use Rattle.std.proofs.Common.{◌≡◌, inl, inr, ℕ, Bool, true, false, List, [], ◌∷◌, ◌++◌, refl, ap, sym, ◌∙◌}
-use Rattle.h3_field.specs.Reading.{Whole, Bad}
 use Rattle.h3_field.specs.Instruction.{DecoderInstruction}
-use Rattle.h3_field.specs.InstructionReading.{instruction, decoder_instruction}
 use Rattle.h3_field.specs.InstructionLaws.{instruction_stable, decoder_instruction_stable}
 use Rattle.h3_qpack.specs.DecoderState.{DecoderState}
 use Rattle.h3_qpack.specs.EncoderHistory.{EncoderHistory, encoder_after, encoder_after_all}
 use Rattle.h3_qpack.specs.Instructions.{NoInstruction, HasRead, BeginsBad, AreDecoderInstructions, NoDecoderInstruction, NextDecoderInstruction, AreAccepted, BeginsRefused}
-use Rattle.h3_qpack.specs.Hearing.{Heard, heard, hear, heard_with, heard_then, StopsAt, IsHeardAs, Listened, listened, listen, listened_with, listened_then, StopsBefore, IsListenedAs}
+use Rattle.h3_qpack.specs.Hearing.{heard, hear, heard_with, heard_then, StopsAt, Listened, listened, listen, listened_with, listened_then, StopsBefore, IsListenedAs}
 use Rattle.h3_qpack.proofs.DecoderFronts.{read_pieces}
 use Rattle.h3_qpack.proofs.HearingLaws.{heard_is, heard_as_value, listened_is, listened_as_value}
 

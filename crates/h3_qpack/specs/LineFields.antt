@@ -1,5 +1,4 @@
 -- The field of a line that was read, wherever its bytes lie.
-use Rattle.std.specs.Prelude.{ℕ}
 use Rattle.h3_field.specs.Field.{Field}
 use Rattle.h3_qpack.specs.declared.lines.Source.{Source}
 use Rattle.h3_qpack.specs.declared.lines.Source.TheVariants.{Own, Entry, Named}

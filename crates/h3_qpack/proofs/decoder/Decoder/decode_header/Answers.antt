@@ -1,4 +1,3 @@
-use Rattle.std.proofs.Common.{◌∙◌}
 use Rattle.h3_qpack.specs.DecodedSection.{Fields}
 use Rattle.h3_qpack.proofs.DecodedLaws.{section_of_value, refused_section}
 use Rattle.h3_qpack.proofs.decoder.Decoder.decode_header.Goals as goal

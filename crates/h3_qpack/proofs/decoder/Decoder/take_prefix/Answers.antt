@@ -1,4 +1,4 @@
-use Rattle.std.proofs.Common.{◌≡◌, unwrap_or, refl, ◌∙◌, ap, arith}
+use Rattle.std.proofs.Common.{unwrap_or, ◌∙◌, ap, arith}
 use Rattle.h3_qpack.specs.DecoderState.{count_capacity}
 use Rattle.h3_qpack.proofs.Prefixes.{Begun, prefix_read, has_prefix, no_prefix}
 use Rattle.h3_qpack.proofs.DecodedLaws.{section_lines, section_missing, section_refused, prefix_refused}

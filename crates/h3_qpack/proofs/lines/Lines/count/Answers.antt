@@ -1,4 +1,4 @@
-use Rattle.std.proofs.Common.{[], ◌∷◌, ◌++◌, refl, ap, sym, ◌∙◌}
+use Rattle.std.proofs.Common.{[], ◌∷◌, ◌++◌, refl, ap, ◌∙◌}
 use Rattle.h3_qpack.specs.Sizes.{counted_on}
 use Rattle.h3_qpack.proofs.FieldsIn.{none_read, one_read, all_read, bad_read}
 use Rattle.h3_qpack.proofs.InsertionsAt.{reason_map}
