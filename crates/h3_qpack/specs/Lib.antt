@@ -30,3 +30,7 @@ pub mod Expected
 pub mod Views
 pub mod EncoderView
 pub mod Worked
+pub mod DecodedSection
+pub mod LineFields
+pub mod Sizes
+pub mod Hearing

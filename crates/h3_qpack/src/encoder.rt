@@ -13,6 +13,7 @@ ghost use Rattle.h3_qpack.specs.TableState.{with_capacity};
 ghost use Rattle.h3_field.specs.Instruction.{encoder_bytes};
 ghost use Rattle.h3_field.specs.Instruction.EncoderInstruction.{SetCapacity};
 ghost use Rattle.h3_qpack.specs.Instructions.{BeginsRefused};
+ghost use Rattle.h3_qpack.specs.Hearing.{HasListened};
 ghost use Rattle.h3_qpack.specs.EncoderAnswers.{HasReadDecoderInstructions, AnswersDecoderInstruction, IsDecoderInstructionRefusal, IsSizeRefusal};
 
 use crate::dynamic::DynamicTable;
@@ -155,6 +156,8 @@ impl Encoder {
         ensures rest { read.new ≡ drop (length read.old - length read.new) read.old }
         ensures ok { OnOk result (decoder_instruction read.new ≡ Unfinished) }
         ensures err { IfErr result (λ e. ((s : EncoderHistory) → self.new ≡ encoder_state s → BeginsRefused s read.new) × IsDecoderInstructionRefusal (decoder_instruction read.new) e) }
+        ensures value { OnOk result ((s : EncoderHistory) → self.old ≡ encoder_state s → HasListened s self.new read.old read.new false) }
+        ensures refused { OnErr result ((s : EncoderHistory) → self.old ≡ encoder_state s → HasListened s self.new read.old read.new true) }
     {
         while read.remaining() > 0 {
             let is_read = match self.take_instruction(read) {
