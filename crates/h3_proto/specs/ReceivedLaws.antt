@@ -1,9 +1,10 @@
 -- Settings that are kept, or announced, are received as they are.
-use Rattle.std.proofs.Common.{◌≡◌, ◌⊎◌, inl, inr, ℕ, ◌+◌, ◌*◌, ◌^◌, ◌<◌, ◌≤◌, ◌==◌, ◌&&◌, ◌||◌, Bool, true, false, not, nat_le, if◌then◌else◌, List, [], ◌∷◌, ◌++◌, length, Option, Some, Result, Ok, Err, refl, ap, sym, ◌∙◌, subst, arith, append_assoc, append-nil}
+use Rattle.std.proofs.Common.{◌≡◌, ◌⊎◌, inl, inr, ℕ, ◌+◌, ◌*◌, ◌^◌, ◌<◌, ◌≤◌, ◌==◌, ◌&&◌, ◌||◌, Bool, true, false, not, nat_le, if◌then◌else◌, List, [], ◌∷◌, ◌++◌, Option, Some, Result, Ok, Err, refl, ap, sym, ◌∙◌, subst, arith, append_assoc, append-nil, length, take, slice_set}
 use Rattle.std.specs.Prelude.{All}
 use Rattle.std.specs.List.{AllByRecursion, list_any, list_all}
 use Rattle.std.proofs.lemmas.Bool.{and_parts, lt-leb, leb-false, eqb-true, eq-eqb, not-true}
-use Rattle.std.proofs.lemmas.List.Elements.{All-head, All-tail, All-from_recursion}
+use Rattle.std.proofs.lemmas.List.{take_more_set, length-set}
+use Rattle.std.proofs.lemmas.List.Elements.{All-head, All-tail, All-from_recursion, All-push}
 use Rattle.h3_proto.specs.Ids.{reserved}
 use Rattle.h3_proto.specs.Pairs.{IsPair, payload_of}
 use Rattle.h3_proto.specs.PayloadLaws.{written_is_read}
@@ -126,17 +127,16 @@ announced_is c grease pairs h = by_tests _ _ refl refl h
     by_tests false false e f h = record { size = e; sessions = f; pairs_are = same_ok (grease_pairs c.send_grease grease ++ own_pairs c.settings) pairs h }
 
 own_are_pairs : (s : Settings) (more : List (ℕ × ℕ)) → nat_le (2 ^ 62) s.max_field_section_size ≡ false → nat_le (2 ^ 62) s.max_webtransport_sessions ≡ false → AllByRecursion IsPair more → AllByRecursion IsPair (own_pairs s ++ more)
-own_are_pairs s more size sessions each = (
-  record { id = omega arith; value = leb-false (2 ^ 62) s.max_field_section_size size },
-  record { id = omega arith; value = flag_bound s.enable_extended_connect },
-  record { id = omega arith; value = flag_bound s.enable_webtransport },
-  record { id = omega arith; value = flag_bound s.enable_datagram },
-  record { id = omega arith; value = leb-false (2 ^ 62) s.max_webtransport_sessions sessions },
-  each,
-)
+own_are_pairs s more size sessions each =
+    let size_is : IsPair (6, s.max_field_section_size) = record { id = omega arith; value = leb-false (2 ^ 62) s.max_field_section_size size } in
+    let connect : IsPair (8, flag s.enable_extended_connect) = record { id = omega arith; value = flag_bound s.enable_extended_connect } in
+    let webtransport : IsPair (0x2b603742, flag s.enable_webtransport) = record { id = omega arith; value = flag_bound s.enable_webtransport } in
+    let datagram : IsPair (0x33, flag s.enable_datagram) = record { id = omega arith; value = flag_bound s.enable_datagram } in
+    let sessions_are : IsPair (0x2b603743, s.max_webtransport_sessions) = record { id = omega arith; value = leb-false (2 ^ 62) s.max_webtransport_sessions sessions } in
+    (size_is, (connect, (webtransport, (datagram, (sessions_are, each)))))
 
 limits_are_pairs : (capacity blocked : ℕ) → capacity < 2 ^ 62 → blocked < 2 ^ 62 → AllByRecursion IsPair (table_pairs capacity blocked)
-limits_are_pairs capacity blocked h k = (record { id = omega arith; value = h }, record { id = omega arith; value = k }, tt)
+limits_are_pairs capacity blocked h k = (record { id = omega arith; value = h }, (record { id = omega arith; value = k }, tt))
 
 with_grease : (send : Bool) (n : ℕ) (pairs : List (ℕ × ℕ)) → n < 0x210842108421083 → AllByRecursion IsPair pairs → AllByRecursion IsPair (grease_pairs send n ++ pairs)
 with_grease true n pairs h each = (record { id = omega (arith, h); value = omega arith }, each)
@@ -150,9 +150,9 @@ received_behind c grease pairs more a low each known d =
     let joined : grease_pairs c.send_grease grease ++ (own_pairs c.settings ++ more) ≡ pairs ++ more =
     sym (append_assoc (grease_pairs c.send_grease grease) (own_pairs c.settings) more) ∙ ap (λ l. l ++ more) a.pairs_are in
     ap (λ l. settings_of (payload_of l)) (sym joined)
-    ∙ written_is_read (grease_pairs c.send_grease grease ++ (own_pairs c.settings ++ more)) (All-from_recursion IsPair _ all)
+    ∙ written_is_read (grease_pairs c.send_grease grease ++ (own_pairs c.settings ++ more)) (All-from_recursion IsPair (grease_pairs c.send_grease grease ++ (own_pairs c.settings ++ more)) all)
     ∙ grease_let_go c.send_grease grease (own_pairs c.settings ++ more)
-    ∙ all_received [] (own_pairs c.settings ++ more) none_kept (All-from_recursion IsPair _ own) known d
+    ∙ all_received [] (own_pairs c.settings ++ more) none_kept (All-from_recursion IsPair (own_pairs c.settings ++ more) own) known d
 
 -- what an end announces is received without the setting that has no meaning
 pub announced_received : (c : Config) (grease : ℕ) (pairs : List (ℕ × ℕ)) → grease < 0x210842108421083 → announced c grease ≡ Ok pairs → settings_of (payload_of pairs) ≡ Ok (own_pairs c.settings)
@@ -199,3 +199,20 @@ differ_more (k ∷ kept) p d new =
           let turned : (p.0 == k.0) ≡ false = is_false (p.0 == k.0) (λ e. let same = eq-eqb k.0 p.0 (sym (eqb-true p.0 k.0 e)) in cc) in
           rw (has_more k.0 kept p none turned, differ_more kept p parts.1 (rw apart at new)) refl
     ]
+
+-- What is kept in the first places of an array of eight.
+pub record HasKept (entries : List (ℕ × ℕ)) (len : ℕ) : Type 0 where
+  pub few : len ≤ 8
+  pub places : length entries ≡ 8
+  pub pairs : All IsPair (take len entries)
+  pub differ : ids_differ (take len entries) ≡ true
+
+pub kept_more : (entries : List (ℕ × ℕ)) (len : ℕ) (p : ℕ × ℕ) → HasKept entries len → len < 8 → IsPair p → has_id p.0 (take len entries) ≡ false → HasKept (slice_set entries len p) (len + 1)
+kept_more entries len p k room pair new =
+    let more = take_more_set entries len p (omega (arith, room, k.places)) in
+    record {
+      few = omega arith;
+      places = length-set entries len p ∙ k.places;
+      pairs = subst (λ l. All IsPair l) (sym more) (All-push IsPair (take len entries) p k.pairs pair);
+      differ = subst (λ l. ids_differ l ≡ true) (sym more) (differ_more (take len entries) p k.differ new);
+    }

@@ -208,6 +208,7 @@ impl Settings {
         ensures pairs { All IsPair self.now }
         ensures differ { ids_differ self.now ≡ true }
     {
+        let _len = self.len;
     }
 
     /// How many bytes the payload has, at most `MAX_ENCODED_SIZE`.
