@@ -38,7 +38,8 @@ abbrev pub released : ℕ → List UnacknowledgedSection → List Unacknowledged
 released stream [] = []
 released stream (section ∷ sections) = if section.stream == stream then sections else section ∷ released stream sections
 
--- the encoder after an instruction of the decoder. The known received count stops at the greatest number of 64 bits
+-- the encoder after an instruction of the decoder. The known received count stops at the greatest number of 64 bits.
+-- That an increment is not 0, and not past what was sent (RFC 9204, section 4.4.3), is not enforced
 abbrev pub encoder_after : EncoderHistory → DecoderInstruction → EncoderHistory
 encoder_after s (Acknowledge stream) = record s { tracked = released stream s.tracked }
 encoder_after s (CancelStream stream) = record s { tracked = released stream (released stream s.tracked) }
