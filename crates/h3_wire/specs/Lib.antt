@@ -27,3 +27,5 @@ pub mod Cut
 pub mod Texts
 pub mod UnfinishedLaws
 pub mod GivesLaws
+pub mod Asking
+pub mod AskingLaws
