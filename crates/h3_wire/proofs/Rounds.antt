@@ -11,7 +11,7 @@ use Rattle.h3_wire.specs.declared.stream.Received.{Received}
 use Rattle.h3_wire.specs.Source.{Answer}
 use Rattle.h3_wire.specs.Streams.{Buffered, Framing, stream_part, is_open}
 use Rattle.h3_wire.specs.Tries.{Decoding}
-use Rattle.h3_wire.specs.Asking.{Asks, Looks, IsRound, Rounds, fails, payload_found, at_end_of, ReadsOnce, no_memory, takes, is_short, data_of, TakesFirst}
+use Rattle.h3_wire.specs.Asking.{Asks, Looks, IsRound, Rounds, read_fails, payload_found, at_end_of, ReadsOnce, no_memory, takes, is_short, data_of, TakesFirst}
 
 abbrev pub framed : {S : Type 0} → Buffered S → PayloadLeft → Decoding → Framing S
 framed s p d = record { buffered = s.buffered; pieces = s.pieces; source = s.source; is_eos = s.is_eos; payload = p; decoder = d }
@@ -26,7 +26,7 @@ round answers now inside told read took found after left view asks looks behind 
 pub round_fails : {S : Type 0} (answers : S → Answer → S → Type 0) (now inside : Framing S) (read : Buffered S) (e : FrameStreamError) → inside ≡ now → Asks answers (stream_part inside) (Err e) read
     → Rounds answers now (Ready (Err e)) (framed read inside.payload inside.decoder)
 round_fails answers now inside read e view asks =
-    subst (λ x. Rounds answers x (Ready (Err e)) (framed read inside.payload inside.decoder)) view (fails inside (framed read inside.payload inside.decoder) e asks refl refl)
+    subst (λ x. Rounds answers x (Ready (Err e)) (framed read inside.payload inside.decoder)) view (read_fails inside (framed read inside.payload inside.decoder) e asks refl refl)
 
 -- at the end bytes are left, or none
 pub some_at_end : (left : List ℕ) → 0 < length left → at_end_of left ≡ Ready (Err stream.UnexpectedEnd)
@@ -38,7 +38,7 @@ none_at_end [] h = refl
 none_at_end (byte ∷ bytes) h = absurd (omega arith)
 
 module _ {S : Type 0} (answers : S → Answer → S → Type 0) (old mid new : Framing S) (told : Received) (under_way : is_open old.payload ≡ true) (asks : Asks answers (stream_part old) (Ok told) (stream_part mid))
-  (same_payload : mid.payload ≡ old.payload) (same_decoder : mid.decoder ≡ old.decoder) (whole : is_short told old.payload (stream_part mid) ≡ false) where
+    (same_payload : mid.payload ≡ old.payload) (same_decoder : mid.decoder ≡ old.decoder) (whole : is_short told old.payload (stream_part mid) ≡ false) where
   -- bytes of the payload are taken, or none is there
   pub takes_once : (taken : Option (List ℕ)) → TakesFirst (stream_part mid) mid.payload taken new → new.decoder ≡ mid.decoder → ReadsOnce answers old (data_of told taken) new
   takes_once taken first behind =

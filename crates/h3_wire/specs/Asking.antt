@@ -74,8 +74,8 @@ IsRoundBefore answers old new = (told : Received) × (found : Result (Option (Fr
 -- `poll_next` goes in rounds: an error of the read is answered at once, and another round comes only where more bytes came
 -- that end no frame.
 pub data Rounds {S : Type 0} (answers : S → Answer → S → Type 0) : Framing S → Poll (Result (Option (Frame PayloadLen)) FrameStreamError) → Framing S → Type 0 where
-  fails : (old new : Framing S) (e : FrameStreamError) → Asks answers (stream_part old) (Err e) (stream_part new) → new.payload ≡ old.payload → new.decoder ≡ old.decoder → Rounds answers old (Ready (Err e)) new
-  ends_with : (old new : Framing S) (told : Received) (found : Result (Option (Frame PayloadLen)) FrameStreamError) (answer : Poll (Result (Option (Frame PayloadLen)) FrameStreamError)) → IsRound answers old told found new
+  read_fails : (old new : Framing S) (e : FrameStreamError) → Asks answers (stream_part old) (Err e) (stream_part new) → new.payload ≡ old.payload → new.decoder ≡ old.decoder → Rounds answers old (Ready (Err e)) new
+  answers_with : (old new : Framing S) (told : Received) (found : Result (Option (Frame PayloadLen)) FrameStreamError) (answer : Poll (Result (Option (Frame PayloadLen)) FrameStreamError)) → IsRound answers old told found new
       → answer_of told found new.buffered ≡ Some answer → Rounds answers old answer new
   goes_on : (old mid new : Framing S) (told : Received) (found : Result (Option (Frame PayloadLen)) FrameStreamError) (answer : Poll (Result (Option (Frame PayloadLen)) FrameStreamError)) → IsRound answers old told found mid
       → answer_of told found mid.buffered ≡ None → Rounds answers mid answer new → Rounds answers old answer new

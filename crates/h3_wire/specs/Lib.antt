@@ -29,3 +29,5 @@ pub mod UnfinishedLaws
 pub mod GivesLaws
 pub mod Asking
 pub mod AskingLaws
+pub mod Starting
+pub mod StartingLaws

@@ -1,7 +1,6 @@
 use Rattle.std.proofs.Common.{refl, sym, ap, ◌∙◌, length, Some, None}
 use Rattle.h3_wire.specs.declared.stream.Received.TheVariants as received
-use Rattle.h3_wire.specs.Asking.{ReadsOnce}
-use Rattle.h3_wire.specs.Asking.ReadsOnce.{fails, cut_short}
+use Rattle.h3_wire.specs.Asking.{fails, cut_short}
 use Rattle.h3_wire.specs.Cut.{is_cut_short}
 use Rattle.h3_wire.proofs.Rounds.{takes_once, refused_once}
 use Rattle.h3_wire.specs.Source.{done}

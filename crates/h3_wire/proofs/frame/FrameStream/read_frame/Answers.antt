@@ -9,7 +9,7 @@ use Rattle.h3_wire.specs.Streams.{Framing}
 use Rattle.h3_wire.specs.declared.quic.Poll.TheVariants.{Ready, Pending}
 use Rattle.h3_wire.specs.declared.frame.errors.FrameStreamError.TheVariants as stream
 use Rattle.h3_wire.specs.declared.stream.Received.TheVariants as received
-use Rattle.h3_wire.specs.Asking.{ends_with}
+use Rattle.h3_wire.specs.Asking.{answers_with}
 use Rattle.h3_wire.proofs.Rounds.{round, round_fails, some_at_end, none_at_end}
 use Rattle.h3_wire.proofs.TakenFrames.{taken, taken_fewer, polls_end, polls_error, polls_frame, polls_same}
 use Rattle.h3_wire.proofs.frame.FrameStream.read_frame.Goals as goal
@@ -135,16 +135,16 @@ pub returns-in-More-clause-round : goal.returns-in-More-clause-round
 returns-in-More-clause-round g c = (received.More, Ok None, (round g.S.RecvStream.answers c.args.self.now _ received.More c.receive.new.self c.take_frame.new.self (Ok None) c.take_frame.new.decoder c.self.inside.payload c.self.view_is (rw c.in-More.is at c.in-Ok.ensures.asks) (record { gives = rw c.in-Ok-None.field-0-is at c.in-Ok-None.ensures.gives; counts = rw c.in-Ok-None.field-0-is at c.in-Ok-None.ensures.counts; pieces = c.take_frame.ensures.pieces; source = c.take_frame.ensures.source; is_eos = c.take_frame.ensures.is_eos }) refl), refl)
 
 pub returns-in-Nothing-clause-round : goal.returns-in-Nothing-clause-round
-returns-in-Nothing-clause-round g c = ends_with _ _ received.Nothing (Ok None) Pending (round g.S.RecvStream.answers c.args.self.now _ received.Nothing c.receive.new.self c.take_frame.new.self (Ok None) c.take_frame.new.decoder c.self.inside.payload c.self.view_is (rw c.in-Nothing.is at c.in-Ok.ensures.asks) (record { gives = rw c.in-Ok-None.field-0-is at c.in-Ok-None.ensures.gives; counts = rw c.in-Ok-None.field-0-is at c.in-Ok-None.ensures.counts; pieces = c.take_frame.ensures.pieces; source = c.take_frame.ensures.source; is_eos = c.take_frame.ensures.is_eos }) refl) refl
+returns-in-Nothing-clause-round g c = answers_with _ _ received.Nothing (Ok None) Pending (round g.S.RecvStream.answers c.args.self.now _ received.Nothing c.receive.new.self c.take_frame.new.self (Ok None) c.take_frame.new.decoder c.self.inside.payload c.self.view_is (rw c.in-Nothing.is at c.in-Ok.ensures.asks) (record { gives = rw c.in-Ok-None.field-0-is at c.in-Ok-None.ensures.gives; counts = rw c.in-Ok-None.field-0-is at c.in-Ok-None.ensures.counts; pieces = c.take_frame.ensures.pieces; source = c.take_frame.ensures.source; is_eos = c.take_frame.ensures.is_eos }) refl) refl
 
 pub returns-then-remaining-gt0-clause-round : goal.returns-then-remaining-gt0-clause-round
 returns-then-remaining-gt0-clause-round g c =
-    ends_with _ _ received.End (Ok None) (Ready (Err stream.UnexpectedEnd)) (round g.S.RecvStream.answers c.args.self.now _ received.End c.receive.new.self c.take_frame.new.self (Ok None) c.take_frame.new.decoder c.self.inside.payload c.self.view_is (rw c.in-End.is at c.in-Ok.ensures.asks) (record { gives = rw c.in-Ok-None.field-0-is at c.in-Ok-None.ensures.gives; counts = rw c.in-Ok-None.field-0-is at c.in-Ok-None.ensures.counts; pieces = c.take_frame.ensures.pieces; source = c.take_frame.ensures.source; is_eos = c.take_frame.ensures.is_eos }) refl)
+    answers_with _ _ received.End (Ok None) (Ready (Err stream.UnexpectedEnd)) (round g.S.RecvStream.answers c.args.self.now _ received.End c.receive.new.self c.take_frame.new.self (Ok None) c.take_frame.new.decoder c.self.inside.payload c.self.view_is (rw c.in-End.is at c.in-Ok.ensures.asks) (record { gives = rw c.in-Ok-None.field-0-is at c.in-Ok-None.ensures.gives; counts = rw c.in-Ok-None.field-0-is at c.in-Ok-None.ensures.counts; pieces = c.take_frame.ensures.pieces; source = c.take_frame.ensures.source; is_eos = c.take_frame.ensures.is_eos }) refl)
     (ap Some (some_at_end _ (subst (λ n. 0 < n) c.remaining.ensures c.if-remaining-gt0.true)))
 
 pub returns-in-End-clause-round : goal.returns-in-End-clause-round
 returns-in-End-clause-round g c =
-    ends_with _ _ received.End (Ok None) (Ready (Ok None)) (round g.S.RecvStream.answers c.args.self.now _ received.End c.receive.new.self c.take_frame.new.self (Ok None) c.take_frame.new.decoder c.self.inside.payload c.self.view_is (rw c.in-End.is at c.in-Ok.ensures.asks) (record { gives = rw c.in-Ok-None.field-0-is at c.in-Ok-None.ensures.gives; counts = rw c.in-Ok-None.field-0-is at c.in-Ok-None.ensures.counts; pieces = c.take_frame.ensures.pieces; source = c.take_frame.ensures.source; is_eos = c.take_frame.ensures.is_eos }) refl)
+    answers_with _ _ received.End (Ok None) (Ready (Ok None)) (round g.S.RecvStream.answers c.args.self.now _ received.End c.receive.new.self c.take_frame.new.self (Ok None) c.take_frame.new.decoder c.self.inside.payload c.self.view_is (rw c.in-End.is at c.in-Ok.ensures.asks) (record { gives = rw c.in-Ok-None.field-0-is at c.in-Ok-None.ensures.gives; counts = rw c.in-Ok-None.field-0-is at c.in-Ok-None.ensures.counts; pieces = c.take_frame.ensures.pieces; source = c.take_frame.ensures.source; is_eos = c.take_frame.ensures.is_eos }) refl)
     (ap Some (none_at_end _ (omega (arith, c.remaining.ensures, c.if-remaining-gt0.false))))
 
 pub returns-in-Err-clause-round : goal.returns-in-Err-clause-round
@@ -152,11 +152,11 @@ returns-in-Err-clause-round g c = round_fails g.S.RecvStream.answers c.args.self
 
 pub returns-in-Err-take_frame-clause-round : goal.returns-in-Err-take_frame-clause-round
 returns-in-Err-take_frame-clause-round g c =
-    ends_with _ _ c.in-Ok.received (Err c.in-Err-take_frame.e) (Ready (Err c.in-Err-take_frame.e)) (round g.S.RecvStream.answers c.args.self.now _ c.in-Ok.received c.receive.new.self c.take_frame.new.self (Err c.in-Err-take_frame.e) c.take_frame.new.decoder c.self.inside.payload c.self.view_is c.in-Ok.ensures.asks (record { gives = c.in-Err-take_frame.ensures.gives; counts = c.in-Err-take_frame.ensures.counts; pieces = c.take_frame.ensures.pieces; source = c.take_frame.ensures.source; is_eos = c.take_frame.ensures.is_eos }) refl) refl
+    answers_with _ _ c.in-Ok.received (Err c.in-Err-take_frame.e) (Ready (Err c.in-Err-take_frame.e)) (round g.S.RecvStream.answers c.args.self.now _ c.in-Ok.received c.receive.new.self c.take_frame.new.self (Err c.in-Err-take_frame.e) c.take_frame.new.decoder c.self.inside.payload c.self.view_is c.in-Ok.ensures.asks (record { gives = c.in-Err-take_frame.ensures.gives; counts = c.in-Err-take_frame.ensures.counts; pieces = c.take_frame.ensures.pieces; source = c.take_frame.ensures.source; is_eos = c.take_frame.ensures.is_eos }) refl) refl
 
 pub returns-in-Ok-Some-clause-round : goal.returns-in-Ok-Some-clause-round
 returns-in-Ok-Some-clause-round g c =
-    ends_with _ _ c.in-Ok.received (Ok (Some c.in-Ok-Some.frame)) (Ready (Ok (Some c.in-Ok-Some.frame))) (round g.S.RecvStream.answers c.args.self.now _ c.in-Ok.received c.receive.new.self c.take_frame.new.self (Ok (Some c.in-Ok-Some.frame)) c.take_frame.new.decoder c.payload_of-self-inside.result c.self.view_is c.in-Ok.ensures.asks (record { gives = rw c.in-Ok-Some.field-0-is at c.in-Ok-Some.ensures.gives; counts = rw c.in-Ok-Some.field-0-is at c.in-Ok-Some.ensures.counts; pieces = c.take_frame.ensures.pieces; source = c.take_frame.ensures.source; is_eos = c.take_frame.ensures.is_eos }) c.payload_of-self-inside.ensures) refl
+    answers_with _ _ c.in-Ok.received (Ok (Some c.in-Ok-Some.frame)) (Ready (Ok (Some c.in-Ok-Some.frame))) (round g.S.RecvStream.answers c.args.self.now _ c.in-Ok.received c.receive.new.self c.take_frame.new.self (Ok (Some c.in-Ok-Some.frame)) c.take_frame.new.decoder c.payload_of-self-inside.result c.self.view_is c.in-Ok.ensures.asks (record { gives = rw c.in-Ok-Some.field-0-is at c.in-Ok-Some.ensures.gives; counts = rw c.in-Ok-Some.field-0-is at c.in-Ok-Some.ensures.counts; pieces = c.take_frame.ensures.pieces; source = c.take_frame.ensures.source; is_eos = c.take_frame.ensures.is_eos }) c.payload_of-self-inside.ensures) refl
 
 pub returns-in-End-clause-polls : goal.returns-in-End-clause-polls
 returns-in-End-clause-polls g c =
