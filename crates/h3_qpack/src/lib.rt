@@ -1,6 +1,7 @@
 //! QPACK's dynamic table (RFC 9204): what a decoder reads, what an encoder writes, and the law of their sessions.
 #![tactic(auto)]
 
+mod pending_section;
 pub mod decoder;
 pub mod dynamic;
 #[cfg(test)]
@@ -14,7 +15,6 @@ pub mod examples;
 mod increment;
 mod index;
 pub mod laws;
-mod pending_section;
 #[cfg(test)]
 mod run_tests;
 mod section;
@@ -33,5 +33,6 @@ pub use h3_field::{
     Decoded, DecoderError, EncoderError, Error, HeaderField, SliceCursor, decode_stateless,
     encode_stateless,
 };
+pub use h3_field::{block, cursor, field, parse_error, prefix_int, prefix_string, static_, stream, vas};
 pub use session::{SessionAnswer, SessionEvent, run};
 pub use view::DynamicTableDecoder;
