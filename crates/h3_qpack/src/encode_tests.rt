@@ -29,7 +29,11 @@ fn new_test_encoder(alloc: Global, capacity: usize, limit: usize) -> Result<Test
 }
 
 /// Writes a section of one field.
-fn send_one(test_encoder: &mut TestEncoder, stream: u64, field: HeaderField) -> Result<usize, Fail> {
+fn send_one(
+    test_encoder: &mut TestEncoder,
+    stream: u64,
+    field: HeaderField,
+) -> Result<usize, Fail> {
     let fields = [field];
     if fields[0].mem_size() > 1000 {
         return Err(Fail::from("size"));
@@ -37,7 +41,12 @@ fn send_one(test_encoder: &mut TestEncoder, stream: u64, field: HeaderField) -> 
     test_encoder.block.clear();
     let count = test_encoder
         .encoder
-        .encode(stream, &mut test_encoder.block, &mut test_encoder.out, &fields)
+        .encode(
+            stream,
+            &mut test_encoder.block,
+            &mut test_encoder.out,
+            &fields,
+        )
         .map_err(|_| "refused")?;
     Ok(count)
 }
@@ -58,7 +67,12 @@ fn send_request(test_encoder: &mut TestEncoder, stream: u64) -> Result<usize, Fa
     test_encoder.block.clear();
     let count = test_encoder
         .encoder
-        .encode(stream, &mut test_encoder.block, &mut test_encoder.out, &fields)
+        .encode(
+            stream,
+            &mut test_encoder.block,
+            &mut test_encoder.out,
+            &fields,
+        )
         .map_err(|_| "refused")?;
     Ok(count)
 }
@@ -103,11 +117,17 @@ fn names_an_older_entry_that_is_known(rt: HostRuntime) -> Result<(), Fail> {
     let mut test_encoder = new_test_encoder(rt.alloc(), 200, 1)?;
     assert_eq!(rt; send_one(&mut test_encoder, 0, field(b"x-a", b"1"))?, 1);
     let mut increment = SliceCursor::new(&[1]);
-    assert_eq!(rt; test_encoder.encoder.on_decoder_recv(&mut increment), Ok(()));
+    assert_eq!(rt;
+        test_encoder.encoder.on_decoder_recv(&mut increment),
+        Ok(())
+    );
     assert_eq!(rt; send_one(&mut test_encoder, 4, field(b"x-a", b"2"))?, 2);
     let before = test_encoder.out.len();
     assert_eq!(rt; send_one(&mut test_encoder, 8, field(b"x-a", b"3"))?, 1);
-    assert_eq!(rt; test_encoder.block.as_slice(), [2, 1, 65, 129, 103].as_slice());
+    assert_eq!(rt;
+        test_encoder.block.as_slice(),
+        [2, 1, 65, 129, 103].as_slice()
+    );
     assert_eq!(rt; test_encoder.out.len(), before);
     Ok(())
 }
