@@ -3,8 +3,8 @@ use Rattle.std.specs.Prelude.{◌<◌, ◌≤◌, ◌-◌, ◌^◌, unwrap_or}
 use Rattle.h3_qpack.specs.DecoderState.{DecoderState}
 use Rattle.h3_qpack.specs.declared.decoder.Decoder.TheInside.{Inside}
 
-abbrev pub receiver_inside : Inside → DecoderState
-receiver_inside d = record { announced = d.announced; table = d.entries }
+abbrev pub decoder_state_inside : Inside → DecoderState
+decoder_state_inside d = record { announced = d.announced; table = d.entries }
 
 -- The table has at most the capacity that was announced.
 pub record IsDecoder (d : Inside) : Type 0 where

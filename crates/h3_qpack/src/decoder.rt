@@ -48,9 +48,9 @@ impl Model for Decoder {
 
     ghost Value = { DecoderState };
 
-    ghost use Rattle.h3_qpack.specs.DecoderInside.{receiver_inside, IsDecoder};
+    ghost use Rattle.h3_qpack.specs.DecoderInside.{decoder_state_inside, IsDecoder};
 
-    ghost view = { receiver_inside };
+    ghost view = { decoder_state_inside };
 
     ghost invariant = { IsDecoder };
 }
