@@ -108,7 +108,10 @@ fn is_given_up(canceled: &Vec<u64>, stream: u64) -> bool
 }
 
 /// The fields of a section, and whether it names entries.
-fn decode_section(decoder: &Decoder, section: &PendingSection) -> Result<(Vec<HeaderField>, bool), DecoderError>
+fn decode_section(
+    decoder: &Decoder,
+    section: &PendingSection,
+) -> Result<(Vec<HeaderField>, bool), DecoderError>
     ensures ok { IfOk result (λ d. (count : ℕ) × MeansFields decoder.now section.now.bytes count d.0.items × (d.1 ≡ nat_lt 0 count)) }
     ensures err { IfErr result (IsRefusal decoder.now section.now.bytes) }
 {
@@ -157,12 +160,10 @@ impl Session {
             return SessionAnswer::Refused(Error::Encoder(EncoderError::OutOfMemory));
         }
         let mut section = Vec::new(self.alloc);
-        match self
-            .encoder
-            .encode(stream, &mut section, &mut self.encoder_stream.bytes, fields)
-        {
+        match self.encoder.encode(stream, &mut section, &mut self.encoder_stream.bytes, fields) {
             Ok(count) => {
-                self.sections.push_reserved(PendingSection::new(stream, section));
+                self.sections
+                    .push_reserved(PendingSection::new(stream, section));
                 SessionAnswer::Encoded(count)
             }
             Err(e) => SessionAnswer::Refused(Error::Encoder(e)),
