@@ -9,12 +9,15 @@ pub mod Lasts
 pub mod PeerReading
 pub mod Listeners
 pub mod StreamSets
+pub mod StreamSetLaws
 pub mod Arrivals
 pub mod Skipping
 pub mod Incoming
 pub mod Pulling
 pub mod Unidirectional
 pub mod Outgoing
+pub mod WaitingPieces
+pub mod WaitingPieceLaws
 pub mod Endpoint
 pub mod Control
 pub mod Delivering
@@ -28,3 +31,4 @@ pub mod Answers
 pub mod CallLists
 pub mod Isolation
 pub mod Shown
+pub mod StandsLaws

@@ -14,6 +14,8 @@ use Rattle.h3_connection.specs.Lasts.{last_id}
 use Rattle.h3_connection.specs.Listeners.{Decoding, Encoding}
 use Rattle.h3_connection.specs.Unidirectional.{Unidirectional}
 use Rattle.h3_connection.specs.Outgoing.{Outgoing, OwnPart, is_unsent, last_is_trailer, part_bytes, part_bytes_waiting}
+use Rattle.h3_connection.specs.WaitingPieces.{pieces_waiting}
+use Rattle.h3_wire.specs.Outgoing.{Outgoing as Piece}
 use Rattle.h3_connection.specs.OwnIds.{control_id, encoder_id, decoder_id}
 use Rattle.h3_connection.specs.PeerReading.{Peer}
 use Rattle.h3_connection.specs.Arrivals.{Arrival}
@@ -25,14 +27,14 @@ use Rattle.h3_connection.specs.declared.place.SendPlace.TheVariants.{NothingSent
 
 -- the waiting bytes of a request stream, and where its message is
 pub record OutgoingState : Type 0 where
-  pub bytes : List ℕ
+  pub pieces : List Piece
   pub place : SendPlace
   pub is_finished : Bool
   pub is_reset : Bool
 
 -- nothing was sent
 abbrev pub nothing_waits : OutgoingState
-nothing_waits = record { bytes = []; place = NothingSent; is_finished = false; is_reset = false }
+nothing_waits = record { pieces = []; place = NothingSent; is_finished = false; is_reset = false }
 
 -- a request stream, both ways
 pub record RequestState : Type 0 where
@@ -68,7 +70,7 @@ abbrev pub place_of : List OwnPart → SendPlace
 place_of parts = if is_unsent parts then NothingSent else (if last_is_trailer parts then TrailerSent else HeadSent)
 
 pub record IsOfOutgoing (o : Outgoing) (w : OutgoingState) : Type 0 where
-  pub bytes : w.bytes ≡ part_bytes_waiting o
+  pub pieces : w.pieces ≡ pieces_waiting o
   pub place : w.place ≡ place_of o.parts
   pub is_finished : w.is_finished ≡ o.is_finished
   pub is_reset : w.is_reset ≡ o.is_reset

@@ -21,10 +21,15 @@ pass cnt at k first second inside e = elim (cases_lt (length first - at) cnt) [
       ∙ sym (drop-append-le cnt (drop at first) second (omega (arith, length-drop at first)))
 ]
 
--- the same where there is no second
-pub pass_alone : (cnt at k : ℕ) (first : List ℕ) → at ≤ length first → k ≡ min cnt (length first - at) → cnt ≤ length (drop at first ++ [])
-    → drop (at + k) first ++ [] ≡ drop cnt (drop at first ++ [])
-pass_alone cnt at k first inside e few =
-    let size : length (drop at first ++ []) ≡ length (drop at first) = ap length (append-nil (drop at first)) in
-    let same : cnt - k ≡ 0 = omega (arith, size, length-drop at first) in
-    ap (λ n. drop (at + k) first ++ drop n []) (sym same) ∙ pass cnt at k first [] inside e
+-- so many of the first
+pub pass_first : (cnt at k : ℕ) (first : List ℕ) → at ≤ length first → k ≡ min cnt (length first - at) → drop (at + k) first ≡ drop cnt (drop at first)
+pass_first cnt at k first inside e = elim (cases_lt (length first - at) cnt) [
+  | inl past ↦ drop_all (at + k) first (omega arith) ∙ sym (drop-drop cnt at first ∙ drop_all (at + cnt) first (omega arith))
+  | inr within ↦
+      let same : k ≡ cnt = omega arith in
+      ap (λ n. drop (at + n) first) same ∙ sym (drop-drop cnt at first)
+]
+
+-- and the others of the second
+pub pass_second : (cnt at k : ℕ) (first second : List ℕ) → k ≡ min cnt (length first - at) → drop (cnt - k) second ≡ drop (cnt - length (drop at first)) second
+pass_second cnt at k first second e = ap (λ n. drop n second) (omega (arith, length-drop at first))

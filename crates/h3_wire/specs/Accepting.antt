@@ -81,7 +81,7 @@ abbrev pub PollsType : {S : Type 0} → (S → Answer → S → Type 0) → Poll
 PollsType answers (Ready (Ok _)) new = resolved new.kind new.id ≡ true
 PollsType answers (Ready (Err failed.EndOfStream)) new =
     ((new.is_eos ≡ true) × (start_from new.kind new.id new.buffered ≡ Short))
-    ⊎ ((e : StreamErrorIncoming) × IsStop e × Answered answers (Ready (Err e)) new.source)
-PollsType answers (Ready (Err (failed.IncomingError code))) new = Answered answers (Ready (Err (incoming.ConnectionErrorIncoming code))) new.source
-PollsType answers (Ready (Err failed.OutOfMemory)) new = Unit {0}
+    ⊎ ((e : StreamErrorIncoming) × (resolved new.kind new.id ≡ false) × IsStop e × Answered answers (Ready (Err e)) new.source)
+PollsType answers (Ready (Err (failed.IncomingError code))) new = (resolved new.kind new.id ≡ false) × Answered answers (Ready (Err (incoming.ConnectionErrorIncoming code))) new.source
+PollsType answers (Ready (Err failed.OutOfMemory)) new = resolved new.kind new.id ≡ false
 PollsType answers Pending new = (start_from new.kind new.id new.buffered ≡ Short) × Answered answers Pending new.source

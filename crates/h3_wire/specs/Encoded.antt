@@ -56,6 +56,11 @@ module _ {B : Type 0} (unread : B → List ℕ) where
   written_of (frame.Headers section) = head_encoding 1 (length section)
   written_of f = encoding_of f
 
+  -- the bytes with which a frame is handed out: of DATA its head, of any other all
+  abbrev pub needed_of : Frame B → List ℕ
+  needed_of (frame.Data b) = head_encoding 0 (length (unread b))
+  needed_of f = encoding_of f
+
   -- The length of the payload has an encoding.
   abbrev pub HasLength : Frame B → Type 0
   HasLength (frame.Data b) = length (unread b) < 2 ^ 62

@@ -30,7 +30,7 @@ length-encoding v h = of_any v (encoding v) (encoding_is_valid v h)
 pub length-head : (kind number : ℕ) → kind < 2 ^ 62 → number < 2 ^ 62 → length (head_encoding kind number) ≤ 16
 length-head kind number h k = omega (arith, length-append (encoding kind) (encoding number), length-encoding kind h, length-encoding number k)
 
-written_head : (kind number : ℕ) (behind : List ℕ) → kind < 2 ^ 62 → number < 2 ^ 62
+pub written_head : (kind number : ℕ) (behind : List ℕ) → kind < 2 ^ 62 → number < 2 ^ 62
     → frame_at (head_encoding kind number ++ behind) ≡ with_head (length (head_encoding kind number ++ behind)) kind number behind
 written_head kind number behind h k =
     let parts = append_assoc (encoding kind) (encoding number) behind in
@@ -55,7 +55,7 @@ pub written_headers : (section rest : List ℕ) → length section < 2 ^ 62 → 
 unfolding frame_of
 written_headers section rest h = written_frame 1 section rest (lit< tt) h refl refl
 
-alone_number : (id : ℕ) → id < 2 ^ 62 → varint_at (encoding id) ≡ Some (id, [])
+pub alone_number : (id : ℕ) → id < 2 ^ 62 → varint_at (encoding id) ≡ Some (id, [])
 alone_number id h = ap varint_at (sym (append-nil (encoding id))) ∙ reads_shortest id [] h
 
 -- a frame whose payload is one number
@@ -84,7 +84,7 @@ unfolding frame_of
 written_settings pairs rest h = written_frame 4 (payload_of pairs) rest (lit< tt) h refl refl
 
 -- a reserved type is none that is known
-not_session : (n : ℕ) → reserved n ≢ 0x41
+pub not_session : (n : ℕ) → reserved n ≢ 0x41
 not_session zero e = omega arith
 not_session (suc zero) e = omega arith
 not_session (suc (suc n)) e = omega arith

@@ -26,6 +26,12 @@ pub at_head : (kind number : ℕ) (bytes mid behind : List ℕ) → varint_at by
 unfolding frame_at
 at_head kind number bytes mid behind e k = ap (with_kind (length bytes)) e ∙ ap (with_number (length bytes) kind) k
 
+-- a HEADERS frame whose field section is there
+pub at_headers : (number : ℕ) (bytes mid behind : List ℕ) → varint_at bytes ≡ Some (1, mid) → varint_at mid ≡ Some (number, behind) → number ≤ length behind
+    → frame_at bytes ≡ Whole (frame.Headers (take number behind)) (drop number behind)
+unfolding frame_of
+at_headers number bytes mid behind e k there = at_head 1 number bytes mid behind e k ∙ rw (le-ltb (length behind) number there) refl
+
 -- a front that is no longer waiting
 abbrev pub IsFinished : Front → Type 0
 IsFinished (Unfinished least) = ⊥

@@ -1,5 +1,5 @@
 -- What bytes begin with, as frames (RFC 9114, section 7.1).
-use Rattle.std.specs.Prelude.{◌≡◌, ℕ, ◌<◌, ◌+◌, ◌-◌, ◌==◌, Bool, false, List, [], ◌∷◌, ◌++◌, length, take, drop, nat_lt, if◌then◌else◌, Option, Some, None, Result, Ok, Err}
+use Rattle.std.specs.Prelude.{◌≡◌, ℕ, ◌<◌, ◌≤◌, ◌+◌, ◌-◌, ◌==◌, Bool, false, List, [], ◌∷◌, ◌++◌, length, take, drop, nat_lt, if◌then◌else◌, Option, Some, None, Result, Ok, Err}
 use Rattle.std.specs.List.{list_any}
 use Rattle.std.specs.Option.{is_some}
 use Rattle.h3_coding.specs.Varint.{varint_at}
@@ -85,6 +85,15 @@ is_followed (Some p) = is_some (varint_at p.1)
 -- the bytes begin with a whole head: a type, and the number behind it
 abbrev pub has_head : List ℕ → Bool
 has_head bytes = is_followed (varint_at bytes)
+
+-- The bytes begin with a type and a number, and these follow.
+abbrev pub BeginsWithHead : ℕ → ℕ → List ℕ → List ℕ → Type 0
+BeginsWithHead kind number bytes behind = (mid : List ℕ) × (varint_at bytes ≡ Some (kind, mid)) × (varint_at mid ≡ Some (number, behind))
+
+-- The bytes begin with a HEADERS frame: a head of so many bytes, and a field section of so many.
+pub record IsHeadersFrame (bytes : List ℕ) (head size : ℕ) : Type 0 where
+  pub read : BeginsWithHead 1 size bytes (drop head bytes)
+  pub there : head + size ≤ length bytes
 
 -- only a frame whose payload is handed out wants memory
 abbrev pub TakesMemory : Front → Type 0

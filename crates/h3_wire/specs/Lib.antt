@@ -25,3 +25,5 @@ pub mod PieceLaws
 pub mod Given
 pub mod Cut
 pub mod Texts
+pub mod UnfinishedLaws
+pub mod GivesLaws

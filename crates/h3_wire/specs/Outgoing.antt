@@ -1,5 +1,5 @@
 -- What is seen of bytes that are to be sent.
-use Rattle.std.specs.Prelude.{◌≡◌, ℕ, List, [], ◌++◌, Option, Some, None}
+use Rattle.std.specs.Prelude.{◌≡◌, ℕ, List, [], ◌∷◌, ◌++◌}
 use Rattle.h3_wire.specs.Encoded.{encoding_of, lent_of, front_of}
 use Rattle.h3_wire.specs.declared.proto.frame.Frame.{Frame}
 
@@ -12,10 +12,13 @@ pub record Outgoing : Type 0 where
 abbrev pub all_of : Outgoing → List ℕ
 all_of w = w.head ++ w.payload
 
--- the bytes that a frame lends, if there is one
-abbrev pub lent : {B : Type 0} → (B → List ℕ) → Option (Frame B) → List ℕ
-lent unread None = []
-lent unread (Some f) = lent_of unread f
+abbrev pub first_of_both : List ℕ → List ℕ → List ℕ
+first_of_both [] payload = payload
+first_of_both (byte ∷ bytes) payload = byte ∷ bytes
+
+-- what is sent first: what is left of the first part, and behind it the other
+abbrev pub first_part : Outgoing → List ℕ
+first_part w = first_of_both w.head w.payload
 
 -- Nothing but these bytes, which are no payload.
 pub record IsHead (bytes : List ℕ) (w : Outgoing) : Type 0 where

@@ -28,6 +28,11 @@ abbrev pub first_of : List (List ℕ) → Option (List ℕ) × List (List ℕ)
 first_of [] = (None, [])
 first_of (p ∷ pieces) = (Some p, pieces)
 
+-- how many bytes the first piece has
+abbrev pub first_size : List (List ℕ) → ℕ
+first_size [] = 0
+first_size (p ∷ pieces) = length p
+
 -- the first piece's first bytes, at most max, and what is left
 abbrev pub chunk_of : ℕ → List (List ℕ) → Option (List ℕ) × List (List ℕ)
 chunk_of max [] = (None, [])

@@ -1,9 +1,11 @@
 //! A list of pieces of bytes that is read as one run.
-ghost use Rattle.std.specs.Prelude.{◌≡◌, ◌+◌, ◌-◌, ◌^◌, ◌<◌, ◌≤◌, ◌++◌, [], ◌∷◌, length, drop, nat_le, IfOk, IfErr, OnOk, OnErr, Some, MatchOption};
+ghost use Rattle.std.specs.Prelude.{◌≡◌, ◌+◌, ◌-◌, ◌^◌, ◌<◌, ◌≤◌, ◌++◌, [], ◌∷◌, length, drop, nat_le, IfOk, IfErr, IfSome, OnOk, OnErr, Some, MatchOption};
 ghost use Rattle.std.specs.List.{concat};
-ghost use Rattle.h3_wire.specs.Pieces.{with_piece, without, chunk_of, first_of};
+ghost use Rattle.h3_wire.specs.Accepting.{TakesNumber};
+ghost use Rattle.h3_wire.specs.Pieces.{with_piece, without, chunk_of, ending, first_of, first_size};
 
 use bytes::{Buf, Bytes};
+use h3_coding::coding::BufExt;
 use std::alloc::{AllocError, AllocFailed, Global};
 use std::collections::VecDeque;
 use std::fmt;
@@ -73,24 +75,28 @@ impl<T: Buf> BufList<T> {
         Ok(())
     }
 
-    /// Room for one more piece.
-    pub(crate) fn reserve(&mut self) -> Result<(), AllocError>
+    /// Makes room for one more piece, which `push_reserved` then takes. An `Err` comes only where
+    /// there was none, and changes nothing.
+    pub fn reserve(&mut self) -> Result<(), AllocError>
         ensures pieces { self.new.pieces ≡ self.old.pieces }
         ensures bytes { self.new.bytes ≡ self.old.bytes }
         ensures room { OnOk result (0 < self.new.room) }
         ensures full { OnErr result (self.old.room < 1) }
+        ensures kept { self.old.room ≤ self.new.room }
     {
         self.bufs.reserve(1)
     }
 
-    /// Adds a piece at the end, where there is room. An empty one keeps nothing.
-    pub(crate) fn push_reserved(&mut self, piece: T)
+    /// Adds a piece at the end, where there is room. An empty one keeps nothing. It cannot be
+    /// refused.
+    pub fn push_reserved(&mut self, piece: T)
     where
         T: Drop,
         requires room { 0 < self.old.room }
         requires fits { length self.old.bytes + length (T.unread piece) < 2 ^ 64 }
         ensures pieces { self.new.pieces ≡ with_piece self.old.pieces (T.unread piece) }
         ensures bytes { self.new.bytes ≡ self.old.bytes ++ T.unread piece }
+        ensures left { self.old.room ≤ self.new.room + 1 }
     {
         let len = piece.remaining();
         if len == 0 {
@@ -163,6 +169,37 @@ impl<T: Buf + Drop> BufList<T> {
 }
 
 impl BufList<Bytes> {
+    // How many bytes the first piece has.
+    pub(crate) fn first_len(&self) -> usize
+        ensures { result ≡ first_size self.now.pieces }
+    {
+        match self.bufs.front() {
+            Some(first) => first.len(),
+            None => 0,
+        }
+    }
+
+    /// Takes a variable-length integer (RFC 9000, section 16) from the front, where one is whole.
+    /// Otherwise nothing changes.
+    #[tactic(auto, using(crate::specs::PieceLaws::rest_same))]
+    pub fn take_var(&mut self) -> Option<u64>
+        ensures takes { TakesNumber result self.old.bytes self.new.bytes }
+        ensures below { IfSome result (λ n. n < 2 ^ 62) }
+        ensures pieces { self.new.pieces ≡ ending (length self.new.bytes) self.old.pieces }
+    {
+        self.known();
+        let mut cursor = self.cursor();
+        let number = cursor.get_var();
+        let position = cursor.position();
+        match number {
+            Ok(number) => {
+                self.advance(position);
+                Some(number)
+            }
+            Err(_) => None,
+        }
+    }
+
     /// The first piece, which leaves the list.
     pub fn take_first_chunk(&mut self) -> Option<Bytes>
         ensures pieces { (result, self.new.pieces) ≡ first_of self.old.pieces }

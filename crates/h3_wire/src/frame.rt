@@ -1,5 +1,6 @@
 //! A stream of frames.
-ghost use Rattle.std.specs.Prelude.{◌≡◌, ◌<◌, ◌≤◌, ◌-◌, ◌^◌, ℕ, List, false, true, None, [], length, MatchOption, IfOk, OnErr};
+ghost use Rattle.std.specs.Prelude.{◌≡◌, ◌<◌, ◌≤◌, ◌-◌, ◌^◌, ℕ, List, false, true, None, Ok, [], length, MatchOption, IfOk, OnErr};
+ghost use Rattle.h3_wire.specs.declared.quic.Poll.TheVariants.{Ready};
 ghost use Rattle.std.specs.Borrow.{Lends, sem};
 ghost use Rattle.h3_wire.specs.contracts.frame.FrameStream.{the_row};
 ghost use Rattle.h3_wire.specs.Source.{Asked, coming};
@@ -187,11 +188,13 @@ impl<S: RecvStream> FrameStream<S> {
         }
     }
 
-    /// The next bytes of the payload under way, and `None` at its end. The source is asked before the buffer. At a known
-    /// end the last piece of a payload that is cut short is refused, and stays.
+    /// The next bytes of the payload under way, and `None` at its end. Where no payload is under way the answer is `None`,
+    /// and nothing changes. The source is asked before the buffer. At a known end the last piece of a payload that is cut
+    /// short is refused, and stays.
     pub fn poll_data(&mut self) -> Poll<Result<Option<Bytes>, FrameStreamError>>
         requires { length (left S.rest self.old) < 2 ^ 62 }
         ensures reads { (more : List ℕ) → ReadsData S.rest result self.old self.new more }
+        ensures closed { is_open self.old.payload ≡ false → (result ≡ Ready (Ok None)) × (self.new ≡ self.old) }
         ensures polls { PollsData S.rest S.answers result self.old self.new }
         ensures asked { Asked S.answers self.old.source self.new.source }
         ensures ended { EndIsTold S.answers self.new.source self.old.is_eos self.new.is_eos }
@@ -204,6 +207,7 @@ impl<S: RecvStream> FrameStream<S> {
 
     fn poll_payload(&mut self) -> Poll<Result<Option<Bytes>, FrameStreamError>>
         requires { length (left S.rest self.old) < 2 ^ 62 }
+        ensures closed { is_open self.old.payload ≡ false → (result ≡ Ready (Ok None)) × (self.new ≡ self.old) }
         ensures polls { PollsData S.rest S.answers result self.old self.new }
         ensures asked { Asked S.answers self.old.source self.new.source }
         ensures ended { EndIsTold S.answers self.new.source self.old.is_eos self.new.is_eos }

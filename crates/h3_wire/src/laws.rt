@@ -1,8 +1,12 @@
 //! What holds of every frame. These functions do nothing: their contracts are the laws.
-ghost use Rattle.std.specs.Prelude.{◌≡◌, ℕ, List, ◌++◌};
-ghost use Rattle.h3_wire.specs.Encoded.{encoding_of, HasLength, IsReserved};
+ghost use Rattle.std.specs.Prelude.{◌≡◌, ◌<◌, ℕ, List, ◌++◌, length, take, Err};
+ghost use Rattle.h3_wire.specs.Encoded.{encoding_of, needed_of, HasLength, IsReserved};
 ghost use Rattle.h3_wire.specs.EncodedLaws.{read_back};
 ghost use Rattle.h3_wire.specs.Frames.{frame_at};
+ghost use Rattle.h3_wire.specs.Known.{Gives};
+ghost use Rattle.h3_wire.specs.UnfinishedLaws.{IsUnfinishedFront};
+ghost use Rattle.h3_wire.specs.declared.frame.errors.FrameProtocolError.{FrameProtocolError};
+ghost use Rattle.h3_wire.specs.declared.frame.errors.FrameStreamError.TheVariants as stream;
 ghost use Rattle.h3_wire.specs.Reads.{reads, then_more};
 ghost use Rattle.h3_wire.specs.declared.frame.payload_left.PayloadLeft.{PayloadLeft};
 
@@ -23,4 +27,19 @@ pub fn written_is_read<B: Buf>(frame: &Frame<B>)
 /// rest, which more bytes only continue.
 pub fn cuts_do_not_matter()
     ensures { (payload : PayloadLeft) (bytes more : List ℕ) → reads payload (bytes ++ more) ≡ then_more (reads payload bytes) more }
+{}
+
+/// Less than a frame that was written is the unfinished front of a frame: of DATA less than its
+/// head, since a DATA frame is handed out with its head alone.
+pub fn less_than_a_frame_is_unfinished<B: Buf>(frame: &Frame<B>)
+    requires length { HasLength B.unread frame.now }
+    requires reserved { IsReserved frame.now }
+    ensures { (count : ℕ) → count < length (needed_of B.unread frame.now) → IsUnfinishedFront (take count (needed_of B.unread frame.now)) }
+{
+    frame.known();
+}
+
+/// A refused frame is refused again, whatever follows it, and nothing of it is taken.
+pub fn refused_stays_refused()
+    ensures { (e : FrameProtocolError) (old new more : List ℕ) → Gives (Err (stream.Proto e)) old new → Gives (Err (stream.Proto e)) (new ++ more) (new ++ more) }
 {}

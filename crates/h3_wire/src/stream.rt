@@ -19,7 +19,6 @@ use crate::proto::frame::{Frame, PayloadLen};
 use crate::proto::stream::StreamId;
 use crate::quic::{Poll, RecvStream, StreamErrorIncoming};
 use bytes::{Buf, Bytes};
-use h3_coding::coding::BufExt;
 use std::alloc::{AllocError, Global};
 use std::fmt;
 use std::marker::Model;
@@ -27,10 +26,12 @@ use std::marker::Model;
 mod accept;
 mod head;
 mod headers;
+mod message_buf;
 mod write_buf;
 
 pub use accept::{AcceptRecvStream, AcceptedRecvStream, PollTypeError};
 pub use headers::{BidiStreamHeader, UniStreamHeader};
+pub use message_buf::MessageBuf;
 pub use write_buf::WriteBuf;
 
 /// A source, and the bytes of it that were read and not yet taken.
@@ -116,7 +117,6 @@ impl<S> BufRecvStream<S> {
     }
 
     // Takes the number at the front of what was read, where it is whole.
-    #[tactic(auto, using(crate::specs::PieceLaws::rest_same))]
     fn take_number(&mut self) -> Option<u64>
         ensures takes { TakesNumber result self.old.buffered self.new.buffered }
         ensures below { IfSome result (λ n. n < 2 ^ 62) }
@@ -124,17 +124,7 @@ impl<S> BufRecvStream<S> {
         ensures source { self.new.source ≡ self.old.source }
         ensures is_eos { self.new.is_eos ≡ self.old.is_eos }
     {
-        self.buf.known();
-        let mut cursor = self.buf.cursor();
-        let number = cursor.get_var();
-        let position = cursor.position();
-        match number {
-            Ok(number) => {
-                self.buf.advance(position);
-                Some(number)
-            }
-            Err(_) => None,
-        }
+        self.buf.take_var()
     }
 
     // Whether all that was read lies in one piece.
@@ -142,6 +132,16 @@ impl<S> BufRecvStream<S> {
         ensures { result ≡ nat_le (length self.now.pieces) 1 }
     {
         self.buf.is_one_piece()
+    }
+
+    /// The bytes that were read and not yet taken, and the source. `is_eos` tells whether its end
+    /// was told.
+    pub fn into_parts(self) -> (BufList<Bytes>, S)
+        ensures bytes { result.0.bytes ≡ self.buffered }
+        ensures pieces { result.0.pieces ≡ self.pieces }
+        ensures source { result.1 ≡ self.source }
+    {
+        (self.buf, self.stream)
     }
 
     /// Whether the end was told.

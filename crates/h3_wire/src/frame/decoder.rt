@@ -1,13 +1,13 @@
 //! Reading the frames of a buffer, one after another.
-ghost use Rattle.std.specs.Prelude.{◌≡◌, ◌<◌, ◌≤◌, None, false, length, IfOk, IfSome};
-ghost use Rattle.h3_wire.specs.Frames.{frame_at, has_head};
+ghost use Rattle.std.specs.Prelude.{◌≡◌, ◌+◌, ◌^◌, ◌<◌, ◌≤◌, None, false, length, IfOk, IfSome};
+ghost use Rattle.h3_wire.specs.Frames.{frame_at, has_head, IsHeadersFrame};
 ghost use Rattle.h3_wire.specs.Known.{Gives, Tries};
-ghost use Rattle.h3_wire.specs.Pieces.{IsRest, ending};
+ghost use Rattle.h3_wire.specs.Pieces.{IsRest, ending, first_size};
 ghost use Rattle.h3_wire.specs.Tries.{Counts, Expects, counted, needed, one_more};
 
 use super::errors::{FrameProtocolError, FrameStreamError};
 use crate::buf::BufList;
-use crate::proto::frame::{Frame, FrameError, PayloadLen};
+use crate::proto::frame::{Frame, FrameError, PayloadLen, read_headers_head};
 use bytes::{Buf, Bytes};
 use std::alloc::Global;
 use std::marker::Model;
@@ -85,7 +85,9 @@ impl FrameDecoder {
 
     /// Takes the next known frame, of DATA the head alone, and the unknown ones before it. Without
     /// a whole frame, and at an error, only unknown frames are taken. Where a call answered no
-    /// frame, the next one must find the bytes that it left, and may find more behind them.
+    /// frame, the next one must find the bytes that it left, and may find more behind them. After
+    /// want of memory the call can be made again; a frame that was refused stays at the front and
+    /// is refused again.
     pub fn decode(
         &mut self,
         alloc: Global,
@@ -136,9 +138,58 @@ impl FrameDecoder {
     }
 }
 
+// Takes the frame at the front, an unknown one too. Anything else takes nothing. A field section
+// that lies in the first piece is cut from it, and else copied.
+#[tactic(auto, using(crate::proofs::Cutting::head_there))]
+fn try_frame(alloc: Global, src: &mut BufList<Bytes>) -> Tried
+    ensures tries { Tries result (frame_at src.old.bytes) src.old.bytes src.new.bytes }
+    ensures few { has_head src.old.bytes ≡ false → length src.old.bytes < 16 }
+    ensures rest { IsRest src.old.pieces src.new.pieces }
+{
+    if let Some((head, size)) = headers_in_first_piece(src) {
+        return cut_headers(src, head, size);
+    }
+    decode_frame(alloc, src)
+}
+
+// Where a HEADERS frame lies in the first piece: how many bytes its head has, and its field section.
+fn headers_in_first_piece(src: &BufList<Bytes>) -> Option<(usize, usize)>
+    ensures is { IfSome result (λ p. IsHeadersFrame src.now.bytes p.0 p.1) }
+    ensures inside { IfSome result (λ p. p.0 + p.1 ≤ first_size src.now.pieces) }
+    ensures fits { IfSome result (λ p. p.0 + p.1 < 2 ^ 64) }
+{
+    src.known();
+    let mut cursor = src.cursor();
+    let size = read_headers_head(&mut cursor)? as usize;
+    let head = cursor.position();
+    let there = src.first_len();
+    if there < head || there - head < size {
+        return None;
+    }
+    Some((head, size))
+}
+
+// Takes a HEADERS frame that lies in the first piece. Its field section is cut from the piece.
+fn cut_headers(src: &mut BufList<Bytes>, head: usize, size: usize) -> Tried
+    requires is { IsHeadersFrame src.old.bytes head size }
+    requires inside { head + size ≤ first_size src.old.pieces }
+    requires fits { head + size < 2 ^ 64 }
+    ensures tries { Tries result (frame_at src.old.bytes) src.old.bytes src.new.bytes }
+    ensures rest { IsRest src.old.pieces src.new.pieces }
+{
+    match src.take_chunk(head + size) {
+        Ok(Some(mut section)) => {
+            section.advance(head);
+            Tried::Frame(Frame::Headers(section))
+        }
+        Ok(None) => unreachable!(),
+        Err(_) => Tried::OutOfMemory,
+    }
+}
+
 // Takes the frame at the front, an unknown one too. Anything else takes nothing.
 #[tactic(auto, using(crate::specs::PieceLaws::rest_same))]
-fn try_frame(alloc: Global, src: &mut BufList<Bytes>) -> Tried
+fn decode_frame(alloc: Global, src: &mut BufList<Bytes>) -> Tried
     ensures tries { Tries result (frame_at src.old.bytes) src.old.bytes src.new.bytes }
     ensures few { has_head src.old.bytes ≡ false → length src.old.bytes < 16 }
     ensures rest { IsRest src.old.pieces src.new.pieces }

@@ -30,6 +30,6 @@ pub enum FrameStreamError {
     Quic(StreamErrorIncoming),
     /// The stream ended inside a frame.
     UnexpectedEnd,
-    /// There was no memory. Nothing was taken, and the call can be made again.
+    /// There was no memory. Nothing but unknown frames was taken, and the call can be made again.
     OutOfMemory,
 }

@@ -16,8 +16,10 @@ mod encode;
 mod payload;
 mod show;
 
-pub(crate) use encode::{write_numbers, write_settings};
+pub(crate) use decode::read_headers_head;
+pub(crate) use encode::{write_head, write_numbers, write_settings};
 pub use h3_proto::frame::{SettingId, Settings, SettingsError};
+pub(crate) use payload::Lent;
 pub use payload::{Payload, PayloadMut};
 
 /// The type of a frame, below 2^62. A contract sees it as its number.
@@ -123,6 +125,13 @@ impl PushPromise {
         ensures section { result.section ≡ encoded }
     {
         PushPromise { id, encoded }
+    }
+
+    /// The id of the push that is promised.
+    pub fn id(&self) -> PushId
+        ensures { result ≡ self.now.id }
+    {
+        self.id
     }
 }
 

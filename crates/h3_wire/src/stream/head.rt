@@ -6,32 +6,30 @@ use bytes::BufMut;
 use std::alloc::AllocError;
 use std::marker::Model;
 
-// A stream type, and the longest front of a frame: type, length and eight settings.
-pub(super) const SIZE: usize = 152;
-
-/// At most 152 bytes, with no memory of their own. A contract sees the bytes.
+/// At most `N` bytes, with no memory of their own. A contract sees the bytes.
 #[derive(Drop)]
-pub(super) struct Head {
-    bytes: [u8; SIZE],
+pub(super) struct Head<const N: usize> {
+    bytes: [u8; N],
     len: usize,
 }
 
-impl Model for Head {
+impl<const N: usize> Model for Head<N> {
     ghost use Rattle.std.specs.Prelude.{◌≡◌, ℕ, ◌≤◌, List, length, take};
 
     ghost Value = { List ℕ };
 
     ghost view = { λ h. take h.len h.bytes };
 
-    ghost invariant = { λ h. (h.len ≤ 152) × (length h.bytes ≡ 152) };
+    ghost invariant = { λ h. (h.len ≤ N) × (length h.bytes ≡ N) × (N ≤ 152) };
 }
 
-impl Head {
-    pub(super) fn new() -> Head
+impl<const N: usize> Head<N> {
+    pub(super) fn new() -> Head<N>
+        requires { N ≤ 152 }
         ensures { result ≡ [] }
     {
         Head {
-            bytes: [0; SIZE],
+            bytes: [0; N],
             len: 0,
         }
     }
@@ -48,17 +46,18 @@ impl Head {
         requires { position ≤ length self.now }
         ensures { result.now ≡ drop position self.now }
     {
-        &self.bytes[position..self.len]
+        let all = &self.bytes[..];
+        &all[position..self.len]
     }
 }
 
-impl BufMut for Head {
+impl<const N: usize> BufMut for Head<N> {
     ghost written = { λ h. h };
 
-    ghost spare = { λ h. 152 - length h };
+    ghost spare = { λ h. N - length h };
 
     fn reserve(&mut self, additional: usize) -> Result<(), AllocError> {
-        if additional <= SIZE - self.len {
+        if additional <= N - self.len {
             Ok(())
         } else {
             Err(AllocError)
@@ -66,11 +65,12 @@ impl BufMut for Head {
     }
 
     fn put_slice(&mut self, src: &[u8]) -> Result<(), AllocError> {
-        if SIZE - self.len < src.len() {
+        if N - self.len < src.len() {
             return Err(AllocError);
         }
         let end = self.len + src.len();
-        self.bytes[self.len..end].copy_from_slice(src);
+        let all = &mut self.bytes[..];
+        all[self.len..end].copy_from_slice(src);
         self.len = end;
         Ok(())
     }

@@ -1,7 +1,7 @@
 //! How a frame is read (RFC 9114, section 7.1).
-ghost use Rattle.std.specs.Prelude.{◌≡◌, ◌<◌, ◌≤◌, false, [], length, take, drop, IfOk, IfErr, OnErr, Some};
+ghost use Rattle.std.specs.Prelude.{◌≡◌, ◌^◌, ◌<◌, ◌≤◌, false, [], length, take, drop, IfOk, IfErr, IfSome, OnErr, Some};
 ghost use Rattle.h3_coding.specs.Varint.{varint_at};
-ghost use Rattle.h3_wire.specs.Frames.{frame_at, frame_of, has_head, Decodes, IsNoNumber, TakesFront};
+ghost use Rattle.h3_wire.specs.Frames.{frame_at, frame_of, has_head, BeginsWithHead, Decodes, IsNoNumber, TakesFront};
 ghost use Rattle.h3_wire.specs.declared.proto.frame.FrameError.TheVariants as error;
 
 use super::{Frame, FrameError, FrameType, PayloadLen, PushPromise, Settings};
@@ -50,6 +50,25 @@ impl Frame<PayloadLen> {
         }
         read_payload(alloc, buf, kind, len)
     }
+}
+
+/// Takes the head of a HEADERS frame, and answers how many bytes its field section has. `None`
+/// where the front is no such head.
+pub(crate) fn read_headers_head<B: Buf>(buf: &mut B) -> Option<u64>
+    ensures reads { IfSome result (λ size. BeginsWithHead 1 size (B.unread buf.old) (B.unread buf.new)) }
+    ensures below { IfSome result (λ size. size < 2 ^ 62) }
+    ensures kept { B.kept buf.new ≡ B.kept buf.old }
+{
+    let Ok(kind) = buf.get_var() else {
+        return None;
+    };
+    if kind != FrameType::HEADERS.0 {
+        return None;
+    }
+    let Ok(size) = buf.get_var() else {
+        return None;
+    };
+    Some(size)
 }
 
 // Takes a payload that is one number.

@@ -132,8 +132,12 @@ pub(crate) fn write_numbers<W: BufMut>(
     out.write_var(second)
 }
 
-// Appends type and length, or a type and a session id.
-fn write_head<W: BufMut>(kind: FrameType, number: u64, out: &mut W) -> Result<(), WriteRefused>
+/// Appends type and length, or a type and a session id.
+pub(crate) fn write_head<W: BufMut>(
+    kind: FrameType,
+    number: u64,
+    out: &mut W,
+) -> Result<(), WriteRefused>
     requires { number < 2 ^ 62 }
     ensures ok { OnOk result (W.written out.new ≡ W.written out.old ++ head_encoding kind number) }
     ensures err { OnErr result (AppendsFront (head_encoding kind number) (W.written out.old) (W.written out.new)) }

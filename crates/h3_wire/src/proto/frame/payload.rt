@@ -1,9 +1,8 @@
 //! The bytes that a frame lends: the payload of DATA and HEADERS, and the field section of a
 //! promise.
-ghost use Rattle.std.specs.Prelude.{◌≡◌, ◌≤◌, length, drop, IfSome, IsSome, ◌↔◌};
-ghost use Rattle.bytes.specs.Unread.{IsChunkOf};
-ghost use Rattle.h3_wire.specs.Encoded.{lent_of};
-ghost use Rattle.h3_wire.specs.Lent.{lends, payload_left, payload_mut_left};
+ghost use Rattle.std.specs.Prelude.{◌≡◌, ◌^◌, ◌<◌, length, IfSome, IsSome, ◌↔◌};
+ghost use Rattle.h3_wire.specs.Encoded.{lent_of, HasLength};
+ghost use Rattle.h3_wire.specs.Lent.{lends, lent_left, payload_left, payload_mut_left};
 
 use super::Frame;
 use crate::buf::Piece;
@@ -23,6 +22,15 @@ pub enum PayloadMut<'a, B> {
     Data(&'a mut B),
     /// An encoded field section.
     Bytes(&'a mut Bytes),
+}
+
+// The bytes that a frame lends, of a frame that is no longer there.
+#[derive(Drop)]
+pub(crate) enum Lent<B> {
+    Nothing,
+    Data(B),
+    // An encoded field section.
+    Bytes(Bytes),
 }
 
 impl<B: Buf> Frame<B> {
@@ -52,40 +60,57 @@ impl<B: Buf> Frame<B> {
         }
     }
 
-    /// How many bytes the frame lends.
-    pub(crate) fn lent_len(&self) -> usize
-        ensures { result ≡ length (lent_of B.unread self.now) }
+    /// The bytes that the frame lends, without the frame.
+    pub(crate) fn into_lent(self) -> Lent<B>
+    where
+        B: Drop,
+        requires { HasLength B.unread self }
+        ensures value { lent_left B.unread result ≡ lent_of B.unread self }
+        ensures bound { length (lent_left B.unread result) < 2 ^ 62 }
     {
         match self {
-            Frame::Data(payload) => payload.remaining(),
-            Frame::Headers(section) => section.len(),
-            Frame::PushPromise(promise) => promise.encoded.len(),
-            _ => 0,
+            Frame::Data(payload) => Lent::Data(payload),
+            Frame::Headers(section) => Lent::Bytes(section),
+            Frame::PushPromise(promise) => Lent::Bytes(promise.encoded),
+            _ => Lent::Nothing,
+        }
+    }
+}
+
+impl<B: Buf> Buf for Lent<B> {
+    ghost unread = { lent_left B.unread };
+
+    fn remaining(&self) -> usize {
+        match self {
+            Lent::Nothing => 0,
+            Lent::Data(payload) => payload.remaining(),
+            Lent::Bytes(bytes) => bytes.len(),
         }
     }
 
-    /// The first of them that lie together.
-    pub(crate) fn lent_chunk(&self) -> &[u8]
-        ensures { IsChunkOf result.now (lent_of B.unread self.now) }
-    {
+    fn chunk(&self) -> &[u8] {
         match self {
-            Frame::Data(payload) => payload.chunk(),
-            Frame::Headers(section) => section.chunk(),
-            Frame::PushPromise(promise) => promise.encoded.chunk(),
-            _ => &[],
+            Lent::Nothing => &[],
+            Lent::Data(payload) => payload.chunk(),
+            Lent::Bytes(bytes) => bytes.chunk(),
         }
     }
 
-    /// Passes some of them.
-    pub(crate) fn pass_lent(&mut self, cnt: usize)
-        requires { cnt ≤ length (lent_of B.unread self.old) }
-        ensures { lent_of B.unread self.new ≡ drop cnt (lent_of B.unread self.old) }
-    {
+    fn advance(&mut self, cnt: usize) {
         match self {
-            Frame::Data(payload) => payload.advance(cnt),
-            Frame::Headers(section) => section.advance(cnt),
-            Frame::PushPromise(promise) => promise.encoded.advance(cnt),
-            _ => {}
+            Lent::Nothing => {}
+            Lent::Data(payload) => payload.advance(cnt),
+            Lent::Bytes(bytes) => bytes.advance(cnt),
+        }
+    }
+}
+
+impl<B: Piece> Piece for Lent<B> {
+    fn bytes(&self) -> &[u8] {
+        match self {
+            Lent::Nothing => &[],
+            Lent::Data(payload) => payload.bytes(),
+            Lent::Bytes(bytes) => bytes.as_slice(),
         }
     }
 }

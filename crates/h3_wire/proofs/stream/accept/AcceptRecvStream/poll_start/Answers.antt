@@ -1,4 +1,4 @@
-use Rattle.std.proofs.Common.{length, arith, refl, ◌∙◌, ap, inl, inr}
+use Rattle.std.proofs.Common.{length, arith, refl, rules, ◌∙◌, ap, inl, inr}
 use Rattle.h3_wire.specs.Source.{done}
 use Rattle.h3_wire.specs.Given.{passes_then, rest_passes, adds_passes}
 use Rattle.h3_wire.specs.PieceLaws.{rest_same}
@@ -57,7 +57,7 @@ returns-in-Err g c =
       same = asks_on rest c.args.self.now c.loop-self.self c.take_start.new.self c.ask.new.self c.loop-self.invariant.same
           (takes_on rest c.loop-self.self c.take_start.new.self c.take_start.ensures.source c.take_start.ensures.is_eos c.take_start.ensures.same) c.ask.ensures.all c.ask.ensures.kind c.ask.ensures.id;
       fewer = omega (arith, none, c.loop-self.invariant.fewer, ap length c.ask.ensures.all);
-      polls = tt;
+      polls = search rules;
       pieces = passes_then g.S.RecvStream.answers _ _ _ _ _ _ (passes_then g.S.RecvStream.answers _ _ _ _ _ _ c.loop-self.invariant.pieces (rest_passes g.S.RecvStream.answers _ _ _ _ c.take_start.ensures.source c.take_start.ensures.rest)) (adds_passes g.S.RecvStream.answers _ _ _ _ c.ask.ensures.pieces);
       asked = asked_on g.S.RecvStream.answers _ _ _ _ c.loop-self.invariant.asked c.take_start.ensures.source c.ask.ensures.asked;
       ended = elim c.ask.ensures.ended [

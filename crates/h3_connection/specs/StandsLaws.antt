@@ -1,0 +1,138 @@
+-- What is stored stands for the endpoint's history, when one part of both changes.
+use Rattle.std.proofs.Common.{◌≡◌, ℕ, List, Option, Some, None, refl, ap, sym, subst, ◌∙◌, inl, inr}
+use Rattle.std.specs.Prelude.{◌≢◌, option_map}
+use Rattle.std.proofs.lemmas.Bool.{cases_eq}
+use Rattle.h3_connection.specs.Calls.{Sets, AllSame}
+use Rattle.h3_connection.specs.Delivering.{with_incoming, with_unidirectional}
+use Rattle.h3_connection.specs.Endpoint.{EndpointHistory}
+use Rattle.h3_connection.specs.Incoming.{Incoming}
+use Rattle.h3_connection.specs.Outgoing.{Outgoing}
+use Rattle.h3_connection.specs.Sending.{with_outgoing}
+use Rattle.h3_connection.specs.State.{EndpointState, RequestState, OwnState, StandsFor, OwnStands, TakesWhatIsThere, IsOfOutgoing, SameAt, kept_at}
+use Rattle.h3_connection.specs.StreamSets.{Streams, stream_at, set_stream}
+use Rattle.h3_connection.specs.StreamSetLaws.{other_id, set-here, set-other, set-distinct}
+use Rattle.h3_connection.specs.Unidirectional.{Unidirectional}
+
+-- the own streams of an endpoint that differs elsewhere
+pub own_same : (own : OwnState) (e f : EndpointHistory) → f ≡ record e { incoming = f.incoming; outgoing = f.outgoing; unidirectional = f.unidirectional; sent = f.sent; next_id = f.next_id; closed = f.closed } → OwnStands own e → OwnStands own f
+own_same own e f is h = subst (OwnStands own) (sym is) (record {
+  control = h.control;
+  encoder = h.encoder;
+  decoder = h.decoder;
+  taken = record { control = h.taken.control; encoder = h.taken.encoder; decoder = h.taken.decoder };
+})
+
+-- a map whose stream at this id is now another one, seen through one part of its streams
+pub part_set : {X Y : Type 0} (part : X → Y) (old new : Streams X) (streams : Streams Y) (id : ℕ) (x : X) → ((q : ℕ) → option_map part (kept_at old q) ≡ stream_at streams q)
+    → Sets old new id x → (q : ℕ) → option_map part (kept_at new q) ≡ stream_at (set_stream streams id (part x)) q
+part_set part old new streams id x h sets q = elim (cases_eq q id) [
+  | inl same ↦ rw same (ap (option_map part) sets.here ∙ sym (set-here streams id (part x)))
+  | inr differs ↦ ap (option_map part) (sets.others q differs) ∙ h q ∙ sym (set-other streams id q (part x) (other_id q id differs))
+]
+
+-- and where that part of it is as it was
+pub part_same : {X Y : Type 0} (part : X → Y) (old new : Streams X) (streams : Streams Y) (id : ℕ) (before x : X) → ((q : ℕ) → option_map part (kept_at old q) ≡ stream_at streams q)
+    → kept_at old id ≡ Some before → part x ≡ part before → Sets old new id x → (q : ℕ) → option_map part (kept_at new q) ≡ stream_at streams q
+part_same part old new streams id before x h was is sets q = elim (cases_eq q id) [
+  | inl same ↦ rw same (ap (option_map part) sets.here ∙ ap Some is ∙ sym (ap (option_map part) was) ∙ h id)
+  | inr differs ↦ ap (option_map part) (sets.others q differs) ∙ h q
+]
+
+-- the same of what is sent, which stands for its parts
+pub sent_set : (old new : Streams RequestState) (streams : Streams Outgoing) (id : ℕ) (x : RequestState) (o : Outgoing) → ((q : ℕ) → SameAt IsOfOutgoing (stream_at streams q) (option_map (λ r. r.outgoing) (kept_at old q)))
+    → IsOfOutgoing o x.outgoing → Sets old new id x → (q : ℕ) → SameAt IsOfOutgoing (stream_at (set_stream streams id o) q) (option_map (λ r. r.outgoing) (kept_at new q))
+sent_set old new streams id x o h is sets q = elim (cases_eq q id) [
+  | inl same ↦ rw same (rw (set-here streams id o, sets.here) is)
+  | inr differs ↦ rw (set-other streams id q o (other_id q id differs), sets.others q differs) (h q)
+]
+
+pub sent_same : (old new : Streams RequestState) (streams : Streams Outgoing) (id : ℕ) (before x : RequestState) → ((q : ℕ) → SameAt IsOfOutgoing (stream_at streams q) (option_map (λ r. r.outgoing) (kept_at old q)))
+    → kept_at old id ≡ Some before → x.outgoing ≡ before.outgoing → Sets old new id x → (q : ℕ) → SameAt IsOfOutgoing (stream_at streams q) (option_map (λ r. r.outgoing) (kept_at new q))
+sent_same old new streams id before x h was is sets q = elim (cases_eq q id) [
+  | inl same ↦
+      let here : SameAt IsOfOutgoing (stream_at streams id) (Some before.outgoing) = subst (λ o. SameAt IsOfOutgoing (stream_at streams id) (option_map (λ r. r.outgoing) o)) was (h id) in
+      let now : SameAt IsOfOutgoing (stream_at streams id) (Some x.outgoing) = subst (λ w. SameAt IsOfOutgoing (stream_at streams id) (Some w)) (sym is) here in
+      rw same (rw sets.here now)
+  | inr differs ↦ rw (sets.others q differs) (h q)
+]
+
+-- The sender's part of a request stream changes.
+pub stands_sending : (s : EndpointState) (e : EndpointHistory) (new : Streams RequestState) (id : ℕ) (before x : RequestState) (o : Outgoing) → StandsFor s e
+    → kept_at s.requests id ≡ Some before → x.incoming ≡ before.incoming → IsOfOutgoing o x.outgoing → Sets s.requests new id x → StandsFor (record s { requests = new }) (with_outgoing e id o)
+stands_sending s e new id before x o h was same is sets =
+    record {
+      side = h.side;
+      announced = h.announced;
+      closed = h.closed;
+      next_id = h.next_id;
+      incoming = part_same (λ r. r.incoming) s.requests new e.incoming id before x h.incoming was same sets;
+      outgoing = sent_set s.requests new e.outgoing id x o h.outgoing is sets;
+      unidirectional = h.unidirectional;
+      distinct = h.distinct;
+      control_on = h.control_on;
+      encoder_on = h.encoder_on;
+      decoder_on = h.decoder_on;
+      peer = h.peer;
+      decoding = h.decoding;
+      encoder = h.encoder;
+      decoder_unread = h.decoder_unread;
+      own = own_same s.own e (with_outgoing e id o) refl h.own;
+      last_goaway = h.last_goaway;
+      kept = h.kept;
+      sent = h.sent;
+    }
+
+-- The receiver's part of a request stream changes.
+pub stands_receiving : (s : EndpointState) (e : EndpointHistory) (new : Streams RequestState) (id : ℕ) (before x : RequestState) → StandsFor s e
+    → kept_at s.requests id ≡ Some before → x.outgoing ≡ before.outgoing → Sets s.requests new id x → StandsFor (record s { requests = new }) (with_incoming e id x.incoming)
+stands_receiving s e new id before x h was same sets =
+    record {
+      side = h.side;
+      announced = h.announced;
+      closed = h.closed;
+      next_id = h.next_id;
+      incoming = part_set (λ r. r.incoming) s.requests new e.incoming id x h.incoming sets;
+      outgoing = sent_same s.requests new e.outgoing id before x h.outgoing was same sets;
+      unidirectional = h.unidirectional;
+      distinct = set-distinct e.incoming id x.incoming h.distinct;
+      control_on = h.control_on;
+      encoder_on = h.encoder_on;
+      decoder_on = h.decoder_on;
+      peer = h.peer;
+      decoding = h.decoding;
+      encoder = h.encoder;
+      decoder_unread = h.decoder_unread;
+      own = own_same s.own e (with_incoming e id x.incoming) refl h.own;
+      last_goaway = h.last_goaway;
+      kept = h.kept;
+      sent = h.sent;
+    }
+
+-- A unidirectional stream of the peer changes, or is the first that comes of it.
+pub stands_unidirectional : (s : EndpointState) (e : EndpointHistory) (new : Streams Unidirectional) (id : ℕ) (o : Unidirectional) → StandsFor s e
+    → Sets s.unidirectional new id o → StandsFor (record s { unidirectional = new }) (with_unidirectional e id o)
+stands_unidirectional s e new id o h sets =
+    record {
+      side = h.side;
+      announced = h.announced;
+      closed = h.closed;
+      next_id = h.next_id;
+      incoming = h.incoming;
+      outgoing = h.outgoing;
+      unidirectional = λ q. elim (cases_eq q id) [
+        | inl same ↦ rw same (sets.here ∙ sym (set-here e.unidirectional id o))
+        | inr differs ↦ sets.others q differs ∙ h.unidirectional q ∙ sym (set-other e.unidirectional id q o (other_id q id differs))
+      ];
+      distinct = h.distinct;
+      control_on = h.control_on;
+      encoder_on = h.encoder_on;
+      decoder_on = h.decoder_on;
+      peer = h.peer;
+      decoding = h.decoding;
+      encoder = h.encoder;
+      decoder_unread = h.decoder_unread;
+      own = own_same s.own e (with_unidirectional e id o) refl h.own;
+      last_goaway = h.last_goaway;
+      kept = h.kept;
+      sent = h.sent;
+    }
