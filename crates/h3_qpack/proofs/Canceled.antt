@@ -216,3 +216,24 @@ nothing_written s stream fields t start same =
       stores = same ∙ ap (λ fs. encoder_state (record s { inserted = fs })) (sym (on_inserted s stream));
       instructions_are = sym (append-nil start);
     }
+
+-- An encoder of limit 0 that has inserted nothing names none.
+early_names_none : (s : EncoderHistory) → s.limit ≡ 0 → s.inserted ≡ [] → NamesNone s
+early_names_none s none empty = record { limit = none; evicted = ap (λ fs. evictions s.capacity fs) empty ∙ ap (λ fs. length fs) (sym empty) }
+
+on_none : (s : EncoderHistory) (stream : ℕ) → s.limit ≡ 0 → s.inserted ≡ [] → NamesNone (writing_on s stream)
+on_none s stream none empty = by_test (was_canceled s stream)
+  where
+    by_test : (b : Bool) → NamesNone (if b then without_table s else s)
+    by_test true = names_none s
+    by_test false = early_names_none s none empty
+
+pub early_bytes : (s : EncoderHistory) (stream : ℕ) (fields : List Field) → s.limit ≡ 0 → s.inserted ≡ [] → encoded_section (writing_on s stream) fields ≡ section_bytes fields
+early_bytes s stream fields none empty = section_is_static (writing_on s stream) fields (on_none s stream none empty)
+
+pub early_inserts : (s : EncoderHistory) (stream : ℕ) (fields : List Field) → s.limit ≡ 0 → s.inserted ≡ [] → instructions_for (writing_on s stream) fields ≡ []
+early_inserts s stream fields none empty = ap (λ (d : Draft). d.instructions) (draft_is_static (writing_on s stream) fields (on_none s stream none empty))
+
+pub early_still : (s : EncoderHistory) (stream : ℕ) (fields : List Field) → s.limit ≡ 0 → s.inserted ≡ [] → (sent_section s stream fields).inserted ≡ []
+early_still s stream fields none empty =
+    ap (λ (d : Draft). d.inserted) (draft_is_static (writing_on s stream) fields (on_none s stream none empty)) ∙ on_inserted s stream ∙ empty

@@ -78,6 +78,15 @@ impl Encoder {
         self.table.blocks_out()
     }
 
+    /// How many fields were ever inserted into the table.
+    pub fn inserted(&self) -> usize
+        ensures value { result ≡ self.now.table.inserted }
+        ensures small { result < 2 ^ 62 }
+        ensures history { (s : EncoderHistory) → self.now ≡ encoder_state s → result ≡ length s.inserted }
+    {
+        self.table.inserted()
+    }
+
     /// The sum of the sizes of the entries of the table (RFC 9204, section 3.2.1), at most its capacity.
     pub fn table_size(&self) -> usize
         ensures value { result ≡ section_size self.now.table.entries }

@@ -1,6 +1,8 @@
 //! QPACK's dynamic table (RFC 9204): what a decoder reads, what an encoder writes, and the law of their sessions.
 #![tactic(auto)]
 
+#[cfg(test)]
+mod canceled_tests;
 pub mod decoder;
 pub mod dynamic;
 #[cfg(test)]
