@@ -1,5 +1,5 @@
 -- Answers of calls, as the definitions have them.
-use Rattle.std.specs.Prelude.{Bool, true, false, Option, Some, None, Result, Ok, Err}
+use Rattle.std.specs.Prelude.{ℕ, List, Bool, true, false, Option, Some, None, Result, Ok, Err}
 use Rattle.h3_connection.specs.declared.event.Refusal.{Refusal}
 use Rattle.h3_connection.specs.declared.event.Refusal.TheVariants as refusal
 use Rattle.h3_connection.specs.declared.event.DeliverError.{DeliverError}
@@ -22,3 +22,8 @@ lacks_memory (Err deliver_error.Kept) = true
 abbrev pub call_refused : {X : Type 0} → Result X Refusal → Option Refusal
 call_refused (Ok done) = None
 call_refused (Err r) = Some r
+
+-- and that of a call that hands its bytes back
+abbrev pub body_refused : {X : Type 0} → Result X (Refusal × List ℕ) → Option Refusal
+body_refused (Ok done) = None
+body_refused (Err (r, bytes)) = Some r

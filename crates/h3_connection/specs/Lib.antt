@@ -28,6 +28,10 @@ pub mod Keeping
 pub mod PartReading
 pub mod Calls
 pub mod Answers
+pub mod Conditions
+pub mod SendingContracts
+pub mod ReceivingContracts
+pub mod ReadingContracts
 pub mod CallLists
 pub mod Isolation
 pub mod Shown

@@ -121,18 +121,3 @@ pub record StandsFor (s : EndpointState) (e : EndpointHistory) : Type 0 where
   pub last_goaway : s.last_goaway ≡ last_id e.own.goaways
   pub kept : s.kept ≡ e.kept
   pub sent : s.sent ≡ e.sent
-
--- how many bytes of a stream are not read
-abbrev pub unread_in : Option RequestState → Option Unidirectional → ℕ
-unread_in (Some r) o = length (concat r.incoming.unread)
-unread_in None (Some o) = length (concat o.unread)
-unread_in None None = 0
-
--- those that its reader holds, where it is read as such
-abbrev pub held_on : Option ℕ → ℕ → List ℕ → ℕ
-held_on first id bytes = if is_read_as first id then length bytes else 0
-
-abbrev pub unread_on : EndpointState → ℕ → ℕ
-unread_on s id =
-    unread_in (kept_at s.requests id) (kept_at s.unidirectional id)
-    + held_on s.control_on id s.peer.unread + held_on s.encoder_on id s.decoding.unread + held_on s.decoder_on id s.encoding.unread

@@ -1,0 +1,33 @@
+#!/usr/bin/env bash
+# For each page that names definitions and functions of the crates: do they still stand there? One line 'ok PAGE' or
+# 'failed PAGE' a page, and the names that are missing.
+set -uo pipefail
+export LC_ALL=C
+cd "$(dirname "$0")/.."
+
+# every word of the sources, once
+words=$(mktemp)
+trap 'rm -f "$words"' EXIT
+find crates -path '*/out' -prune -o \( -name '*.antt' -o -name '*.rt' \) -print0 | sort -z | xargs -0 grep -ohE "[A-Za-z_][A-Za-z0-9_]*" |
+  sort -u > "$words"
+{ ls crates; find crates -path '*/out' -prune -o -path '*/specs/*.antt' -print | sed -E 's#.*/(.*)\.antt#\1#'; grep -oE '^[a-z0-9_]+' crates.txt; } | sort -u |
+  sort -u -o "$words" - "$words"
+
+# the names between the backticks of a page: an identifier, or several that '::', '/', '.' or a space join
+names() {
+  grep -oE '`[A-Za-z_][A-Za-z0-9_]*((::|/| |\.)[A-Za-z_][A-Za-z0-9_]*)*`' "$1" | tr -d '`' | grep -vE '\.(md|sh|rt|txt|talk)$' |
+    sed -E 's/\.antt$//' |
+    grep -oE '[A-Za-z_][A-Za-z0-9_]*' | sort -u
+}
+
+bad=0
+for page in docs/RFC.md docs/MODEL.md; do
+  missing=$(comm -23 <(names "$page") "$words" | grep -vxE "specs|crates|h3_session" | tr '\n' ' ')
+  if [ -z "$missing" ]; then
+    echo "ok $page: each name of it stands in the crates"
+  else
+    echo "failed $page: $missing"
+    bad=1
+  fi
+done
+exit "$bad"
