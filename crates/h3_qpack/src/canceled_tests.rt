@@ -53,6 +53,18 @@ fn send(
     Ok(())
 }
 
+/// Lets an encoder that has inserted nothing use a table of capacity 64.
+fn use_table(test_encoder: &mut TestEncoder) -> Result<(), Fail> {
+    if test_encoder.encoder.inserted() != 0 {
+        return Err(Fail::from("inserted"));
+    }
+    test_encoder
+        .encoder
+        .use_table(64, 10, &mut test_encoder.out)
+        .map_err(|_| "table")?;
+    Ok(())
+}
+
 #[test]
 fn a_cancellation_releases_all_sections(rt: HostRuntime) -> Result<(), Fail> {
     let mut test_encoder = new_test_encoder(rt.alloc())?;
@@ -140,13 +152,7 @@ fn a_table_comes_into_use_after_other_sections(rt: HostRuntime) -> Result<(), Fa
     assert_eq!(rt; test_encoder.out.len(), 0);
     let mut read = SliceCursor::new(&[64]);
     assert_eq!(rt; test_encoder.encoder.on_decoder_recv(&mut read), Ok(()));
-    if test_encoder.encoder.inserted() != 0 {
-        return Err(Fail::from("inserted"));
-    }
-    test_encoder
-        .encoder
-        .use_table(64, 10, &mut test_encoder.out)
-        .map_err(|_| "table")?;
+    use_table(&mut test_encoder)?;
     // the instruction for the capacity
     assert_eq!(rt; test_encoder.out.as_slice(), [63, 33].as_slice());
     send(&mut test_encoder, 4, b"200", field(b"x-a", b"1"))?;
