@@ -5,7 +5,7 @@ use Rattle.h3_field.specs.Reading.{Reading, Whole, Unfinished, Bad, Stays}
 use Rattle.h3_field.specs.InstructionReading.{InstructionForm, instruction}
 use Rattle.h3_field.specs.InstructionLaws.{instruction_stable}
 use Rattle.h3_qpack.specs.DecoderState.{DecoderState}
-use Rattle.h3_connection.specs.Readings.{instruction_of}
+use Rattle.h3_field.specs.Values.{instruction_of}
 use Rattle.h3_connection.specs.Hearing.{Heard, heard, having_read_one, hear_next, hear_form, hear_within, hear, heard_then}
 use Rattle.h3_connection.proofs.Shorter.{instruction_less}
 

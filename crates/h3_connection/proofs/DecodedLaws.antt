@@ -15,9 +15,9 @@ use Rattle.h3_qpack.specs.TableState.{TableState}
 use Rattle.h3_qpack.specs.DecoderState.{DecoderState, count_capacity}
 use Rattle.h3_qpack.specs.Meaning.{field_at, HaveFields, MeansFields, IsMissing, IsBadSection}
 use Rattle.h3_qpack.proofs.Counts.{one_residue}
-use Rattle.h3_connection.specs.Readings.{line_of}
+use Rattle.h3_field.specs.Values.{line_of}
 use Rattle.h3_connection.specs.DecodedSection.{Fields, Missing, BadSection, field_of, then_fields, fields_from, fields_within, fields_in, checked_count, near_count, count_of, with_base, count_and_base, with_fields, decoded_at, decoded_from, decode_section}
-use Rattle.h3_connection.proofs.FormValues.{line_some, line_is}
+use Rattle.h3_field.specs.ValueLaws.{line_some, line_is}
 use Rattle.h3_connection.proofs.Shorter.{line_less}
 use Rattle.h3_qpack.specs.SectionAnswers.{IsReasonFor}
 use Rattle.h3_field.specs.declared.decoder_error.DecoderError.{DecoderError}

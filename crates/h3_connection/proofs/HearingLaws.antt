@@ -11,9 +11,9 @@ use Rattle.h3_qpack.specs.Instructions.{AreInstructions, NoInstruction, NextInst
 use Rattle.h3_qpack.specs.SectionAnswers.{IsReasonFor}
 use Rattle.h3_field.specs.declared.decoder_error.DecoderError.{DecoderError}
 use Rattle.h3_field.specs.declared.decoder_error.DecoderError.TheVariants.{InvalidInteger, InvalidString, InvalidIndex, DynamicTable, InvalidStaticIndex, UnknownPrefix, MissingRefs, BadBaseIndex, UnexpectedEnd, HeaderTooLong, BufSize, OutOfMemory}
-use Rattle.h3_connection.specs.Readings.{instruction_of}
+use Rattle.h3_field.specs.Values.{instruction_of}
 use Rattle.h3_connection.specs.Hearing.{heard, having_read_one, hear_next, hear_form, hear_within, hear, Listened, listened, listen_next, listen_form, listen_within, listen}
-use Rattle.h3_connection.proofs.FormValues.{instruction_some, instruction_is}
+use Rattle.h3_field.specs.ValueLaws.{instruction_some, instruction_is}
 use Rattle.h3_connection.proofs.Shorter.{instruction_less, decoder_instruction_less}
 
 some_same : {X : Type 0} (x y : X) → Some x ≡ Some y → x ≡ y

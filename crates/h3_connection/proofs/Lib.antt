@@ -1,9 +1,6 @@
-pub mod StringValues
-pub mod FormValues
 pub mod Shorter
 pub mod HearingLaws
 pub mod DecodedLaws
-pub mod Ends
 pub mod Cuts
 pub mod Quiet
 pub mod Seen

@@ -9,7 +9,7 @@ use Rattle.h3_field.specs.LineReading.{LineForm, line}
 use Rattle.h3_qpack.specs.TableState.{TableState}
 use Rattle.h3_qpack.specs.DecoderState.{DecoderState, count_capacity}
 use Rattle.h3_qpack.specs.Meaning.{field_at}
-use Rattle.h3_connection.specs.Readings.{line_of}
+use Rattle.h3_field.specs.Values.{line_of}
 
 pub data Decoded : Type 0 where
   -- its fields, and its required insert count

@@ -5,7 +5,7 @@ use Rattle.h3_field.specs.Instruction.{EncoderInstruction, DecoderInstruction}
 use Rattle.h3_field.specs.InstructionReading.{InstructionForm, instruction, decoder_instruction}
 use Rattle.h3_qpack.specs.DecoderState.{DecoderState, decoder_after}
 use Rattle.h3_qpack.specs.EncoderHistory.{EncoderHistory, encoder_after, is_refused}
-use Rattle.h3_connection.specs.Readings.{instruction_of}
+use Rattle.h3_field.specs.Values.{instruction_of}
 
 -- the table after the whole instructions at the front up to the first bad one, the bytes left, and whether a bad one is there
 pub record Heard : Type 0 where

@@ -1,5 +1,3 @@
-pub mod StringValue
-pub mod Readings
 pub mod Hearing
 pub mod DecodedSection
 pub mod Announcing

@@ -14,7 +14,7 @@ use Rattle.h3_field.specs.ReadBack.{IsFieldOfBytes, IsLineOfBytes, answer_from}
 use Rattle.h3_field.proofs.StaticEntries.{table_length, same_field, two_ways}
 use Rattle.h3_field.proofs.Sections.{line_one, whole_same}
 use Rattle.h3_field.proofs.ReadBack.{line_reads_back}
-use Rattle.h3_huffman.proofs.Words.{bytes_same}
+use Rattle.h3_huffman.specs.PayloadLaws.{bytes_same}
 
 get_next : {X : Type 0} (x : X) (xs : List X) (n : ℕ) → slice_get (x ∷ xs) (1 + n) ≡ slice_get xs n
 get_next x xs n = let e : 1 + n ≡ suc n = omega arith in rw e refl

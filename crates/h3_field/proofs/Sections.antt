@@ -5,7 +5,6 @@ use Rattle.std.proofs.lemmas.Bool.{and_parts, leb-true, le-leb, lt-leb, lt-ltb, 
 use Rattle.std.proofs.lemmas.List.{length-drop}
 use Rattle.h3_huffman.specs.Huffman.{huffman}
 use Rattle.h3_huffman.specs.Payload.{IsByte}
-use Rattle.h3_huffman.proofs.Unique.{huffman_one}
 use Rattle.h3_field.specs.Integer.{ones}
 use Rattle.h3_field.specs.Field.{Field}
 use Rattle.h3_field.specs.Reading.{Reading, Whole, Unfinished, Bad, then_read}
@@ -19,7 +18,9 @@ use Rattle.h3_field.proofs.StaticEntries.{table_length}
 use Rattle.h3_field.specs.LineReading.{LineForm, Indexed, PostBase, Named, PostBaseNamed, LiteralField, SaysLine, line, indexed, named, literal}
 use Rattle.h3_field.specs.LineAnswer.{AnswersLine}
 use Rattle.h3_field.specs.Section.{HasLine, line_field, with_value}
-use Rattle.h3_field.specs.SectionAnswer.{HasField, HasNoField, IsReason}
+use Rattle.h3_field.specs.SectionAnswer.{HasField, HasNoField, BeginsWithString, IsReason}
+use Rattle.h3_field.specs.ValueLaws.{one_string_stood_for, one_line_said}
+use Rattle.h3_field.specs.EndLaws.{shortens, indexed_leaves, named_leaves, literal_leaves}
 use Rattle.h3_field.specs.Errors.{decoder_parse}
 use Rattle.h3_field.specs.declared.prefix_int.Error.TheVariants.{Overflow, UnexpectedEnd}
 use Rattle.h3_field.specs.declared.prefix_string.Error as string
@@ -27,22 +28,8 @@ use Rattle.h3_field.specs.declared.parse_error.ParseError.{ParseError}
 use Rattle.h3_field.specs.declared.parse_error.ParseError.TheVariants.{Integer, String, InvalidPrefix, InvalidBase, OutOfMemory}
 
 -- a payload is one string
-bytes_one : (coded : Bool) (bytes s t : List ℕ) → AllByRecursion IsByte s → AllByRecursion IsByte t → bytes ≡ (if coded then huffman s else s) → bytes ≡ (if coded then huffman t else t) → s ≡ t
-bytes_one true bytes s t p q e f = huffman_one s t p q (sym e ∙ f)
-bytes_one false bytes s t p q e f = sym e ∙ f
-
 pub stands_one : (p : Payload) (s t : List ℕ) → StandsFor p s → StandsFor p t → s ≡ t
-stands_one p s t a b = bytes_one p.is_huffman p.bytes s t a.each b.each a.form b.form
-
--- a form says one line
-says_one : (form : LineForm) (l k : FieldLine) → SaysLine form l → SaysLine form k → l ≡ k
-says_one (Indexed true index) l k a b = a ∙ sym b
-says_one (Indexed false index) l k a b = a ∙ sym b
-says_one (PostBase index) l k a b = a ∙ sym b
-says_one (Named true index p) l k a b = rw (a.2, b.2, stands_one p a.0 b.0 a.1 b.1) refl
-says_one (Named false index p) l k a b = rw (a.2, b.2, stands_one p a.0 b.0 a.1 b.1) refl
-says_one (PostBaseNamed index p) l k a b = rw (a.2, b.2, stands_one p a.0 b.0 a.1 b.1) refl
-says_one (LiteralField p q) l k a b = rw (a.4, b.4, stands_one p a.0 b.0 a.2 b.2, stands_one q a.1 b.1 a.3 b.3) refl
+stands_one = one_string_stood_for
 
 pub whole_same : {A : Type 0} (v w : A) (r s : List ℕ) → Whole v r ≡ Whole w s → (v ≡ w) × (r ≡ s)
 whole_same v w r s e = (cc, cc)
@@ -52,110 +39,16 @@ pub line_one : (bytes rest more : List ℕ) (l k : FieldLine) → HasLine bytes 
 line_one bytes rest more l k a b =
     let same = whole_same a.form b.form rest more (sym a.whole ∙ b.whole) in
     let says : SaysLine a.form k = rw (← same.0) at b.says in
-    (says_one a.form l k a.says says, same.1)
-
--- What is read whole leaves fewer bytes, or as many.
-Shortens : {A : Type 0} → (List ℕ → Reading A) → Type 0
-Shortens {A} read = (bytes rest : List ℕ) (value : A) → read bytes ≡ Whole value rest → length rest < length bytes
-
-Keeps : {A : Type 0} → (List ℕ → Reading A) → Type 0
-Keeps {A} read = (bytes rest : List ℕ) (value : A) → read bytes ≡ Whole value rest → length rest ≤ length bytes
-
-then_parts : {A B : Type 0} (r : Reading A) (next : A → List ℕ → Reading B) (value : B) (rest : List ℕ) → then_read r next ≡ Whole value rest → (a : A) × (middle : List ℕ) × (r ≡ Whole a middle) × (next a middle ≡ Whole value rest)
-then_parts (Whole a middle) next value rest e = (a, middle, refl, e)
-then_parts Unfinished next value rest e = absurd (cc)
-then_parts Bad next value rest e = absurd (cc)
-
-then_shortens : {A B : Type 0} (read : List ℕ → Reading A) (next : A → List ℕ → Reading B) → Shortens read → ((a : A) → Keeps (next a)) → Shortens (λ bytes. then_read (read bytes) next)
-unfolding Shortens Keeps
-then_shortens read next first second bytes rest value e =
-    let parts = then_parts (read bytes) next value rest e in
-    let one = first bytes parts.1 parts.0 parts.2 in
-    let two = second parts.0 parts.1 rest value parts.3 in
-    omega (arith, one, two)
-
-whole_keeps : {A : Type 0} (v : A) → Keeps (λ rest. Whole v rest)
-unfolding Keeps
-whole_keeps v bytes rest value e =
-    let same = whole_same v value bytes rest e in
-    omega (arith, ap (λ x. length x) same.1)
-
-shortens_keeps : {A : Type 0} (read : List ℕ → Reading A) → Shortens read → Keeps read
-unfolding Shortens Keeps
-shortens_keeps read h bytes rest value e = let less = h bytes rest value e in omega (arith, less)
-
-groups_shorten : (limit sum place : ℕ) → Shortens (groups_reading limit sum place)
-unfolding Shortens
-groups_shorten limit sum place [] rest n e = absurd (cc)
-groups_shorten limit sum place (byte ∷ bytes) rest n e =
-    let total = sum + byte % 128 * 128 ^ place in
-    elim (cases_lt total limit) [
-      | inr out ↦ let bad = rw (le-leb limit total out) at e in absurd (cc)
-      | inl within ↦
-          let next = rw (lt-leb limit total within) at e in
-          elim (cases_lt byte 128) [
-            | inl last ↦
-                let whole = whole_same total n bytes rest (rw (lt-ltb byte 128 last) at next) in
-                omega (arith, ap (λ x. length x) whole.1)
-            | inr more ↦
-                let less = groups_shorten limit total (place + 1) bytes rest n (rw (le-ltb byte 128 more) at next) in
-                omega (arith, less)
-          ]
-    ]
-
-integer_shortens : (size : ℕ) → Shortens (integer size)
-unfolding Shortens
-integer_shortens size [] rest v e = absurd (cc)
-integer_shortens size (first ∷ bytes) rest v e =
-    elim (cases_lt (first % 2 ^ size) (ones size)) [
-      | inl small ↦
-          let whole = whole_same (first / 2 ^ size, first % 2 ^ size) v bytes rest (rw (lt-ltb (first % 2 ^ size) (ones size) small) at e) in
-          omega (arith, ap (λ x. length x) whole.1)
-      | inr full ↦
-          let less = then_shortens (groups_reading (integer_limit size) (ones size) 0) (λ n after. Whole (first / 2 ^ size, n) after) (groups_shorten (integer_limit size) (ones size) 0) (λ n. whole_keeps (first / 2 ^ size, n)) bytes rest v (rw (le-ltb (first % 2 ^ size) (ones size) full) at e) in
-          omega (arith, less)
-    ]
-
-bytes_keep : (count : ℕ) → Keeps (bytes_reading count)
-unfolding Keeps
-bytes_keep count bytes rest value e =
-    elim (cases_lt (length bytes) count) [
-      | inl short ↦ let none = rw (lt-leb count (length bytes) short) at e in absurd (cc)
-      | inr there ↦
-          let whole = whole_same (take count bytes) value (drop count bytes) rest (rw (le-leb count (length bytes) there) at e) in
-          omega (arith, length-drop count bytes, ap (λ x. length x) whole.1)
-    ]
-
-then_keeps : {A B : Type 0} (read : List ℕ → Reading A) (next : A → List ℕ → Reading B) → Keeps read → ((a : A) → Keeps (next a)) → Keeps (λ bytes. then_read (read bytes) next)
-unfolding Keeps
-then_keeps read next first second bytes rest value e =
-    let parts = then_parts (read bytes) next value rest e in
-    let one = first bytes parts.1 parts.0 parts.2 in
-    let two = second parts.0 parts.1 rest value parts.3 in
-    omega (arith, one, two)
-
-string_shortens : (size : ℕ) → Shortens (string size)
-string_shortens size =
-    then_shortens (integer (size - 1)) _ (integer_shortens (size - 1))
-    (λ head. then_keeps (bytes_reading head.1) _ (bytes_keep head.1) (λ payload. whole_keeps _))
-
-index_and_string_shortens : (size : ℕ) → Shortens (index_and_string size)
-index_and_string_shortens size = then_shortens (integer size) _ (integer_shortens size) (λ head. then_keeps (string 8) _ (shortens_keeps (string 8) (string_shortens 8)) (λ value. whole_keeps _))
-
-two_strings_shortens : (size : ℕ) → Shortens (two_strings size)
-two_strings_shortens size = then_shortens (string size) _ (string_shortens size) (λ name. then_keeps (string 8) _ (shortens_keeps (string 8) (string_shortens 8)) (λ value. whole_keeps _))
+    (one_line_said a.form l k a.says says, same.1)
 
 pub indexed_shortens : (bytes rest : List ℕ) (form : LineForm) → indexed bytes ≡ Whole form rest → length rest < length bytes
-unfolding Shortens
-indexed_shortens = then_shortens (integer 6) _ (integer_shortens 6) (λ head. whole_keeps _)
+indexed_shortens bytes rest form e = shortens indexed bytes rest form indexed_leaves e
 
 pub named_shortens : (bytes rest : List ℕ) (form : LineForm) → named bytes ≡ Whole form rest → length rest < length bytes
-unfolding Shortens
-named_shortens = then_shortens (index_and_string 4) _ (index_and_string_shortens 4) (λ parts. whole_keeps _)
+named_shortens bytes rest form e = shortens named bytes rest form named_leaves e
 
 pub literal_shortens : (bytes rest : List ℕ) (form : LineForm) → literal bytes ≡ Whole form rest → length rest < length bytes
-unfolding Shortens
-literal_shortens = then_shortens (two_strings 4) _ (two_strings_shortens 4) (λ parts. whole_keeps _)
+literal_shortens bytes rest form e = shortens literal bytes rest form literal_leaves e
 
 -- which line the first byte begins
 pub line_indexed : (bytes : List ℕ) → 0 < length bytes → begins 128 255 bytes ≡ true → line bytes ≡ indexed bytes
@@ -205,17 +98,17 @@ not_said old rest form e none more k f here names =
     let same = whole_same form here.form rest more (sym e ∙ here.whole) in
     none k (rw (← same.0) at here.says)
 
-pub refused_line : {L : Type 0} (line_of : L → FieldLine) (r : Reading LineForm) (old new : List ℕ) (e : ParseError) → line old ≡ r → AnswersLine line_of r old new (Err e) → IsReason (HasNoField old) (λ size. ⊥) (decoder_parse e)
-refused_line line_of (Whole form rest) old new (String string.TheVariants.HuffmanDecoding) is h = not_said old rest form is h.0
-refused_line line_of (Whole form rest) old new OutOfMemory is h = tt
-refused_line line_of (Whole form rest) old new (String string.TheVariants.OutOfMemory) is h = tt
-refused_line line_of (Whole form rest) old new (String string.TheVariants.UnexpectedEnd) is h = absurd h.0
-refused_line line_of (Whole form rest) old new (String (string.TheVariants.Integer e)) is h = absurd h.0
-refused_line line_of (Whole form rest) old new (String string.TheVariants.HuffmanEncoding) is h = absurd h.0
-refused_line line_of (Whole form rest) old new (String string.TheVariants.BufSize) is h = absurd h.0
-refused_line line_of (Whole form rest) old new (Integer e) is h = absurd h.0
-refused_line line_of (Whole form rest) old new (InvalidPrefix first) is h = absurd h.0
-refused_line line_of (Whole form rest) old new InvalidBase is h = absurd h.0
+pub refused_line : {L : Type 0} (line_of : L → FieldLine) (r : Reading LineForm) (old new : List ℕ) (e : ParseError) → line old ≡ r → AnswersLine line_of r old new (Err e) → IsReason (BeginsWithString old) (HasNoField old) (λ size. ⊥) (decoder_parse e)
+refused_line line_of (Whole form rest) old new (String string.TheVariants.HuffmanDecoding) is h = not_said old rest form is h.1
+refused_line line_of (Whole form rest) old new OutOfMemory is h = (form, rest, is, h.0)
+refused_line line_of (Whole form rest) old new (String string.TheVariants.OutOfMemory) is h = absurd h.1
+refused_line line_of (Whole form rest) old new (String string.TheVariants.UnexpectedEnd) is h = absurd h.1
+refused_line line_of (Whole form rest) old new (String (string.TheVariants.Integer e)) is h = absurd h.1
+refused_line line_of (Whole form rest) old new (String string.TheVariants.HuffmanEncoding) is h = absurd h.1
+refused_line line_of (Whole form rest) old new (String string.TheVariants.BufSize) is h = absurd h.1
+refused_line line_of (Whole form rest) old new (Integer e) is h = absurd h.1
+refused_line line_of (Whole form rest) old new (InvalidPrefix first) is h = absurd h.1
+refused_line line_of (Whole form rest) old new InvalidBase is h = absurd h.1
 refused_line line_of Unfinished old new e is h =
     let same : e ≡ Integer UnexpectedEnd = cc in
     rw same (not_read old Unfinished is (λ form rest x. absurd (cc)))

@@ -3,7 +3,7 @@ use Rattle.std.proofs.Common.{◌≡◌, ◌==◌, ℕ, zero, suc, ◌+◌, ◌<
 use Rattle.std.specs.List.{slice_get, position_or_len}
 use Rattle.std.proofs.lemmas.Bool.{and_parts, eqb-true, leb-true, ltb-true, cases_eq, cases_lt, le-ltb, false≢true}
 use Rattle.std.proofs.lemmas.Slice.Eq.{bytes_eq-Decides}
-use Rattle.h3_huffman.proofs.Words.{bytes_same}
+use Rattle.h3_huffman.specs.PayloadLaws.{bytes_same}
 use Rattle.h3_field.specs.Field.{Field, field_eq}
 use Rattle.h3_field.specs.StaticTable.{static_name, static_field, static_table, NamesEntry}
 use Rattle.h3_field.specs.StaticHash.{name_hash, field_hash, slot_of_field, is_some_of, is_name_found, are_names_found, all_names, is_field_found, are_fields_found, all_fields, are_entries}

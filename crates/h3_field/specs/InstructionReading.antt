@@ -15,6 +15,13 @@ pub data InstructionForm : Type 0 where
   LiteralName : (name value : Payload) → InstructionForm
   Repeat : (index : ℕ) → InstructionForm
 
+-- The instruction has a string of its own.
+abbrev pub HasString : InstructionForm → Type 0
+HasString (Capacity n) = ⊥
+HasString (NameReference is_static index value) = Unit {0}
+HasString (LiteralName name value) = Unit {0}
+HasString (Repeat index) = ⊥
+
 -- Insert With Name Reference
 abbrev pub name_reference : List ℕ → Reading InstructionForm
 name_reference bytes = then_read (index_and_string 6 bytes) (λ parts rest. Whole (NameReference (parts.flags % 2 == 1) parts.index parts.value) rest)

@@ -34,3 +34,7 @@ pub mod InstructionAnswer
 pub mod ReadBack
 pub mod Decoding
 pub mod ErrorTexts
+pub mod Values
+pub mod ValueLaws
+pub mod Ends
+pub mod EndLaws

@@ -3,7 +3,7 @@ use Rattle.std.specs.Prelude.{◌≡◌, ◌<◌, ◌≤◌, ◌^◌, ℕ, List,
 use Rattle.h3_field.specs.Reading.{Reading, Whole, Unfinished, Bad}
 use Rattle.h3_field.specs.Line.{FieldLine}
 use Rattle.h3_field.specs.Line.{FieldLine as of}
-use Rattle.h3_field.specs.LineReading.{LineForm, SaysLine}
+use Rattle.h3_field.specs.LineReading.{LineForm, SaysLine, HasString}
 use Rattle.h3_field.specs.ShapeAnswer.{IsRefused}
 use Rattle.h3_field.specs.declared.prefix_int.Error.TheVariants.{Overflow, UnexpectedEnd}
 use Rattle.h3_field.specs.declared.parse_error.ParseError.{ParseError}
@@ -43,10 +43,11 @@ IsWritable (of.RelativeName index value) = (index < 2 ^ 62) × (length value < 2
 IsWritable (of.PostBaseName index value) = (index < 2 ^ 62) × (length value < 2 ^ 62)
 IsWritable (of.Literal name value) = (length name < 2 ^ 62) × (length value < 2 ^ 62)
 
--- The line, and what stands behind it is left; or why it is none, and nothing is taken.
+-- The line, and what stands behind it is left; or why it is none, and nothing is taken. Memory is asked for by strings
+-- alone, and only a string of a whole line is refused.
 abbrev pub AnswersLine : {L : Type 0} → (L → FieldLine) → Reading LineForm → List ℕ → List ℕ → Result L ParseError → Type 0
 AnswersLine line_of (Whole form rest) old new (Ok l) = SaysLine form (line_of l) × (new ≡ rest)
-AnswersLine line_of (Whole form rest) old new (Err e) = IsRefused ((l : FieldLine) → SaysLine form l → ⊥) e × (new ≡ old)
+AnswersLine line_of (Whole form rest) old new (Err e) = HasString form × IsRefused ((l : FieldLine) → SaysLine form l → ⊥) e × (new ≡ old)
 AnswersLine line_of Unfinished old new result = (result ≡ Err (Integer UnexpectedEnd)) × (new ≡ old)
 AnswersLine line_of Bad old new result = (result ≡ Err (Integer Overflow)) × (new ≡ old)
 

@@ -15,6 +15,14 @@ pub data LineForm : Type 0 where
   PostBaseNamed : (index : ℕ) (value : Payload) → LineForm
   LiteralField : (name value : Payload) → LineForm
 
+-- The line has a string of its own.
+abbrev pub HasString : LineForm → Type 0
+HasString (Indexed is_static index) = ⊥
+HasString (PostBase index) = ⊥
+HasString (Named is_static index value) = Unit {0}
+HasString (PostBaseNamed index value) = Unit {0}
+HasString (LiteralField name value) = Unit {0}
+
 abbrev pub indexed : List ℕ → Reading LineForm
 indexed bytes = then_read (integer 6 bytes) (λ head rest. Whole (Indexed (head.0 % 2 == 1) head.1) rest)
 

@@ -1,7 +1,10 @@
 -- What the readers of a field section answer.
-use Rattle.std.specs.Prelude.{◌≡◌, ◌<◌, ℕ, List, length, Some, Result, Ok, Err}
+use Rattle.std.specs.Prelude.{◌≡◌, ◌⊎◌, ◌<◌, ℕ, List, length, Some, Result, Ok, Err}
 use Rattle.h3_field.specs.Field.{Field}
+use Rattle.h3_field.specs.Reading.{Whole}
 use Rattle.h3_field.specs.Line.{FieldLine}
+use Rattle.h3_field.specs.LineReading.{LineForm, HasString, line}
+use Rattle.h3_field.specs.PrefixReading.{EncodedPrefix, prefix}
 use Rattle.h3_field.specs.Section.{HasLine, line_field, AnswersSection, TooLong, Refused}
 use Rattle.h3_field.specs.declared.decoder_error.DecoderError.{DecoderError}
 use Rattle.h3_field.specs.declared.decoder_error.DecoderError.TheVariants.{InvalidInteger, InvalidString, InvalidIndex, DynamicTable, InvalidStaticIndex, UnknownPrefix, MissingRefs, BadBaseIndex, UnexpectedEnd, HeaderTooLong, BufSize, OutOfMemory}
@@ -17,25 +20,33 @@ pub record HasField (bytes : List ℕ) (f : Field) (rest : List ℕ) : Type 0 wh
 abbrev pub HasNoField : List ℕ → Type 0
 HasNoField bytes = (rest : List ℕ) (l : FieldLine) (f : Field) → HasLine bytes l rest → line_field l ≡ Some f → ⊥
 
+-- They begin with a line that has a string.
+abbrev pub BeginsWithString : List ℕ → Type 0
+BeginsWithString bytes = (form : LineForm) × (rest : List ℕ) × (line bytes ≡ Whole form rest) × HasString form
+
+-- Memory may be asked for as soon as a section's first line has a string, or is a field, which is kept.
+abbrev pub MayAskMemory : List ℕ → Type 0
+MayAskMemory bytes = (p : EncodedPrefix) × (lines : List ℕ) × (prefix bytes ≡ Whole p lines) × (BeginsWithString lines ⊎ ((rest : List ℕ) × (f : Field) × HasField lines f rest))
+
 -- a refusal is for want of memory, or as given
-abbrev pub IsReason : Type 0 → (ℕ → Type 0) → DecoderError → Type 0
-IsReason bad long OutOfMemory = Unit {0}
-IsReason bad long (HeaderTooLong size) = long size
-IsReason bad long (InvalidInteger e) = bad
-IsReason bad long (InvalidString e) = bad
-IsReason bad long (InvalidIndex e) = bad
-IsReason bad long (DynamicTable e) = bad
-IsReason bad long (InvalidStaticIndex e) = bad
-IsReason bad long (UnknownPrefix e) = bad
-IsReason bad long (MissingRefs e) = bad
-IsReason bad long BadBaseIndex = bad
-IsReason bad long UnexpectedEnd = bad
-IsReason bad long BufSize = bad
+abbrev pub IsReason : Type 0 → Type 0 → (ℕ → Type 0) → DecoderError → Type 0
+IsReason memory bad long OutOfMemory = memory
+IsReason memory bad long (HeaderTooLong size) = long size
+IsReason memory bad long (InvalidInteger e) = bad
+IsReason memory bad long (InvalidString e) = bad
+IsReason memory bad long (InvalidIndex e) = bad
+IsReason memory bad long (DynamicTable e) = bad
+IsReason memory bad long (InvalidStaticIndex e) = bad
+IsReason memory bad long (UnknownPrefix e) = bad
+IsReason memory bad long (MissingRefs e) = bad
+IsReason memory bad long BadBaseIndex = bad
+IsReason memory bad long UnexpectedEnd = bad
+IsReason memory bad long BufSize = bad
 
 abbrev pub AnswersField : List ℕ → List ℕ → Result Field DecoderError → Type 0
 AnswersField old new (Ok f) = HasField old f new
-AnswersField old new (Err e) = IsReason (HasNoField old) (λ size. ⊥) e
+AnswersField old new (Err e) = IsReason (BeginsWithString old) (HasNoField old) (λ size. ⊥) e
 
 -- why a section is refused
 abbrev pub IsRefusal : ℕ → List ℕ → DecoderError → Type 0
-IsRefusal limit bytes e = IsReason (AnswersSection limit bytes Refused) (λ size. AnswersSection limit bytes (TooLong size)) e
+IsRefusal limit bytes e = IsReason (MayAskMemory bytes) (AnswersSection limit bytes Refused) (λ size. AnswersSection limit bytes (TooLong size)) e

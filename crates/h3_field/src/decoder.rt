@@ -1,5 +1,6 @@
 //! Field sections that name no dynamic entry, decoded (RFC 9204, section 4.5).
-ghost use Rattle.std.specs.Prelude.{◌≡◌, ◌<◌, ◌≤◌, [], true, false, length, OnOk, MatchResult};
+ghost use Rattle.std.specs.Prelude.{◌≡◌, ◌<◌, ◌≤◌, [], true, false, length, OnOk, MatchResult, ◌∷◌, ◌++◌};
+ghost use Rattle.h3_field.specs.Ends.{IsEndOf};
 ghost use Rattle.h3_field.specs.Shapes.{begins};
 ghost use Rattle.h3_field.specs.Section.{AnswersSection, Fields};
 ghost use Rattle.h3_field.specs.SectionAnswer.{AnswersField, IsRefusal};
@@ -9,7 +10,7 @@ use crate::cursor::SliceCursor;
 use crate::decoder_error::DecoderError;
 use crate::field::HeaderField;
 use crate::static_::StaticTable;
-use std::alloc::Global;
+use std::alloc::{AllocError, Global};
 use std::borrow::CowSlice;
 
 /// A decoded field section.
@@ -86,25 +87,35 @@ fn take_field(alloc: Global, buf: &mut SliceCursor<'_>) -> Result<HeaderField, D
 /// How many fields get room at first: most sections have no more, and the list of their fields need not grow.
 const FIRST_ROOM: usize = 16;
 
+/// Adds a field behind which so many bytes are left: each may be a field.
+fn keep(fields: &mut Vec<HeaderField>, field: HeaderField, left: usize) -> Result<(), AllocError>
+    ensures { OnOk result (fields.new.items ≡ fields.old.items ++ field ∷ []) }
+{
+    if fields.is_empty() {
+        fields.reserve(left.min(FIRST_ROOM - 1) + 1)?;
+    }
+    fields.push(field)?;
+    Ok(())
+}
+
 /// Decodes a field section that names no dynamic entry, to the end of `buf`. It stops at the first field that makes the
-/// sum of the sizes pass `max_size`. A refused read takes nothing.
+/// sum of the sizes pass `max_size`. A refused read takes nothing. No memory is asked for before the first line is read
+/// or has a string.
 pub fn decode_stateless(
     alloc: Global,
     buf: &mut SliceCursor<'_>,
     max_size: u64,
 ) -> Result<Decoded, DecoderError>
-    ensures { MatchResult result
+    ensures answer { MatchResult result
         (λ d. AnswersSection max_size buf.old (Fields d.fields.items d.mem_size) × (d.dyn_ref ≡ false) × (buf.new ≡ []))
         (λ e. IsRefusal max_size buf.old e × (buf.new ≡ buf.old)) }
+    ensures rest { IsEndOf buf.old buf.new }
 {
     let mut ahead = SliceCursor::new(buf.chunk());
     if let Err(e) = HeaderPrefix::decode(&mut ahead) {
         return Err(DecoderError::from(e));
     }
     let mut fields = Vec::new(alloc);
-    if fields.reserve(ahead.remaining().min(FIRST_ROOM)).is_err() {
-        return Err(DecoderError::OutOfMemory);
-    }
     let mut mem_size: u64 = 0;
     'lines: while ahead.remaining() > 0 {
         let field = match take_field(alloc, &mut ahead) {
@@ -115,7 +126,7 @@ pub fn decode_stateless(
         if mem_size > max_size {
             return Err(DecoderError::HeaderTooLong(mem_size));
         }
-        let Ok(()) = fields.push(field) else {
+        let Ok(()) = keep(&mut fields, field, ahead.remaining()) else {
             return Err(DecoderError::OutOfMemory);
         };
     }

@@ -1,5 +1,5 @@
 //! What holds of the encodings. These functions do nothing: their contracts are the laws.
-ghost use Rattle.std.specs.Prelude.{◌≡◌, ◌+◌, ◌<◌, ◌≤◌, ◌-◌, ◌^◌, ℕ, true, List, [], ◌++◌, length};
+ghost use Rattle.std.specs.Prelude.{◌≡◌, ◌+◌, ◌<◌, ◌≤◌, ◌-◌, ◌^◌, ℕ, true, List, [], ◌++◌, length, None, Some};
 ghost use Rattle.h3_field.specs.Line.{FieldLine, line_bytes};
 ghost use Rattle.h3_field.specs.LineAnswer.{IsWritable};
 ghost use Rattle.std.specs.List.{AllByRecursion};
@@ -11,13 +11,16 @@ ghost use Rattle.h3_field.specs.Prefix.{most_entries, prefix_bytes};
 ghost use Rattle.h3_field.specs.PrefixReading.{EncodedPrefix, prefix, IsPrefix};
 ghost use Rattle.h3_field.specs.PrefixWriting.{written_prefix, encoded_bytes};
 ghost use Rattle.h3_field.specs.StringLiteral.{string_literal};
-ghost use Rattle.h3_field.specs.StringReading.{Payload, StandsFor, string};
+ghost use Rattle.h3_field.specs.StringReading.{Payload, StandsFor, StandsForNone, string};
+ghost use Rattle.h3_field.specs.LineReading.{LineForm, SaysLine, line};
+ghost use Rattle.h3_field.specs.Values.{string_of, line_of, instruction_of};
+ghost use Rattle.h3_field.specs.Ends.{LeavesEnds};
 ghost use Rattle.h3_field.specs.Field.{Field, field_eq, section_size};
 ghost use Rattle.h3_field.specs.Section.{HasLine, Answer, Fields, AnswersSection, section_bytes};
 ghost use Rattle.h3_field.specs.Reading.{Whole};
 ghost use Rattle.h3_field.specs.ReadBack.{IsFieldOfBytes, IsLineOfBytes, IsInstructionOfBytes, HasInstruction, answer_from};
 ghost use Rattle.h3_field.specs.Instruction.{EncoderInstruction, DecoderInstruction, encoder_bytes, decoder_bytes};
-ghost use Rattle.h3_field.specs.InstructionReading.{decoder_instruction};
+ghost use Rattle.h3_field.specs.InstructionReading.{InstructionForm, Says, instruction, decoder_instruction};
 ghost use Rattle.h3_field.specs.InstructionAnswer.{IsSendable, IsReply};
 
 use crate::field::HeaderField;
@@ -88,4 +91,36 @@ pub fn string_reads_back()
 pub fn equal_fields_hash_alike()
     ensures equality { (a b : Field) → ⟦<HeaderField as PartialEq>⟧.eq a b ≡ field_eq a b }
     ensures hash { (a b : Field) → field_eq a b ≡ true → ⟦<HeaderField as Hash>⟧.hash_input a ≡ ⟦<HeaderField as Hash>⟧.hash_input b }
+{}
+
+/// What a payload stands for is a value: the string, or none.
+pub fn payloads_are_their_value()
+    ensures some { (p : Payload) (s : List ℕ) → StandsFor p s → string_of p ≡ Some s }
+    ensures only { (p : Payload) (s : List ℕ) → string_of p ≡ Some s → StandsFor p s }
+    ensures none { (p : Payload) → StandsForNone p → string_of p ≡ None }
+    ensures refused { (p : Payload) → string_of p ≡ None → StandsForNone p }
+{}
+
+/// What a form of a line says is a value: the line, or none where a string of it is refused.
+pub fn lines_are_their_value()
+    ensures some { (form : LineForm) (l : FieldLine) → SaysLine form l → line_of form ≡ Some l }
+    ensures only { (form : LineForm) (l : FieldLine) → line_of form ≡ Some l → SaysLine form l }
+    ensures none { (form : LineForm) → ((l : FieldLine) → SaysLine form l → ⊥) → line_of form ≡ None }
+    ensures refused { (form : LineForm) (l : FieldLine) → line_of form ≡ None → SaysLine form l → ⊥ }
+{}
+
+/// What a form of an encoder instruction says is a value: the instruction, or none where a string of it is refused.
+pub fn instructions_are_their_value()
+    ensures some { (form : InstructionForm) (i : EncoderInstruction) → Says form i → instruction_of form ≡ Some i }
+    ensures only { (form : InstructionForm) (i : EncoderInstruction) → instruction_of form ≡ Some i → Says form i }
+    ensures none { (form : InstructionForm) → ((i : EncoderInstruction) → Says form i → ⊥) → instruction_of form ≡ None }
+    ensures refused { (form : InstructionForm) (i : EncoderInstruction) → instruction_of form ≡ None → Says form i → ⊥ }
+{}
+
+/// What a reading leaves is an end of the bytes, and at least one byte is taken.
+pub fn readings_leave_ends()
+    ensures line { LeavesEnds 1 line }
+    ensures instruction { LeavesEnds 1 instruction }
+    ensures decoder_instruction { LeavesEnds 1 decoder_instruction }
+    ensures prefix { LeavesEnds 1 prefix }
 {}

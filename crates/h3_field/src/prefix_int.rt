@@ -1,5 +1,6 @@
 //! Prefixed integers (RFC 9204, section 4.1.1; RFC 7541, section 5.1).
 ghost use Rattle.std.specs.Prelude.{◌≡◌, ◌+◌, ◌-◌, ◌^◌, ◌<◌, ◌≤◌, ℕ, List, ◌++◌, OnOk, OnErr, IfOk, Result, length, MatchOption, ◌*◌, ◌∷◌, take, Some};
+ghost use Rattle.h3_field.specs.Ends.{IsEndOf};
 ghost use Rattle.h3_field.specs.ErrorTexts.{integer_text};
 ghost use Rattle.h3_field.specs.Integer.{prefixed, ones, groups};
 ghost use Rattle.h3_field.specs.IntegerReading.{integer, integer_limit};
@@ -69,6 +70,7 @@ pub fn decode(size: u8, buf: &mut SliceCursor<'_>) -> Result<(u8, u64), Error>
     requires most { size ≤ 8 }
     ensures answer { AnswersInteger (integer size buf.old) buf.old buf.new result }
     ensures below { IfOk result (λ found. found.1 < integer_limit size) }
+    ensures rest { IsEndOf buf.old buf.new }
 {
     let bytes = buf.chunk();
     if bytes.is_empty() {

@@ -1,6 +1,7 @@
 //! What lines and instructions are made of: an integer, an integer and a string, or two strings.
 ghost use Rattle.std.specs.Prelude.{◌≡◌, ◌<◌, ◌≤◌, ◌-◌, ◌^◌, ◌++◌, true, false, length, slice_index, MatchOption, OnOk, OnErr};
 ghost use Rattle.std.specs.Result.{IsOkUnless};
+ghost use Rattle.h3_field.specs.Ends.{IsEndOf};
 ghost use Rattle.h3_field.specs.Integer.{prefixed};
 ghost use Rattle.h3_field.specs.StringLiteral.{string_literal};
 ghost use Rattle.h3_field.specs.declared.prefix_string.Error.TheVariants as string_error;
@@ -44,7 +45,8 @@ pub(crate) fn take_index_and_string(
 ) -> Result<IndexAndString, ParseError>
     requires least { 1 ≤ size }
     requires most { size ≤ 8 }
-    ensures { AnswersIndexAndString (index_and_string size buf.old) buf.old buf.new result }
+    ensures answer { AnswersIndexAndString (index_and_string size buf.old) buf.old buf.new result }
+    ensures rest { IsEndOf buf.old buf.new }
 {
     let mut ahead = SliceCursor::new(buf.chunk());
     let (flags, index) = match prefix_int::decode(size, &mut ahead) {
@@ -84,7 +86,8 @@ pub(crate) fn take_two_strings(
 ) -> Result<TwoStrings, ParseError>
     requires least { 2 ≤ size }
     requires most { size ≤ 8 }
-    ensures { AnswersTwoStrings (two_strings size buf.old) buf.old buf.new result }
+    ensures answer { AnswersTwoStrings (two_strings size buf.old) buf.old buf.new result }
+    ensures rest { IsEndOf buf.old buf.new }
 {
     let mut ahead = SliceCursor::new(buf.chunk());
     let first = match take_payload(size, &mut ahead) {

@@ -4,7 +4,7 @@ use Rattle.std.proofs.lemmas.Bool.{and_parts, leb-true}
 use Rattle.h3_huffman.specs.Tables.{is_entry, IsEntry, all_entries}
 use Rattle.h3_huffman.specs.declared.tables.TheConstants.{ENTRIES}
 use Rattle.h3_huffman.proofs.Computed.{entries_hold}
-use Rattle.h3_huffman.proofs.Words.{bytes_same}
+use Rattle.h3_huffman.specs.PayloadLaws.{bytes_same}
 
 pub all_entries_at : (p : ℕ → ℕ → Bool) (first : ℕ) (xs : List ℕ) (k : ℕ) → all_entries p first xs ≡ true → k < length xs → p (first + k) (get_or xs k 0) ≡ true
 all_entries_at p first [] k h lt = absurd (omega arith)

@@ -7,7 +7,7 @@ use Rattle.h3_huffman.specs.Huffman.{code_word, bits}
 use Rattle.h3_huffman.specs.Tables.{is_row, is_long_word, row_count, all_from}
 use Rattle.h3_huffman.specs.declared.tables.TheConstants.{LIMITS, LENGTHS, OFFSETS, SYMBOLS}
 use Rattle.h3_huffman.proofs.Computed.{rows_hold}
-use Rattle.h3_huffman.proofs.Words.{all_from_at, bytes_same}
+use Rattle.h3_huffman.specs.PayloadLaws.{all_from_at, bytes_same}
 use Rattle.h3_huffman.proofs.Bits.{bits-add}
 
 -- what the test of a row says

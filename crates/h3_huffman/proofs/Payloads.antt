@@ -31,13 +31,6 @@ next_word p i word h hb hc hd e =
     let two' = rw e2 at two in
     rw (e, four_bits _ _ _ _ hb hc hd) (simp (one, two', three', four', append_assoc))
 
--- eight bits and their byte
-pub two_div : (n b : ℕ) → b < 2 → (2 * n + b) / 2 ≡ n
-two_div n b h = omega arith
-
-pub two_mod : (n b : ℕ) → b < 2 → (2 * n + b) % 2 ≡ b
-two_mod n b h = omega arith
-
 pub octets_nil : octets [] ≡ []
 unfolding octets
 octets_nil = refl
@@ -47,54 +40,6 @@ unfolding bits octets
 octets_byte b r h =
     let e : bits_value (bits 8 b) ≡ b = omega arith in
     ap (λ x. x ∷ octets r) e
-
-abbrev pub IsBit : ℕ → Type 0
-IsBit bit = bit < 2
-
-pub bits_octet : (a b c d e f g h : ℕ) → a < 2 → b < 2 → c < 2 → d < 2 → e < 2 → f < 2 → g < 2 → h < 2 → bits 8 (bits_value (a ∷ b ∷ c ∷ d ∷ e ∷ f ∷ g ∷ h ∷ [])) ≡ a ∷ b ∷ c ∷ d ∷ e ∷ f ∷ g ∷ h ∷ []
-unfolding bits
-bits_octet a b c d e f g h ha hb hc hd he hf hg hh =
-    let n1 = 2 * 0 + a in
-    let n2 = 2 * n1 + b in
-    let n3 = 2 * n2 + c in
-    let n4 = 2 * n3 + d in
-    let n5 = 2 * n4 + e in
-    let n6 = 2 * n5 + f in
-    let n7 = 2 * n6 + g in
-    let n8 = 2 * n7 + h in
-    rw (
-      two_div n7 h hh,
-      two_div n6 g hg,
-      two_div n5 f hf,
-      two_div n4 e he,
-      two_div n3 d hd,
-      two_div n2 c hc,
-      two_div n1 b hb,
-      two_mod n7 h hh,
-      two_mod n6 g hg,
-      two_mod n5 f hf,
-      two_mod n4 e he,
-      two_mod n3 d hd,
-      two_mod n2 c hc,
-      two_mod n1 b hb,
-      two_mod 0 a ha,
-    ) refl
-
--- the bytes of some bits have these bits, and ones up to a whole byte
-pub octets_fill : (r : List ℕ) → AllByRecursion IsBit r → (j : ℕ) × (j < 8) × (flat_map (bits 8) (octets r) ≡ r ++ replicate j 1)
-unfolding octets
-octets_fill [] p = (0, lit< tt, refl)
-octets_fill (a ∷ []) p = (7, lit< tt, append-nil _ ∙ bits_octet a 1 1 1 1 1 1 1 p.0 (lit< tt) (lit< tt) (lit< tt) (lit< tt) (lit< tt) (lit< tt) (lit< tt))
-octets_fill (a ∷ b ∷ []) p = (6, lit< tt, append-nil _ ∙ bits_octet a b 1 1 1 1 1 1 p.0 p.1.0 (lit< tt) (lit< tt) (lit< tt) (lit< tt) (lit< tt) (lit< tt))
-octets_fill (a ∷ b ∷ c ∷ []) p = (5, lit< tt, append-nil _ ∙ bits_octet a b c 1 1 1 1 1 p.0 p.1.0 p.1.1.0 (lit< tt) (lit< tt) (lit< tt) (lit< tt) (lit< tt))
-octets_fill (a ∷ b ∷ c ∷ d ∷ []) p = (4, lit< tt, append-nil _ ∙ bits_octet a b c d 1 1 1 1 p.0 p.1.0 p.1.1.0 p.1.1.1.0 (lit< tt) (lit< tt) (lit< tt) (lit< tt))
-octets_fill (a ∷ b ∷ c ∷ d ∷ e ∷ []) p = (3, lit< tt, append-nil _ ∙ bits_octet a b c d e 1 1 1 p.0 p.1.0 p.1.1.0 p.1.1.1.0 p.1.1.1.1.0 (lit< tt) (lit< tt) (lit< tt))
-octets_fill (a ∷ b ∷ c ∷ d ∷ e ∷ f ∷ []) p = (2, lit< tt, append-nil _ ∙ bits_octet a b c d e f 1 1 p.0 p.1.0 p.1.1.0 p.1.1.1.0 p.1.1.1.1.0 p.1.1.1.1.1.0 (lit< tt) (lit< tt))
-octets_fill (a ∷ b ∷ c ∷ d ∷ e ∷ f ∷ g ∷ []) p = (1, lit< tt, append-nil _ ∙ bits_octet a b c d e f g 1 p.0 p.1.0 p.1.1.0 p.1.1.1.0 p.1.1.1.1.0 p.1.1.1.1.1.0 p.1.1.1.1.1.1.0 (lit< tt))
-octets_fill (a ∷ b ∷ c ∷ d ∷ e ∷ f ∷ g ∷ h ∷ rest) p =
-    let more = octets_fill rest p.1.1.1.1.1.1.1.1 in
-    let first = bits_octet a b c d e f g h p.0 p.1.0 p.1.1.0 p.1.1.1.0 p.1.1.1.1.0 p.1.1.1.1.1.0 p.1.1.1.1.1.1.0 p.1.1.1.1.1.1.1.0 in
-    (more.0, more.1, ap (λ x. x ++ flat_map (bits 8) (octets rest)) first ∙ ap (λ x. a ∷ b ∷ c ∷ d ∷ e ∷ f ∷ g ∷ h ∷ x) more.2)
 
 -- fewer than eight ones that fill up a byte add nothing
 pub octets_pad : (x : List ℕ) (j m : ℕ) → j < 8 → length x + j ≡ 8 * m → octets (x ++ replicate j 1) ≡ octets x

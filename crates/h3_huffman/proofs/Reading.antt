@@ -7,32 +7,10 @@ use Rattle.h3_huffman.specs.Huffman.{bits, octets, huffman, code_word}
 use Rattle.h3_huffman.specs.Payload.{IsByte, IsNoPayload}
 use Rattle.h3_huffman.specs.Tree.{Leaf, walk, code_tree, is_leaf}
 use Rattle.h3_huffman.specs.Tables.{is_bit}
-use Rattle.h3_huffman.proofs.Computed.{tree_holds, words_hold}
-use Rattle.h3_huffman.proofs.Words.{all_from_at, word_front, one_word}
-use Rattle.h3_huffman.proofs.Payloads.{IsBit, octets_fill, octets_pad, payload_octets, length-payload}
-
-pub All-append : (P : ℕ → Type 0) (xs ys : List ℕ) → AllByRecursion P xs → AllByRecursion P ys → AllByRecursion P (xs ++ ys)
-All-append P [] ys p q = q
-All-append P (x ∷ xs) ys p q = (p.0, All-append P xs ys p.1 q)
-
-All_bits : (xs : List ℕ) → list_all is_bit xs ≡ true → AllByRecursion IsBit xs
-All_bits [] h = tt
-All_bits (x ∷ xs) h =
-    let parts = and_parts (is_bit x) (list_all is_bit xs) h in
-    (ltb-true x 2 parts.0, All_bits xs parts.1)
-
-word_bits : (symbol : ℕ) → symbol < 257 → AllByRecursion IsBit (code_word symbol)
-word_bits symbol h =
-    All_bits (code_word symbol) (all_from_at (λ s. list_all is_bit (code_word s)) 0 257 symbol (and_parts _ _ words_hold).0 (omega arith) (omega arith))
-
-code_bits : (plain : List ℕ) → AllByRecursion IsByte plain → AllByRecursion IsBit (flat_map code_word plain)
-code_bits [] h = tt
-code_bits (x ∷ xs) h = All-append IsBit (code_word x) (flat_map code_word xs) (word_bits x (omega (arith, h.0))) (code_bits xs h.1)
-
--- the bits of a payload are the words and fewer than eight ones
-pub huffman_bits : (plain : List ℕ) → AllByRecursion IsByte plain → (j : ℕ) × (j < 8) × (flat_map (bits 8) (huffman plain) ≡ flat_map code_word plain ++ replicate j 1)
-unfolding huffman
-huffman_bits plain h = octets_fill (flat_map code_word plain) (code_bits plain h)
+use Rattle.h3_huffman.proofs.Computed.{tree_holds}
+use Rattle.h3_huffman.specs.PayloadLaws.{all_from_at, words_hold, huffman_bits}
+use Rattle.h3_huffman.proofs.Words.{word_front, one_word}
+use Rattle.h3_huffman.proofs.Payloads.{octets_pad, payload_octets, length-payload}
 
 -- fewer than eight ones begin with no word
 pub pad_no_word : (j symbol : ℕ) (y : List ℕ) → j < 8 → symbol ≤ 256 → replicate j 1 ≡ code_word symbol ++ y → ⊥

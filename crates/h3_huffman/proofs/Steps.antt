@@ -9,7 +9,8 @@ use Rattle.h3_huffman.specs.Payload.{IsByte, IsNoPayload}
 use Rattle.h3_huffman.specs.Tables.{IsEntry, entry_symbols, entry_length, entry_count, entry_first, entry_second, entry_first_length}
 use Rattle.h3_huffman.proofs.Bits.{bits-shift_in, length-bits, bits-front, bits_of_ones}
 use Rattle.h3_huffman.proofs.Payloads.{next_byte}
-use Rattle.h3_huffman.proofs.Reading.{Standing, All-append, refused, accepted}
+use Rattle.h3_huffman.proofs.Reading.{Standing, refused, accepted}
+use Rattle.h3_huffman.specs.PayloadLaws.{All-append}
 
 pub stand_begin : (payload out : List ℕ) → Standing payload out 0 0 0 0
 unfolding bits
@@ -192,7 +193,3 @@ last_long_refused p out acc count read written symbol l s all few word le most w
     let len = word_length 30 l (wide_of acc / 2 ^ (count + 2) % 1073741824) symbol most word in
     let why' : (symbol ≡ 256) ⊎ (count < length (code_word symbol)) = elim why [ inl end ↦ inl end | inr over ↦ inr (omega (arith, len, over)) ] in
     stuck p out _ (replicate 32 1) acc count read written symbol s all front le why' nopad
-
-pub All_from : (xs : List ℕ) → ((k : ℕ) → get_or xs k 0 < 256) → AllByRecursion IsByte xs
-All_from [] h = tt
-All_from (x ∷ xs) h = (h 0, All_from xs (λ k. h (suc k)))

@@ -4,16 +4,8 @@ use Rattle.std.proofs.lemmas.Bool.{and_parts, eqb-true, cases_eq}
 use Rattle.h3_huffman.specs.Huffman.{code_word}
 use Rattle.h3_huffman.specs.Tree.{Tree, Empty, Leaf, Fork, walk, code_tree, is_leaf_of}
 use Rattle.h3_huffman.specs.Tables.{is_tree, all_from}
+use Rattle.h3_huffman.specs.PayloadLaws.{all_from_at}
 use Rattle.h3_huffman.proofs.Computed.{tree_holds}
-
-pub all_from_at : (p : ℕ → Bool) (first count k : ℕ) → all_from p first count ≡ true → first ≤ k → k < first + count → p k ≡ true
-all_from_at p first zero k h low high = absurd (omega arith)
-all_from_at p first (suc count) k h low high =
-    let parts = and_parts (p first) (all_from p (first + 1) count) h in
-    elim (cases_eq k first) [
-      | inl same ↦ rw same parts.0
-      | inr other ↦ all_from_at p (first + 1) count k parts.1 (omega arith) (omega arith)
-    ]
 
 leaf_from : (symbol : ℕ) (t : Tree) → is_leaf_of symbol t ≡ true → t ≡ Leaf symbol
 leaf_from symbol (Leaf other) h = let e = eqb-true symbol other h in rw e refl
@@ -49,13 +41,3 @@ leaf_same a b e = cc
 pub one_word : (a b : ℕ) (x y : List ℕ) → a ≤ 256 → b ≤ 256 → code_word a ++ x ≡ code_word b ++ y → a ≡ b
 one_word a b x y p q e =
     leaf_same a b (sym (word_front code_tree tree_holds a x p) ∙ ap (λ v. walk code_tree v) e ∙ word_front code_tree tree_holds b y q)
-
-pub bytes_same : (a b : List ℕ) → bytes_eq a b ≡ true → a ≡ b
-bytes_same [] [] h = refl
-bytes_same [] (y ∷ ys) h = absurd (cc)
-bytes_same (x ∷ xs) [] h = absurd (cc)
-bytes_same (x ∷ xs) (y ∷ ys) h =
-    let parts = and_parts (nat_eq x y) (bytes_eq xs ys) h in
-    let first = eqb-true x y parts.0 in
-    let rest = bytes_same xs ys parts.1 in
-    rw (first, rest) refl

@@ -12,10 +12,9 @@ use Rattle.h3_huffman.specs.Tables.{is_word, IsWord}
 use Rattle.h3_huffman.specs.Writing.{Written}
 use Rattle.h3_huffman.specs.declared.tables.TheConstants.{WORDS, WORD_LENGTHS}
 use Rattle.h3_huffman.proofs.Computed.{bytes_hold}
-use Rattle.h3_huffman.proofs.Words.{all_from_at, bytes_same}
+use Rattle.h3_huffman.specs.PayloadLaws.{all_from_at, bytes_same, All-append}
 use Rattle.h3_huffman.proofs.Bits.{bits-shift_in, length-bits, bits-add, bits-low, ones_to}
 use Rattle.h3_huffman.proofs.Payloads.{octets_byte, octets_pad, octets_nil}
-use Rattle.h3_huffman.proofs.Reading.{All-append}
 
 pub word_is : (byte : ℕ) → byte < 256 → IsWord byte (get_or WORDS byte 0) (get_or WORD_LENGTHS byte 0)
 word_is byte h =

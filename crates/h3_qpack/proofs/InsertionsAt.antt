@@ -68,16 +68,16 @@ not_said h old rest form e none = inr (form, rest, e, λ i s. absurd (none i s))
 -- a refused instruction
 pub refused : {I : Type 0} (h : TableState) (says : I → EncoderInstruction) (r : Reading InstructionForm) (old new : List ℕ) (e : ParseError) → instruction old ≡ r
     → AnswersInstruction says r old new (Err e) → IsReasonFor (BeginsNoInsertion h old) (λ count. ⊥) (decoder_parse e)
-refused h says (Whole form rest) old new (String string.TheVariants.HuffmanDecoding) is k = not_said h old rest form is k.0
+refused h says (Whole form rest) old new (String string.TheVariants.HuffmanDecoding) is k = not_said h old rest form is k.1
 refused h says (Whole form rest) old new OutOfMemory is k = tt
 refused h says (Whole form rest) old new (String string.TheVariants.OutOfMemory) is k = tt
-refused h says (Whole form rest) old new (String string.TheVariants.UnexpectedEnd) is k = absurd k.0
-refused h says (Whole form rest) old new (String (string.TheVariants.Integer e)) is k = absurd k.0
-refused h says (Whole form rest) old new (String string.TheVariants.HuffmanEncoding) is k = absurd k.0
-refused h says (Whole form rest) old new (String string.TheVariants.BufSize) is k = absurd k.0
-refused h says (Whole form rest) old new (Integer e) is k = absurd k.0
-refused h says (Whole form rest) old new (InvalidPrefix first) is k = absurd k.0
-refused h says (Whole form rest) old new InvalidBase is k = absurd k.0
+refused h says (Whole form rest) old new (String string.TheVariants.UnexpectedEnd) is k = absurd k.1
+refused h says (Whole form rest) old new (String (string.TheVariants.Integer e)) is k = absurd k.1
+refused h says (Whole form rest) old new (String string.TheVariants.HuffmanEncoding) is k = absurd k.1
+refused h says (Whole form rest) old new (String string.TheVariants.BufSize) is k = absurd k.1
+refused h says (Whole form rest) old new (Integer e) is k = absurd k.1
+refused h says (Whole form rest) old new (InvalidPrefix first) is k = absurd k.1
+refused h says (Whole form rest) old new InvalidBase is k = absurd k.1
 refused h says Unfinished old new e is k = absurd (cc)
 refused h says Bad old new e is k =
     let same : e ≡ Integer Overflow = cc in

@@ -1,20 +1,25 @@
 -- A line at the front of some bytes, and the field that it is of.
-use Rattle.std.proofs.Common.{◌≡◌, ℕ, zero, suc, ◌<◌, ◌≤◌, nat_le, true, List, [], ◌∷◌, length, Some, None, Ok, refl, sym, ◌∙◌, arith}
+use Rattle.std.proofs.Common.{◌≡◌, ℕ, zero, suc, ◌<◌, ◌≤◌, nat_le, true, List, [], ◌∷◌, length, Some, None, Ok, Err, refl, sym, ◌∙◌, arith}
 use Rattle.std.specs.List.{slice_get}
 use Rattle.std.proofs.lemmas.Bool.{and_parts, leb-true, lt-leb}
 use Rattle.h3_field.specs.Field.{Field}
 use Rattle.h3_field.specs.Reading.{Reading, Whole, Unfinished, Bad}
 use Rattle.h3_field.specs.Line.{FieldLine}
-use Rattle.h3_field.specs.LineReading.{LineForm, line, post_base, post_base_named}
+use Rattle.h3_field.specs.LineReading.{LineForm, SaysLine, line, post_base, post_base_named}
 use Rattle.h3_field.specs.LineAnswer.{AnswersLine}
 use Rattle.h3_field.specs.Shapes.{begins}
 use Rattle.h3_field.specs.Section.{HasLine}
 use Rattle.h3_field.specs.StaticTable.{static_table}
-use Rattle.h3_field.proofs.Sections.{line_one}
+use Rattle.h3_field.specs.Errors.{decoder_parse}
+use Rattle.h3_field.specs.declared.prefix_int.Error.TheVariants.{Overflow, UnexpectedEnd}
+use Rattle.h3_field.specs.declared.prefix_string.Error as string
+use Rattle.h3_field.specs.declared.parse_error.ParseError.{ParseError}
+use Rattle.h3_field.specs.declared.parse_error.ParseError.TheVariants.{Integer, String, InvalidPrefix, InvalidBase, OutOfMemory}
+use Rattle.h3_field.proofs.Sections.{line_one, whole_same}
 use Rattle.h3_field.proofs.StaticEntries.{table_length}
 use Rattle.h3_qpack.specs.TableState.{TableState}
 use Rattle.h3_qpack.specs.Meaning.{field_at}
-use Rattle.h3_qpack.specs.SectionAnswers.{BeginsWith, BeginsWithNone}
+use Rattle.h3_qpack.specs.SectionAnswers.{BeginsWith, BeginsWithNone, IsReasonFor}
 
 has_line : {L : Type 0} (line_of : L → FieldLine) (r : Reading LineForm) (old new : List ℕ) (l : L) → line old ≡ r → AnswersLine line_of r old new (Ok l) → HasLine old (line_of l) new
 has_line line_of (Whole form rest) old new l e h = record { form = form; whole = rw h.1 e; says = h.0 }
@@ -36,6 +41,34 @@ begins_with_none h base line_of r old new l e answer none rest k f here names =
     let one = line_one old new rest (line_of l) k (has_line line_of r old new l e answer) here in
     let same : field_at h base (line_of l) ≡ Some f = rw (← one.0) at names in
     absurd (cc)
+
+not_read : (h : TableState) (base : ℕ) (old : List ℕ) (r : Reading LineForm) → line old ≡ r → ((form : LineForm) (rest : List ℕ) → r ≡ Whole form rest → ⊥) → BeginsWithNone h base old
+not_read h base old r e none rest k f here names = none here.form rest (sym e ∙ here.whole)
+
+not_said : (h : TableState) (base : ℕ) (old rest : List ℕ) (form : LineForm) → line old ≡ Whole form rest → ((l : FieldLine) → SaysLine form l → ⊥) → BeginsWithNone h base old
+not_said h base old rest form e none more k f here names =
+    let same = whole_same form here.form rest more (sym e ∙ here.whole) in
+    none k (rw (← same.0) at here.says)
+
+-- a line that was refused
+pub refused_line : {L : Type 0} (h : TableState) (base : ℕ) (line_of : L → FieldLine) (r : Reading LineForm) (old new : List ℕ) (e : ParseError) → line old ≡ r
+    → AnswersLine line_of r old new (Err e) → IsReasonFor (BeginsWithNone h base old) (λ count. ⊥) (decoder_parse e)
+refused_line h base line_of (Whole form rest) old new (String string.TheVariants.HuffmanDecoding) is k = not_said h base old rest form is k.1
+refused_line h base line_of (Whole form rest) old new OutOfMemory is k = tt
+refused_line h base line_of (Whole form rest) old new (String string.TheVariants.OutOfMemory) is k = tt
+refused_line h base line_of (Whole form rest) old new (String string.TheVariants.UnexpectedEnd) is k = absurd k.1
+refused_line h base line_of (Whole form rest) old new (String (string.TheVariants.Integer e)) is k = absurd k.1
+refused_line h base line_of (Whole form rest) old new (String string.TheVariants.HuffmanEncoding) is k = absurd k.1
+refused_line h base line_of (Whole form rest) old new (String string.TheVariants.BufSize) is k = absurd k.1
+refused_line h base line_of (Whole form rest) old new (Integer e) is k = absurd k.1
+refused_line h base line_of (Whole form rest) old new (InvalidPrefix first) is k = absurd k.1
+refused_line h base line_of (Whole form rest) old new InvalidBase is k = absurd k.1
+refused_line h base line_of Unfinished old new e is k =
+    let same : e ≡ Integer UnexpectedEnd = cc in
+    rw same (not_read h base old Unfinished is (λ form rest x. absurd (cc)))
+refused_line h base line_of Bad old new e is k =
+    let same : e ≡ Integer Overflow = cc in
+    rw same (not_read h base old Bad is (λ form rest x. absurd (cc)))
 
 pub line_post_base : (bytes : List ℕ) → 0 < length bytes → begins 16 31 bytes ≡ true → line bytes ≡ post_base bytes
 line_post_base [] some h = absurd (omega arith)

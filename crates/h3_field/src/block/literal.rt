@@ -4,6 +4,7 @@ ghost use Rattle.std.specs.Result.{IsOkUnless};
 ghost use Rattle.h3_field.specs.Line.{line_bytes};
 ghost use Rattle.h3_field.specs.Line.FieldLine.{StaticName, RelativeName, PostBaseName};
 ghost use Rattle.h3_field.specs.Line.{FieldLine as line};
+ghost use Rattle.h3_field.specs.Ends.{IsEndOf};
 ghost use Rattle.h3_field.specs.Shapes.{begins};
 ghost use Rattle.h3_field.specs.LineReading.{named, post_base_named, literal};
 ghost use Rattle.h3_field.specs.LineAnswer.{AnswersLine, IsWritable, named_line, post_base_named_line, literal_line};
@@ -40,12 +41,14 @@ impl LiteralWithNameRef {
     }
 
     /// Takes the line from the front. A refused read takes nothing.
+    #[tactic(auto, using(crate::specs::EndLaws::none_dropped))]
     pub fn decode(
         alloc: Global,
         buf: &mut SliceCursor<'_>,
     ) -> Result<LiteralWithNameRef, ParseError>
         ensures own { begins 64 127 buf.old ≡ true → AnswersLine named_line (named buf.old) buf.old buf.new result }
         ensures other { begins 64 127 buf.old ≡ false → (result ≡ Err (InvalidPrefix (slice_index buf.old 0))) × (buf.new ≡ buf.old) }
+        ensures rest { IsEndOf buf.old buf.new }
     {
         if let Some(first) = other_first(buf, 64, 127) {
             return Err(ParseError::InvalidPrefix(u64::from(first)));
@@ -127,12 +130,14 @@ impl LiteralWithPostBaseNameRef {
     }
 
     /// Takes the line from the front. A refused read takes nothing.
+    #[tactic(auto, using(crate::specs::EndLaws::none_dropped))]
     pub fn decode(
         alloc: Global,
         buf: &mut SliceCursor<'_>,
     ) -> Result<LiteralWithPostBaseNameRef, ParseError>
         ensures own { begins 0 15 buf.old ≡ true → AnswersLine post_base_named_line (post_base_named buf.old) buf.old buf.new result }
         ensures other { begins 0 15 buf.old ≡ false → (result ≡ Err (InvalidPrefix (slice_index buf.old 0))) × (buf.new ≡ buf.old) }
+        ensures rest { IsEndOf buf.old buf.new }
     {
         if let Some(first) = other_first(buf, 0, 15) {
             return Err(ParseError::InvalidPrefix(u64::from(first)));
@@ -183,9 +188,11 @@ impl Literal {
     }
 
     /// Takes the line from the front. A refused read takes nothing.
+    #[tactic(auto, using(crate::specs::EndLaws::none_dropped))]
     pub fn decode(alloc: Global, buf: &mut SliceCursor<'_>) -> Result<Literal, ParseError>
         ensures own { begins 32 63 buf.old ≡ true → AnswersLine literal_line (literal buf.old) buf.old buf.new result }
         ensures other { begins 32 63 buf.old ≡ false → (result ≡ Err (InvalidPrefix (slice_index buf.old 0))) × (buf.new ≡ buf.old) }
+        ensures rest { IsEndOf buf.old buf.new }
     {
         if let Some(first) = other_first(buf, 32, 63) {
             return Err(ParseError::InvalidPrefix(u64::from(first)));

@@ -1,5 +1,6 @@
 //! The prefix of an encoded field section (RFC 9204, section 4.5.1).
 ghost use Rattle.std.specs.Prelude.{◌≡◌, ◌⊎◌, ◌+◌, ◌*◌, ◌/◌, ◌^◌, ◌<◌, ◌≤◌, ◌++◌, ℕ, MatchOption, MatchResult, OnOk, OnErr};
+ghost use Rattle.h3_field.specs.Ends.{IsEndOf};
 ghost use Rattle.h3_field.specs.Prefix.{IsRequiredCount};
 ghost use Rattle.h3_field.specs.PrefixReading.{IsPrefix, HasNoCount, prefix};
 ghost use Rattle.h3_field.specs.PrefixWriting.{written_prefix, encoded_bytes};
@@ -127,7 +128,8 @@ impl HeaderPrefix {
 
     /// Takes the prefix from the front. A refused read takes nothing.
     pub fn decode(buf: &mut SliceCursor<'_>) -> Result<HeaderPrefix, ParseError>
-        ensures { AnswersPrefix (prefix buf.old) buf.old buf.new result }
+        ensures answer { AnswersPrefix (prefix buf.old) buf.old buf.new result }
+        ensures rest { IsEndOf buf.old buf.new }
     {
         let mut ahead = SliceCursor::new(buf.chunk());
         let (_, count) = match prefix_int::decode(8, &mut ahead) {

@@ -1,6 +1,7 @@
 //! String literals (RFC 9204, section 4.1.2; RFC 7541, section 5.2): as they stand or Huffman coded, behind
 //! their length.
 ghost use Rattle.std.specs.Prelude.{◌≡◌, ◌+◌, ◌*◌, ◌-◌, ◌^◌, ◌<◌, ◌≤◌, ℕ, List, ◌++◌, OnOk, OnErr, Result, length, take, Some};
+ghost use Rattle.h3_field.specs.Ends.{IsEndOf};
 ghost use Rattle.h3_field.specs.ErrorTexts.{string_text};
 ghost use Rattle.std.specs.Result.{IsOkUnless};
 ghost use Rattle.h3_huffman.specs.Huffman.{huffman};
@@ -95,7 +96,8 @@ impl From<string_encode::Error> for Error {
 pub fn decode(alloc: Global, size: u8, buf: &mut SliceCursor<'_>) -> Result<Vec<u8>, Error>
     requires least { 2 ≤ size }
     requires most { size ≤ 8 }
-    ensures { AnswersString (string size buf.old) buf.old buf.new result }
+    ensures answer { AnswersString (string size buf.old) buf.old buf.new result }
+    ensures rest { IsEndOf buf.old buf.new }
 {
     let mut ahead = SliceCursor::new(buf.chunk());
     let payload = match take_payload(size, &mut ahead) {

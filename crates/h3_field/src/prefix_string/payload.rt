@@ -1,5 +1,6 @@
 //! The bytes of a string, before they are decoded.
 ghost use Rattle.std.specs.Prelude.{◌≡◌, ◌-◌, ◌≤◌, ℕ, List, length, true};
+ghost use Rattle.h3_field.specs.Ends.{IsEndOf};
 ghost use Rattle.h3_field.specs.StringReading.{string};
 ghost use Rattle.h3_field.specs.StringAnswer.{AnswersPayload, AnswersBytes};
 
@@ -33,7 +34,8 @@ pub(crate) fn take_payload<'a>(
 ) -> Result<(u8, Payload<'a>), prefix_int::Error>
     requires least { 2 ≤ size }
     requires most { size ≤ 8 }
-    ensures { AnswersPayload (string size buf.old) buf.old buf.new result }
+    ensures answer { AnswersPayload (string size buf.old) buf.old buf.new result }
+    ensures rest { IsEndOf buf.old buf.new }
 {
     let mut ahead = SliceCursor::new(buf.chunk());
     let (head, len) = match prefix_int::decode(size - 1, &mut ahead) {

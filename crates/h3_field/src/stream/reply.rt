@@ -1,6 +1,7 @@
 //! Instructions of a decoder, on its stream to an encoder (RFC 9204, section 4.4).
 ghost use Rattle.std.specs.Prelude.{◌≡◌, ◌++◌, true, false, slice_index, OnOk, OnErr, Err};
 ghost use Rattle.h3_field.specs.Instruction.{decoder_bytes};
+ghost use Rattle.h3_field.specs.Ends.{IsEndOf};
 ghost use Rattle.h3_field.specs.Shapes.{begins};
 ghost use Rattle.h3_field.specs.InstructionReading.{acknowledgment, cancellation, increment};
 ghost use Rattle.h3_field.specs.InstructionAnswer.{AnswersReply, IsReply, count_increment, section_acknowledgment, stream_cancellation};
@@ -19,9 +20,11 @@ pub struct InsertCountIncrement(pub u64);
 impl InsertCountIncrement {
     /// Takes the instruction from the front, or answers `None` where it is not whole. Then, and on a refusal, nothing is
     /// taken.
+    #[tactic(auto, using(crate::specs::EndLaws::none_dropped))]
     pub fn decode(buf: &mut SliceCursor<'_>) -> Result<Option<InsertCountIncrement>, ParseError>
         ensures own { begins 0 63 buf.old ≡ true → AnswersReply count_increment (increment buf.old) buf.old buf.new result }
         ensures other { begins 0 63 buf.old ≡ false → (result ≡ Err (InvalidPrefix (slice_index buf.old 0))) × (buf.new ≡ buf.old) }
+        ensures rest { IsEndOf buf.old buf.new }
     {
         if let Some(first) = other_first(buf, 0, 63) {
             return Err(ParseError::InvalidPrefix(u64::from(first)));
@@ -50,9 +53,11 @@ pub struct HeaderAck(pub u64);
 impl HeaderAck {
     /// Takes the instruction from the front, or answers `None` where it is not whole. Then, and on a refusal, nothing is
     /// taken.
+    #[tactic(auto, using(crate::specs::EndLaws::none_dropped))]
     pub fn decode(buf: &mut SliceCursor<'_>) -> Result<Option<HeaderAck>, ParseError>
         ensures own { begins 128 255 buf.old ≡ true → AnswersReply section_acknowledgment (acknowledgment buf.old) buf.old buf.new result }
         ensures other { begins 128 255 buf.old ≡ false → (result ≡ Err (InvalidPrefix (slice_index buf.old 0))) × (buf.new ≡ buf.old) }
+        ensures rest { IsEndOf buf.old buf.new }
     {
         if let Some(first) = other_first(buf, 128, 255) {
             return Err(ParseError::InvalidPrefix(u64::from(first)));
@@ -81,9 +86,11 @@ pub struct StreamCancel(pub u64);
 impl StreamCancel {
     /// Takes the instruction from the front, or answers `None` where it is not whole. Then, and on a refusal, nothing is
     /// taken.
+    #[tactic(auto, using(crate::specs::EndLaws::none_dropped))]
     pub fn decode(buf: &mut SliceCursor<'_>) -> Result<Option<StreamCancel>, ParseError>
         ensures own { begins 64 127 buf.old ≡ true → AnswersReply stream_cancellation (cancellation buf.old) buf.old buf.new result }
         ensures other { begins 64 127 buf.old ≡ false → (result ≡ Err (InvalidPrefix (slice_index buf.old 0))) × (buf.new ≡ buf.old) }
+        ensures rest { IsEndOf buf.old buf.new }
     {
         if let Some(first) = other_first(buf, 64, 127) {
             return Err(ParseError::InvalidPrefix(u64::from(first)));

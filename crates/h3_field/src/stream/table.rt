@@ -1,6 +1,7 @@
 //! Instructions of an encoder that carry no string (RFC 9204, sections 4.3.1 and 4.3.4).
 ghost use Rattle.std.specs.Prelude.{◌≡◌, ◌++◌, true, false, slice_index, OnOk, OnErr, Err};
 ghost use Rattle.h3_field.specs.Instruction.{encoder_bytes};
+ghost use Rattle.h3_field.specs.Ends.{IsEndOf};
 ghost use Rattle.h3_field.specs.Shapes.{begins};
 ghost use Rattle.h3_field.specs.InstructionReading.{capacity, repeat};
 ghost use Rattle.h3_field.specs.InstructionAnswer.{AnswersInstruction, IsSendable, duplication, capacity_setting};
@@ -19,9 +20,11 @@ pub struct Duplicate(pub usize);
 impl Duplicate {
     /// Takes the instruction from the front, or answers `None` where it is not whole. Then, and on a refusal, nothing is
     /// taken.
+    #[tactic(auto, using(crate::specs::EndLaws::none_dropped))]
     pub fn decode(buf: &mut SliceCursor<'_>) -> Result<Option<Duplicate>, ParseError>
         ensures own { begins 0 31 buf.old ≡ true → AnswersInstruction duplication (repeat buf.old) buf.old buf.new result }
         ensures other { begins 0 31 buf.old ≡ false → (result ≡ Err (InvalidPrefix (slice_index buf.old 0))) × (buf.new ≡ buf.old) }
+        ensures rest { IsEndOf buf.old buf.new }
     {
         if let Some(first) = other_first(buf, 0, 31) {
             return Err(ParseError::InvalidPrefix(u64::from(first)));
@@ -50,9 +53,11 @@ pub struct DynamicTableSizeUpdate(pub usize);
 impl DynamicTableSizeUpdate {
     /// Takes the instruction from the front, or answers `None` where it is not whole. Then, and on a refusal, nothing is
     /// taken.
+    #[tactic(auto, using(crate::specs::EndLaws::none_dropped))]
     pub fn decode(buf: &mut SliceCursor<'_>) -> Result<Option<DynamicTableSizeUpdate>, ParseError>
         ensures own { begins 32 63 buf.old ≡ true → AnswersInstruction capacity_setting (capacity buf.old) buf.old buf.new result }
         ensures other { begins 32 63 buf.old ≡ false → (result ≡ Err (InvalidPrefix (slice_index buf.old 0))) × (buf.new ≡ buf.old) }
+        ensures rest { IsEndOf buf.old buf.new }
     {
         if let Some(first) = other_first(buf, 32, 63) {
             return Err(ParseError::InvalidPrefix(u64::from(first)));

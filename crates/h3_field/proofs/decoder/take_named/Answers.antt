@@ -1,7 +1,7 @@
 use Rattle.std.proofs.Common.{refl}
 use Rattle.h3_field.specs.LineReading.{named}
 use Rattle.h3_field.specs.LineAnswer.{named_line}
-use Rattle.h3_field.proofs.Sections.{has_field, no_static_name, named_entry, line_named, named_shortens}
+use Rattle.h3_field.proofs.Sections.{has_field, no_static_name, named_entry, line_named, named_shortens, refused_line}
 use Rattle.h3_field.proofs.decoder.take_named.Goals as goal
 
 pub returns-in-Ok : goal.returns-in-Ok
@@ -12,3 +12,6 @@ returns-in-Ok c =
 pub returns-in-Ok-Static : goal.returns-in-Ok-Static
 returns-in-Ok-Static c =
     no_static_name named_line _ _ _ _ (line_named _ c.requires.some c.requires.own) (c.in-Ok-Static.ensures.own c.requires.own) c.in-Ok-Static.index c.in-Ok-Static.value.items c.in-Err-get_name.ensures.1 (rw c.in-Ok-Static.field-0-is refl)
+
+pub returns : goal.returns
+returns c = rw c.from.ensures (refused_line named_line _ _ _ _ (line_named _ c.requires.some c.requires.own) (c.in-Err.ensures.own c.requires.own))

@@ -1,5 +1,5 @@
 use Rattle.std.proofs.Common.{arith}
-use Rattle.h3_huffman.proofs.Steps.{All_from}
+use Rattle.h3_huffman.specs.PayloadLaws.{All_from}
 use Rattle.h3_field.proofs.octets.are_bytes.Goals as goal
 
 pub returns : goal.returns

@@ -1,7 +1,8 @@
 use Rattle.std.proofs.Common.{◌≡◌, ◌+◌, ◌-◌, ◌<◌, ◌≤◌, ◌⊎◌, arith, lit<, refl, length, inl, inr}
 use Rattle.std.proofs.lemmas.List.{length-set}
 use Rattle.std.proofs.lemmas.Bool.{false≢true}
-use Rattle.h3_huffman.proofs.Steps.{stand_begin, stand_word, stand_byte, stand_entry, stand_long, long_end, window_high, last_entry, last_first, last_refused, last_long, last_long_refused, all_read, All_from}
+use Rattle.h3_huffman.proofs.Steps.{stand_begin, stand_word, stand_byte, stand_entry, stand_long, long_end, window_high, last_entry, last_first, last_refused, last_long, last_long_refused, all_read}
+use Rattle.h3_huffman.specs.PayloadLaws.{All_from}
 use Rattle.h3_huffman.proofs.decode.decode_into.Goals as goal
 use Rattle.h3_huffman.proofs.decode.decode_into.Goals.{then-payload-read-ge4, else-payload-read-ge4, then-word-eq256-2-via-then-word-eq256-2, then-word-eq256-2-via-else-word-eq256-2+then-word-count}
 

@@ -1,5 +1,5 @@
 use Rattle.std.proofs.Common.{arith, refl}
-use Rattle.h3_huffman.proofs.Steps.{All_from}
+use Rattle.h3_huffman.specs.PayloadLaws.{All_from}
 use Rattle.h3_huffman.proofs.Writing.{sum_of}
 use Rattle.h3_huffman.proofs.WritingFront.{huffman_most, finished_front, front_length}
 use Rattle.h3_huffman.proofs.encode.encode_front.Goals as goal

@@ -8,7 +8,7 @@ use Rattle.h3_qpack.proofs.decoder.Decoder.decode_header.Goals as goal
 
 pub returns-in-Err-get-clause-err : goal.returns-in-Err-get-clause-err
 returns-in-Err-get-clause-err c =
-    let read = prefix_read c.args.buf.now c.decode.new.buf c.in-Ok.prefix (rw (c.new-ahead.ensures, c.chunk.ensures) at c.in-Ok.ensures) in
+    let read = prefix_read c.args.buf.now c.decode.new.buf c.in-Ok.prefix (rw (c.new-ahead.ensures, c.chunk.ensures) at c.in-Ok.ensures.answer) in
     let begun : Begun c.args.self.now c.args.buf.now c.decode.new.buf c.in-Ok.prefix c.inserted-inserted.result c.unwrap_or-capacity.result = record {
       whole = read;
       inserted_is = c.inserted-inserted.ensures.value ∙ ap (λ r. r.table.inserted) c.self.view_is;
@@ -18,7 +18,7 @@ returns-in-Err-get-clause-err c =
 
 pub returns-then-count-inserted-clause-err : goal.returns-then-count-inserted-clause-err
 returns-then-count-inserted-clause-err c =
-    let read = prefix_read c.args.buf.now c.decode.new.buf c.in-Ok.prefix (rw (c.new-ahead.ensures, c.chunk.ensures) at c.in-Ok.ensures) in
+    let read = prefix_read c.args.buf.now c.decode.new.buf c.in-Ok.prefix (rw (c.new-ahead.ensures, c.chunk.ensures) at c.in-Ok.ensures.answer) in
     let begun : Begun c.args.self.now c.args.buf.now c.decode.new.buf c.in-Ok.prefix c.inserted-inserted.result c.unwrap_or-capacity.result = record {
       whole = read;
       inserted_is = c.inserted-inserted.ensures.value ∙ ap (λ r. r.table.inserted) c.self.view_is;
@@ -28,7 +28,7 @@ returns-then-count-inserted-clause-err c =
 
 pub returns-in-Err-take_field-clause-err : goal.returns-in-Err-take_field-clause-err
 returns-in-Err-take_field-clause-err c =
-    let read = prefix_read c.args.buf.now c.decode.new.buf c.in-Ok.prefix (rw (c.new-ahead.ensures, c.chunk.ensures) at c.in-Ok.ensures) in
+    let read = prefix_read c.args.buf.now c.decode.new.buf c.in-Ok.prefix (rw (c.new-ahead.ensures, c.chunk.ensures) at c.in-Ok.ensures.answer) in
     let begun : Begun c.args.self.now c.args.buf.now c.decode.new.buf c.in-Ok.prefix c.inserted-inserted.result c.unwrap_or-capacity.result = record {
       whole = read;
       inserted_is = c.inserted-inserted.ensures.value ∙ ap (λ r. r.table.inserted) c.self.view_is;
@@ -49,7 +49,7 @@ lines-preserved c =
 
 pub returns-clause-ok : goal.returns-clause-ok
 returns-clause-ok c =
-    let read = prefix_read c.args.buf.now c.decode.new.buf c.in-Ok.prefix (rw (c.new-ahead.ensures, c.chunk.ensures) at c.in-Ok.ensures) in
+    let read = prefix_read c.args.buf.now c.decode.new.buf c.in-Ok.prefix (rw (c.new-ahead.ensures, c.chunk.ensures) at c.in-Ok.ensures.answer) in
     let begun : Begun c.args.self.now c.args.buf.now c.decode.new.buf c.in-Ok.prefix c.inserted-inserted.result c.unwrap_or-capacity.result = record {
       whole = read;
       inserted_is = c.inserted-inserted.ensures.value ∙ ap (λ r. r.table.inserted) c.self.view_is;

@@ -2,7 +2,7 @@ use Rattle.std.proofs.Common.{refl}
 use Rattle.h3_field.specs.LineReading.{named}
 use Rattle.h3_field.specs.LineAnswer.{named_line}
 use Rattle.h3_field.proofs.Sections.{named_entry, line_named, named_shortens}
-use Rattle.h3_qpack.proofs.LinesAt.{begins_with, begins_with_none, static_none}
+use Rattle.h3_qpack.proofs.LinesAt.{begins_with, begins_with_none, static_none, refused_line}
 use Rattle.h3_qpack.proofs.decoder.Decoder.take_named.Goals as goal
 
 pub returns-in-Ok : goal.returns-in-Ok
@@ -19,3 +19,7 @@ pub returns-in-Ok-named_as : goal.returns-in-Ok-named_as
 returns-in-Ok-named_as c =
     rw (← c.self.view_is) (begins_with c.self.inside.entries c.args.base named_line named _ _ _ _ named_shortens (line_named _ c.requires.some c.requires.own) (c.in-Ok-Dynamic.ensures.own c.requires.own)
     (rw (c.in-Ok-Dynamic.field-0-is, c.in-Ok-named_as.ensures, c.in-Ok-relative.ensures) refl))
+
+pub returns-in-Err : goal.returns-in-Err
+returns-in-Err c =
+    rw c.from.ensures (refused_line c.args.self.now.table c.args.base named_line _ _ _ c.in-Err.e (line_named _ c.requires.some c.requires.own) (c.in-Err.ensures.own c.requires.own))

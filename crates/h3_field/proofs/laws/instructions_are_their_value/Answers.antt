@@ -1,0 +1,14 @@
+use Rattle.h3_field.specs.ValueLaws.{instruction_some, instruction_is, instruction_none, no_instruction}
+use Rattle.h3_field.proofs.laws.instructions_are_their_value.Goals as goal
+
+pub returns-clause-some : goal.returns-clause-some
+returns-clause-some c = instruction_some
+
+pub returns-clause-only : goal.returns-clause-only
+returns-clause-only c = instruction_is
+
+pub returns-clause-none : goal.returns-clause-none
+returns-clause-none c = instruction_none
+
+pub returns-clause-refused : goal.returns-clause-refused
+returns-clause-refused c form i none says = no_instruction form none i says

@@ -1,0 +1,14 @@
+use Rattle.h3_field.specs.ValueLaws.{line_some, line_is, line_none, no_line}
+use Rattle.h3_field.proofs.laws.lines_are_their_value.Goals as goal
+
+pub returns-clause-some : goal.returns-clause-some
+returns-clause-some c = line_some
+
+pub returns-clause-only : goal.returns-clause-only
+returns-clause-only c = line_is
+
+pub returns-clause-none : goal.returns-clause-none
+returns-clause-none c = line_none
+
+pub returns-clause-refused : goal.returns-clause-refused
+returns-clause-refused c form l none says = no_line form none l says
