@@ -10,3 +10,7 @@ pub mod Isolated
 pub mod Fronts
 pub mod Brought
 pub mod Distinct
+pub mod PullBounds
+pub mod WaitingCounts
+pub mod Bounded
+pub mod Closed

@@ -26,6 +26,7 @@ pub mod Keeping
 pub mod PartReading
 pub mod Calls
 pub mod Answers
+pub mod Bounds
 pub mod Conditions
 pub mod SendingContracts
 pub mod ReceivingContracts

@@ -65,7 +65,7 @@ first-first m n p =
     let heads : drop m (drop n p.head) ≡ drop (n + m) p.head = drop-drop m n p.head in
     let sum : (n - length p.head) + (m - length (drop n p.head)) ≡ n + m - length p.head = omega (arith, length-drop n p.head) in
     let payloads : drop (m - length (drop n p.head)) (drop (n - length p.head) p.payload) ≡ drop (n + m - length p.head) p.payload =
-        drop-drop (m - length (drop n p.head)) (n - length p.head) p.payload ∙ ap (λ k. drop k p.payload) sum in
+    drop-drop (m - length (drop n p.head)) (n - length p.head) p.payload ∙ ap (λ k. drop k p.payload) sum in
     ap (λ l. record { head = l; payload = drop (m - length (drop n p.head)) (drop (n - length p.head) p.payload) }) heads
     ∙ ap (λ l. record { head = drop (n + m) p.head; payload = l }) payloads
 

@@ -1,7 +1,7 @@
 -- What waits on a request stream, in pieces: one for each frame that was written and not wholly taken.
 use Rattle.std.specs.Prelude.{ℕ, zero, suc, ◌+◌, ◌-◌, Bool, List, [], ◌∷◌, ◌++◌, length, drop, flat_map, if◌then◌else◌, nat_lt, map}
 use Rattle.h3_wire.specs.Encoded.{head_encoding}
-use Rattle.h3_wire.specs.Outgoing.{Outgoing as Piece, all_of}
+use Rattle.h3_wire.specs.Outgoing.{Outgoing as Piece, all_of, first_part}
 use Rattle.h3_connection.specs.Outgoing.{Outgoing, OwnPart, OwnInterim, OwnHead, OwnBody, OwnTrailer}
 
 -- a frame's type and length, and its payload (RFC 9114, section 7.1)
@@ -33,9 +33,6 @@ abbrev pub bytes_of : List Piece → List ℕ
 bytes_of pieces = flat_map all_of pieces
 
 -- what is lent first: the rest of the first frame's type and length, and then its payload
-abbrev pub lent_of_piece : Piece → List ℕ
-lent_of_piece p = if nat_lt 0 (length p.head) then p.head else p.payload
-
 abbrev pub lent : List Piece → List ℕ
 lent [] = []
-lent (p ∷ pieces) = lent_of_piece p
+lent (p ∷ pieces) = first_part p

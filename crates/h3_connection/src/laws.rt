@@ -26,7 +26,7 @@ ghost use Rattle.h3_proto.specs.declared.stream.Side.{Side};
 ghost use Rattle.h3_connection.specs.declared.setup.Announced.{Announced};
 ghost use Rattle.h3_connection.specs.Endpoint.{EndpointHistory, kind_of, new_endpoint};
 ghost use Rattle.h3_connection.specs.Endpoint.Kind.{Request};
-ghost use Rattle.h3_connection.specs.CallLists.{Call, endpoint_after};
+ghost use Rattle.h3_connection.specs.CallLists.{Call, called, endpoint_after};
 ghost use Rattle.h3_connection.specs.Isolation.{IsIsolated, Before, GoesOn, FindsNoFault, Sight, IsSight, view, sight_after, answers_seen, fold_seen, first_sight, view_of, answers_to_view};
 
 /// What a request stream's calls are answered is a fold over its view: its own calls, and the deliveries to the peer's unidirectional
@@ -52,4 +52,31 @@ pub fn nothing_kept_is_plain()
     ensures end { (e : EndpointHistory) (id : ℕ) → e.kept ≡ [] → arrives e (EndCame id) ≡ deliver_end e id }
     ensures reset { (e : EndpointHistory) (id code : ℕ) → e.kept ≡ [] → arrives e (ResetCame id code) ≡ deliver_reset e id code }
     ensures pulled { (e : EndpointHistory) (id : ℕ) → e.kept ≡ [] → pulls e id ≡ pull e id }
+{}
+
+ghost use Rattle.std.specs.Prelude.{◌≤◌};
+ghost use Rattle.h3_connection.specs.declared.event.Refusal.TheVariants as refusal;
+ghost use Rattle.h3_connection.specs.declared.event.Pull.TheVariants as answer;
+ghost use Rattle.h3_connection.specs.declared.event.Fault.TheVariants as fault;
+
+/// After a connection fault every pull answers it, and every delivery, whatever is called between.
+pub fn a_connection_fault_stays()
+    ensures pulled { (e : EndpointHistory) (calls : List Call) (id code : ℕ) → e.closed ≡ Some code → (pull (endpoint_after e calls) id).0 ≡ answer.Fault (fault.Connection code) }
+    ensures delivered { (e : EndpointHistory) (calls : List Call) (id code : ℕ) (bytes : List ℕ) → e.closed ≡ Some code → (deliver (endpoint_after e calls) id bytes).0 ≡ Some (refusal.Connection code) }
+    ensures pulls_kept { (e : EndpointHistory) (id code : ℕ) → e.closed ≡ Some code → pulls e id ≡ (answer.Fault (fault.Connection code), e) }
+    ensures arrives_kept { (e : EndpointHistory) (a : Arrival) (code : ℕ) → e.closed ≡ Some code → arrives e a ≡ (Some (refusal.Connection code), e) }
+{}
+
+ghost use Rattle.h3_connection.specs.Arrivals.{Arrival};
+ghost use Rattle.h3_connection.specs.Bounds.{IsBounded};
+ghost use Rattle.h3_connection.specs.Shown.{block_tries, waiting_heads};
+
+/// No section is tried more than twice, and no more streams wait than the endpoint announced, whatever comes.
+pub fn tries_and_waiting_streams_are_bounded()
+    ensures calls { (side : Side) (own : Announced) (calls : List Call) → IsBounded (endpoint_after (new_endpoint side own) calls) }
+    ensures call { (e : EndpointHistory) (c : Call) → IsBounded e → IsBounded (called e c).1 }
+    ensures arrives { (e : EndpointHistory) (a : Arrival) → IsBounded e → IsBounded (arrives e a).1 }
+    ensures pulls { (e : EndpointHistory) (id : ℕ) → IsBounded e → IsBounded (pulls e id).1 }
+    ensures tries { (e : EndpointHistory) (id : ℕ) → IsBounded e → block_tries e id ≤ 2 }
+    ensures waiting { (e : EndpointHistory) → IsBounded e → waiting_heads e ≤ e.announced.limits.blocked }
 {}

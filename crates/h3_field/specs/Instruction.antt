@@ -5,10 +5,14 @@ use Rattle.h3_field.specs.Integer.{prefixed}
 use Rattle.h3_field.specs.StringLiteral.{string_literal}
 
 pub data EncoderInstruction : Type 0 where
+  -- set dynamic table capacity (4.3.1): | 0 | 0 | 1 | capacity (5+) |
   SetCapacity : (capacity : ℕ) → EncoderInstruction
+  -- insert with name reference (4.3.2): | 1 | T | name index (6+) | H | value length (7+) | value |, where T is 1 for the static table
   InsertWithStaticName : (index : ℕ) (value : List ℕ) → EncoderInstruction
   InsertWithEntryName : (index : ℕ) (value : List ℕ) → EncoderInstruction
+  -- insert with literal name (4.3.3): | 0 | 1 | H | name length (5+) | name | H | value length (7+) | value |
   InsertLiteral : (name value : List ℕ) → EncoderInstruction
+  -- duplicate (4.3.4): | 0 | 0 | 0 | index (5+) |
   Duplicate : (index : ℕ) → EncoderInstruction
 
 abbrev pub encoder_bytes : EncoderInstruction → List ℕ
@@ -19,8 +23,11 @@ encoder_bytes (InsertLiteral name value) = string_literal 6 1 name ++ string_lit
 encoder_bytes (Duplicate index) = prefixed 5 0 index
 
 pub data DecoderInstruction : Type 0 where
+  -- section acknowledgment (4.4.1): | 1 | stream id (7+) |
   Acknowledge : (stream : ℕ) → DecoderInstruction
+  -- stream cancellation (4.4.2): | 0 | 1 | stream id (6+) |
   CancelStream : (stream : ℕ) → DecoderInstruction
+  -- insert count increment (4.4.3): | 0 | 0 | increment (6+) |
   Increment : (count : ℕ) → DecoderInstruction
 
 abbrev pub decoder_bytes : DecoderInstruction → List ℕ

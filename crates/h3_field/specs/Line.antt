@@ -4,12 +4,17 @@ use Rattle.h3_field.specs.Integer.{prefixed}
 use Rattle.h3_field.specs.StringLiteral.{string_literal}
 
 pub data FieldLine : Type 0 where
+  -- indexed field line (4.5.2): | 1 | T | index (6+) |, where T is 1 for the static table
   StaticField : (index : ℕ) → FieldLine
   RelativeField : (index : ℕ) → FieldLine
+  -- indexed field line with post-base index (4.5.3): | 0 | 0 | 0 | 1 | index (4+) |
   PostBaseField : (index : ℕ) → FieldLine
+  -- literal field line with name reference (4.5.4): | 0 | 1 | N | T | name index (4+) | H | value length (7+) | value |
   StaticName : (index : ℕ) (value : List ℕ) → FieldLine
   RelativeName : (index : ℕ) (value : List ℕ) → FieldLine
+  -- literal field line with post-base name reference (4.5.5): | 0 | 0 | 0 | 0 | N | name index (3+) | H | value length (7+) | value |
   PostBaseName : (index : ℕ) (value : List ℕ) → FieldLine
+  -- literal field line with literal name (4.5.6): | 0 | 0 | 1 | N | H | name length (3+) | name | H | value length (7+) | value |
   Literal : (name value : List ℕ) → FieldLine
 
 abbrev pub line_bytes : FieldLine → List ℕ

@@ -29,7 +29,7 @@ IsBase true delta count base = base + delta + 1 ≡ count
 IsBase false delta count base = base ≡ count + delta
 
 -- A reader that announced this capacity and has read so many insertions takes this count and base. Without a table they
--- are 0 whatever was read.
+-- are 0 whatever was read: that an encoder could not have written it (4.5.1.1, 4.5.1.2) is not enforced there.
 abbrev pub IsPrefix : ℕ → ℕ → EncodedPrefix → ℕ → ℕ → Type 0
 IsPrefix capacity inserted p count base =
     ((capacity ≡ 0) × (count ≡ 0) × (base ≡ 0)) ⊎ ((0 < capacity) × IsCount capacity inserted p.encoded count × IsBase p.is_negative p.delta count base)

@@ -48,7 +48,8 @@ IsShortMethod value = IsToken value × (length value ≤ 15)
 abbrev pub status_number : List ℕ → ℕ
 status_number text = (slice_index text 0 - 48) * 100 + (slice_index text 1 - 48) * 10 + (slice_index text 2 - 48)
 
--- the head with one more field. A pseudo-header field takes the place of an earlier one
+-- the head with one more field. A pseudo-header field takes the place of an earlier one, also behind regular fields: that each
+-- comes once and first (RFC 9114, section 4.3) is not enforced. Nor are connection-specific fields refused (section 4.2)
 abbrev pub with_kind : FieldKind → Head → Field → Head
 with_kind Method h f = record h { method = Some f.value }
 with_kind Scheme h f = record h { scheme = Some f.value }

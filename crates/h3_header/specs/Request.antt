@@ -44,7 +44,8 @@ request_parts h =
 abbrev pub CanBeUri : Head → Type 0
 CanBeUri h = IfSome (request_parts h).authority IsAuthority × PartsFit (request_parts h)
 
--- why a head gives no request, in the order of judging. Memory is asked for only where `host` stands for the authority
+-- why a head gives no request, in the order of judging. Memory is asked for only where `host` stands for the authority. Not
+-- enforced are the rules of CONNECT (RFC 9114, section 4.4), that `:protocol` comes with it alone, and what a second `host` says
 abbrev pub RefusesRequest : Head → HeaderError → Type 0
 RefusesRequest h MissingAuthority = authority_refusal h.authority (host_of h.regular) ≡ Some MissingAuthority
 RefusesRequest h ContradictedAuthority = authority_refusal h.authority (host_of h.regular) ≡ Some ContradictedAuthority

@@ -36,5 +36,4 @@ pub fn round_trip(alloc: Global, header: &Header) -> Result<Header, HeaderError>
 pub fn lists_are_their_value()
     ensures head { (fields : List Field) (h : Head) → IsHeadOf fields h → head_of fields ≡ IsHead h }
     ensures refused { (fields : List Field) (e : HeaderError) (why : HeadRefusal) → RefusesOne (trailer_head []) fields e → told e ≡ Some why → head_of fields ≡ IsNone why }
-{
-}
+{}

@@ -12,7 +12,9 @@ use Rattle.h3_proto.specs.declared.frame.SettingsError.TheVariants.{Exceeded, Ma
 abbrev pub is_forbidden : ℕ → Bool
 is_forbidden id = list_any (λ x. x == id) (0 ∷ 2 ∷ 3 ∷ 4 ∷ 5 ∷ [])
 
--- the identifier has a meaning; those of all other settings that were read are left out
+-- the identifier has a meaning; those of all other settings that were read are left out. They are QPACK_MAX_TABLE_CAPACITY 1,
+-- MAX_FIELD_SECTION_SIZE 6, QPACK_BLOCKED_STREAMS 7 (RFC 9114, 7.2.4.1; RFC 9204, 5), ENABLE_CONNECT_PROTOCOL 8 (RFC 9220),
+-- H3_DATAGRAM 0x33 (RFC 9297), and of WebTransport's drafts whether it is enabled and how many sessions there may be
 abbrev pub known_ids : List ℕ
 known_ids = 1 ∷ 6 ∷ 7 ∷ 8 ∷ 0x33 ∷ 0x2b603742 ∷ 0x2b603743 ∷ []
 

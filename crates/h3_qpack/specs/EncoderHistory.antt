@@ -55,7 +55,8 @@ was_canceled s stream = list_any (λ other. other == stream) s.canceled
 abbrev pub writing_on : EncoderHistory → ℕ → EncoderHistory
 writing_on s stream = if was_canceled s stream then record s { capacity = 0; limit = 0 } else s
 
--- the encoder after an instruction of the decoder. The known received count stops at the greatest number of 64 bits
+-- the encoder after an instruction of the decoder. The known received count stops at the greatest number of 64 bits.
+-- That an increment is not 0, and not past what was sent (RFC 9204, section 4.4.3), is not enforced
 abbrev pub encoder_after : EncoderHistory → DecoderInstruction → EncoderHistory
 encoder_after s (Acknowledge stream) = record s { tracked = released stream s.tracked }
 encoder_after s (CancelStream stream) = record s { tracked = without_stream stream s.tracked; canceled = insert_key nat_cmp s.canceled stream }

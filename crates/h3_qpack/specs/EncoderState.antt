@@ -79,7 +79,8 @@ encoder_state_withdrawn s stream count =
       tracked = if count == 0 then s.tracked else without_newest_of stream s.tracked;
     }
 
--- The table may be given this capacity: no section that is tracked names an entry to be evicted.
+-- The table may be given this capacity: no section that is tracked names an entry to be evicted. That what is evicted is known to
+-- be received (RFC 9204, section 3.2.3) is not enforced.
 pub record MayHaveCapacity (s : EncoderState) (capacity : ℕ) : Type 0 where
   pub small : capacity < 2 ^ 30
   pub free : is_free_to (evicted (with_capacity s.table capacity)) s.tracked ≡ true

@@ -33,7 +33,8 @@ pub record HasPrefix (r : DecoderState) (bytes rest : List ℕ) (count base : �
   pub whole : prefix bytes ≡ Whole encoded rest
   pub is : IsPrefix (count_capacity r) r.table.inserted encoded count base
 
--- The section is of these fields and has this required insert count, which is not above the insertions.
+-- The section is of these fields and has this required insert count, which is not above the insertions. That its lines name no
+-- entry from that count on (RFC 9204, section 2.2.3) is not enforced: an entry that is there may be named.
 pub record MeansFields (r : DecoderState) (bytes : List ℕ) (count : ℕ) (fields : List Field) : Type 0 where
   pub rest : List ℕ
   pub base : ℕ

@@ -45,7 +45,8 @@ promise_frame (Some p) rest = Whole (frame.PushPromise (record { id = p.0; secti
 abbrev pub is_http2 : ℕ → Bool
 is_http2 kind = list_any (λ k. k == kind) (2 ∷ 6 ∷ 8 ∷ 9 ∷ [])
 
--- the frame of a type and a whole payload
+-- the frame of a type and a whole payload (RFC 9114, section 7.2): | type (i) | length (i) | payload |, with the types HEADERS 1,
+-- CANCEL_PUSH 3, SETTINGS 4, PUSH_PROMISE 5, GOAWAY 7 and MAX_PUSH_ID 13; DATA, 0, is in `with_head`, as its payload is not waited for
 unfoldable pub frame_of : ℕ → List ℕ → List ℕ → Front
 frame_of kind payload rest =
     if kind == 1 then Whole (frame.Headers payload) rest

@@ -1,4 +1,5 @@
-//! Lines with a literal value (RFC 9204, sections 4.5.4 to 4.5.6). The bit N is written 0, and read either way.
+//! Lines with a literal value (RFC 9204, sections 4.5.4 to 4.5.6). The bit N is written 0, and read either way: that a line
+//! with N stays a literal at a next hop is not enforced (docs/RFC.md).
 ghost use Rattle.std.specs.Prelude.{◌≡◌, ◌<◌, ◌^◌, ◌++◌, true, false, length, slice_index, OnOk, OnErr, Err};
 ghost use Rattle.std.specs.Result.{IsOkUnless};
 ghost use Rattle.h3_field.specs.Line.{line_bytes};
@@ -20,7 +21,8 @@ use crate::shapes::{
 };
 use std::alloc::Global;
 
-/// A line with the name of a static entry, or of a dynamic one by its distance below the base.
+/// A line with the name of a static entry, or of a dynamic one by its distance below the base: the literal field line with
+/// name reference, `| 0 | 1 | N | T | name index (4+) | H | value length (7+) | value |` (RFC 9204, section 4.5.4).
 #[derive(PartialEq, Debug, Drop)]
 pub enum LiteralWithNameRef {
     Static { index: usize, value: Vec<u8> },
@@ -115,7 +117,8 @@ impl LiteralWithNameRef {
     }
 }
 
-/// A line with the name of a dynamic entry, by its distance from the base on.
+/// A line with the name of a dynamic entry, by its distance from the base on: the literal field line with post-base name
+/// reference, `| 0 | 0 | 0 | 0 | N | name index (3+) | H | value length (7+) | value |` (RFC 9204, section 4.5.5).
 #[derive(PartialEq, Debug, Drop)]
 pub struct LiteralWithPostBaseNameRef {
     pub index: usize,
@@ -173,7 +176,8 @@ impl LiteralWithPostBaseNameRef {
     }
 }
 
-/// A line with a literal name.
+/// A line with a literal name, `| 0 | 0 | 1 | N | H | name length (3+) | name | H | value length (7+) | value |` (RFC 9204,
+/// section 4.5.6).
 #[derive(PartialEq, Debug, Drop)]
 pub struct Literal {
     pub name: Vec<u8>,

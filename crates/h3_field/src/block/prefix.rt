@@ -12,7 +12,8 @@ use crate::prefix_int;
 use std::alloc::AllocError;
 use std::marker::Model;
 
-/// The encoded required insert count, and the base by its sign and its distance from that count.
+/// The encoded required insert count, and the base by its sign and its distance from that count:
+/// `| encoded insert count (8+) | S | delta base (7+) |` (RFC 9204, section 4.5.1).
 #[derive(PartialEq, Debug, Drop)]
 pub struct HeaderPrefix {
     count: u64,
@@ -34,26 +35,27 @@ impl Model for HeaderPrefix {
     ghost inverse = { λ p. record { count = p.encoded; below = p.is_negative; distance = p.delta } };
 }
 
-/// The number of that residue among those that a reader of so many insertions may meet.
+/// The number of that residue among those that a reader of so many insertions may meet, by the algorithm and in the words of
+/// RFC 9204, section 4.5.1.1.
 fn required_count(capacity: usize, inserted: usize, encoded: u64) -> Option<u64>
     requires inserted { inserted ≤ 2 ^ 62 }
     requires encoded { 0 < encoded }
     ensures { MatchOption result (HasNoCount capacity inserted encoded) (λ r. IsRequiredCount capacity inserted encoded r) }
 {
-    let most = capacity as u64 / 32;
-    let full = 2 * most;
-    if encoded > full {
+    let max_entries = capacity as u64 / 32;
+    let full_range = 2 * max_entries;
+    if encoded > full_range {
         return None;
     }
-    let last = inserted as u64 + most;
-    let wrapped = last / full * full;
-    let count = wrapped + (encoded - 1);
-    if count <= last {
+    let max_value = inserted as u64 + max_entries;
+    let max_wrapped = max_value / full_range * full_range;
+    let count = max_wrapped + (encoded - 1);
+    if count <= max_value {
         if count == 0 { None } else { Some(count) }
-    } else if wrapped == 0 {
+    } else if max_wrapped == 0 {
         None
     } else {
-        let count = count - full;
+        let count = count - full_range;
         if count == 0 { None } else { Some(count) }
     }
 }
@@ -80,8 +82,8 @@ impl HeaderPrefix {
                 distance: 0,
             };
         }
-        let full = 2 * (max_table_size as u64 / 32);
-        let count = required as u64 % full + 1;
+        let full_range = 2 * (max_table_size as u64 / 32);
+        let count = required as u64 % full_range + 1;
         if base < required {
             return HeaderPrefix {
                 count,

@@ -19,7 +19,8 @@ use crate::shapes::{
 use crate::{prefix_int, prefix_string};
 use std::alloc::Global;
 
-/// An insertion with the name of a static entry, or of a dynamic one by its distance from the newest.
+/// An insertion with the name of a static entry, or of a dynamic one by its distance from the newest: insert with name
+/// reference, `| 1 | T | name index (6+) | H | value length (7+) | value |` (RFC 9204, section 4.3.2).
 #[derive(PartialEq, Debug, Drop)]
 pub enum InsertWithNameRef {
     Static { index: usize, value: Vec<u8> },
@@ -116,7 +117,8 @@ impl InsertWithNameRef {
     }
 }
 
-/// An insertion with a literal name.
+/// An insertion with a literal name, `| 0 | 1 | H | name length (5+) | name | H | value length (7+) | value |` (RFC 9204,
+/// section 4.3.3).
 #[derive(PartialEq, Debug, Drop)]
 pub struct InsertWithoutNameRef {
     pub name: Vec<u8>,

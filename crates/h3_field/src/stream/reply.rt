@@ -13,7 +13,8 @@ use crate::prefix_int;
 use crate::shapes::other_first;
 use std::alloc::AllocError;
 
-/// So many insertions were read since the last one was told.
+/// So many insertions were read since the last one was told: insert count increment, `| 0 | 0 | increment (6+) |` (RFC 9204,
+/// section 4.4.3).
 #[derive(Copy, Clone, PartialEq, Eq, Debug)]
 pub struct InsertCountIncrement(pub u64);
 
@@ -46,7 +47,8 @@ impl InsertCountIncrement {
     }
 }
 
-/// A section of that stream, with a required insert count above 0, was decoded.
+/// A section of that stream, with a required insert count above 0, was decoded: section acknowledgment,
+/// `| 1 | stream id (7+) |` (RFC 9204, section 4.4.1).
 #[derive(Copy, Clone, PartialEq, Eq, Debug)]
 pub struct HeaderAck(pub u64);
 
@@ -79,7 +81,8 @@ impl HeaderAck {
     }
 }
 
-/// No further section of that stream is decoded.
+/// No further section of that stream is decoded: stream cancellation, `| 0 | 1 | stream id (6+) |` (RFC 9204, section
+/// 4.4.2).
 #[derive(Copy, Clone, PartialEq, Eq, Debug)]
 pub struct StreamCancel(pub u64);
 

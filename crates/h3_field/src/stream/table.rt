@@ -13,7 +13,8 @@ use crate::prefix_int;
 use crate::shapes::other_first;
 use std::alloc::AllocError;
 
-/// An insertion of a present entry anew, by its distance from the newest.
+/// An insertion of a present entry anew, by its distance from the newest: duplicate, `| 0 | 0 | 0 | index (5+) |` (RFC 9204,
+/// section 4.3.4).
 #[derive(Copy, Clone, PartialEq, Eq, Debug)]
 pub struct Duplicate(pub usize);
 
@@ -46,7 +47,8 @@ impl Duplicate {
     }
 }
 
-/// A new capacity of the table, in bytes.
+/// A new capacity of the table, in bytes: set dynamic table capacity, `| 0 | 0 | 1 | capacity (5+) |` (RFC 9204, section
+/// 4.3.1).
 #[derive(Copy, Clone, PartialEq, Eq, Debug)]
 pub struct DynamicTableSizeUpdate(pub usize);
 

@@ -1,0 +1,219 @@
+//! What is sent on a request stream: where its message is, and the frames that wait.
+ghost use Rattle.std.specs.Prelude.{◌≡◌, ◌≢◌, ◌+◌, ◌-◌, ◌<◌, ◌≤◌, ◌^◌, [], length, true, false, OnOk, OnErr, IfErr, IsTrue};
+ghost use Rattle.h3_connection.specs.WaitingPieces.{bytes_of, lent, without_front};
+ghost use Rattle.h3_connection.specs.State.{nothing_waits};
+ghost use Rattle.h3_outgoing.specs.Sent.{has_section, has_body, has_ended, was_cut_off, taken_from, takes_head, takes_body, takes_end, is_sent_off};
+
+use bytes::{Buf, Bytes};
+use h3_connection::place::SendPlace;
+use h3_wire::stream::MessageBuf;
+use std::alloc::{AllocError, Global};
+use std::collections::VecDeque;
+use std::marker::Model;
+
+/// A request stream at its sender. Its frames wait in a queue: a body that was handed over is the payload itself, and is not
+/// copied. A contract sees the pieces that wait.
+#[derive(Drop)]
+pub struct OutgoingStream {
+    pieces: VecDeque<MessageBuf<Bytes>>,
+    waiting: usize,
+    place: SendPlace,
+    is_finished: bool,
+    is_reset: bool,
+}
+
+impl Model for OutgoingStream {
+    ghost use Rattle.std.specs.Prelude.{◌≡◌, ◌<◌, length, All};
+    ghost use Rattle.h3_wire.specs.Outgoing.{all_of};
+    ghost use Rattle.h3_connection.specs.WaitingPieces.{bytes_of};
+    ghost use Rattle.h3_connection.specs.State.{OutgoingState};
+
+    ghost Value = { OutgoingState };
+
+    ghost view = { λ s. record {
+      pieces = s.pieces.items;
+      place = s.place;
+      is_finished = s.is_finished;
+      is_reset = s.is_reset;
+    } };
+
+    ghost invariant = { λ s. (s.waiting ≡ length (bytes_of s.pieces.items)) × All (λ p. 0 < length (all_of p)) s.pieces.items };
+}
+
+impl OutgoingStream {
+    /// A stream on which nothing was sent. It takes no memory.
+    pub fn new(alloc: Global) -> OutgoingStream
+        ensures { result ≡ nothing_waits }
+    {
+        OutgoingStream {
+            pieces: VecDeque::new(alloc),
+            waiting: 0,
+            place: SendPlace::NothingSent,
+            is_finished: false,
+            is_reset: false,
+        }
+    }
+
+    /// Whether a head may be sent: the stream is open, and no final head was sent.
+    pub fn takes_head(&self) -> bool
+        ensures { result ≡ takes_head self.now }
+    {
+        !self.is_finished && !self.is_reset && matches!(self.place, SendPlace::NothingSent)
+    }
+
+    /// Whether a body or the trailer may be sent: the stream is open, the final head was sent, and no trailer.
+    pub fn takes_body(&self) -> bool
+        ensures { result ≡ takes_body self.now }
+    {
+        !self.is_finished && !self.is_reset && matches!(self.place, SendPlace::HeadSent)
+    }
+
+    /// Whether it may be finished: the stream is open, and the final head was sent.
+    pub fn takes_end(&self) -> bool
+        ensures { result ≡ takes_end self.now }
+    {
+        !self.is_finished && !self.is_reset && !matches!(self.place, SendPlace::NothingSent)
+    }
+
+    /// Room for one more frame, so that sending it needs no memory.
+    pub fn reserve(&mut self) -> Result<(), AllocError>
+        ensures { self.new ≡ self.old }
+    {
+        self.pieces.reserve(1)
+    }
+
+    // No queue of 2^62 bytes fits into memory: a longer one is refused as such.
+    fn has_room_for(&self, payload: usize) -> bool
+        ensures { IsTrue result → (payload < 2 ^ 61) × (length (bytes_of self.now.pieces) < 2 ^ 61) }
+    {
+        payload < 1 << 61 && self.waiting < 1 << 61
+    }
+
+    /// The HEADERS frame of an encoded field section goes out, and the message is at that place then. An `Err` changes nothing, and
+    /// hands the section back.
+    #[tactic(auto, using(crate::proofs::Waiting::headers_some))]
+    pub fn send_section(&mut self, section: Bytes, place: SendPlace) -> Result<(), Bytes>
+        ensures ok { OnOk result (self.new ≡ has_section self.old section place) }
+        ensures err { IfErr result (λ b. (b ≡ section) × (self.new ≡ self.old)) }
+    {
+        if !self.has_room_for(section.len()) {
+            return Err(section);
+        }
+        let Ok(()) = self.pieces.reserve(1) else {
+            return Err(section);
+        };
+        self.place = place;
+        let piece = MessageBuf::headers(section);
+        self.waiting += piece.remaining();
+        self.pieces.push_back_reserved(piece);
+        Ok(())
+    }
+
+    /// A body goes out as the payload of a DATA frame; an empty one writes nothing. An `Err` changes nothing, and hands the body back.
+    pub fn send_body(&mut self, body: Bytes) -> Result<(), Bytes>
+        ensures ok { OnOk result (self.new ≡ has_body self.old body) }
+        ensures err { IfErr result (λ b. (b ≡ body) × (self.new ≡ self.old)) }
+    {
+        if !body.has_remaining() {
+            return Ok(());
+        }
+        if !self.has_room_for(body.len()) {
+            return Err(body);
+        }
+        let Ok(()) = self.pieces.reserve(1) else {
+            return Err(body);
+        };
+        let piece = MessageBuf::data(body);
+        self.waiting += piece.remaining();
+        self.pieces.push_back_reserved(piece);
+        Ok(())
+    }
+
+    /// The message is whole. It takes no memory.
+    pub fn finish(&mut self)
+        ensures { self.new ≡ has_ended self.old }
+    {
+        self.is_finished = true;
+    }
+
+    /// Sending ends here: what waits is dropped. It takes no memory.
+    pub fn reset(&mut self)
+        ensures { self.new ≡ was_cut_off self.old }
+    {
+        self.pieces.clear();
+        self.waiting = 0;
+        self.is_reset = true;
+        self.is_finished = false;
+    }
+
+    /// The first bytes that wait: the rest of a frame's type and length, or of its payload. Empty exactly where nothing waits.
+    pub fn outgoing(&self) -> &[u8]
+        ensures { result.now ≡ lent self.now.pieces }
+    {
+        match self.pieces.front() {
+            Some(piece) => piece.first_part(),
+            None => &[],
+        }
+    }
+
+    /// How many bytes wait.
+    pub fn waiting(&self) -> usize
+        ensures { result ≡ length (bytes_of self.now.pieces) }
+    {
+        self.waiting
+    }
+
+    /// Takes the first bytes of what waits, at most all. It may cross frames; one that is wholly taken is dropped.
+    pub fn advance(&mut self, count: usize)
+        requires { count ≤ length (bytes_of self.old.pieces) }
+        ensures { self.new ≡ taken_from self.old count }
+    {
+        let mut left = count;
+        while left > 0 {
+            left -= self.advance_first(left);
+        }
+    }
+
+    // Takes up to `count` bytes of the first piece, and answers how many.
+    fn advance_first(&mut self, count: usize) -> usize
+        requires { (0 < count) × (count ≤ length (bytes_of self.old.pieces)) }
+        ensures taken { (0 < result) × (result ≤ count) }
+        ensures rest { without_front (count - result) self.new.pieces ≡ without_front count self.old.pieces }
+        ensures fewer { length (bytes_of self.new.pieces) + result ≡ length (bytes_of self.old.pieces) }
+        ensures same { self.new ≡ record self.old { pieces = self.new.pieces } }
+    {
+        let Some(piece) = self.pieces.front_mut() else {
+            return count;
+        };
+        let len = piece.remaining();
+        if count < len {
+            piece.advance(count);
+            self.waiting -= count;
+            return count;
+        }
+        self.pieces.pop_front();
+        self.waiting -= len;
+        len
+    }
+
+    /// Whether the message was finished.
+    pub fn is_finished(&self) -> bool
+        ensures { result ≡ self.now.is_finished }
+    {
+        self.is_finished
+    }
+
+    /// Whether sending was cut off.
+    pub fn is_reset(&self) -> bool
+        ensures { result ≡ self.now.is_reset }
+    {
+        self.is_reset
+    }
+
+    /// Whether nothing of it is left to be sent: it was reset, or finished with nothing waiting.
+    pub fn is_sent_off(&self) -> bool
+        ensures { result ≡ is_sent_off self.now }
+    {
+        self.is_reset || (self.is_finished && self.waiting == 0)
+    }
+}
