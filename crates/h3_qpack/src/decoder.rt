@@ -10,7 +10,7 @@ ghost use Rattle.h3_field.specs.Shapes.{begins};
 ghost use Rattle.h3_field.specs.declared.decoder_error.DecoderError.TheVariants.{InvalidIndex};
 ghost use Rattle.h3_field.specs.declared.vas.Error.TheVariants.{RelativeIndex, PostbaseIndex};
 ghost use Rattle.h3_qpack.specs.TableState.{TableState, entry_at};
-ghost use Rattle.h3_qpack.specs.DecoderState.{DecoderState, announcing, count_capacity};
+ghost use Rattle.h3_qpack.specs.DecoderState.{DecoderState, announcing, greatest_capacity, count_capacity};
 ghost use Rattle.h3_qpack.specs.Meaning.{MeansFields};
 ghost use Rattle.h3_qpack.specs.SectionAnswers.{AnswersLineAt, IsRefusal, IsReasonFor};
 ghost use Rattle.h3_qpack.specs.InstructionAnswers.{AnswersInsertionRead, AnswersOne};
@@ -48,11 +48,11 @@ impl Model for Decoder {
 
     ghost Value = { DecoderState };
 
-    ghost use Rattle.std.specs.Prelude.{◌<◌, ◌-◌, ◌^◌, unwrap_or};
+    ghost use Rattle.h3_qpack.specs.DecoderInside.{decoder_state_inside, IsDecoder};
 
-    ghost view = { λ d. record { announced = d.announced; table = d.entries } };
+    ghost view = { decoder_state_inside };
 
-    ghost invariant = { λ d. unwrap_or d.announced (2 ^ 30 - 1) < 2 ^ 30 };
+    ghost invariant = { IsDecoder };
 }
 
 /// How many fields get room at first: most sections have no more, and the list of their fields need not grow.
@@ -129,6 +129,16 @@ impl Decoder {
         ensures small { result < 2 ^ 62 }
     {
         self.entries.inserted()
+    }
+
+    /// The sum of the sizes of the entries of the table (RFC 9204, section 3.2.1): at most its capacity, which is at most the
+    /// announced one.
+    pub fn table_size(&self) -> usize
+        ensures value { result ≡ section_size self.now.table.entries }
+        ensures small { result ≤ self.now.table.capacity }
+        ensures announced { self.now.table.capacity ≤ greatest_capacity self.now }
+    {
+        self.entries.size()
     }
 
     /// The field of an indexed line.
