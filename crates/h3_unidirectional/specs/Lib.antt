@@ -1,0 +1,4 @@
+pub mod Owned
+pub mod Fronts
+pub mod Judged
+pub mod Faults

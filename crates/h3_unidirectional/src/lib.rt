@@ -1,0 +1,8 @@
+//! x
+#![tactic(auto)]
+
+pub mod control;
+pub mod decoding;
+pub mod encoding;
+pub mod own;
+pub mod waiting;
