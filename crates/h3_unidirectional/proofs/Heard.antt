@@ -1,6 +1,6 @@
 -- What `on_encoder_recv` says, as what the peer's encoder stream makes of it.
 use Rattle.std.proofs.Common.{◌≡◌, ℕ, ◌-◌, ◌++◌, true, false, List, [], ◌∷◌, append-nil, append_assoc, length, length-append, Result, Ok, Err, drop, Some, None, refl, ap, sym, ◌∙◌, subst, arith}
-use Rattle.std.specs.Prelude.{IfOk, IfErr, OnOk}
+use Rattle.std.specs.Prelude.{IfOk, IfErr, OnOk, OnErr}
 use Rattle.h3_field.specs.Reading.{Unfinished}
 use Rattle.h3_field.specs.Instruction.{EncoderInstruction}
 use Rattle.h3_field.specs.InstructionReading.{instruction}
@@ -86,8 +86,9 @@ hears_to old new left read rest =
     }
 
 -- where memory is refused, they stand
-pub stops_hearing : (old new : Decoding) (before after : List ℕ) → HearsFront old new → after ≡ before ++ increment_for (new.decoder.table.inserted - old.decoder.table.inserted) → StopsHearing old new before after
-stops_hearing old new before after h increment =
+pub hearing_stopped : {A E : Type 0} (r : Result A E) (old new : Decoding) → HearsFront old new → OnErr r (StopsHearing old new)
+hearing_stopped (Ok done) old new h = tt
+hearing_stopped (Err e) old new h =
     record {
       part = record {
         front = h.front;
@@ -96,6 +97,5 @@ stops_hearing old new before after h increment =
         good = ap (λ (x : Heard). x.is_bad) h.heard;
         left = ap (λ (x : Heard). record { decoder = x.decoder; unread = x.left ++ new.unread }) (sym h.heard);
       };
-      increment = increment;
       resumes = λ more. sym (ap (λ l. hear old.decoder (l ++ more)) h.split ∙ ap (λ l. hear old.decoder l) (append_assoc h.front new.unread more) ∙ h.goes_on (new.unread ++ more));
     }

@@ -1,9 +1,8 @@
 -- What a reading leaves that was refused memory: whole frames or instructions at the front were read, and the rest is as it was.
-use Rattle.std.specs.Prelude.{◌≡◌, ℕ, ◌-◌, false, List, [], ◌++◌, None}
+use Rattle.std.specs.Prelude.{◌≡◌, ℕ, false, List, [], ◌++◌, None}
 use Rattle.h3_proto.specs.declared.stream.Side.{Side}
 use Rattle.h3_qpack.specs.EncoderHistory.{EncoderHistory}
 use Rattle.h3_qpack.specs.EncoderState.{encoder_state}
-use Rattle.h3_qpack.specs.Increments.{increment_for}
 use Rattle.h3_connection.specs.Hearing.{hear, heard}
 use Rattle.h3_connection.specs.Listeners.{Decoding, Encoding, heard_more}
 use Rattle.h3_connection.specs.PartReading.{PeerReadsPart, HearsPart, ListensPart}
@@ -28,10 +27,8 @@ pub record HearsFront (old new : Decoding) : Type 0 where
   pub heard : hear old.decoder front ≡ heard new.decoder [] false
   pub goes_on : (more : List ℕ) → hear old.decoder (front ++ more) ≡ hear new.decoder more
 
--- The increment counts what was inserted.
-pub record StopsHearing (old new : Decoding) (before after : List ℕ) : Type 0 where
+pub record StopsHearing (old new : Decoding) : Type 0 where
   pub part : HearsPart old new
-  pub increment : after ≡ before ++ increment_for (new.decoder.table.inserted - old.decoder.table.inserted)
   pub resumes : (more : List ℕ) → heard_more new more ≡ heard_more old more
 
 -- The same of the peer's decoder stream, where this is the history of the own encoder, and that the one after it.

@@ -2,3 +2,4 @@ pub mod Owned
 pub mod Fronts
 pub mod Judged
 pub mod Faults
+pub mod Kinds

@@ -86,10 +86,11 @@ impl Decoding {
     /// Reads what is unread, up to the first instruction that is bad or not whole, and writes one increment where something
     /// was inserted. It answers the fault of a bad instruction. Where memory is refused the instructions that were read stand,
     /// and the increment counts them; the others stay unread, and the next reading goes on with them.
-    #[tactic(auto, using(crate::proofs::Waits::waiting_ok, crate::proofs::Heard::stops_hearing))]
+    #[tactic(auto, using(crate::proofs::Waits::waiting_ok, crate::proofs::Heard::hearing_stopped))]
     pub fn read(&mut self, out: &mut WaitingBytes) -> Result<Option<Code>, AllocError>
         ensures ok { IfOk result (λ fault. Hears self.old self.new [] fault out.old out.new) }
-        ensures refused { OnErr result (StopsHearing self.old self.new out.old out.new) }
+        ensures increment { out.new ≡ out.old ++ increment_for (self.new.decoder.table.inserted - self.old.decoder.table.inserted) }
+        ensures refused { OnErr result (StopsHearing self.old self.new) }
     {
         self.read_into(&mut out.bytes)
     }

@@ -5,4 +5,5 @@ pub mod control;
 pub mod decoding;
 pub mod encoding;
 pub mod own;
+pub mod stream;
 pub mod waiting;
