@@ -29,12 +29,12 @@ pub record IsFrontOf (bytes rest : List ℕ) (x : Front) : Type 0 where
   pub alike : (more : List ℕ) → frame_at (front ++ more) ≡ followed_by x more
 
 -- the bytes of a number
-record IsNumber (v : ℕ) (bytes rest : List ℕ) : Type 0 where
-  front : List ℕ
-  split : bytes ≡ front ++ rest
-  alike : (more : List ℕ) → varint_at (front ++ more) ≡ Some (v, more)
+pub record IsNumber (v : ℕ) (bytes rest : List ℕ) : Type 0 where
+  pub front : List ℕ
+  pub split : bytes ≡ front ++ rest
+  pub alike : (more : List ℕ) → varint_at (front ++ more) ≡ Some (v, more)
 
-number_front : (v : ℕ) (bytes rest : List ℕ) → varint_at bytes ≡ Some (v, rest) → IsNumber v bytes rest
+pub number_front : (v : ℕ) (bytes rest : List ℕ) → varint_at bytes ≡ Some (v, rest) → IsNumber v bytes rest
 number_front v bytes rest e =
     let b = begins v bytes rest e in
     record { front = b.first ∷ b.more; split = b.parts; alike = λ more. of_front v b.first b.more more b.asked b.value }

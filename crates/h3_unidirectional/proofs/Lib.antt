@@ -5,3 +5,4 @@ mod InstructionFronts
 mod Heard
 mod Listened
 mod Waits
+mod Heads

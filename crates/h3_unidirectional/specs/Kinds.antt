@@ -47,7 +47,3 @@ is_told_kind _ = true
 abbrev pub is_untold : Role → Bool
 is_untold (Untold front) = true
 is_untold _ = false
-
-abbrev pub front_of : Role → List ℕ
-front_of (Untold front) = front
-front_of _ = []

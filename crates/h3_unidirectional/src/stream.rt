@@ -1,9 +1,10 @@
 //! A unidirectional stream of the peer (RFC 9114, section 6.2), and what its first bytes make of it.
-ghost use Rattle.std.specs.Prelude.{◌≡◌, ◌+◌, ◌-◌, ◌<◌, ◌≤◌, ◌^◌, [], true, length, drop, Some, IfOk, IfErr, OnOk};
+ghost use Rattle.std.specs.Prelude.{◌≡◌, ◌+◌, ◌-◌, ◌<◌, ◌≤◌, ◌^◌, ℕ, List, [], true, length, drop, Some, IfOk, IfErr, OnOk};
 ghost use Rattle.std.specs.List.{concat};
-ghost use Rattle.h3_connection.specs.Unidirectional.{untold, is_closed, is_critical, role_after, with_bytes, untold_pull, raw, if_over, pull_unidirectional};
-ghost use Rattle.h3_connection.specs.Unidirectional.Role.{Session};
-ghost use Rattle.h3_unidirectional.specs.Kinds.{role_of, is_told_kind, is_untold, front_of, Tells, received_by};
+ghost use Rattle.h3_coding.specs.Varint.{varint_at};
+ghost use Rattle.h3_connection.specs.Unidirectional.{untold, is_closed, is_critical, role_after, with_bytes, may_be_session, untold_pull, raw, if_over, pull_unidirectional};
+ghost use Rattle.h3_connection.specs.Unidirectional.Role.{Untold, Session};
+ghost use Rattle.h3_unidirectional.specs.Kinds.{role_of, is_told_kind, is_untold, Tells, received_by};
 
 use bytes::{Buf, Bytes};
 use h3_coding::coding::BufExt;
@@ -97,8 +98,20 @@ fn read_kind<B: Buf>(buf: &mut B) -> Option<Kind>
     }
 }
 
+/// Whether the type of a WebTransport stream is there, or no whole type.
+fn may_be_session(front: &[u8]) -> bool
+    ensures { result ≡ may_be_session (varint_at front.now) }
+{
+    let mut ahead = front;
+    match ahead.get_var() {
+        Ok(kind) => kind == 0x54,
+        Err(_) => true,
+    }
+}
+
 impl UnidirectionalStream {
     /// A stream of which nothing came.
+    #[tactic(auto, using(crate::proofs::Heads::nothing_told))]
     pub fn new(alloc: Global) -> UnidirectionalStream
         ensures { result ≡ untold }
     {
@@ -237,7 +250,8 @@ impl UnidirectionalStream {
         ensures ok { IfOk result (λ received. (self.new ≡ with_bytes self.old (role_after self.old.role bytes)) × (received ≡ received_by (role_after self.old.role bytes))) }
         ensures err { IfErr result (λ back. (back ≡ bytes) × (self.new ≡ self.old)) }
     {
-        match self.kind {
+        let kind = self.kind;
+        match kind {
             Kind::Untold => self.tell(bytes),
             Kind::Control => self.take(Kind::Control, bytes, 0),
             Kind::Encoder => self.take(Kind::Encoder, bytes, 0),
@@ -248,22 +262,17 @@ impl UnidirectionalStream {
         }
     }
 
+    #[tactic(auto, using(crate::proofs::Heads::untold_front))]
     fn pull_untold(&self) -> Pull
-        ensures { result ≡ untold_pull self.now (front_of self.now.role) }
+        ensures { (front : List ℕ) → self.now.role ≡ Untold front → result ≡ untold_pull self.now front }
     {
         if self.is_closed() {
             return Pull::NoMessages;
         }
-        let mut front = self.front.as_slice();
-        match front.get_var() {
-            Ok(kind) => {
-                if kind == 0x54 {
-                    return Pull::Pending;
-                }
-                Pull::NoMessages
-            }
-            Err(_) => Pull::Pending,
+        if may_be_session(self.front.as_slice()) {
+            return Pull::Pending;
         }
+        Pull::NoMessages
     }
 
     fn pull_raw(&mut self) -> Pull
@@ -302,7 +311,8 @@ impl UnidirectionalStream {
     pub fn pull(&mut self) -> Pull
         ensures { pull_unidirectional self.old self.old.role ≡ (result, self.new) }
     {
-        match self.kind {
+        let kind = self.kind;
+        match kind {
             Kind::Untold => self.pull_untold(),
             Kind::Session(session) => self.pull_session(session),
             Kind::Control => Pull::NoMessages,
