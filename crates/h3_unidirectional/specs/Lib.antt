@@ -3,3 +3,4 @@ pub mod Fronts
 pub mod Judged
 pub mod Faults
 pub mod Kinds
+pub mod Rows

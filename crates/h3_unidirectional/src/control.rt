@@ -8,7 +8,7 @@ ghost use Rattle.h3_connection.specs.PeerReading.{Peer, nothing_read, with_unrea
 ghost use Rattle.h3_unidirectional.specs.Fronts.{ReadsFront, StopsReading};
 ghost use Rattle.h3_unidirectional.specs.Judged.{done, ReadsOne};
 
-use bytes::Bytes;
+use bytes::{Buf, Bytes};
 use h3_coding::varint::VarInt;
 use h3_proto::error::Code;
 use h3_proto::frame::{Settings, SettingsError};
@@ -140,6 +140,13 @@ impl PeerControl {
         ensures { result ≡ last_id self.now.goaways }
     {
         self.goaways.last().copied()
+    }
+
+    /// How many bytes are not read.
+    pub fn unread_len(&self) -> usize
+        ensures { result ≡ length self.now.unread }
+    {
+        self.unread.remaining()
     }
 
     /// More of the stream, which is kept until it is read. An `Err` changes nothing, and hands the bytes back.

@@ -8,3 +8,5 @@ pub mod encoding;
 pub mod own;
 pub mod stream;
 pub mod waiting;
+#[cfg(test)]
+mod tests;

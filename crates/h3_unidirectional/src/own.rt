@@ -1,6 +1,8 @@
 //! The own control, encoder and decoder streams (RFC 9114, section 6.2.1; RFC 9204, section 4.2): what waits on each.
 ghost use Rattle.std.specs.Prelude.{◌≡◌, ◌<◌, ◌≤◌, ◌^◌, ◌++◌, length, IfOk, IfNone, IfSome, OnOk, OnErr};
 ghost use Rattle.h3_coding.specs.Encodings.{encoding};
+ghost use Rattle.h3_field.specs.Instruction.{decoder_bytes};
+ghost use Rattle.h3_field.specs.Instruction.DecoderInstruction.{Acknowledge, CancelStream};
 ghost use Rattle.h3_connection.specs.Endpoint.{goaway_encoding};
 ghost use Rattle.h3_unidirectional.specs.Owned.{first_own, own_stream_of, waiting_on, having_taken};
 ghost use Rattle.h3_wire.specs.StreamHeaders.{control_encoding};
@@ -10,6 +12,7 @@ use h3_coding::coding::BufMutExt;
 use h3_coding::varint::VarInt;
 use h3_proto::frame::Settings;
 use h3_proto::stream::{Side, StreamId};
+use h3_qpack::{ack_header, stream_canceled};
 use std::alloc::{AllocError, Global};
 use std::marker::Model;
 
@@ -130,6 +133,23 @@ impl OwnStreams {
     {
         let frame = goaway_frame(alloc, id)?;
         self.control.append(frame.as_slice())
+    }
+
+    /// Writes the acknowledgment of a section of a stream on the decoder stream (RFC 9204, section 4.4.1). A refusal changes
+    /// nothing.
+    pub fn acknowledge(&mut self, stream: StreamId) -> Result<(), AllocError>
+        ensures ok { OnOk result (self.new ≡ record self.old { decoder = self.old.decoder ++ decoder_bytes (Acknowledge stream) }) }
+        ensures err { OnErr result (self.new ≡ self.old) }
+    {
+        ack_header(stream.into_inner(), &mut self.decoder.bytes)
+    }
+
+    /// Writes the cancellation of a stream on the decoder stream (RFC 9204, section 4.4.2). A refusal changes nothing.
+    pub fn cancel(&mut self, stream: StreamId) -> Result<(), AllocError>
+        ensures ok { OnOk result (self.new ≡ record self.old { decoder = self.old.decoder ++ decoder_bytes (CancelStream stream) }) }
+        ensures err { OnErr result (self.new ≡ self.old) }
+    {
+        stream_canceled(stream.into_inner(), &mut self.decoder.bytes)
     }
 
     /// The bytes that wait on the stream of this id, none where it is no own stream.

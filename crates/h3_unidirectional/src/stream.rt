@@ -148,6 +148,14 @@ impl UnidirectionalStream {
         }
     }
 
+    /// How many bytes of a session came and were not handed out.
+    pub fn unread_len(&self) -> usize
+        ensures { result ≡ length (concat self.now.unread) }
+    {
+        self.unread.known();
+        self.unread.remaining()
+    }
+
     /// Its end came. This takes no memory.
     pub fn end(&mut self)
         ensures { self.new ≡ record self.old { ended = true } }

@@ -1,5 +1,8 @@
 //! Bytes of an own stream that wait to be taken.
 ghost use Rattle.std.specs.Prelude.{◌≡◌, ◌≤◌, ◌++◌, length, drop, OnOk, OnErr};
+ghost use Rattle.std.specs.Borrow.{Lends, sem};
+ghost use Rattle.h3_unidirectional.specs.Rows.{bytes_row};
+ghost use Rattle.h3_unidirectional.specs.contracts.waiting.WaitingBytes.{the_row};
 
 use std::alloc::{AllocError, Global};
 use std::marker::Model;
@@ -54,6 +57,16 @@ impl WaitingBytes {
         if self.taken > self.bytes.len() / 2 {
             self.compact();
         }
+    }
+
+    /// Lends what waits as a vector, so that more can be written behind it. Where some of it was taken, the rest is moved.
+    pub fn bytes_mut(&mut self) -> &mut Vec<u8>
+        ensures* writes_back { sem 𝓛 (Lends the_row bytes_row self.entry result (λ bytes. bytes.items)) }
+        ensures value { result.now.items ≡ self.old }
+    {
+        self.bytes.drain(..self.taken);
+        self.taken = 0;
+        &mut self.bytes
     }
 
     // Lets go of the bytes that were taken.
