@@ -32,3 +32,7 @@ pub mod RunAnswers
 pub mod Views
 pub mod EncoderView
 pub mod Worked
+pub mod DecodedSection
+pub mod LineFields
+pub mod Sizes
+pub mod Hearing

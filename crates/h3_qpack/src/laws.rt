@@ -12,14 +12,26 @@ ghost use Rattle.std.specs.List.{AllByRecursion};
 ghost use Rattle.h3_field.specs.Instruction.{EncoderInstruction, encoder_bytes};
 ghost use Rattle.h3_qpack.specs.Instructions.{HasRead, AreInstructions};
 ghost use Rattle.h3_qpack.specs.TableHistory.{table_after_all, table_of};
+<<<<<<< HEAD
 ghost use Rattle.h3_qpack.specs.Meaning.{MeansFields};
 ghost use Rattle.h3_qpack.specs.SectionEncoding.{draft_of, encoded_section, instructions_for, sent_section};
+=======
+ghost use Rattle.h3_qpack.specs.Meaning.{MeansFields, IsMissing};
+ghost use Rattle.h3_qpack.specs.DecodedSection.{DecodedSection, decode_section, IsDecodedAs};
+ghost use Rattle.h3_qpack.specs.Hearing.{Heard, hear, heard_then, IsHeardAs, Listened, listen, listened_then, IsListenedAs};
+ghost use Rattle.h3_field.specs.Field.{Field};
+ghost use Rattle.h3_qpack.specs.SectionEncoding.{encoded_section};
+>>>>>>> origin/main
 ghost use Rattle.h3_qpack.specs.Encodings.{decoder_of, IsWritten, IsWrittenInstruction};
 ghost use Rattle.h3_field.specs.Prefix.{most_entries, IsRequiredCount};
 ghost use Rattle.h3_qpack.specs.Session.{Session, UndecodedSection, oldest, is_canceled, count_of, tracked_references, IsSound, DecodesTo};
 ghost use Rattle.h3_qpack.specs.Schedule.{SessionEvent, SessionRun, beginning};
+<<<<<<< HEAD
 ghost use Rattle.h3_qpack.specs.EncoderHistory.{EncoderHistory, blocks_out, encoder_after, was_canceled, writing_on};
 ghost use Rattle.h3_qpack.specs.EncoderState.{encoder_state};
+=======
+ghost use Rattle.h3_qpack.specs.EncoderHistory.{EncoderHistory, blocks_out};
+>>>>>>> origin/main
 ghost use Rattle.h3_qpack.specs.Exchange.{ExchangeHistory, Exchange, start, opening};
 ghost use Rattle.h3_qpack.specs.Expected.{Expected};
 ghost use Rattle.h3_qpack.specs.declared.session.SessionEvent.{SessionEvent as RunEvent};
@@ -114,4 +126,34 @@ pub fn pieces_do_not_matter()
 pub fn instructions_read_back()
     ensures { (instructions : List EncoderInstruction) (rest : List ℕ) → AllByRecursion IsWrittenInstruction instructions →
         AreInstructions (flat_map encoder_bytes instructions ++ rest) instructions rest }
+{}
+
+/// What an encoded field section is to a decoder is a value: the value says it, and whatever is said of the section is its
+/// value.
+pub fn sections_are_their_value()
+    ensures value { (r : DecoderState) (bytes : List ℕ) → IsDecodedAs r bytes (decode_section r bytes) }
+    ensures only { (r : DecoderState) (bytes : List ℕ) (d : DecodedSection) → IsDecodedAs r bytes d → decode_section r bytes ≡ d }
+{}
+
+/// A section has one meaning: one list of fields and one required insert count, or one count that is missing.
+pub fn sections_have_one_meaning()
+    ensures fields { (r : DecoderState) (bytes : List ℕ) (n m : ℕ) (fs gs : List Field) → MeansFields r bytes n fs → MeansFields r bytes m gs → (n ≡ m) × (fs ≡ gs) }
+    ensures missing { (r : DecoderState) (bytes : List ℕ) (n m : ℕ) → IsMissing r bytes n → IsMissing r bytes m → n ≡ m }
+    ensures either { (r : DecoderState) (bytes : List ℕ) (n m : ℕ) (fs : List Field) → MeansFields r bytes n fs → IsMissing r bytes m → ⊥ }
+{}
+
+/// What a decoder makes of any bytes of an encoder is a value: the decoder after them, the bytes left, and whether a bad
+/// instruction stands there. However the bytes are cut, it is the same.
+pub fn encoder_bytes_are_their_value()
+    ensures value { (r : DecoderState) (bytes : List ℕ) → IsHeardAs r bytes (hear r bytes) }
+    ensures only { (r : DecoderState) (bytes : List ℕ) (h : Heard) → IsHeardAs r bytes h → hear r bytes ≡ h }
+    ensures cuts { (r : DecoderState) (bytes more : List ℕ) → hear r (bytes ++ more) ≡ heard_then (hear r bytes) more }
+{}
+
+/// What an encoder makes of any bytes of a decoder is a value: the encoder after them, the bytes left, and whether a
+/// refused instruction stands there. However the bytes are cut, it is the same.
+pub fn decoder_bytes_are_their_value()
+    ensures value { (s : EncoderHistory) (bytes : List ℕ) → IsListenedAs s bytes (listen s bytes) }
+    ensures only { (s : EncoderHistory) (bytes : List ℕ) (l : Listened) → IsListenedAs s bytes l → listen s bytes ≡ l }
+    ensures cuts { (s : EncoderHistory) (bytes more : List ℕ) → listen s (bytes ++ more) ≡ listened_then (listen s bytes) more }
 {}

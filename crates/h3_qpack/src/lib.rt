@@ -16,6 +16,7 @@ pub mod examples;
 mod increment;
 mod index;
 pub mod laws;
+mod lines;
 mod pending_section;
 #[cfg(test)]
 mod run_tests;
@@ -25,6 +26,7 @@ pub mod session;
 mod tests;
 mod tracking;
 pub mod view;
+pub mod within;
 mod writing;
 
 pub use decoder::{Decoder, ack_header, stream_canceled};
@@ -38,3 +40,4 @@ pub use h3_field::{
 };
 pub use session::{SessionAnswer, SessionEvent, run};
 pub use view::DynamicTableDecoder;
+pub use within::{DecodedWithin, LargeSection};

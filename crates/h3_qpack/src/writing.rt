@@ -16,9 +16,9 @@ ghost use Rattle.h3_qpack.specs.EncoderHistory.{EncoderHistory};
 ghost use Rattle.h3_qpack.specs.SectionEncoding.{Draft, add_field, draft_of, entry_name_line};
 ghost use Rattle.h3_qpack.specs.Drafting.{naming, IsOver, IsPossible, line_for, section_after, encoder_state_with, instructions_after, insertion_for, IsDrafted, IsCutOff};
 
-use crate::decoder::copy_of;
 use crate::dynamic::DynamicTable;
 use crate::entries::Match;
+use crate::lines::copy_of;
 use crate::section::{Choice, Section};
 use h3_field::block::{
     HeaderPrefix, Indexed, IndexedWithPostBase, Literal, LiteralWithNameRef,
