@@ -7,14 +7,7 @@ ghost use Rattle.h3_field.specs.InstructionReading.{instruction};
 ghost use Rattle.h3_qpack.specs.Increments.{increment_for};
 ghost use Rattle.h3_field.specs.Field.{Field, section_size};
 ghost use Rattle.h3_field.specs.Shapes.{begins};
-<<<<<<< HEAD
-ghost use Rattle.h3_field.specs.declared.decoder_error.DecoderError.TheVariants.{InvalidIndex};
-ghost use Rattle.h3_field.specs.declared.vas.Error.TheVariants.{RelativeIndex, PostbaseIndex};
-ghost use Rattle.h3_qpack.specs.TableState.{TableState, entry_at};
 ghost use Rattle.h3_qpack.specs.DecoderState.{DecoderState, announcing, greatest_capacity, count_capacity};
-=======
-ghost use Rattle.h3_qpack.specs.DecoderState.{DecoderState, announcing, count_capacity};
->>>>>>> origin/main
 ghost use Rattle.h3_qpack.specs.Meaning.{MeansFields};
 ghost use Rattle.h3_qpack.specs.DecodedSection.{decode_section, fields_in, with_fields, IsRefusalOf, Fields};
 ghost use Rattle.h3_qpack.specs.Sizes.{IsWithin};
@@ -93,7 +86,6 @@ impl Decoder {
         self.entries.inserted()
     }
 
-<<<<<<< HEAD
     /// The sum of the sizes of the entries of the table (RFC 9204, section 3.2.1): at most its capacity, which is at most the
     /// announced one.
     pub fn table_size(&self) -> usize
@@ -104,22 +96,11 @@ impl Decoder {
         self.entries.size()
     }
 
-    /// The field of an indexed line.
-    fn take_indexed(
-        &self,
-        base: usize,
-        buf: &mut SliceCursor<'_>,
-    ) -> Result<HeaderField, DecoderError>
-        requires some { 0 < length buf.old }
-        requires own { begins 128 255 buf.old ≡ true }
-        ensures { AnswersLineAt self.now.table base buf.old buf.new result }
-=======
     /// The required insert count and the base of the section at the front, whose lines are left. What needs insertions that
     /// were not read is refused.
     fn take_prefix(&self, buf: &mut SliceCursor<'_>) -> Result<(usize, usize), DecoderError>
         ensures ok { IfOk result (λ p. decode_section self.now buf.old ≡ with_fields p.0 (fields_in self.now.table p.1 buf.new)) }
         ensures err { IfErr result (IsRefusalOf (decode_section self.now buf.old)) }
->>>>>>> origin/main
     {
         let prefix = match HeaderPrefix::decode(buf) {
             Ok(prefix) => prefix,

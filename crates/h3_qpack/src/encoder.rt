@@ -1,5 +1,5 @@
 //! An encoder with its dynamic table: what it writes, and what it reads of its decoder (RFC 9204, sections 2.1 and 4).
-ghost use Rattle.std.specs.Prelude.{◌≡◌, ◌==◌, ◌<◌, ◌≤◌, ◌^◌, ◌++◌, ◌-◌, ℕ, true, false, length, drop, IfOk, IfErr, OnOk, OnErr};
+ghost use Rattle.std.specs.Prelude.{◌≡◌, ◌≢◌, ◌==◌, ◌<◌, ◌≤◌, ◌^◌, ◌++◌, ◌-◌, ℕ, true, false, length, drop, IfOk, IfErr, OnOk, OnErr};
 ghost use Rattle.std.specs.List.{list_any};
 ghost use Rattle.std.specs.Result.{IsOkUnless};
 ghost use Rattle.h3_field.specs.Field.{section_size};
@@ -14,13 +14,8 @@ ghost use Rattle.h3_qpack.specs.Drafting.{IsSent, IsCutOff};
 ghost use Rattle.h3_qpack.specs.TableState.{with_capacity};
 ghost use Rattle.h3_field.specs.Instruction.{encoder_bytes};
 ghost use Rattle.h3_field.specs.Instruction.EncoderInstruction.{SetCapacity};
-<<<<<<< HEAD
-ghost use Rattle.h3_qpack.specs.EncoderAnswers.{HasReadDecoderInstructions, AnswersDecoderInstruction, IsLeft, IsDecoderInstructionRefusal, IsSizeRefusal, IsTableRefusal};
-=======
-ghost use Rattle.h3_qpack.specs.Instructions.{BeginsRefused};
 ghost use Rattle.h3_qpack.specs.Hearing.{HasListened};
-ghost use Rattle.h3_qpack.specs.EncoderAnswers.{HasReadDecoderInstructions, AnswersDecoderInstruction, IsDecoderInstructionRefusal, IsSizeRefusal};
->>>>>>> origin/main
+ghost use Rattle.h3_qpack.specs.EncoderAnswers.{HasReadDecoderInstructions, AnswersDecoderInstruction, IsLeft, IsDecoderInstructionRefusal, IsSizeRefusal, IsTableRefusal};
 
 use crate::dynamic::{DynamicTable, MAX_BLOCKED};
 use crate::entries::MAX_CAPACITY;
@@ -218,13 +213,9 @@ impl Encoder {
         ensures read_before { HasReadDecoderInstructions self.old self.new read.old read.new }
         ensures rest { read.new ≡ drop (length read.old - length read.new) read.old }
         ensures ok { OnOk result (decoder_instruction read.new ≡ Unfinished) }
-<<<<<<< HEAD
         ensures err { IfErr result (λ e. ((s : EncoderHistory) → self.new ≡ encoder_state s → IsLeft s read.new e) × IsDecoderInstructionRefusal (decoder_instruction read.new) e) }
-=======
-        ensures err { IfErr result (λ e. ((s : EncoderHistory) → self.new ≡ encoder_state s → BeginsRefused s read.new) × IsDecoderInstructionRefusal (decoder_instruction read.new) e) }
         ensures value { OnOk result ((s : EncoderHistory) → self.old ≡ encoder_state s → HasListened s self.new read.old read.new false) }
-        ensures refused { OnErr result ((s : EncoderHistory) → self.old ≡ encoder_state s → HasListened s self.new read.old read.new true) }
->>>>>>> origin/main
+        ensures refused { IfErr result (λ e. e ≢ OutOfMemory → (s : EncoderHistory) → self.old ≡ encoder_state s → HasListened s self.new read.old read.new true) }
     {
         while read.remaining() > 0 {
             let is_read = match self.take_instruction(read) {

@@ -12,26 +12,16 @@ ghost use Rattle.std.specs.List.{AllByRecursion};
 ghost use Rattle.h3_field.specs.Instruction.{EncoderInstruction, encoder_bytes};
 ghost use Rattle.h3_qpack.specs.Instructions.{HasRead, AreInstructions};
 ghost use Rattle.h3_qpack.specs.TableHistory.{table_after_all, table_of};
-<<<<<<< HEAD
-ghost use Rattle.h3_qpack.specs.Meaning.{MeansFields};
-ghost use Rattle.h3_qpack.specs.SectionEncoding.{draft_of, encoded_section, instructions_for, sent_section};
-=======
 ghost use Rattle.h3_qpack.specs.Meaning.{MeansFields, IsMissing};
 ghost use Rattle.h3_qpack.specs.DecodedSection.{DecodedSection, decode_section, IsDecodedAs};
 ghost use Rattle.h3_qpack.specs.Hearing.{Heard, hear, heard_then, IsHeardAs, Listened, listen, listened_then, IsListenedAs};
-ghost use Rattle.h3_field.specs.Field.{Field};
-ghost use Rattle.h3_qpack.specs.SectionEncoding.{encoded_section};
->>>>>>> origin/main
+ghost use Rattle.h3_qpack.specs.SectionEncoding.{draft_of, encoded_section, instructions_for, sent_section};
 ghost use Rattle.h3_qpack.specs.Encodings.{decoder_of, IsWritten, IsWrittenInstruction};
 ghost use Rattle.h3_field.specs.Prefix.{most_entries, IsRequiredCount};
 ghost use Rattle.h3_qpack.specs.Session.{Session, UndecodedSection, oldest, is_canceled, count_of, tracked_references, IsSound, DecodesTo};
 ghost use Rattle.h3_qpack.specs.Schedule.{SessionEvent, SessionRun, beginning};
-<<<<<<< HEAD
 ghost use Rattle.h3_qpack.specs.EncoderHistory.{EncoderHistory, blocks_out, encoder_after, was_canceled, writing_on};
 ghost use Rattle.h3_qpack.specs.EncoderState.{encoder_state};
-=======
-ghost use Rattle.h3_qpack.specs.EncoderHistory.{EncoderHistory, blocks_out};
->>>>>>> origin/main
 ghost use Rattle.h3_qpack.specs.Exchange.{ExchangeHistory, Exchange, start, opening};
 ghost use Rattle.h3_qpack.specs.Expected.{Expected};
 ghost use Rattle.h3_qpack.specs.declared.session.SessionEvent.{SessionEvent as RunEvent};
