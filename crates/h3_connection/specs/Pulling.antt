@@ -1,10 +1,12 @@
 -- What a pull of one request stream answers: by that stream's receiver and the table alone.
 use Rattle.std.specs.Prelude.{ℕ, ◌+◌, ◌-◌, ◌^◌, Bool, true, false, not, ◌&&◌, List, [], ◌∷◌, ◌++◌, length, min, slice_index, codes, bytes_eq, if◌then◌else◌, ◌==◌, nat_lt, nat_le, Option, Some, None}
 use Rattle.std.specs.List.{concat, list_all}
-use Rattle.h3_field.specs.Field.{Field, section_size}
+use Rattle.h3_field.specs.Field.{Field}
 use Rattle.h3_field.specs.Instruction.{DecoderInstruction}
 use Rattle.h3_field.specs.Instruction.DecoderInstruction.{Acknowledge, CancelStream}
 use Rattle.h3_qpack.specs.DecoderState.{DecoderState}
+pub use Rattle.h3_qpack.specs.Sizes.{told_size}
+use Rattle.h3_qpack.specs.Sizes.{last_value}
 use Rattle.h3_header.specs.Head.{Head, is_request, is_response, has_pseudo}
 use Rattle.h3_proto.specs.declared.stream.Side.{Side}
 use Rattle.h3_proto.specs.declared.stream.Side.TheVariants.{Client, Server}
@@ -75,11 +77,6 @@ abbrev pub is_client : Side → Bool
 is_client Client = true
 is_client Server = false
 
--- the status text of a section that is not judged: that of its last such field
-abbrev pub status_after : Option (List ℕ) → List Field → Option (List ℕ)
-status_after last [] = last
-status_after last (f ∷ fields) = status_after (if bytes_eq f.name (codes ":status") then Some f.value else last) fields
-
 -- three digits, of which the first is 1
 abbrev pub is_digit : ℕ → Bool
 is_digit b = nat_le 48 b && nat_le b 57
@@ -88,9 +85,9 @@ abbrev pub is_interim_text : Option (List ℕ) → Bool
 is_interim_text None = false
 is_interim_text (Some text) = (length text == 3) && list_all is_digit text && (slice_index text 0 == 49)
 
--- the place behind a section that is too large: a client counts an interim head as such
+-- the place behind a section that is too large: a client counts an interim head as such, by its last status
 abbrev pub next_place : Side → Place → List Field → Place
-next_place Client BeforeHead fields = if is_interim_text (status_after None fields) then BeforeHead else InBody
+next_place Client BeforeHead fields = if is_interim_text (last_value (codes ":status") fields) then BeforeHead else InBody
 next_place Server BeforeHead fields = InBody
 next_place side InBody fields = AfterTrailer
 next_place side place fields = place
@@ -113,10 +110,6 @@ head_or_trailer side id i replies _ h = whole_trailer id i replies h
 abbrev pub judged : Side → ℕ → Incoming → List DecoderInstruction → HeadRead → Pulled
 judged side id i replies (IsNone why) = malformed id (malformation_of why) i replies
 judged side id i replies (IsHead h) = head_or_trailer side id i replies i.place h
-
--- the size as a reader tells it: it stops at the greatest number
-abbrev pub told_size : List Field → ℕ
-told_size fields = min (2 ^ 64 - 1) (section_size fields)
 
 abbrev pub acknowledgment : ℕ → ℕ → List DecoderInstruction
 acknowledgment id count = if count == 0 then [] else Acknowledge id ∷ []

@@ -1,18 +1,21 @@
 //! What a decoded field section is at its place of a message (RFC 9114, sections 4.1 to 4.3).
-ghost use Rattle.std.specs.Prelude.{◌≡◌, ℕ, List, Some, None, IfOk, option_map, codes, bytes_eq, if◌then◌else◌};
+ghost use Rattle.std.specs.Prelude.{◌≡◌, ◌<◌, ◌≤◌, ℕ, Bool, List, Some, IfOk, option_map, codes};
 ghost use Rattle.h3_field.specs.Instruction.{DecoderInstruction};
 ghost use Rattle.h3_qpack.specs.DecoderState.{DecoderState};
 ghost use Rattle.h3_header.specs.HeadRead.{told};
 ghost use Rattle.h3_connection.specs.Incoming.{Incoming};
-ghost use Rattle.h3_connection.specs.Pulling.{told_size, read_section, whole_head, whole_trailer, head_or_trailer, next_place, status_after, is_interim_text, is_interim, malformation_of};
+ghost use Rattle.h3_qpack.specs.Sizes.{IsLarge, IsWithin, last_value, told_size};
+ghost use Rattle.h3_connection.specs.declared.setup.Announced.{Announced};
+ghost use Rattle.h3_connection.specs.Announcing.{section_of};
+ghost use Rattle.h3_connection.specs.Pulling.{read_section, whole_head, whole_trailer, head_or_trailer, next_place, is_interim_text, is_interim, malformation_of};
+ghost use Rattle.h3_field.specs.Field.{Field};
 ghost use Rattle.h3_incoming.specs.Judging.{judged_as};
 
 use h3_connection::event::{Item, Malformation};
 use h3_connection::place::Place;
-use h3_connection::setup::Announced;
 use h3_header::{Header, HeaderError};
 use h3_proto::stream::Side;
-use h3_qpack::{Decoded, HeaderField};
+use h3_qpack::{DecodedWithin, HeaderField, LargeSection};
 use std::alloc::{AllocError, Global};
 
 /// What a field section is at its place.
@@ -23,24 +26,54 @@ pub(crate) enum Judged {
     Malformed(Malformation),
 }
 
-/// What a decoded field section is at a place.
+/// Whether a section named an entry of the table: then it has to be acknowledged (RFC 9204, section 4.4.1).
+pub(crate) fn names_entries(decoded: &DecodedWithin) -> bool
+    ensures { (max : ℕ) (name : List ℕ) (dyn_ref : Bool) (fields : List Field) → IsWithin max name dyn_ref fields decoded.now → result ≡ dyn_ref }
+{
+    match decoded {
+        DecodedWithin::Fields(decoded) => decoded.dyn_ref,
+        DecodedWithin::TooLarge(large) => large.dyn_ref,
+    }
+}
+
+/// What a decoded field section is at a place. One whose fields sum to more than was announced is told by its size alone.
 pub(crate) fn judge(
     alloc: Global,
     side: Side,
     place: Place,
-    announced: &Announced,
-    decoded: Decoded,
+    decoded: DecodedWithin,
 ) -> Result<Judged, AllocError>
-    requires { decoded.mem_size ≡ told_size decoded.fields.items }
-    ensures { IfOk result (λ j. (id : ℕ) (r : DecoderState) (i : Incoming) (replies : List DecoderInstruction) → i.place ≡ place
-        → read_section side announced.now id r i replies decoded.fields.items ≡ judged_as id i replies j) }
+    ensures { IfOk result (λ j. (own : Announced) (id : ℕ) (r : DecoderState) (i : Incoming) (replies : List DecoderInstruction) (dyn_ref : Bool) (fields : List Field)
+        → IsWithin (section_of own) (codes ":status") dyn_ref fields decoded → i.place ≡ place → read_section side own id r i replies fields ≡ judged_as id i replies j) }
 {
-    if decoded.mem_size > announced.section() {
-        let behind = place_behind(side, place, decoded.fields.as_slice());
-        return Ok(Judged::HandsOut(Item::TooLarge(decoded.mem_size), behind));
+    match decoded {
+        DecodedWithin::Fields(decoded) => judge_fields(alloc, side, place, decoded.fields),
+        DecodedWithin::TooLarge(large) => Ok(judge_large(side, place, large)),
     }
+}
+
+// A section that is too large.
+fn judge_large(side: Side, place: Place, large: LargeSection) -> Judged
+    ensures { (own : Announced) (id : ℕ) (r : DecoderState) (i : Incoming) (replies : List DecoderInstruction) (dyn_ref : Bool) (fields : List Field)
+        → section_of own < told_size fields → IsLarge (codes ":status") dyn_ref fields large → i.place ≡ place
+        → read_section side own id r i replies fields ≡ judged_as id i replies result }
+{
+    let behind = place_behind(side, place, large.last_value);
+    Judged::HandsOut(Item::TooLarge(large.mem_size), behind)
+}
+
+// A section that is not.
+fn judge_fields(
+    alloc: Global,
+    side: Side,
+    place: Place,
+    fields: Vec<HeaderField>,
+) -> Result<Judged, AllocError>
+    ensures { IfOk result (λ j. (own : Announced) (id : ℕ) (r : DecoderState) (i : Incoming) (replies : List DecoderInstruction)
+        → told_size fields.items ≤ section_of own → i.place ≡ place → read_section side own id r i replies fields.items ≡ judged_as id i replies j) }
+{
     h3_header::laws::lists_are_their_value();
-    match Header::try_from(alloc, decoded.fields) {
+    match Header::try_from(alloc, fields) {
         Ok(header) => Ok(judge_header(side, place, header)),
         Err(e) => match malformation(e) {
             Some(why) => Ok(Judged::Malformed(why)),
@@ -121,13 +154,13 @@ fn malformation(error: HeaderError) -> Option<Malformation>
 }
 
 // The place behind a section that is too large: a client goes on to wait for the final head behind an interim one.
-fn place_behind(side: Side, place: Place, fields: &[HeaderField]) -> Place
-    ensures { result ≡ next_place side place fields.now }
+fn place_behind(side: Side, place: Place, status: Option<Vec<u8>>) -> Place
+    ensures { (fields : List Field) → option_map (λ v. v.items) status ≡ last_value (codes ":status") fields → result ≡ next_place side place fields }
 {
     match place {
         Place::BeforeHead => match side {
             Side::Client => {
-                if counts_as_interim(fields) {
+                if counts_as_interim(status) {
                     return Place::BeforeHead;
                 }
                 Place::InBody
@@ -140,26 +173,14 @@ fn place_behind(side: Side, place: Place, fields: &[HeaderField]) -> Place
     }
 }
 
-// Whether the last status is three digits, of which the first is 1.
-#[tactic(auto, using(crate::proofs::JudgeLaws::interim_more, crate::proofs::JudgeLaws::interim_all))]
-fn counts_as_interim(fields: &[HeaderField]) -> bool
-    ensures { result ≡ is_interim_text (status_after None fields.now) }
+// Whether a status is one of an interim head.
+fn counts_as_interim(status: Option<Vec<u8>>) -> bool
+    ensures { result ≡ is_interim_text (option_map (λ v. v.items) status) }
 {
-    let mut is_interim = false;
-    for field in fields {
-        is_interim = interim_behind(is_interim, field);
+    match status {
+        Some(text) => is_interim_text(text.as_slice()),
+        None => false,
     }
-    is_interim
-}
-
-// The same with one more field.
-fn interim_behind(is_interim: bool, field: &HeaderField) -> bool
-    ensures { result ≡ (if bytes_eq field.now.name (codes ":status") then is_interim_text (Some field.now.value) else is_interim) }
-{
-    if field.name() == b":status".as_slice() {
-        return is_interim_text(field.value());
-    }
-    is_interim
 }
 
 // Three digits, of which the first is 1.

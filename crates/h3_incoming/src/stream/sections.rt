@@ -1,17 +1,20 @@
 //! The field section that is next.
-ghost use Rattle.std.specs.Prelude.{◌≡◌, ℕ, true, false, [], IfSome, is_some, nat_lt};
+ghost use Rattle.std.specs.Prelude.{◌≡◌, ℕ, List, true, false, codes, IfSome, is_some, nat_lt};
+ghost use Rattle.h3_field.specs.Field.{Field};
 ghost use Rattle.h3_qpack.specs.DecoderState.{DecoderState};
-ghost use Rattle.h3_connection.specs.DecodedSection.{Missing};
+ghost use Rattle.h3_qpack.specs.DecodedSection.{Missing};
+ghost use Rattle.h3_qpack.specs.Sizes.{IsWithin};
+ghost use Rattle.h3_connection.specs.Announcing.{section_of};
 ghost use Rattle.h3_connection.specs.declared.event.Fault.TheVariants.{Stream, Connection};
 ghost use Rattle.h3_connection.specs.Codes.{decompression_failed};
 ghost use Rattle.h3_connection.specs.declared.event.StreamFault.TheVariants.{Malformed};
 ghost use Rattle.h3_connection.specs.Incoming.{given_up};
-ghost use Rattle.h3_connection.specs.Pulling.{is_memory, told_size, at_section, decoded, read_section, past_section, acknowledgment, just};
+ghost use Rattle.h3_connection.specs.Pulling.{is_memory, at_section, decoded, read_section, past_section, acknowledgment, just};
 ghost use Rattle.h3_incoming.specs.Judging.{judged_as};
 ghost use Rattle.h3_incoming.specs.Gives.{Gives};
 
 use super::IncomingStream;
-use crate::judge::{Judged, judge};
+use crate::judge::{Judged, judge, names_entries};
 use crate::replies::reply;
 use crate::section::{Tried, try_section};
 use h3_connection::event::{Fault, Item, Malformation, Pull, StreamFault};
@@ -19,7 +22,7 @@ use h3_connection::place::Place;
 use h3_connection::setup::Announced;
 use h3_proto::error::Code;
 use h3_proto::stream::{Side, StreamId};
-use h3_qpack::{Decoded, Decoder};
+use h3_qpack::{DecodedWithin, Decoder};
 use std::alloc::Global;
 
 impl IncomingStream {
@@ -43,13 +46,11 @@ impl IncomingStream {
             return Pull::Waiting(self.waits_for);
         }
         let tried = match &self.section {
-            Some(section) => try_section(decoder, section.as_slice()),
+            Some(section) => try_section(decoder, section.as_slice(), announced.section()),
             None => unreachable!(),
         };
         match tried {
-            Tried::Fields(decoded) => {
-                self.finish_section(alloc, side, announced, id, decoded, replies)
-            }
+            Tried::Decoded(decoded) => self.finish_section(alloc, side, id, decoded, replies),
             Tried::Missing(count) => self.miss_entries(count),
             Tried::Bad => self.fail_section(),
             Tried::OutOfMemory => Pull::Fault(Fault::Memory),
@@ -61,18 +62,17 @@ impl IncomingStream {
         &mut self,
         alloc: Global,
         side: Side,
-        announced: &Announced,
         id: StreamId,
-        decoded: Decoded,
+        decoded: DecodedWithin,
         replies: &mut Vec<u8>,
     ) -> Pull
-        requires { decoded.mem_size ≡ told_size decoded.fields.items }
-        ensures answer { (r : DecoderState) (count : ℕ) → decoded.dyn_ref ≡ nat_lt 0 count → is_memory result ≡ false
-            → Gives (read_section side announced.now id r (past_section self.old) (acknowledgment id count) decoded.fields.items) result self.new replies.old.items replies.new.items }
+        ensures answer { (own : Announced) (r : DecoderState) (count : ℕ) (fields : List Field) → IsWithin (section_of own) (codes ":status") (nat_lt 0 count) fields decoded
+            → is_memory result ≡ false
+            → Gives (read_section side own id r (past_section self.old) (acknowledgment id count) fields) result self.new replies.old.items replies.new.items }
         ensures memory { is_memory result ≡ true → (self.new ≡ self.old) × (replies.new.items ≡ replies.old.items) }
     {
-        let acknowledges = decoded.dyn_ref;
-        match judge(alloc, side, self.place, announced, decoded) {
+        let acknowledges = names_entries(&decoded);
+        match judge(alloc, side, self.place, decoded) {
             Err(_) => Pull::Fault(Fault::Memory),
             Ok(judged) => self.answer_section(alloc, id, acknowledges, judged, replies),
         }
