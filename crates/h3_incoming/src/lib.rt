@@ -6,5 +6,7 @@ mod judge;
 mod replies;
 mod section;
 pub mod stream;
+#[cfg(test)]
+mod tests;
 
 pub use stream::IncomingStream;
