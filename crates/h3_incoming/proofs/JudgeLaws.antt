@@ -1,7 +1,7 @@
 -- What a field section is at its place.
 use Rattle.std.proofs.Common.{◌≡◌, ℕ, ◌<◌, ◌≤◌, false, nat_lt, if◌then◌else◌, List, ap, sym, ◌∙◌, subst}
 use Rattle.std.proofs.lemmas.Bool.{lt-ltb, le-ltb}
-use Rattle.std.specs.Prelude.{Option, Some, None, IfSome}
+use Rattle.std.specs.Prelude.{Option, Some, None, IfSome, Result, Ok, Err, IfOk, codes, Bool}
 use Rattle.h3_field.specs.Field.{Field}
 use Rattle.h3_field.specs.Instruction.{DecoderInstruction}
 use Rattle.h3_qpack.specs.DecoderState.{DecoderState}
@@ -17,8 +17,24 @@ use Rattle.h3_connection.specs.Announcing.{section_of}
 use Rattle.h3_qpack.specs.DecodedSection.{DecodedSection, decode_section}
 use Rattle.h3_connection.specs.Incoming.{Incoming}
 use Rattle.h3_incoming.specs.Gives.{Gives}
-use Rattle.h3_qpack.specs.Sizes.{told_size}
+use Rattle.h3_qpack.specs.Sizes.{told_size, IsWithin}
+use Rattle.h3_qpack.specs.declared.within.DecodedWithin.{DecodedWithin}
+use Rattle.h3_qpack.specs.declared.within.DecodedWithin.TheVariants as within
+use Rattle.h3_field.specs.declared.decoder.Decoded.{Decoded}
+use Rattle.h3_incoming.specs.declared.judge.Judged.{Judged}
+use Rattle.h3_incoming.specs.Judging.{judged_as}
 use Rattle.h3_connection.specs.Pulling.{Pulled, is_memory, malformed, malformation_of, next_place, head_or_trailer, judged, read_section, decoded, at_section}
+
+-- what is said of the fields that are kept is said of the section
+pub judged_within : {E : Type 0} (result : Result Judged E) (side : Side) (place : Place) (d : Decoded) (w : DecodedWithin) → w ≡ within.Fields d
+    → IfOk result (λ j. (own : Announced) (id : ℕ) (r : DecoderState) (i : Incoming) (replies : List DecoderInstruction) → told_size d.fields.items ≤ section_of own → i.place ≡ place
+        → read_section side own id r i replies d.fields.items ≡ judged_as id i replies j)
+    → IfOk result (λ j. (own : Announced) (id : ℕ) (r : DecoderState) (i : Incoming) (replies : List DecoderInstruction) (dyn_ref : Bool) (fields : List Field)
+        → IsWithin (section_of own) (codes ":status") dyn_ref fields w → i.place ≡ place → read_section side own id r i replies fields ≡ judged_as id i replies j)
+judged_within (Err e) side place d w is h = h
+judged_within (Ok j) side place d w is h = λ own id r i replies dyn_ref fields k at.
+    let size = subst (λ x. IsWithin (section_of own) (codes ":status") dyn_ref fields x) is k in
+    subst (λ fs. read_section side own id r i replies fs ≡ judged_as id i replies j) size.1 (h own id r i replies (subst (λ fs. told_size fs ≤ section_of own) (sym size.1) size.0) at)
 
 module _ (side : Side) (own : Announced) (id : ℕ) (r : DecoderState) where
   -- a section that is too large

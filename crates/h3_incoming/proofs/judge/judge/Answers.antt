@@ -1,9 +1,14 @@
-use Rattle.std.proofs.Common.{◌≡◌, ◌≤◌, List, sym, subst}
-use Rattle.h3_field.specs.Field.{Field}
-use Rattle.h3_qpack.specs.Sizes.{told_size}
+use Rattle.std.proofs.Common.{subst}
+use Rattle.std.specs.Prelude.{codes}
+use Rattle.h3_qpack.specs.Sizes.{IsWithin}
 use Rattle.h3_connection.specs.Announcing.{section_of}
-use Rattle.h3_connection.specs.Pulling.{read_section}
+use Rattle.h3_incoming.proofs.JudgeLaws.{judged_within}
 use Rattle.h3_incoming.proofs.judge.judge.Goals as goal
 
 pub returns-in-Fields : goal.returns-in-Fields
-returns-in-Fields c = ?
+returns-in-Fields c = judged_within _ c.args.side c.args.place c.in-Fields.decoded c.args.decoded c.in-Fields.is c.judge_fields.ensures
+
+pub returns-in-TooLarge : goal.returns-in-TooLarge
+returns-in-TooLarge c = λ own id r i replies dyn_ref fields within at.
+    let large = subst (λ d. IsWithin (section_of own) (codes ":status") dyn_ref fields d) c.in-TooLarge.is within in
+    c.judge_large.ensures own id r i replies dyn_ref fields large.0 large.1 at

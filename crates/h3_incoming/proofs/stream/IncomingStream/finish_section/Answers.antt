@@ -8,4 +8,4 @@ pub returns-in-Ok-clause-answer : goal.returns-in-Ok-clause-answer
 returns-in-Ok-clause-answer c = λ own r count fields within given.
     let i = c.args.self.now in
     gives_as _ _ _ _ _ _ (c.in-Ok.ensures own c.args.id r (past_section i) (acknowledgment c.args.id count) _ fields within (ap {A = Incoming} (λ x. x.place) (sym c.self.view_is)))
-    (c.answer_section.ensures.answer count (c.names_entries.ensures _ _ _ fields within) given)
+    (c.answer_section.ensures.answer count (c.names_entries-acknowledges.ensures _ _ _ fields within) given)
