@@ -11,5 +11,3 @@ pub mod WaitingCounts
 pub mod ReadingStays
 pub mod Bounded
 pub mod Closed
-pub mod PullEnds
-pub mod EndStays
