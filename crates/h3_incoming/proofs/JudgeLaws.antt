@@ -28,9 +28,9 @@ use Rattle.h3_connection.specs.Pulling.{Pulled, is_memory, malformed, malformati
 -- what is said of the fields that are kept is said of the section
 pub judged_within : {E : Type 0} (result : Result Judged E) (side : Side) (place : Place) (d : Decoded) (w : DecodedWithin) → w ≡ within.Fields d
     → IfOk result (λ j. (own : Announced) (id : ℕ) (r : DecoderState) (i : Incoming) (replies : List DecoderInstruction) → told_size d.fields.items ≤ section_of own → i.place ≡ place
-        → read_section side own id r i replies d.fields.items ≡ judged_as id i replies j)
+    → read_section side own id r i replies d.fields.items ≡ judged_as id i replies j)
     → IfOk result (λ j. (own : Announced) (id : ℕ) (r : DecoderState) (i : Incoming) (replies : List DecoderInstruction) (dyn_ref : Bool) (fields : List Field)
-        → IsWithin (section_of own) (codes ":status") dyn_ref fields w → i.place ≡ place → read_section side own id r i replies fields ≡ judged_as id i replies j)
+    → IsWithin (section_of own) (codes ":status") dyn_ref fields w → i.place ≡ place → read_section side own id r i replies fields ≡ judged_as id i replies j)
 judged_within (Err e) side place d w is h = h
 judged_within (Ok j) side place d w is h = λ own id r i replies dyn_ref fields k at.
     let size = subst (λ x. IsWithin (section_of own) (codes ":status") dyn_ref fields x) is k in
