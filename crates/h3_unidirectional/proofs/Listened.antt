@@ -1,5 +1,5 @@
 -- What `on_decoder_recv` says, as what the peer's decoder stream makes of it.
-use Rattle.std.proofs.Common.{◌≡◌, ℕ, ◌-◌, Bool, true, false, List, [], ◌∷◌, ◌++◌, append-nil, append_assoc, length, drop, Option, Some, None, Result, Ok, Err, refl, ap, sym, ◌∙◌, subst}
+use Rattle.std.proofs.Common.{◌≡◌, ℕ, ◌-◌, Bool, true, false, List, [], ◌∷◌, ◌++◌, append-nil, append_assoc, length, drop, Option, Some, None, Result, Ok, Err, refl, ap, sym, ◌∙◌, subst, inl, inr}
 use Rattle.std.specs.Prelude.{IfOk, IfErr, OnOk, OnErr}
 use Rattle.std.specs.Result.{is_ok}
 use Rattle.h3_field.specs.Reading.{Unfinished}
@@ -9,7 +9,7 @@ use Rattle.h3_field.specs.declared.encoder_error.EncoderError.{EncoderError}
 use Rattle.h3_field.specs.declared.encoder_error.EncoderError.TheVariants.{Insertion, InvalidInteger, InvalidString, UnknownDecoderInstruction, OutOfMemory}
 use Rattle.h3_qpack.specs.EncoderHistory.{EncoderHistory}
 use Rattle.h3_qpack.specs.EncoderState.{EncoderState, encoder_state}
-use Rattle.h3_qpack.specs.EncoderAnswers.{HasReadDecoderInstructions, IsDecoderInstructionRefusal}
+use Rattle.h3_qpack.specs.EncoderAnswers.{HasReadDecoderInstructions, IsDecoderInstructionRefusal, IsLeft}
 use Rattle.h3_qpack.specs.Instructions.{AreDecoderInstructions, NoDecoderInstruction, NextDecoderInstruction, BeginsRefused}
 use Rattle.h3_connection.specs.Hearing.{Listened, listen}
 use Rattle.h3_connection.specs.Codes.{decoder_stream_error}
@@ -59,19 +59,26 @@ listens_ok (Err e) old new bytes left heard ok rest = tt
 listens_ok (Ok done) old new bytes left heard ok rest =
     λ s is. listens s new bytes left false (rest ∙ left_is old new.encoder bytes left heard) (listened_whole s old new.encoder bytes left is heard ok)
 
-unless_memory : (e : EncoderError) (P : Type 0) → P → UnlessMemory e P
+-- it is refused, unless memory was
+refused_there : (s : EncoderHistory) (bytes : List ℕ) (e : EncoderError) → IsLeft s bytes e → (e ≡ OutOfMemory → ⊥) → BeginsRefused s bytes
+refused_there s bytes e (inl refused) h = refused
+refused_there s bytes e (inr lacks) h = absurd (h lacks.memory)
+
+unless_memory : (e : EncoderError) (P : Type 0) → ((e ≡ OutOfMemory → ⊥) → P) → UnlessMemory e P
 unless_memory OutOfMemory P h = tt
-unless_memory (Insertion e) P h = h
-unless_memory (InvalidInteger e) P h = h
-unless_memory (InvalidString e) P h = h
-unless_memory (UnknownDecoderInstruction first) P h = h
+unless_memory (Insertion e) P h = h (λ same. absurd (cc))
+unless_memory (InvalidInteger e) P h = h (λ same. absurd (cc))
+unless_memory (InvalidString e) P h = h (λ same. absurd (cc))
+unless_memory (UnknownDecoderInstruction first) P h = h (λ same. absurd (cc))
 
 pub listens_err : (r : Result (Unit {0}) EncoderError) (old : EncoderState) (new : Encoding) (bytes left : List ℕ) → HasReadDecoderInstructions old new.encoder bytes left
-    → IfErr r (λ e. ((s : EncoderHistory) → new.encoder ≡ encoder_state s → BeginsRefused s left) × IsDecoderInstructionRefusal (decoder_instruction left) e)
+    → IfErr r (λ e. ((s : EncoderHistory) → new.encoder ≡ encoder_state s → IsLeft s left e) × IsDecoderInstructionRefusal (decoder_instruction left) e)
     → new.unread ≡ drop (length bytes - length left) bytes → IfErr r (λ e. UnlessMemory e ((s : EncoderHistory) → old ≡ encoder_state s → Listens s bytes new (Some decoder_stream_error)))
 listens_err (Ok done) old new bytes left heard err rest = tt
 listens_err (Err e) old new bytes left heard err rest =
-    unless_memory e _ (λ s is. listens s new bytes left true (rest ∙ left_is old new.encoder bytes left heard) (listened_bad s old new.encoder bytes left is heard err.0))
+    unless_memory e _ (λ none s is.
+    listens s new bytes left true (rest ∙ left_is old new.encoder bytes left heard)
+    (listened_bad s old new.encoder bytes left is heard (λ t same. refused_there t left e (err.0 t same) none)))
 
 -- whole instructions were read, whatever the answer
 pub listens_front : (old new : Encoding) (left : List ℕ) → HasReadDecoderInstructions old.encoder new.encoder old.unread left → new.unread ≡ drop (length old.unread - length left) old.unread

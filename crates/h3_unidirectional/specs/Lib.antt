@@ -4,3 +4,4 @@ pub mod Judged
 pub mod Faults
 pub mod Kinds
 pub mod Rows
+pub mod Learned
