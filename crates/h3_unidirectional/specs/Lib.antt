@@ -5,3 +5,4 @@ pub mod Faults
 pub mod Kinds
 pub mod Rows
 pub mod Learned
+pub mod OwnLaws
