@@ -137,13 +137,13 @@ replies_stand own e is h =
     })
     (record { control = h.taken.control; encoder = h.taken.encoder; decoder = longer e.own.decoder_taken (encoding 3) decoder_bytes e.own.replies is h.taken.decoder })
 
+nothing_dropped : (k : ℕ) → drop {A = ℕ} k [] ≡ []
+nothing_dropped zero = refl
+nothing_dropped (suc k) = refl
+
 drop_later : (n m : ℕ) (bytes : List ℕ) → drop m (drop n bytes) ≡ drop (n + m) bytes
 drop_later zero m bytes = let same : m ≡ 0 + m = omega arith in ap (λ k. drop k bytes) same
-drop_later (suc n) m [] = none m ∙ sym (none (suc n + m))
-  where
-    none : (k : ℕ) → drop k [] ≡ []
-    none zero = refl
-    none (suc k) = refl
+drop_later (suc n) m [] = nothing_dropped m ∙ sym (nothing_dropped (suc n + m))
 drop_later (suc n) m (x ∷ bytes) = let same : suc (n + m) ≡ suc n + m = omega arith in drop_later n m bytes ∙ ap (λ k. drop k (x ∷ bytes)) same
 
 still_there : (n m : ℕ) (bytes : List ℕ) → n ≤ length bytes → m ≤ length (drop n bytes) → n + m ≤ length bytes
