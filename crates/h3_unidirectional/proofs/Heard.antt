@@ -75,7 +75,8 @@ pub hears_to : (old new : Decoding) (left : List ℕ) → HasRead old.decoder ne
 hears_to old new left read rest =
     let f = instructions_front old.unread left read.instructions read.split in
     let whole : hear old.decoder f.front ≡ heard new.decoder [] false =
-    heard_whole old.decoder new.decoder f.front [] (record { instructions = read.instructions; split = subst (λ x. AreInstructions x read.instructions []) (append-nil f.front) (f.alike []); table = read.table }) refl in
+    heard_is old.decoder f.front (heard new.decoder [] false)
+    (record { read = record { instructions = read.instructions; split = subst (λ x. AreInstructions x read.instructions []) (append-nil f.front) (f.alike []); table = read.table }; stops = refl }) in
     record {
       front = f.front;
       split = f.split ∙ ap (λ l. f.front ++ l) (sym (rest ∙ dropped old.unread f.front left f.split));

@@ -72,8 +72,8 @@ listens_front old new left read rest s is =
     let f = instructions_front old.unread left read.instructions read.split in
     let after = encoder_after_all s read.instructions in
     let whole : listen s f.front ≡ listened after [] false =
-        listened_is s f.front (listened after [] false)
-        (record { instructions = read.instructions; split = subst (λ x. AreDecoderInstructions x read.instructions []) (append-nil f.front) (f.alike []); accepted = read.accepted s is; after = refl; stops = refl }) in
+    listened_is s f.front (listened after [] false)
+    (record { instructions = read.instructions; split = subst (λ x. AreDecoderInstructions x read.instructions []) (append-nil f.front) (f.alike []); accepted = read.accepted s is; after = refl; stops = refl }) in
     let end : new.unread ≡ left = rest ∙ dropped old.unread f.front left f.split in
     let cut : old.unread ≡ f.front ++ new.unread = f.split ∙ ap (λ l. f.front ++ l) (sym end) in
     record {

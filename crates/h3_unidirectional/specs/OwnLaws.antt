@@ -157,8 +157,8 @@ taken_by : (own : OwnState) (e : EndpointHistory) (count : ℕ) (a b c : Bool) �
     → OwnStands (having_taken_of own (if a then Some Control else (if b then Some Encoder else (if c then Some Decoder else None))) count)
     (record e {
       own = if a then record e.own { control_taken = e.own.control_taken + count } else (
-            if b then record e.own { encoder_taken = e.own.encoder_taken + count } else (
-            if c then record e.own { decoder_taken = e.own.decoder_taken + count } else e.own));
+          if b then record e.own { encoder_taken = e.own.encoder_taken + count } else (
+          if c then record e.own { decoder_taken = e.own.decoder_taken + count } else e.own));
     })
 taken_by own e count true b c h fits =
     let s = stands own e h in

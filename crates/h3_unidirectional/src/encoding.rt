@@ -108,13 +108,13 @@ impl Encoding {
         ensures cut_off { OnErr result ((s : EncoderHistory) → self.old.encoder ≡ encoder_state s → IsCutOff s (writing_on s stream) fields.now self.new.encoder out.old out.new) }
         ensures unread { self.new.unread ≡ self.old.unread }
     {
-        let outcome = self
+        let Ok(count) = self
             .encoder
-            .encode(stream.into_inner(), block, out.bytes_mut(), fields);
-        match outcome {
-            Ok(count) => Ok(count),
-            Err(_) => Err(AllocError),
-        }
+            .encode(stream.into_inner(), block, out.bytes_mut(), fields)
+        else {
+            return Err(AllocError);
+        };
+        Ok(count)
     }
 
     /// Takes back the newest section of a stream, where `count` is its required insert count, as if it had not been written.
