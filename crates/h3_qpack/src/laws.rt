@@ -2,22 +2,26 @@
 
 ghost use Rattle.std.specs.Prelude.{◌≡◌, ℕ, ◌+◌, ◌*◌, ◌%◌, ◌^◌, ◌<◌, ◌≤◌, false, List, Some};
 ghost use Rattle.std.specs.Prelude.{take, length, [], ◌++◌};
-ghost use Rattle.h3_qpack.specs.DecoderState.{DecoderState};
+ghost use Rattle.h3_qpack.specs.DecoderState.{DecoderState, decoder_after_all};
 ghost use Rattle.std.specs.Prelude.{flat_map};
 ghost use Rattle.std.specs.List.{AllByRecursion};
-ghost use Rattle.h3_field.specs.Instruction.{EncoderInstruction, encoder_bytes};
-ghost use Rattle.h3_qpack.specs.Instructions.{HasRead, AreInstructions};
+ghost use Rattle.h3_field.specs.Instruction.{EncoderInstruction, encoder_bytes, DecoderInstruction, decoder_bytes};
+ghost use Rattle.h3_field.specs.InstructionAnswer.{IsReply};
+ghost use Rattle.h3_field.specs.InstructionReading.{instruction, decoder_instruction};
+ghost use Rattle.h3_field.specs.Reading.{Unfinished};
+ghost use Rattle.h3_qpack.specs.WholeInstructions.{whole_in, rest_in, decoder_instructions_in};
+ghost use Rattle.h3_qpack.specs.Instructions.{HasRead, AreInstructions, AreDecoderInstructions, AreAccepted};
 ghost use Rattle.h3_qpack.specs.TableHistory.{table_after_all, table_of};
 ghost use Rattle.h3_qpack.specs.Meaning.{MeansFields, IsMissing};
 ghost use Rattle.h3_qpack.specs.DecodedSection.{DecodedSection, decode_section, IsDecodedAs};
-ghost use Rattle.h3_qpack.specs.Hearing.{Heard, hear, heard_then, IsHeardAs, Listened, listen, listened_then, IsListenedAs};
+ghost use Rattle.h3_qpack.specs.Hearing.{Heard, heard, hear, heard_then, IsHeardAs, Listened, listened, listen, listened_then, IsListenedAs};
 ghost use Rattle.h3_field.specs.Field.{Field};
 ghost use Rattle.h3_qpack.specs.SectionEncoding.{encoded_section};
 ghost use Rattle.h3_qpack.specs.Encodings.{decoder_of, IsWritten, IsWrittenInstruction};
 ghost use Rattle.h3_field.specs.Prefix.{most_entries, IsRequiredCount};
 ghost use Rattle.h3_qpack.specs.Session.{Session, UndecodedSection, oldest, is_canceled, count_of, IsSound, DecodesTo};
 ghost use Rattle.h3_qpack.specs.Schedule.{SessionEvent, SessionRun, beginning};
-ghost use Rattle.h3_qpack.specs.EncoderHistory.{EncoderHistory, blocks_out};
+ghost use Rattle.h3_qpack.specs.EncoderHistory.{EncoderHistory, encoder_after_all, blocks_out};
 ghost use Rattle.h3_qpack.specs.Exchange.{ExchangeHistory, Exchange, start, opening};
 ghost use Rattle.h3_qpack.specs.Expected.{Expected};
 ghost use Rattle.h3_qpack.specs.declared.session.SessionEvent.{SessionEvent as RunEvent};
@@ -106,4 +110,23 @@ pub fn decoder_bytes_are_their_value()
     ensures value { (s : EncoderHistory) (bytes : List ℕ) → IsListenedAs s bytes (listen s bytes) }
     ensures only { (s : EncoderHistory) (bytes : List ℕ) (l : Listened) → IsListenedAs s bytes l → listen s bytes ≡ l }
     ensures cuts { (s : EncoderHistory) (bytes more : List ℕ) → listen s (bytes ++ more) ≡ listened_then (listen s bytes) more }
+{}
+
+/// Of the first bytes of written encoder instructions a decoder that refuses none reads the whole ones, and what came of the
+/// next one is left, and is not whole.
+pub fn fronts_of_written_instructions()
+    ensures instructions { (all : List EncoderInstruction) (n : ℕ) → AllByRecursion IsWrittenInstruction all →
+        AreInstructions (take n (flat_map encoder_bytes all)) (take (whole_in encoder_bytes n all) all) (rest_in encoder_bytes n all) × (instruction (rest_in encoder_bytes n all) ≡ Unfinished) }
+    ensures decoder { (r new : DecoderState) (all : List EncoderInstruction) (n : ℕ) → AllByRecursion IsWrittenInstruction all → decoder_after_all (Some r) (take (whole_in encoder_bytes n all) all) ≡ Some new →
+        hear r (take n (flat_map encoder_bytes all)) ≡ heard new (rest_in encoder_bytes n all) false }
+{}
+
+/// Of the first bytes of written decoder instructions an encoder that refuses none reads the whole ones, and what came of the
+/// next one is left, and is not whole. All bytes are read as all instructions.
+pub fn fronts_of_written_decoder_instructions()
+    ensures instructions { (all : List DecoderInstruction) (n : ℕ) → AllByRecursion IsReply all →
+        AreDecoderInstructions (take n (flat_map decoder_bytes all)) (decoder_instructions_in n all) (rest_in decoder_bytes n all) × (decoder_instruction (rest_in decoder_bytes n all) ≡ Unfinished) }
+    ensures encoder { (s : EncoderHistory) (all : List DecoderInstruction) (n : ℕ) → AllByRecursion IsReply all → AreAccepted s (decoder_instructions_in n all) →
+        listen s (take n (flat_map decoder_bytes all)) ≡ listened (encoder_after_all s (decoder_instructions_in n all)) (rest_in decoder_bytes n all) false }
+    ensures all { (all : List DecoderInstruction) (rest : List ℕ) → AllByRecursion IsReply all → AreDecoderInstructions (flat_map decoder_bytes all ++ rest) all rest }
 {}
