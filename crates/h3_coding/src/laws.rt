@@ -35,6 +35,13 @@ pub fn greatest() -> VarInt
     VarInt::MAX
 }
 
+/// The most bytes that an encoding has.
+pub fn most_bytes() -> usize
+    ensures { result ≡ 8 }
+{
+    VarInt::MAX_SIZE
+}
+
 /// The encoding of a value is one of its encodings.
 pub fn encoding_of_value<T: Codec>(value: &T)
     ensures { T.is_encoding value.now (T.encoding value.now) }

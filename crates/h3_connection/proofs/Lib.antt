@@ -12,5 +12,6 @@ pub mod Brought
 pub mod Distinct
 pub mod PullBounds
 pub mod WaitingCounts
+pub mod ReadingStays
 pub mod Bounded
 pub mod Closed

@@ -17,6 +17,8 @@ use Rattle.h3_field.specs.StaticTable.{static_table, NamesEntry}
 use Rattle.h3_field.proofs.StaticEntries.{table_length}
 use Rattle.h3_field.specs.LineReading.{LineForm, Indexed, PostBase, Named, PostBaseNamed, LiteralField, SaysLine, line, indexed, named, literal}
 use Rattle.h3_field.specs.LineAnswer.{AnswersLine}
+use Rattle.h3_field.specs.ShapeAnswer.{Place, AtInteger, AtString, error_at}
+use Rattle.h3_field.specs.declared.prefix_int.Error as integer
 use Rattle.h3_field.specs.Section.{HasLine, line_field, with_value}
 use Rattle.h3_field.specs.SectionAnswer.{HasField, HasNoField, BeginsWithString, IsReason}
 use Rattle.h3_field.specs.ValueLaws.{one_string_stood_for, one_line_said}
@@ -71,21 +73,21 @@ line_literal (first ∷ rest) some h =
     rw (lt-leb 128 first (omega (arith, most)), lt-leb 64 first (omega (arith, most)), parts.0) refl
 
 -- a line that was read
-has_line : {L : Type 0} (line_of : L → FieldLine) (r : Reading LineForm) (old new : List ℕ) (l : L) → line old ≡ r → AnswersLine line_of r old new (Ok l) → HasLine old (line_of l) new
-has_line line_of (Whole form rest) old new l e h = record { form = form; whole = rw h.1 e; says = h.0 }
-has_line line_of Unfinished old new l e h = absurd (cc)
-has_line line_of Bad old new l e h = absurd (cc)
+has_line : {L : Type 0} (place : Place) (line_of : L → FieldLine) (r : Reading LineForm) (old new : List ℕ) (l : L) → line old ≡ r → AnswersLine line_of place r old new (Ok l) → HasLine old (line_of l) new
+has_line place line_of (Whole form rest) old new l e h = record { form = form; whole = rw h.1 e; says = h.0 }
+has_line place line_of Unfinished old new l e h = absurd (cc)
+has_line place line_of Bad old new l e h = absurd (cc)
 
 -- the field of a line that was read
-pub has_field : {L : Type 0} (line_of : L → FieldLine) (read : List ℕ → Reading LineForm) (old new : List ℕ) (l : L) (f : Field) → ((bytes rest : List ℕ) (form : LineForm) → read bytes ≡ Whole form rest → length rest < length bytes) → line old ≡ read old → AnswersLine line_of (read old) old new (Ok l) → line_field (line_of l) ≡ Some f → HasField old f new
-has_field line_of read old new l f shorter e h names =
-    let here = has_line line_of (read old) old new l e h in
+pub has_field : {L : Type 0} (place : Place) (line_of : L → FieldLine) (read : List ℕ → Reading LineForm) (old new : List ℕ) (l : L) (f : Field) → ((bytes rest : List ℕ) (form : LineForm) → read bytes ≡ Whole form rest → length rest < length bytes) → line old ≡ read old → AnswersLine line_of place (read old) old new (Ok l) → line_field (line_of l) ≡ Some f → HasField old f new
+has_field place line_of read old new l f shorter e h names =
+    let here = has_line place line_of (read old) old new l e h in
     record { line = line_of l; here = here; names = names; less = shorter old new here.form (sym e ∙ here.whole) }
 
 -- a line that was read and names no field
-pub no_field : {L : Type 0} (line_of : L → FieldLine) (r : Reading LineForm) (old new : List ℕ) (l : L) → line old ≡ r → AnswersLine line_of r old new (Ok l) → line_field (line_of l) ≡ None → HasNoField old
-no_field line_of r old new l e h none rest k f here names =
-    let one = line_one old new rest (line_of l) k (has_line line_of r old new l e h) here in
+pub no_field : {L : Type 0} (place : Place) (line_of : L → FieldLine) (r : Reading LineForm) (old new : List ℕ) (l : L) → line old ≡ r → AnswersLine line_of place r old new (Ok l) → line_field (line_of l) ≡ None → HasNoField old
+no_field place line_of r old new l e h none rest k f here names =
+    let one = line_one old new rest (line_of l) k (has_line place line_of r old new l e h) here in
     let same : line_field (line_of l) ≡ Some f = rw (← one.0) at names in
     absurd (cc)
 
@@ -98,23 +100,29 @@ not_said old rest form e none more k f here names =
     let same = whole_same form here.form rest more (sym e ∙ here.whole) in
     none k (rw (← same.0) at here.says)
 
-pub refused_line : {L : Type 0} (line_of : L → FieldLine) (r : Reading LineForm) (old new : List ℕ) (e : ParseError) → line old ≡ r → AnswersLine line_of r old new (Err e) → IsReason (BeginsWithString old) (HasNoField old) (λ size. ⊥) (decoder_parse e)
-refused_line line_of (Whole form rest) old new (String string.TheVariants.HuffmanDecoding) is h = not_said old rest form is h.1
-refused_line line_of (Whole form rest) old new OutOfMemory is h = (form, rest, is, h.0)
-refused_line line_of (Whole form rest) old new (String string.TheVariants.OutOfMemory) is h = absurd h.1
-refused_line line_of (Whole form rest) old new (String string.TheVariants.UnexpectedEnd) is h = absurd h.1
-refused_line line_of (Whole form rest) old new (String (string.TheVariants.Integer e)) is h = absurd h.1
-refused_line line_of (Whole form rest) old new (String string.TheVariants.HuffmanEncoding) is h = absurd h.1
-refused_line line_of (Whole form rest) old new (String string.TheVariants.BufSize) is h = absurd h.1
-refused_line line_of (Whole form rest) old new (Integer e) is h = absurd h.1
-refused_line line_of (Whole form rest) old new (InvalidPrefix first) is h = absurd h.1
-refused_line line_of (Whole form rest) old new InvalidBase is h = absurd h.1
-refused_line line_of Unfinished old new e is h =
-    let same : e ≡ Integer UnexpectedEnd = cc in
-    rw same (not_read old Unfinished is (λ form rest x. absurd (cc)))
-refused_line line_of Bad old new e is h =
-    let same : e ≡ Integer Overflow = cc in
-    rw same (not_read old Bad is (λ form rest x. absurd (cc)))
+-- what is not whole, or out of range, is no want of memory
+bad_at : (memory bad : Type 0) (place : Place) (e : integer.Error) → bad → IsReason memory bad (λ size. ⊥) (decoder_parse (error_at place e))
+bad_at memory bad AtInteger e h = h
+bad_at memory bad AtString UnexpectedEnd h = h
+bad_at memory bad AtString Overflow h = h
+
+pub refused_line : {L : Type 0} (place : Place) (line_of : L → FieldLine) (r : Reading LineForm) (old new : List ℕ) (e : ParseError) → line old ≡ r → AnswersLine line_of place r old new (Err e) → IsReason (BeginsWithString old) (HasNoField old) (λ size. ⊥) (decoder_parse e)
+refused_line place line_of (Whole form rest) old new (String string.TheVariants.HuffmanDecoding) is h = not_said old rest form is h.1
+refused_line place line_of (Whole form rest) old new OutOfMemory is h = (form, rest, is, h.0)
+refused_line place line_of (Whole form rest) old new (String string.TheVariants.OutOfMemory) is h = absurd h.1
+refused_line place line_of (Whole form rest) old new (String string.TheVariants.UnexpectedEnd) is h = absurd h.1
+refused_line place line_of (Whole form rest) old new (String (string.TheVariants.Integer e)) is h = absurd h.1
+refused_line place line_of (Whole form rest) old new (String string.TheVariants.HuffmanEncoding) is h = absurd h.1
+refused_line place line_of (Whole form rest) old new (String string.TheVariants.BufSize) is h = absurd h.1
+refused_line place line_of (Whole form rest) old new (Integer e) is h = absurd h.1
+refused_line place line_of (Whole form rest) old new (InvalidPrefix first) is h = absurd h.1
+refused_line place line_of (Whole form rest) old new InvalidBase is h = absurd h.1
+refused_line place line_of Unfinished old new e is h =
+    let same : e ≡ error_at place UnexpectedEnd = cc in
+    rw same (bad_at (BeginsWithString old) (HasNoField old) place UnexpectedEnd (not_read old Unfinished is (λ form rest x. absurd (cc))))
+refused_line place line_of Bad old new e is h =
+    let same : e ≡ error_at place Overflow = cc in
+    rw same (bad_at (BeginsWithString old) (HasNoField old) place Overflow (not_read old Bad is (λ form rest x. absurd (cc))))
 
 static_none : (index : ℕ) → 99 ≤ index → slice_get static_table index ≡ None
 static_none index le = get_none static_table index (rw table_length le)
@@ -125,11 +133,11 @@ static_none index le = get_none static_table index (rw table_length le)
     get_none (f ∷ fields) (suc i) h = get_none fields i (omega arith)
 
 -- a line that names a static entry that there is not
-pub no_static : {L : Type 0} (line_of : L → FieldLine) (r : Reading LineForm) (old new : List ℕ) (l : L) → line old ≡ r → AnswersLine line_of r old new (Ok l) → (index : ℕ) → 99 ≤ index → line_of l ≡ StaticField index → HasNoField old
-no_static line_of r old new l e h index le is = no_field line_of r old new l e h (rw is (static_none index le))
+pub no_static : {L : Type 0} (place : Place) (line_of : L → FieldLine) (r : Reading LineForm) (old new : List ℕ) (l : L) → line old ≡ r → AnswersLine line_of place r old new (Ok l) → (index : ℕ) → 99 ≤ index → line_of l ≡ StaticField index → HasNoField old
+no_static place line_of r old new l e h index le is = no_field place line_of r old new l e h (rw is (static_none index le))
 
-pub no_static_name : {L : Type 0} (line_of : L → FieldLine) (r : Reading LineForm) (old new : List ℕ) (l : L) → line old ≡ r → AnswersLine line_of r old new (Ok l) → (index : ℕ) (value : List ℕ) → 99 ≤ index → line_of l ≡ StaticName index value → HasNoField old
-no_static_name line_of r old new l e h index value le is = no_field line_of r old new l e h (rw (is, static_none index le) refl)
+pub no_static_name : {L : Type 0} (place : Place) (line_of : L → FieldLine) (r : Reading LineForm) (old new : List ℕ) (l : L) → line old ≡ r → AnswersLine line_of place r old new (Ok l) → (index : ℕ) (value : List ℕ) → 99 ≤ index → line_of l ≡ StaticName index value → HasNoField old
+no_static_name place line_of r old new l e h index value le is = no_field place line_of r old new l e h (rw (is, static_none index le) refl)
 
 pub named_entry : (index : ℕ) (name value : List ℕ) → NamesEntry index name → with_value value (slice_get static_table index) ≡ Some (record { name = name; value = value })
 named_entry index name value n = rw (n.here, n.name_is) refl

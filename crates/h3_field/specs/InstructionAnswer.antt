@@ -4,7 +4,7 @@ use Rattle.h3_field.specs.Reading.{Reading, Whole, Unfinished, Bad}
 use Rattle.h3_field.specs.Instruction.{EncoderInstruction, DecoderInstruction}
 use Rattle.h3_field.specs.Instruction.{EncoderInstruction as to_decoder, DecoderInstruction as to_encoder}
 use Rattle.h3_field.specs.InstructionReading.{InstructionForm, Says, HasString}
-use Rattle.h3_field.specs.ShapeAnswer.{IsRefused}
+use Rattle.h3_field.specs.ShapeAnswer.{Place, error_at, IsRefused}
 use Rattle.h3_field.specs.declared.prefix_int.Error.TheVariants.{Overflow}
 use Rattle.h3_field.specs.declared.parse_error.ParseError.{ParseError}
 use Rattle.h3_field.specs.declared.parse_error.ParseError.TheVariants.{Integer}
@@ -56,12 +56,12 @@ IsReply (to_encoder.Increment count) = count < 2 ^ 62
 
 -- The instruction, and what stands behind it is left. One that is not whole, or is refused, is left unread. Memory is
 -- asked for by strings alone, and only a string of a whole instruction is refused.
-abbrev pub AnswersInstruction : {I : Type 0} → (I → EncoderInstruction) → Reading InstructionForm → List ℕ → List ℕ → Result (Option I) ParseError → Type 0
-AnswersInstruction says (Whole form rest) old new (Ok (Some i)) = Says form (says i) × (new ≡ rest)
-AnswersInstruction says (Whole form rest) old new (Ok None) = ⊥
-AnswersInstruction says (Whole form rest) old new (Err e) = HasString form × IsRefused ((i : EncoderInstruction) → Says form i → ⊥) e × (new ≡ old)
-AnswersInstruction says Unfinished old new result = (result ≡ Ok None) × (new ≡ old)
-AnswersInstruction says Bad old new result = (result ≡ Err (Integer Overflow)) × (new ≡ old)
+abbrev pub AnswersInstruction : {I : Type 0} → (I → EncoderInstruction) → Place → Reading InstructionForm → List ℕ → List ℕ → Result (Option I) ParseError → Type 0
+AnswersInstruction says place (Whole form rest) old new (Ok (Some i)) = Says form (says i) × (new ≡ rest)
+AnswersInstruction says place (Whole form rest) old new (Ok None) = ⊥
+AnswersInstruction says place (Whole form rest) old new (Err e) = HasString form × IsRefused ((i : EncoderInstruction) → Says form i → ⊥) e × (new ≡ old)
+AnswersInstruction says place Unfinished old new result = (result ≡ Ok None) × (new ≡ old)
+AnswersInstruction says place Bad old new result = (result ≡ Err (error_at place Overflow)) × (new ≡ old)
 
 abbrev pub AnswersReply : {I : Type 0} → (I → DecoderInstruction) → Reading DecoderInstruction → List ℕ → List ℕ → Result (Option I) ParseError → Type 0
 AnswersReply says (Whole i rest) old new (Ok (Some found)) = (says found ≡ i) × (new ≡ rest)

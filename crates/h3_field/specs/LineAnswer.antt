@@ -4,10 +4,9 @@ use Rattle.h3_field.specs.Reading.{Reading, Whole, Unfinished, Bad}
 use Rattle.h3_field.specs.Line.{FieldLine}
 use Rattle.h3_field.specs.Line.{FieldLine as of}
 use Rattle.h3_field.specs.LineReading.{LineForm, SaysLine, HasString}
-use Rattle.h3_field.specs.ShapeAnswer.{IsRefused}
+use Rattle.h3_field.specs.ShapeAnswer.{Place, error_at, IsRefused}
 use Rattle.h3_field.specs.declared.prefix_int.Error.TheVariants.{Overflow, UnexpectedEnd}
 use Rattle.h3_field.specs.declared.parse_error.ParseError.{ParseError}
-use Rattle.h3_field.specs.declared.parse_error.ParseError.TheVariants.{Integer}
 use Rattle.h3_field.specs.declared.block.HeaderBlockField as kind
 use Rattle.h3_field.specs.declared.block.indexed.Indexed as indexed
 use Rattle.h3_field.specs.declared.block.indexed.IndexedWithPostBase.{IndexedWithPostBase}
@@ -45,11 +44,11 @@ IsWritable (of.Literal name value) = (length name < 2 ^ 62) × (length value < 2
 
 -- The line, and what stands behind it is left; or why it is none, and nothing is taken. Memory is asked for by strings
 -- alone, and only a string of a whole line is refused.
-abbrev pub AnswersLine : {L : Type 0} → (L → FieldLine) → Reading LineForm → List ℕ → List ℕ → Result L ParseError → Type 0
-AnswersLine line_of (Whole form rest) old new (Ok l) = SaysLine form (line_of l) × (new ≡ rest)
-AnswersLine line_of (Whole form rest) old new (Err e) = HasString form × IsRefused ((l : FieldLine) → SaysLine form l → ⊥) e × (new ≡ old)
-AnswersLine line_of Unfinished old new result = (result ≡ Err (Integer UnexpectedEnd)) × (new ≡ old)
-AnswersLine line_of Bad old new result = (result ≡ Err (Integer Overflow)) × (new ≡ old)
+abbrev pub AnswersLine : {L : Type 0} → (L → FieldLine) → Place → Reading LineForm → List ℕ → List ℕ → Result L ParseError → Type 0
+AnswersLine line_of place (Whole form rest) old new (Ok l) = SaysLine form (line_of l) × (new ≡ rest)
+AnswersLine line_of place (Whole form rest) old new (Err e) = HasString form × IsRefused ((l : FieldLine) → SaysLine form l → ⊥) e × (new ≡ old)
+AnswersLine line_of place Unfinished old new result = (result ≡ Err (error_at place UnexpectedEnd)) × (new ≡ old)
+AnswersLine line_of place Bad old new result = (result ≡ Err (error_at place Overflow)) × (new ≡ old)
 
 -- which line a first byte begins
 abbrev pub IsLineKind : ℕ → kind.HeaderBlockField → Type 0

@@ -2,6 +2,8 @@
 use Rattle.std.specs.Prelude.{◌≡◌, ◌⊎◌, ℕ, List, Result, Ok, Err}
 use Rattle.h3_field.specs.Reading.{Reading, Whole, Unfinished, Bad}
 use Rattle.h3_field.specs.StringReading.{StandsFor, StandsForNone}
+use Rattle.h3_field.specs.StringAnswer.{of_integer}
+use Rattle.h3_field.specs.declared.prefix_int.Error as integer
 use Rattle.h3_field.specs.Shapes as shape
 use Rattle.h3_field.specs.declared.prefix_int.Error.TheVariants.{Overflow, UnexpectedEnd}
 use Rattle.h3_field.specs.declared.prefix_string.Error as string
@@ -19,6 +21,22 @@ of_string string.TheVariants.HuffmanDecoding = String string.TheVariants.Huffman
 of_string string.TheVariants.HuffmanEncoding = String string.TheVariants.HuffmanEncoding
 of_string string.TheVariants.BufSize = String string.TheVariants.BufSize
 
+-- where a reading stopped: at an integer, or at a string, whose length is a part of it
+pub data Place : Type 0 where
+  AtInteger : Place
+  AtString : Place
+
+-- the error of what is not whole, or out of range, at that place
+abbrev pub error_at : Place → integer.Error → ParseError
+error_at AtInteger e = Integer e
+error_at AtString e = String (of_integer e)
+
+-- a string stands behind this integer
+abbrev pub behind : Reading (ℕ × ℕ) → Place
+behind (Whole head rest) = AtString
+behind Unfinished = AtInteger
+behind Bad = AtInteger
+
 -- Why what is whole is refused: a string of it is no Huffman encoding, or want of memory.
 abbrev pub IsRefused : Type 0 → ParseError → Type 0
 IsRefused None (String string.TheVariants.HuffmanDecoding) = None
@@ -33,14 +51,14 @@ IsRefused None (InvalidPrefix first) = ⊥
 IsRefused None InvalidBase = ⊥
 
 -- the parts, and what stands behind them is left; a refused read takes nothing
-abbrev pub AnswersIndexAndString : Reading shape.IndexAndString → List ℕ → List ℕ → Result IndexAndString ParseError → Type 0
-AnswersIndexAndString (Whole p rest) old new (Ok r) = (r.flags ≡ p.flags) × (r.index ≡ p.index) × StandsFor p.value r.value.items × (new ≡ rest)
-AnswersIndexAndString (Whole p rest) old new (Err e) = IsRefused (StandsForNone p.value) e × (new ≡ old)
-AnswersIndexAndString Unfinished old new result = (result ≡ Err (Integer UnexpectedEnd)) × (new ≡ old)
-AnswersIndexAndString Bad old new result = (result ≡ Err (Integer Overflow)) × (new ≡ old)
+abbrev pub AnswersIndexAndString : Place → Reading shape.IndexAndString → List ℕ → List ℕ → Result IndexAndString ParseError → Type 0
+AnswersIndexAndString place (Whole p rest) old new (Ok r) = (r.flags ≡ p.flags) × (r.index ≡ p.index) × StandsFor p.value r.value.items × (new ≡ rest)
+AnswersIndexAndString place (Whole p rest) old new (Err e) = IsRefused (StandsForNone p.value) e × (new ≡ old)
+AnswersIndexAndString place Unfinished old new result = (result ≡ Err (error_at place UnexpectedEnd)) × (new ≡ old)
+AnswersIndexAndString place Bad old new result = (result ≡ Err (error_at place Overflow)) × (new ≡ old)
 
 abbrev pub AnswersTwoStrings : Reading shape.TwoStrings → List ℕ → List ℕ → Result TwoStrings ParseError → Type 0
 AnswersTwoStrings (Whole p rest) old new (Ok r) = StandsFor p.name r.name.items × StandsFor p.value r.value.items × (new ≡ rest)
 AnswersTwoStrings (Whole p rest) old new (Err e) = IsRefused (StandsForNone p.name ⊎ StandsForNone p.value) e × (new ≡ old)
-AnswersTwoStrings Unfinished old new result = (result ≡ Err (Integer UnexpectedEnd)) × (new ≡ old)
-AnswersTwoStrings Bad old new result = (result ≡ Err (Integer Overflow)) × (new ≡ old)
+AnswersTwoStrings Unfinished old new result = (result ≡ Err (error_at AtString UnexpectedEnd)) × (new ≡ old)
+AnswersTwoStrings Bad old new result = (result ≡ Err (error_at AtString Overflow)) × (new ≡ old)

@@ -11,9 +11,9 @@ use std::fmt;
 /// Why a line, an instruction or a prefix is refused.
 #[derive(Copy, Clone, PartialEq, Eq, Debug)]
 pub enum ParseError {
-    /// It is not whole, or an integer of it is out of range.
+    /// An integer of it, which is no string's length, is not whole or out of range.
     Integer(prefix_int::Error),
-    /// A string of it is refused.
+    /// A string of it is not whole, its length is out of range, or it is no Huffman encoding.
     String(prefix_string::Error),
     /// The first byte is that of another line or instruction, or the required insert count stands for none.
     InvalidPrefix(u64),

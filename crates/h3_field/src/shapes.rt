@@ -3,10 +3,11 @@ ghost use Rattle.std.specs.Prelude.{◌≡◌, ◌<◌, ◌≤◌, ◌-◌, ◌^
 ghost use Rattle.std.specs.Result.{IsOkUnless};
 ghost use Rattle.h3_field.specs.Ends.{IsEndOf};
 ghost use Rattle.h3_field.specs.Integer.{prefixed};
+ghost use Rattle.h3_field.specs.IntegerReading.{integer};
 ghost use Rattle.h3_field.specs.StringLiteral.{string_literal};
 ghost use Rattle.h3_field.specs.declared.prefix_string.Error.TheVariants as string_error;
 ghost use Rattle.h3_field.specs.Shapes.{begins, index_and_string, two_strings};
-ghost use Rattle.h3_field.specs.ShapeAnswer.{AnswersIndexAndString, AnswersTwoStrings};
+ghost use Rattle.h3_field.specs.ShapeAnswer.{behind, AnswersIndexAndString, AnswersTwoStrings};
 
 use crate::cursor::SliceCursor;
 use crate::parse_error::ParseError;
@@ -45,7 +46,7 @@ pub(crate) fn take_index_and_string(
 ) -> Result<IndexAndString, ParseError>
     requires least { 1 ≤ size }
     requires most { size ≤ 8 }
-    ensures answer { AnswersIndexAndString (index_and_string size buf.old) buf.old buf.new result }
+    ensures answer { AnswersIndexAndString (behind (integer size buf.old)) (index_and_string size buf.old) buf.old buf.new result }
     ensures rest { IsEndOf buf.old buf.new }
 {
     let mut ahead = SliceCursor::new(buf.chunk());
@@ -55,7 +56,7 @@ pub(crate) fn take_index_and_string(
     };
     let payload = match take_payload(8, &mut ahead) {
         Ok((_, payload)) => payload,
-        Err(e) => return Err(ParseError::Integer(e)),
+        Err(e) => return Err(ParseError::String(prefix_string::Error::from(e))),
     };
     match payload.to_bytes(alloc) {
         Ok(value) => {
@@ -92,11 +93,11 @@ pub(crate) fn take_two_strings(
     let mut ahead = SliceCursor::new(buf.chunk());
     let first = match take_payload(size, &mut ahead) {
         Ok((_, payload)) => payload,
-        Err(e) => return Err(ParseError::Integer(e)),
+        Err(e) => return Err(ParseError::String(prefix_string::Error::from(e))),
     };
     let second = match take_payload(8, &mut ahead) {
         Ok((_, payload)) => payload,
-        Err(e) => return Err(ParseError::Integer(e)),
+        Err(e) => return Err(ParseError::String(prefix_string::Error::from(e))),
     };
     let name = match first.to_bytes(alloc) {
         Ok(name) => name,

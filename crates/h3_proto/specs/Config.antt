@@ -36,14 +36,22 @@ flag enabled = if enabled then 1 else 0
 abbrev pub grease_pairs : Bool → ℕ → List (ℕ × ℕ)
 grease_pairs send grease = if send then (reserved grease, 0) ∷ [] else []
 
+-- the settings that have a meaning, in order
+abbrev pub own_pairs : Settings → List (ℕ × ℕ)
+own_pairs s =
+    (6, s.max_field_section_size)
+    ∷ (8, flag s.enable_extended_connect)
+    ∷ (0x2b603742, flag s.enable_webtransport)
+    ∷ (0x33, flag s.enable_datagram)
+    ∷ (0x2b603743, s.max_webtransport_sessions) ∷ []
+
 -- the pairs that the configuration stands for, in order, or the value that no variable-length integer has
 abbrev pub announced : Config → ℕ → Result (List (ℕ × ℕ)) SettingsError
 announced c grease =
     if nat_le (2 ^ 62) c.settings.max_field_section_size then Err (InvalidSettingValue 6 c.settings.max_field_section_size)
     else (if nat_le (2 ^ 62) c.settings.max_webtransport_sessions then Err (InvalidSettingValue 0x2b603743 c.settings.max_webtransport_sessions)
-    else Ok (grease_pairs c.send_grease grease
-    ++ (6, c.settings.max_field_section_size)
-    ∷ (8, flag c.settings.enable_extended_connect)
-    ∷ (0x2b603742, flag c.settings.enable_webtransport)
-    ∷ (0x33, flag c.settings.enable_datagram)
-    ∷ (0x2b603743, c.settings.max_webtransport_sessions) ∷ []))
+    else Ok (grease_pairs c.send_grease grease ++ own_pairs c.settings))
+
+-- the limits of an end's dynamic table, as settings (RFC 9204, section 5)
+abbrev pub table_pairs : ℕ → ℕ → List (ℕ × ℕ)
+table_pairs capacity blocked = (1, capacity) ∷ (7, blocked) ∷ []

@@ -52,7 +52,7 @@ rest_of : (a b : Bool) → a ≡ false → (a || b) ≡ true → b ≡ true
 rest_of true b e h = absurd (cc)
 rest_of false b e h = h
 
-cases_bool : (b : Bool) → (b ≡ true) ⊎ (b ≡ false)
+pub cases_bool : (b : Bool) → (b ≡ true) ⊎ (b ≡ false)
 cases_bool true = inl refl
 cases_bool false = inr refl
 
@@ -123,10 +123,10 @@ judged-kept true known kept more p e h k = absurd (cc)
 judged-kept false true kept more p e h k = inserted-kept kept more p e h k
 judged-kept false false kept more p e h k = rw (← (same_ok {E = SettingsError} kept more h)) k
 
-received-kept : (kept more : List (ℕ × ℕ)) (p : ℕ × ℕ) → received kept p ≡ Ok more → IsKept kept → IsKept more
+pub received-kept : (kept more : List (ℕ × ℕ)) (p : ℕ × ℕ) → received kept p ≡ Ok more → IsKept kept → IsKept more
 received-kept kept more p h k = judged-kept (is_forbidden p.0) (is_known p.0) kept more p refl h k
 
-not_full : (kept : List (ℕ × ℕ)) → IsKept kept → nat_le 8 (length kept) ≡ true → ⊥
+pub not_full : (kept : List (ℕ × ℕ)) → IsKept kept → nat_le 8 (length kept) ≡ true → ⊥
 not_full kept k e =
     let full = leb-true 8 (length kept) e in
     omega (arith, k, full, present-bound known_ids kept)

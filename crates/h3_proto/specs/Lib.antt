@@ -6,5 +6,6 @@ pub mod PairLaws
 pub mod Pairs
 pub mod PayloadLaws
 pub mod Payloads
+pub mod ReceivedLaws
 pub mod Settings
 pub mod StreamIds

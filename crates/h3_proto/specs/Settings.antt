@@ -1,7 +1,7 @@
 -- Which settings are kept, and what a payload stands for (RFC 9114, sections 7.2.4 and 7.2.4.1).
-use Rattle.std.specs.Prelude.{ℕ, ◌^◌, Bool, ◌==◌, nat_le, find, List, [], ◌∷◌, ◌++◌, length, Option, Some, None, Result, Ok, Err, codes, false, if◌then◌else◌}
+use Rattle.std.specs.Prelude.{ℕ, ◌^◌, Bool, ◌==◌, nat_le, true, not, ◌&&◌, find, List, [], ◌∷◌, ◌++◌, length, Option, Some, None, Result, Ok, Err, codes, false, if◌then◌else◌}
 use Rattle.std.specs.Fmt.{digits, decimal}
-use Rattle.std.specs.List.{list_any}
+use Rattle.std.specs.List.{list_any, list_all}
 use Rattle.std.specs.Option.{option_map}
 use Rattle.h3_proto.specs.Pairs.{Split, pairs_in, split_of}
 use Rattle.h3_coding.specs.Varint.{varint_at}
@@ -24,6 +24,15 @@ is_known id = list_any (λ x. x == id) known_ids
 -- some pair has the identifier
 abbrev pub has_id : ℕ → List (ℕ × ℕ) → Bool
 has_id id pairs = list_any (λ p. p.0 == id) pairs
+
+-- no two pairs have one identifier
+abbrev pub ids_differ : List (ℕ × ℕ) → Bool
+ids_differ [] = true
+ids_differ (p ∷ pairs) = not (has_id p.0 pairs) && ids_differ pairs
+
+-- every identifier has a meaning
+abbrev pub are_known : List (ℕ × ℕ) → Bool
+are_known pairs = list_all (λ p. is_known p.0) pairs
 
 -- the value of the first pair of that identifier
 abbrev pub value_of : ℕ → List (ℕ × ℕ) → Option ℕ

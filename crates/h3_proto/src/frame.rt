@@ -1,11 +1,11 @@
 //! The settings that the payload of a SETTINGS frame carries (RFC 9114, section 7.2.4).
-ghost use Rattle.std.specs.Prelude.{◌≡◌, ◌≢◌, ℕ, ◌+◌, ◌^◌, ◌<◌, ◌≤◌, ◌==◌, List, [], ◌∷◌, ◌++◌, length, take, drop, IfOk, IfErr, IfSome, IsNone, Ok, Err, Some, None, OnOk, OnErr};
+ghost use Rattle.std.specs.Prelude.{◌≡◌, ◌≢◌, ℕ, ◌+◌, ◌^◌, ◌<◌, ◌≤◌, ◌==◌, List, [], ◌∷◌, ◌++◌, length, take, drop, true, All, IfOk, IfErr, IfSome, IsNone, Ok, Err, Some, None, OnOk, OnErr};
 ghost use Rattle.std.specs.Cmp.Lexicographic.{pointwise};
 ghost use Rattle.h3_coding.specs.Writing.{AppendsFront, UsesRoom};
 ghost use Rattle.h3_proto.specs.Ids.{reserved};
 ghost use Rattle.h3_proto.specs.PairLaws.{same_pairs};
 ghost use Rattle.h3_proto.specs.Pairs.{IsPair, same_pair, pair_encoding, payload_of, pair_at};
-ghost use Rattle.h3_proto.specs.Settings.{error_text, is_forbidden, is_known, has_id, value_of, inserted, received, settings_of, left_of, left_of_pair};
+ghost use Rattle.h3_proto.specs.Settings.{error_text, is_forbidden, is_known, has_id, ids_differ, value_of, inserted, received, settings_of, left_of, left_of_pair};
 
 use bytes::{Buf, BufMut};
 use h3_coding::coding::{BufExt, BufMutExt, WriteRefused};
@@ -112,8 +112,8 @@ impl fmt::Display for SettingsError {
 
 impl Error for SettingsError {}
 
-/// At most eight settings, in the order of their insertion. A contract sees them as pairs of an id
-/// and a value.
+/// At most eight settings of different ids, in the order of their insertion. A contract sees them as
+/// pairs of an id and a value.
 #[derive(Debug, Drop)]
 pub struct Settings {
     entries: [(u64, u64); 8],
@@ -121,16 +121,18 @@ pub struct Settings {
 }
 
 impl Model for Settings {
-    ghost use Rattle.std.specs.Prelude.{◌≡◌, ℕ, ◌≤◌, List, length, take, All};
+    ghost use Rattle.std.specs.Prelude.{◌≡◌, ℕ, ◌≤◌, true, List, length, take, All};
     ghost use Rattle.h3_proto.specs.PairLaws.{same_pairs};
     ghost use Rattle.h3_proto.specs.Pairs.{IsPair};
+    ghost use Rattle.h3_proto.specs.Settings.{ids_differ};
 
     ghost Value = { List (ℕ × ℕ) };
 
     ghost view = { λ s. take s.len s.entries };
 
     ghost invariant = { λ s. (s.len ≤ 8) × (length s.entries ≡ 8)
-        × All IsPair (take s.len s.entries) };
+        × All IsPair (take s.len s.entries)
+        × (ids_differ (take s.len s.entries) ≡ true) };
 }
 
 impl PartialEq for Settings {
@@ -198,6 +200,15 @@ impl Settings {
         ensures { result ≡ has_id id self.now }
     {
         self.entries[..self.len].iter().any(|pair| pair.0 == id.0)
+    }
+
+    // A caller learns what holds of all settings. It does nothing.
+    pub(crate) fn known(&self)
+        ensures few { length self.now ≤ 8 }
+        ensures pairs { All IsPair self.now }
+        ensures differ { ids_differ self.now ≡ true }
+    {
+        let _len = self.len;
     }
 
     /// How many bytes the payload has, at most `MAX_ENCODED_SIZE`.

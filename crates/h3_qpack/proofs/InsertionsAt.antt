@@ -7,6 +7,8 @@ use Rattle.h3_field.specs.Instruction.{EncoderInstruction}
 use Rattle.h3_field.specs.ReadBack.{HasInstruction}
 use Rattle.h3_field.specs.InstructionReading.{InstructionForm, Capacity, NameReference, LiteralName, Repeat, Says, instruction, name_reference, literal_name, capacity, repeat}
 use Rattle.h3_field.specs.InstructionAnswer.{AnswersInstruction}
+use Rattle.h3_field.specs.ShapeAnswer.{Place, error_at}
+use Rattle.h3_qpack.proofs.LinesAt.{bad_at}
 use Rattle.h3_field.specs.Shapes.{begins}
 use Rattle.h3_field.proofs.Sections.{stands_one}
 use Rattle.h3_field.specs.Errors.{decoder_parse}
@@ -33,55 +35,55 @@ says_one (NameReference false index p) i j a b = rw (a.2, b.2, stands_one p a.0 
 says_one (LiteralName p q) i j a b = rw (a.4, b.4, stands_one p a.0 b.0 a.2 b.2, stands_one q a.1 b.1 a.3 b.3) refl
 says_one (Repeat index) i j a b = a ∙ sym b
 
-pub has_instruction : {I : Type 0} (says : I → EncoderInstruction) (r : Reading InstructionForm) (old new : List ℕ) (o : Option I) (i : I) → instruction old ≡ r → o ≡ Some i
-    → AnswersInstruction says r old new (Ok o) → HasInstruction old (says i) new
-has_instruction {I} says r old new o i e is answer = from r e (subst (λ (x : Option I). AnswersInstruction says r old new (Ok x)) is answer)
+pub has_instruction : {I : Type 0} (place : Place) (says : I → EncoderInstruction) (r : Reading InstructionForm) (old new : List ℕ) (o : Option I) (i : I) → instruction old ≡ r → o ≡ Some i
+    → AnswersInstruction says place r old new (Ok o) → HasInstruction old (says i) new
+has_instruction {I} place says r old new o i e is answer = from r e (subst (λ (x : Option I). AnswersInstruction says place r old new (Ok x)) is answer)
   where
-    from : (r : Reading InstructionForm) → instruction old ≡ r → AnswersInstruction says r old new (Ok (Some i)) → HasInstruction old (says i) new
+    from : (r : Reading InstructionForm) → instruction old ≡ r → AnswersInstruction says place r old new (Ok (Some i)) → HasInstruction old (says i) new
     from (Whole form rest) e h = record { form = form; whole = rw h.1 e; says = h.0 }
     from Unfinished e h = absurd (cc)
     from Bad e h = absurd (cc)
 
 -- the field of an insertion that was read
-pub begins_insertion : {I : Type 0} (h : TableState) (says : I → EncoderInstruction) (read : List ℕ → Reading InstructionForm) (old new : List ℕ) (o : Option I) (i : I) (f : Field)
+pub begins_insertion : {I : Type 0} (place : Place) (h : TableState) (says : I → EncoderInstruction) (read : List ℕ → Reading InstructionForm) (old new : List ℕ) (o : Option I) (i : I) (f : Field)
     → ((bytes rest : List ℕ) (form : InstructionForm) → read bytes ≡ Whole form rest → length rest < length bytes) → instruction old ≡ read old
-    → o ≡ Some i → AnswersInstruction says (read old) old new (Ok o) → is_insertion (says i) ≡ true → insertion_of h (says i) ≡ Some f → BeginsInsertion h old f new
-begins_insertion h says read old new o i f shorter e is answer inserts names =
-    let here = has_instruction says (read old) old new o i e is answer in
+    → o ≡ Some i → AnswersInstruction says place (read old) old new (Ok o) → is_insertion (says i) ≡ true → insertion_of h (says i) ≡ Some f → BeginsInsertion h old f new
+begins_insertion place h says read old new o i f shorter e is answer inserts names =
+    let here = has_instruction place says (read old) old new o i e is answer in
     record { i = says i; here = here; inserts = inserts; names = names; less = shorter old new here.form (sym e ∙ here.whole) }
 
 -- an insertion that was read and names no field
-pub begins_no_insertion : {I : Type 0} (h : TableState) (says : I → EncoderInstruction) (read : Reading InstructionForm) (old new : List ℕ) (o : Option I) (i : I) → instruction old ≡ read
-    → o ≡ Some i → AnswersInstruction says read old new (Ok o) → is_insertion (says i) ≡ true → insertion_of h (says i) ≡ None → BeginsNoInsertion h old
-begins_no_insertion h says read old new o i e is answer inserts none =
-    let here = has_instruction says read old new o i e is answer in
+pub begins_no_insertion : {I : Type 0} (place : Place) (h : TableState) (says : I → EncoderInstruction) (read : Reading InstructionForm) (old new : List ℕ) (o : Option I) (i : I) → instruction old ≡ read
+    → o ≡ Some i → AnswersInstruction says place read old new (Ok o) → is_insertion (says i) ≡ true → insertion_of h (says i) ≡ None → BeginsNoInsertion h old
+begins_no_insertion place h says read old new o i e is answer inserts none =
+    let here = has_instruction place says read old new o i e is answer in
     inr (here.form, new, here.whole, λ j s. let same = says_one here.form (says i) j here.says s in (rw (← same) inserts, rw (← same) none))
 
-pub not_whole : {I : Type 0} (says : I → EncoderInstruction) (r : Reading InstructionForm) (old new : List ℕ) → instruction old ≡ r → AnswersInstruction says r old new (Ok None) → instruction old ≡ Unfinished
-not_whole says (Whole form rest) old new e h = absurd h
-not_whole says Unfinished old new e h = e
-not_whole says Bad old new e h = absurd (cc)
+pub not_whole : {I : Type 0} (place : Place) (says : I → EncoderInstruction) (r : Reading InstructionForm) (old new : List ℕ) → instruction old ≡ r → AnswersInstruction says place r old new (Ok None) → instruction old ≡ Unfinished
+not_whole place says (Whole form rest) old new e h = absurd h
+not_whole place says Unfinished old new e h = e
+not_whole place says Bad old new e h = absurd (cc)
 
 not_said : (h : TableState) (old rest : List ℕ) (form : InstructionForm) → instruction old ≡ Whole form rest → ((i : EncoderInstruction) → Says form i → ⊥) → BeginsNoInsertion h old
 not_said h old rest form e none = inr (form, rest, e, λ i s. absurd (none i s))
 
 -- a refused instruction
-pub refused : {I : Type 0} (h : TableState) (says : I → EncoderInstruction) (r : Reading InstructionForm) (old new : List ℕ) (e : ParseError) → instruction old ≡ r
-    → AnswersInstruction says r old new (Err e) → IsReasonFor (BeginsNoInsertion h old) (λ count. ⊥) (decoder_parse e)
-refused h says (Whole form rest) old new (String string.TheVariants.HuffmanDecoding) is k = not_said h old rest form is k.1
-refused h says (Whole form rest) old new OutOfMemory is k = tt
-refused h says (Whole form rest) old new (String string.TheVariants.OutOfMemory) is k = tt
-refused h says (Whole form rest) old new (String string.TheVariants.UnexpectedEnd) is k = absurd k.1
-refused h says (Whole form rest) old new (String (string.TheVariants.Integer e)) is k = absurd k.1
-refused h says (Whole form rest) old new (String string.TheVariants.HuffmanEncoding) is k = absurd k.1
-refused h says (Whole form rest) old new (String string.TheVariants.BufSize) is k = absurd k.1
-refused h says (Whole form rest) old new (Integer e) is k = absurd k.1
-refused h says (Whole form rest) old new (InvalidPrefix first) is k = absurd k.1
-refused h says (Whole form rest) old new InvalidBase is k = absurd k.1
-refused h says Unfinished old new e is k = absurd (cc)
-refused h says Bad old new e is k =
-    let same : e ≡ Integer Overflow = cc in
-    rw same (inl is)
+pub refused : {I : Type 0} (place : Place) (h : TableState) (says : I → EncoderInstruction) (r : Reading InstructionForm) (old new : List ℕ) (e : ParseError) → instruction old ≡ r
+    → AnswersInstruction says place r old new (Err e) → IsReasonFor (BeginsNoInsertion h old) (λ count. ⊥) (decoder_parse e)
+refused place h says (Whole form rest) old new (String string.TheVariants.HuffmanDecoding) is k = not_said h old rest form is k.1
+refused place h says (Whole form rest) old new OutOfMemory is k = tt
+refused place h says (Whole form rest) old new (String string.TheVariants.OutOfMemory) is k = tt
+refused place h says (Whole form rest) old new (String string.TheVariants.UnexpectedEnd) is k = absurd k.1
+refused place h says (Whole form rest) old new (String (string.TheVariants.Integer e)) is k = absurd k.1
+refused place h says (Whole form rest) old new (String string.TheVariants.HuffmanEncoding) is k = absurd k.1
+refused place h says (Whole form rest) old new (String string.TheVariants.BufSize) is k = absurd k.1
+refused place h says (Whole form rest) old new (Integer e) is k = absurd k.1
+refused place h says (Whole form rest) old new (InvalidPrefix first) is k = absurd k.1
+refused place h says (Whole form rest) old new InvalidBase is k = absurd k.1
+refused place h says Unfinished old new e is k = absurd (cc)
+refused place h says Bad old new e is k =
+    let same : e ≡ error_at place Overflow = cc in
+    rw same (bad_at (BeginsNoInsertion h old) place Overflow (inl is))
 
 -- which instruction the first byte begins
 pub is_named : (bytes : List ℕ) → 0 < length bytes → begins 128 255 bytes ≡ true → instruction bytes ≡ name_reference bytes

@@ -7,6 +7,8 @@ use Rattle.h3_field.specs.Reading.{Reading, Whole, Unfinished, Bad}
 use Rattle.h3_field.specs.Line.{FieldLine}
 use Rattle.h3_field.specs.LineReading.{LineForm, SaysLine, line, post_base, post_base_named}
 use Rattle.h3_field.specs.LineAnswer.{AnswersLine}
+use Rattle.h3_field.specs.ShapeAnswer.{Place, AtInteger, AtString, error_at}
+use Rattle.h3_field.specs.declared.prefix_int.Error as integer
 use Rattle.h3_field.specs.Shapes.{begins}
 use Rattle.h3_field.specs.Section.{HasLine}
 use Rattle.h3_field.specs.StaticTable.{static_table}
@@ -21,24 +23,24 @@ use Rattle.h3_qpack.specs.TableState.{TableState}
 use Rattle.h3_qpack.specs.Meaning.{field_at}
 use Rattle.h3_qpack.specs.SectionAnswers.{BeginsWith, BeginsWithNone, IsReasonFor}
 
-has_line : {L : Type 0} (line_of : L → FieldLine) (r : Reading LineForm) (old new : List ℕ) (l : L) → line old ≡ r → AnswersLine line_of r old new (Ok l) → HasLine old (line_of l) new
-has_line line_of (Whole form rest) old new l e h = record { form = form; whole = rw h.1 e; says = h.0 }
-has_line line_of Unfinished old new l e h = absurd (cc)
-has_line line_of Bad old new l e h = absurd (cc)
+has_line : {L : Type 0} (place : Place) (line_of : L → FieldLine) (r : Reading LineForm) (old new : List ℕ) (l : L) → line old ≡ r → AnswersLine line_of place r old new (Ok l) → HasLine old (line_of l) new
+has_line place line_of (Whole form rest) old new l e h = record { form = form; whole = rw h.1 e; says = h.0 }
+has_line place line_of Unfinished old new l e h = absurd (cc)
+has_line place line_of Bad old new l e h = absurd (cc)
 
 -- the field of a line that was read
-pub begins_with : {L : Type 0} (h : TableState) (base : ℕ) (line_of : L → FieldLine) (read : List ℕ → Reading LineForm) (old new : List ℕ) (l : L) (f : Field)
+pub begins_with : {L : Type 0} (place : Place) (h : TableState) (base : ℕ) (line_of : L → FieldLine) (read : List ℕ → Reading LineForm) (old new : List ℕ) (l : L) (f : Field)
     → ((bytes rest : List ℕ) (form : LineForm) → read bytes ≡ Whole form rest → length rest < length bytes) → line old ≡ read old
-    → AnswersLine line_of (read old) old new (Ok l) → field_at h base (line_of l) ≡ Some f → BeginsWith h base old f new
-begins_with h base line_of read old new l f shorter e answer names =
-    let here = has_line line_of (read old) old new l e answer in
+    → AnswersLine line_of place (read old) old new (Ok l) → field_at h base (line_of l) ≡ Some f → BeginsWith h base old f new
+begins_with place h base line_of read old new l f shorter e answer names =
+    let here = has_line place line_of (read old) old new l e answer in
     record { line = line_of l; here = here; names = names; less = shorter old new here.form (sym e ∙ here.whole) }
 
 -- a line that was read and is of no field
-pub begins_with_none : {L : Type 0} (h : TableState) (base : ℕ) (line_of : L → FieldLine) (r : Reading LineForm) (old new : List ℕ) (l : L) → line old ≡ r
-    → AnswersLine line_of r old new (Ok l) → field_at h base (line_of l) ≡ None → BeginsWithNone h base old
-begins_with_none h base line_of r old new l e answer none rest k f here names =
-    let one = line_one old new rest (line_of l) k (has_line line_of r old new l e answer) here in
+pub begins_with_none : {L : Type 0} (place : Place) (h : TableState) (base : ℕ) (line_of : L → FieldLine) (r : Reading LineForm) (old new : List ℕ) (l : L) → line old ≡ r
+    → AnswersLine line_of place r old new (Ok l) → field_at h base (line_of l) ≡ None → BeginsWithNone h base old
+begins_with_none place h base line_of r old new l e answer none rest k f here names =
+    let one = line_one old new rest (line_of l) k (has_line place line_of r old new l e answer) here in
     let same : field_at h base (line_of l) ≡ Some f = rw (← one.0) at names in
     absurd (cc)
 
@@ -50,25 +52,31 @@ not_said h base old rest form e none more k f here names =
     let same = whole_same form here.form rest more (sym e ∙ here.whole) in
     none k (rw (← same.0) at here.says)
 
+-- what is not whole, or out of range, is no want of memory
+pub bad_at : (bad : Type 0) (place : Place) (e : integer.Error) → bad → IsReasonFor bad (λ count. ⊥) (decoder_parse (error_at place e))
+bad_at bad AtInteger e h = h
+bad_at bad AtString UnexpectedEnd h = h
+bad_at bad AtString Overflow h = h
+
 -- a line that was refused
-pub refused_line : {L : Type 0} (h : TableState) (base : ℕ) (line_of : L → FieldLine) (r : Reading LineForm) (old new : List ℕ) (e : ParseError) → line old ≡ r
-    → AnswersLine line_of r old new (Err e) → IsReasonFor (BeginsWithNone h base old) (λ count. ⊥) (decoder_parse e)
-refused_line h base line_of (Whole form rest) old new (String string.TheVariants.HuffmanDecoding) is k = not_said h base old rest form is k.1
-refused_line h base line_of (Whole form rest) old new OutOfMemory is k = tt
-refused_line h base line_of (Whole form rest) old new (String string.TheVariants.OutOfMemory) is k = tt
-refused_line h base line_of (Whole form rest) old new (String string.TheVariants.UnexpectedEnd) is k = absurd k.1
-refused_line h base line_of (Whole form rest) old new (String (string.TheVariants.Integer e)) is k = absurd k.1
-refused_line h base line_of (Whole form rest) old new (String string.TheVariants.HuffmanEncoding) is k = absurd k.1
-refused_line h base line_of (Whole form rest) old new (String string.TheVariants.BufSize) is k = absurd k.1
-refused_line h base line_of (Whole form rest) old new (Integer e) is k = absurd k.1
-refused_line h base line_of (Whole form rest) old new (InvalidPrefix first) is k = absurd k.1
-refused_line h base line_of (Whole form rest) old new InvalidBase is k = absurd k.1
-refused_line h base line_of Unfinished old new e is k =
-    let same : e ≡ Integer UnexpectedEnd = cc in
-    rw same (not_read h base old Unfinished is (λ form rest x. absurd (cc)))
-refused_line h base line_of Bad old new e is k =
-    let same : e ≡ Integer Overflow = cc in
-    rw same (not_read h base old Bad is (λ form rest x. absurd (cc)))
+pub refused_line : {L : Type 0} (place : Place) (h : TableState) (base : ℕ) (line_of : L → FieldLine) (r : Reading LineForm) (old new : List ℕ) (e : ParseError) → line old ≡ r
+    → AnswersLine line_of place r old new (Err e) → IsReasonFor (BeginsWithNone h base old) (λ count. ⊥) (decoder_parse e)
+refused_line place h base line_of (Whole form rest) old new (String string.TheVariants.HuffmanDecoding) is k = not_said h base old rest form is k.1
+refused_line place h base line_of (Whole form rest) old new OutOfMemory is k = tt
+refused_line place h base line_of (Whole form rest) old new (String string.TheVariants.OutOfMemory) is k = tt
+refused_line place h base line_of (Whole form rest) old new (String string.TheVariants.UnexpectedEnd) is k = absurd k.1
+refused_line place h base line_of (Whole form rest) old new (String (string.TheVariants.Integer e)) is k = absurd k.1
+refused_line place h base line_of (Whole form rest) old new (String string.TheVariants.HuffmanEncoding) is k = absurd k.1
+refused_line place h base line_of (Whole form rest) old new (String string.TheVariants.BufSize) is k = absurd k.1
+refused_line place h base line_of (Whole form rest) old new (Integer e) is k = absurd k.1
+refused_line place h base line_of (Whole form rest) old new (InvalidPrefix first) is k = absurd k.1
+refused_line place h base line_of (Whole form rest) old new InvalidBase is k = absurd k.1
+refused_line place h base line_of Unfinished old new e is k =
+    let same : e ≡ error_at place UnexpectedEnd = cc in
+    rw same (bad_at (BeginsWithNone h base old) place UnexpectedEnd (not_read h base old Unfinished is (λ form rest x. absurd (cc))))
+refused_line place h base line_of Bad old new e is k =
+    let same : e ≡ error_at place Overflow = cc in
+    rw same (bad_at (BeginsWithNone h base old) place Overflow (not_read h base old Bad is (λ form rest x. absurd (cc))))
 
 pub line_post_base : (bytes : List ℕ) → 0 < length bytes → begins 16 31 bytes ≡ true → line bytes ≡ post_base bytes
 line_post_base [] some h = absurd (omega arith)

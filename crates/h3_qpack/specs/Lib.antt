@@ -22,11 +22,13 @@ pub mod TableInside
 pub mod SectionAnswers
 pub mod InstructionAnswers
 pub mod EncoderAnswers
+pub mod DecoderInside
 pub mod Increments
 pub mod Encodings
 pub mod Exchange
 pub mod SessionInside
 pub mod Expected
+pub mod RunAnswers
 pub mod Views
 pub mod EncoderView
 pub mod Worked

@@ -7,7 +7,7 @@ ghost use Rattle.h3_field.specs.InstructionReading.{instruction};
 ghost use Rattle.h3_qpack.specs.Increments.{increment_for};
 ghost use Rattle.h3_field.specs.Field.{Field, section_size};
 ghost use Rattle.h3_field.specs.Shapes.{begins};
-ghost use Rattle.h3_qpack.specs.DecoderState.{DecoderState, announcing, count_capacity};
+ghost use Rattle.h3_qpack.specs.DecoderState.{DecoderState, announcing, greatest_capacity, count_capacity};
 ghost use Rattle.h3_qpack.specs.Meaning.{MeansFields};
 ghost use Rattle.h3_qpack.specs.DecodedSection.{decode_section, fields_in, with_fields, IsRefusalOf, Fields};
 ghost use Rattle.h3_qpack.specs.Sizes.{IsWithin};
@@ -47,11 +47,11 @@ impl Model for Decoder {
 
     ghost Value = { DecoderState };
 
-    ghost use Rattle.std.specs.Prelude.{◌<◌, ◌-◌, ◌^◌, unwrap_or};
+    ghost use Rattle.h3_qpack.specs.DecoderInside.{decoder_state_inside, IsDecoder};
 
-    ghost view = { λ d. record { announced = d.announced; table = d.entries } };
+    ghost view = { decoder_state_inside };
 
-    ghost invariant = { λ d. unwrap_or d.announced (2 ^ 30 - 1) < 2 ^ 30 };
+    ghost invariant = { IsDecoder };
 }
 
 impl Decoder {
@@ -84,6 +84,16 @@ impl Decoder {
         ensures small { result < 2 ^ 62 }
     {
         self.entries.inserted()
+    }
+
+    /// The sum of the sizes of the entries of the table (RFC 9204, section 3.2.1): at most its capacity, which is at most the
+    /// announced one.
+    pub fn table_size(&self) -> usize
+        ensures value { result ≡ section_size self.now.table.entries }
+        ensures small { result ≤ self.now.table.capacity }
+        ensures announced { self.now.table.capacity ≤ greatest_capacity self.now }
+    {
+        self.entries.size()
     }
 
     /// The required insert count and the base of the section at the front, whose lines are left. What needs insertions that

@@ -1,6 +1,10 @@
 //! Laws over the definitions.
 
-ghost use Rattle.std.specs.Prelude.{◌≡◌, ℕ, ◌+◌, ◌*◌, ◌%◌, ◌^◌, ◌<◌, ◌≤◌, false, List, Some};
+ghost use Rattle.std.specs.Prelude.{◌≡◌, ◌==◌, ◌||◌, ℕ, ◌+◌, ◌*◌, ◌%◌, ◌^◌, ◌<◌, ◌≤◌, true, false, List, Some};
+ghost use Rattle.h3_field.specs.Field.{Field, section_size};
+ghost use Rattle.h3_field.specs.Section.{section_bytes};
+ghost use Rattle.h3_field.specs.Instruction.DecoderInstruction.{Acknowledge, CancelStream, Increment};
+ghost use Rattle.h3_qpack.specs.Table.{table};
 ghost use Rattle.std.specs.Prelude.{take, length, [], ◌++◌};
 ghost use Rattle.h3_qpack.specs.DecoderState.{DecoderState, decoder_after_all};
 ghost use Rattle.std.specs.Prelude.{flat_map};
@@ -15,17 +19,53 @@ ghost use Rattle.h3_qpack.specs.TableHistory.{table_after_all, table_of};
 ghost use Rattle.h3_qpack.specs.Meaning.{MeansFields, IsMissing};
 ghost use Rattle.h3_qpack.specs.DecodedSection.{DecodedSection, decode_section, IsDecodedAs};
 ghost use Rattle.h3_qpack.specs.Hearing.{Heard, heard, hear, heard_then, IsHeardAs, Listened, listened, listen, listened_then, IsListenedAs};
-ghost use Rattle.h3_field.specs.Field.{Field};
-ghost use Rattle.h3_qpack.specs.SectionEncoding.{encoded_section};
+ghost use Rattle.h3_qpack.specs.SectionEncoding.{draft_of, encoded_section, instructions_for, sent_section};
 ghost use Rattle.h3_qpack.specs.Encodings.{decoder_of, IsWritten, IsWrittenInstruction};
 ghost use Rattle.h3_field.specs.Prefix.{most_entries, IsRequiredCount};
-ghost use Rattle.h3_qpack.specs.Session.{Session, UndecodedSection, oldest, is_canceled, count_of, IsSound, DecodesTo};
+ghost use Rattle.h3_qpack.specs.Session.{Session, UndecodedSection, oldest, is_canceled, count_of, tracked_references, IsSound, DecodesTo};
 ghost use Rattle.h3_qpack.specs.Schedule.{SessionEvent, SessionRun, beginning};
-ghost use Rattle.h3_qpack.specs.EncoderHistory.{EncoderHistory, encoder_after_all, blocks_out};
+ghost use Rattle.h3_qpack.specs.EncoderHistory.{EncoderHistory, blocks_out, encoder_after, encoder_after_all, was_canceled, writing_on};
+ghost use Rattle.h3_qpack.specs.EncoderState.{encoder_state};
 ghost use Rattle.h3_qpack.specs.Exchange.{ExchangeHistory, Exchange, start, opening};
 ghost use Rattle.h3_qpack.specs.Expected.{Expected};
 ghost use Rattle.h3_qpack.specs.declared.session.SessionEvent.{SessionEvent as RunEvent};
 ghost use Rattle.h3_qpack.specs.declared.session.SessionAnswer.{SessionAnswer};
+
+/// A table holds entries whose sizes sum to at most its capacity.
+pub fn no_table_passes_its_capacity()
+    ensures { (capacity : ℕ) (inserted : List Field) → section_size (table capacity inserted) ≤ capacity }
+{}
+
+/// A section on a stream whose cancellation was read names no entry, and nothing is inserted for it. Its bytes are those of static
+/// lines and literals with static or literal names.
+pub fn canceled_streams_use_no_table()
+    ensures bytes { (s : EncoderHistory) (stream : ℕ) (fields : List Field) → was_canceled s stream ≡ true → encoded_section (writing_on s stream) fields ≡ section_bytes fields }
+    ensures names { (s : EncoderHistory) (stream : ℕ) (fields : List Field) → was_canceled s stream ≡ true → (draft_of (writing_on s stream) fields).references ≡ [] }
+    ensures inserts { (s : EncoderHistory) (stream : ℕ) (fields : List Field) → was_canceled s stream ≡ true → instructions_for (writing_on s stream) fields ≡ [] }
+    ensures same { (s : EncoderHistory) (stream : ℕ) (fields : List Field) → was_canceled s stream ≡ true → encoder_state (sent_section s stream fields) ≡ encoder_state s }
+{}
+
+/// An encoder of limit 0 that has inserted nothing names no entry and inserts nothing, whatever its capacity: so a table may come
+/// into use later.
+pub fn encoders_without_insertions_use_no_table()
+    ensures bytes { (s : EncoderHistory) (stream : ℕ) (fields : List Field) → s.limit ≡ 0 → s.inserted ≡ [] → encoded_section (writing_on s stream) fields ≡ section_bytes fields }
+    ensures inserts { (s : EncoderHistory) (stream : ℕ) (fields : List Field) → s.limit ≡ 0 → s.inserted ≡ [] → instructions_for (writing_on s stream) fields ≡ [] }
+    ensures still { (s : EncoderHistory) (stream : ℕ) (fields : List Field) → s.limit ≡ 0 → s.inserted ≡ [] → (sent_section s stream fields).inserted ≡ [] }
+{}
+
+/// Every cancellation that was read is kept, and nothing else is.
+pub fn cancellations_are_kept()
+    ensures canceled { (s : EncoderHistory) (stream other : ℕ) → was_canceled (encoder_after s (CancelStream stream)) other ≡ ((stream == other) || was_canceled s other) }
+    ensures acknowledged { (s : EncoderHistory) (stream other : ℕ) → was_canceled (encoder_after s (Acknowledge stream)) other ≡ was_canceled s other }
+    ensures counted { (s : EncoderHistory) (count other : ℕ) → was_canceled (encoder_after s (Increment count)) other ≡ was_canceled s other }
+    ensures sent { (s : EncoderHistory) (stream other : ℕ) (fields : List Field) → was_canceled (sent_section s stream fields) other ≡ was_canceled s other }
+{}
+
+/// Over every schedule, no tracked section is of a stream whose cancellation was read.
+pub fn canceled_streams_are_not_tracked()
+    ensures { (capacity limit : ℕ) (events : List SessionEvent) (s : Session) (stream : ℕ) → SessionRun (beginning capacity limit) events s → was_canceled s.encoder stream ≡ true →
+        tracked_references stream s.encoder.tracked ≡ [] }
+{}
 
 /// Over every schedule, what is under way fits what both ends have.
 pub fn every_session_is_sound()

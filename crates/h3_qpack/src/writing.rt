@@ -217,7 +217,7 @@ pub(crate) fn put_fields(
         IsDrafted s (draft_of s fields.now) table.new section.new lines.new.items start encoder_buf.new.items) }
     ensures bytes { OnOk result (AllByRecursion IsFieldOfBytes fields.now) }
     ensures err { OnErr result ((s : EncoderHistory) (start : List ℕ) → IsDrafted s (draft_of s []) table.old section.old lines.old.items start encoder_buf.old.items →
-        IsCutOff s fields.now table.new start encoder_buf.new.items) }
+        IsCutOff s s fields.now table.new start encoder_buf.new.items) }
 {
     'fields: for field in fields {
         field.are_bytes();

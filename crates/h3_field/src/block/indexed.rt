@@ -2,6 +2,7 @@
 ghost use Rattle.std.specs.Prelude.{◌≡◌, ◌++◌, true, false, slice_index, OnOk, OnErr, Err};
 ghost use Rattle.h3_field.specs.Line.{line_bytes};
 ghost use Rattle.h3_field.specs.Ends.{IsEndOf};
+ghost use Rattle.h3_field.specs.ShapeAnswer.{AtInteger};
 ghost use Rattle.h3_field.specs.Shapes.{begins};
 ghost use Rattle.h3_field.specs.LineReading.{indexed, post_base};
 ghost use Rattle.h3_field.specs.LineAnswer.{AnswersLine, IsWritable, indexed_line, post_base_line};
@@ -25,7 +26,7 @@ impl Indexed {
     /// Takes the line from the front. A refused read takes nothing.
     #[tactic(auto, using(crate::specs::EndLaws::none_dropped))]
     pub fn decode(buf: &mut SliceCursor<'_>) -> Result<Indexed, ParseError>
-        ensures own { begins 128 255 buf.old ≡ true → AnswersLine indexed_line (indexed buf.old) buf.old buf.new result }
+        ensures own { begins 128 255 buf.old ≡ true → AnswersLine indexed_line AtInteger (indexed buf.old) buf.old buf.new result }
         ensures other { begins 128 255 buf.old ≡ false → (result ≡ Err (InvalidPrefix (slice_index buf.old 0))) × (buf.new ≡ buf.old) }
         ensures rest { IsEndOf buf.old buf.new }
     {
@@ -66,7 +67,7 @@ impl IndexedWithPostBase {
     /// Takes the line from the front. A refused read takes nothing.
     #[tactic(auto, using(crate::specs::EndLaws::none_dropped))]
     pub fn decode(buf: &mut SliceCursor<'_>) -> Result<IndexedWithPostBase, ParseError>
-        ensures own { begins 16 31 buf.old ≡ true → AnswersLine post_base_line (post_base buf.old) buf.old buf.new result }
+        ensures own { begins 16 31 buf.old ≡ true → AnswersLine post_base_line AtInteger (post_base buf.old) buf.old buf.new result }
         ensures other { begins 16 31 buf.old ≡ false → (result ≡ Err (InvalidPrefix (slice_index buf.old 0))) × (buf.new ≡ buf.old) }
         ensures rest { IsEndOf buf.old buf.new }
     {

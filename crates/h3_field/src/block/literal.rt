@@ -6,6 +6,8 @@ ghost use Rattle.h3_field.specs.Line.{line_bytes};
 ghost use Rattle.h3_field.specs.Line.FieldLine.{StaticName, RelativeName, PostBaseName};
 ghost use Rattle.h3_field.specs.Line.{FieldLine as line};
 ghost use Rattle.h3_field.specs.Ends.{IsEndOf};
+ghost use Rattle.h3_field.specs.ShapeAnswer.{AtString, behind};
+ghost use Rattle.h3_field.specs.IntegerReading.{integer};
 ghost use Rattle.h3_field.specs.Shapes.{begins};
 ghost use Rattle.h3_field.specs.LineReading.{named, post_base_named, literal};
 ghost use Rattle.h3_field.specs.LineAnswer.{AnswersLine, IsWritable, named_line, post_base_named_line, literal_line};
@@ -48,7 +50,7 @@ impl LiteralWithNameRef {
         alloc: Global,
         buf: &mut SliceCursor<'_>,
     ) -> Result<LiteralWithNameRef, ParseError>
-        ensures own { begins 64 127 buf.old ≡ true → AnswersLine named_line (named buf.old) buf.old buf.new result }
+        ensures own { begins 64 127 buf.old ≡ true → AnswersLine named_line (behind (integer 4 buf.old)) (named buf.old) buf.old buf.new result }
         ensures other { begins 64 127 buf.old ≡ false → (result ≡ Err (InvalidPrefix (slice_index buf.old 0))) × (buf.new ≡ buf.old) }
         ensures rest { IsEndOf buf.old buf.new }
     {
@@ -138,7 +140,7 @@ impl LiteralWithPostBaseNameRef {
         alloc: Global,
         buf: &mut SliceCursor<'_>,
     ) -> Result<LiteralWithPostBaseNameRef, ParseError>
-        ensures own { begins 0 15 buf.old ≡ true → AnswersLine post_base_named_line (post_base_named buf.old) buf.old buf.new result }
+        ensures own { begins 0 15 buf.old ≡ true → AnswersLine post_base_named_line (behind (integer 3 buf.old)) (post_base_named buf.old) buf.old buf.new result }
         ensures other { begins 0 15 buf.old ≡ false → (result ≡ Err (InvalidPrefix (slice_index buf.old 0))) × (buf.new ≡ buf.old) }
         ensures rest { IsEndOf buf.old buf.new }
     {
@@ -194,7 +196,7 @@ impl Literal {
     /// Takes the line from the front. A refused read takes nothing.
     #[tactic(auto, using(crate::specs::EndLaws::none_dropped))]
     pub fn decode(alloc: Global, buf: &mut SliceCursor<'_>) -> Result<Literal, ParseError>
-        ensures own { begins 32 63 buf.old ≡ true → AnswersLine literal_line (literal buf.old) buf.old buf.new result }
+        ensures own { begins 32 63 buf.old ≡ true → AnswersLine literal_line AtString (literal buf.old) buf.old buf.new result }
         ensures other { begins 32 63 buf.old ≡ false → (result ≡ Err (InvalidPrefix (slice_index buf.old 0))) × (buf.new ≡ buf.old) }
         ensures rest { IsEndOf buf.old buf.new }
     {

@@ -1,5 +1,5 @@
 //! A window on bits.
-ghost use Rattle.std.specs.Prelude.{◌≡◌, ◌+◌, ◌*◌, ◌^◌, ◌<◌, ◌≤◌};
+ghost use Rattle.std.specs.Prelude.{◌≡◌, ◌+◌, ◌-◌, ◌*◌, ◌%◌, ◌^◌, ◌<◌, ◌≤◌};
 
 /// `count` bits from bit `bit` of byte `byte` on. Bit 0 is the highest one of a byte.
 #[derive(Copy, Clone, PartialEq, Eq, Debug)]
@@ -34,10 +34,10 @@ impl BitWindow {
         self.count = step;
     }
 
-    /// The window from the same bit to the end of its byte.
+    /// The window from the same bit to the end of its byte. A bit past the first byte counts within its own byte.
     pub fn opposite_bit_window(&self) -> BitWindow
         ensures place { (result.byte ≡ self.now.byte) × (result.bit ≡ self.now.bit) }
-        ensures end { self.now.bit < 8 → result.bit + result.count ≡ 8 }
+        ensures width { result.count ≡ 8 - self.now.bit % 8 }
     {
         BitWindow {
             byte: self.byte,

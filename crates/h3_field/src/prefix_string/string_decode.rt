@@ -18,7 +18,7 @@ pub enum Error {
     /// Never arises: an encoding is judged whole.
     MissingBits(BitWindow),
     /// No string has this encoding: the end-of-string symbol stands in it, or its padding is not fewer than eight ones.
-    /// The window begins with it; the number is its length in bytes.
+    /// The window is empty, at the first bit; the number is how many bytes were refused.
     Unhandled(BitWindow, usize),
 }
 

@@ -4,6 +4,8 @@ ghost use Rattle.std.specs.Result.{IsOkUnless};
 ghost use Rattle.h3_field.specs.Instruction.{encoder_bytes};
 ghost use Rattle.h3_field.specs.Instruction.{EncoderInstruction as instruction};
 ghost use Rattle.h3_field.specs.Ends.{IsEndOf};
+ghost use Rattle.h3_field.specs.ShapeAnswer.{AtString, behind};
+ghost use Rattle.h3_field.specs.IntegerReading.{integer};
 ghost use Rattle.h3_field.specs.Shapes.{begins};
 ghost use Rattle.h3_field.specs.InstructionReading.{name_reference, literal_name, capacity, repeat};
 ghost use Rattle.h3_field.specs.InstructionAnswer.{AnswersInstruction, IsSendable, named_insertion, literal_insertion, duplication, capacity_setting};
@@ -47,7 +49,7 @@ impl InsertWithNameRef {
         alloc: Global,
         buf: &mut SliceCursor<'_>,
     ) -> Result<Option<InsertWithNameRef>, ParseError>
-        ensures own { begins 128 255 buf.old ≡ true → AnswersInstruction named_insertion (name_reference buf.old) buf.old buf.new result }
+        ensures own { begins 128 255 buf.old ≡ true → AnswersInstruction named_insertion (behind (integer 6 buf.old)) (name_reference buf.old) buf.old buf.new result }
         ensures other { begins 128 255 buf.old ≡ false → (result ≡ Err (InvalidPrefix (slice_index buf.old 0))) × (buf.new ≡ buf.old) }
         ensures rest { IsEndOf buf.old buf.new }
     {
@@ -65,6 +67,7 @@ impl InsertWithNameRef {
                 }
             }
             Err(ParseError::Integer(prefix_int::Error::UnexpectedEnd)) => Ok(None),
+            Err(ParseError::String(prefix_string::Error::UnexpectedEnd)) => Ok(None),
             Err(e) => Err(e),
         }
     }
@@ -139,7 +142,7 @@ impl InsertWithoutNameRef {
         alloc: Global,
         buf: &mut SliceCursor<'_>,
     ) -> Result<Option<InsertWithoutNameRef>, ParseError>
-        ensures own { begins 64 127 buf.old ≡ true → AnswersInstruction literal_insertion (literal_name buf.old) buf.old buf.new result }
+        ensures own { begins 64 127 buf.old ≡ true → AnswersInstruction literal_insertion AtString (literal_name buf.old) buf.old buf.new result }
         ensures other { begins 64 127 buf.old ≡ false → (result ≡ Err (InvalidPrefix (slice_index buf.old 0))) × (buf.new ≡ buf.old) }
         ensures rest { IsEndOf buf.old buf.new }
     {
@@ -151,7 +154,7 @@ impl InsertWithoutNameRef {
                 name: parts.name,
                 value: parts.value,
             })),
-            Err(ParseError::Integer(prefix_int::Error::UnexpectedEnd)) => Ok(None),
+            Err(ParseError::String(prefix_string::Error::UnexpectedEnd)) => Ok(None),
             Err(e) => Err(e),
         }
     }

@@ -2,6 +2,7 @@
 ghost use Rattle.std.specs.Prelude.{◌≡◌, ◌++◌, true, false, slice_index, OnOk, OnErr, Err};
 ghost use Rattle.h3_field.specs.Instruction.{encoder_bytes};
 ghost use Rattle.h3_field.specs.Ends.{IsEndOf};
+ghost use Rattle.h3_field.specs.ShapeAnswer.{AtInteger};
 ghost use Rattle.h3_field.specs.Shapes.{begins};
 ghost use Rattle.h3_field.specs.InstructionReading.{capacity, repeat};
 ghost use Rattle.h3_field.specs.InstructionAnswer.{AnswersInstruction, IsSendable, duplication, capacity_setting};
@@ -23,7 +24,7 @@ impl Duplicate {
     /// taken.
     #[tactic(auto, using(crate::specs::EndLaws::none_dropped))]
     pub fn decode(buf: &mut SliceCursor<'_>) -> Result<Option<Duplicate>, ParseError>
-        ensures own { begins 0 31 buf.old ≡ true → AnswersInstruction duplication (repeat buf.old) buf.old buf.new result }
+        ensures own { begins 0 31 buf.old ≡ true → AnswersInstruction duplication AtInteger (repeat buf.old) buf.old buf.new result }
         ensures other { begins 0 31 buf.old ≡ false → (result ≡ Err (InvalidPrefix (slice_index buf.old 0))) × (buf.new ≡ buf.old) }
         ensures rest { IsEndOf buf.old buf.new }
     {
@@ -57,7 +58,7 @@ impl DynamicTableSizeUpdate {
     /// taken.
     #[tactic(auto, using(crate::specs::EndLaws::none_dropped))]
     pub fn decode(buf: &mut SliceCursor<'_>) -> Result<Option<DynamicTableSizeUpdate>, ParseError>
-        ensures own { begins 32 63 buf.old ≡ true → AnswersInstruction capacity_setting (capacity buf.old) buf.old buf.new result }
+        ensures own { begins 32 63 buf.old ≡ true → AnswersInstruction capacity_setting AtInteger (capacity buf.old) buf.old buf.new result }
         ensures other { begins 32 63 buf.old ≡ false → (result ≡ Err (InvalidPrefix (slice_index buf.old 0))) × (buf.new ≡ buf.old) }
         ensures rest { IsEndOf buf.old buf.new }
     {

@@ -1,17 +1,19 @@
 use Rattle.std.proofs.Common.{refl}
 use Rattle.h3_field.specs.LineReading.{named}
 use Rattle.h3_field.specs.LineAnswer.{named_line}
+use Rattle.h3_field.specs.ShapeAnswer.{behind}
+use Rattle.h3_field.specs.IntegerReading.{integer}
 use Rattle.h3_field.proofs.Sections.{has_field, no_static_name, named_entry, line_named, named_shortens, refused_line}
 use Rattle.h3_field.proofs.decoder.take_named.Goals as goal
 
 pub returns-in-Ok : goal.returns-in-Ok
 returns-in-Ok c =
-    has_field named_line named _ _ _ _ named_shortens (line_named _ c.requires.some c.requires.own) (c.in-Ok-Static.ensures.own c.requires.own)
+    has_field (behind (integer 4 c.args.buf.now)) named_line named _ _ _ _ named_shortens (line_named _ c.requires.some c.requires.own) (c.in-Ok-Static.ensures.own c.requires.own)
     (rw (c.in-Ok-Static.field-0-is, c.with_static_name.ensures) (named_entry _ _ _ c.in-Ok.ensures))
 
 pub returns-in-Ok-Static : goal.returns-in-Ok-Static
 returns-in-Ok-Static c =
-    no_static_name named_line _ _ _ _ (line_named _ c.requires.some c.requires.own) (c.in-Ok-Static.ensures.own c.requires.own) c.in-Ok-Static.index c.in-Ok-Static.value.items c.in-Err-get_name.ensures.1 (rw c.in-Ok-Static.field-0-is refl)
+    no_static_name (behind (integer 4 c.args.buf.now)) named_line _ _ _ _ (line_named _ c.requires.some c.requires.own) (c.in-Ok-Static.ensures.own c.requires.own) c.in-Ok-Static.index c.in-Ok-Static.value.items c.in-Err-get_name.ensures.1 (rw c.in-Ok-Static.field-0-is refl)
 
 pub returns : goal.returns
-returns c = rw c.from.ensures (refused_line named_line _ _ _ _ (line_named _ c.requires.some c.requires.own) (c.in-Err.ensures.own c.requires.own))
+returns c = rw c.from.ensures (refused_line (behind (integer 4 c.args.buf.now)) named_line _ _ _ _ (line_named _ c.requires.some c.requires.own) (c.in-Err.ensures.own c.requires.own))

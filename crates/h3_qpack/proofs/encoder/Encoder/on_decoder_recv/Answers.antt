@@ -1,5 +1,5 @@
 use Rattle.std.proofs.Common.{rules, ◌≡◌, true, false, sym, ◌∙◌}
-use Rattle.h3_qpack.proofs.HearingLaws.{has_listened, nothing_left}
+use Rattle.h3_qpack.proofs.HearingLaws.{has_listened, nothing_left, refused_here}
 use Rattle.h3_qpack.proofs.Ends.{heard_to_an_end}
 use Rattle.h3_qpack.proofs.DecoderInstructionsRead.{heard_none, heard_on}
 use Rattle.h3_qpack.proofs.encoder.Encoder.on_decoder_recv.Goals as goal
@@ -28,7 +28,7 @@ returns-clause-rest c = heard_to_an_end _ _ _ _ c.loop-self.invariant
 pub returns-in-Err-clause-refused : goal.returns-in-Err-clause-refused
 returns-in-Err-clause-refused c =
     let here = rw (← c.in-Err.ensures.2, ← c.in-Err.ensures.3) at c.loop-self.invariant in
-    λ s is. has_listened s _ _ _ _ true is here (λ t same. rw c.in-Err.ensures.3 (c.in-Err.ensures.0 t (sym c.in-Err.ensures.2 ∙ same)))
+    λ other s is. has_listened s _ _ _ _ true is here (λ t same. rw c.in-Err.ensures.3 (refused_here t _ _ other (c.in-Err.ensures.0 t (sym c.in-Err.ensures.2 ∙ same))))
 
 pub returns-then-not-is_read-clause-value : goal.returns-then-not-is_read-clause-value
 returns-then-not-is_read-clause-value c =
