@@ -313,6 +313,6 @@ def main():
         write(path, text + "".join(lines))
 
 
-FINAL = False
+FINAL = True
 if __name__ == "__main__":
     main()

@@ -14,8 +14,8 @@ use Rattle.h3_connection.specs.Arrivals.{Arrival, BytesCame, EndCame, ResetCame,
 use Rattle.h3_connection.specs.StreamSets.{Streams, stream_at, set_stream}
 use Rattle.h3_connection.specs.StreamSetLaws.{other_id, set-here, set-other}
 use Rattle.h3_connection.specs.Incoming.{Incoming, nothing_came, given_up}
-use Rattle.h3_connection.specs.Readings.{instruction_of}
-use Rattle.h3_connection.specs.Hearing.{Heard, hear, hear_within, hear_form, hear_next, having_read_one}
+use Rattle.h3_field.specs.Values.{instruction_of}
+use Rattle.h3_qpack.specs.Hearing.{Heard, hear, hear_within, hear_form, hear_next, decoder_after_form}
 use Rattle.h3_connection.specs.Endpoint.{EndpointHistory, Kind, kind_of, heads_waiting, new_endpoint, replied}
 use Rattle.h3_connection.specs.Endpoint.Kind.{Request, ServerOpened, OwnUnidirectional, PeerUnidirectional}
 use Rattle.h3_connection.specs.Control.{Found, read_control, read_encoder, read_decoder}
@@ -138,7 +138,7 @@ grows_one r (InsertWithEntryName index value) s is = grows_by r _ s is
 grows_one r (InsertLiteral name value) s is = grows_by r (Some (record { name = name; value = value })) s is
 grows_one r (Duplicate index) s is = grows_by r _ s is
 
-grows_form : (r : DecoderState) (i : Option EncoderInstruction) (s : DecoderState) → having_read_one r i ≡ Some s → Grows r s
+grows_form : (r : DecoderState) (i : Option EncoderInstruction) (s : DecoderState) → decoder_after_form r i ≡ Some s → Grows r s
 grows_form r None s is = cc
 grows_form r (Some i) s is = grows_one r i s is
 
@@ -149,7 +149,7 @@ grows_next go r bytes rest (Some s) each g = omega (arith, (g s refl).inserted, 
 
 grows_within : (go : DecoderState → List ℕ → Heard) (r : DecoderState) (bytes : List ℕ) (x : Reading InstructionForm) → ((s : DecoderState) (more : List ℕ) → s.table.inserted ≤ (go s more).decoder.table.inserted)
     → r.table.inserted ≤ (hear_form go r bytes x).decoder.table.inserted
-grows_within go r bytes (Whole f rest) each = grows_next go r bytes rest (having_read_one r (instruction_of f)) each (λ s is. grows_form r (instruction_of f) s is)
+grows_within go r bytes (Whole f rest) each = grows_next go r bytes rest (decoder_after_form r (instruction_of f)) each (λ s is. grows_form r (instruction_of f) s is)
 grows_within go r bytes Unfinished each = omega arith
 grows_within go r bytes Bad each = omega arith
 

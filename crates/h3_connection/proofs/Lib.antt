@@ -1,7 +1,3 @@
-pub mod Shorter
-pub mod HearingLaws
-pub mod DecodedLaws
-pub mod Cuts
 pub mod Quiet
 pub mod Seen
 pub mod SeenEncoder

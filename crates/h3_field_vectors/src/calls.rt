@@ -1,7 +1,5 @@
 //! Calls that no other test uses, each once. The letter `a` is the byte 31 as a Huffman encoding.
-use h3_field::block::{
-    HeaderBlockField, Literal, LiteralWithNameRef, LiteralWithPostBaseNameRef,
-};
+use h3_field::block::{HeaderBlockField, Literal, LiteralWithNameRef, LiteralWithPostBaseNameRef};
 use h3_field::prefix_string::{self, BitWindow};
 use h3_field::static_::StaticTable;
 use h3_field::stream::{
@@ -30,11 +28,20 @@ fn lines_with_a_named_value(rt: HostRuntime) -> Result<(), Fail> {
     assert_eq!(rt; out.as_slice(), want);
     let mut buf = SliceCursor::new(want);
     let read = LiteralWithNameRef::decode(rt.alloc(), &mut buf)?;
-    assert_eq!(rt; read, LiteralWithNameRef::new_static(1, letter(rt.alloc())?));
+    assert_eq!(rt;
+        read,
+        LiteralWithNameRef::new_static(1, letter(rt.alloc())?)
+    );
     let read = LiteralWithNameRef::decode(rt.alloc(), &mut buf)?;
-    assert_eq!(rt; read, LiteralWithNameRef::new_dynamic(2, letter(rt.alloc())?));
+    assert_eq!(rt;
+        read,
+        LiteralWithNameRef::new_dynamic(2, letter(rt.alloc())?)
+    );
     let read = LiteralWithPostBaseNameRef::decode(rt.alloc(), &mut buf)?;
-    assert_eq!(rt; read, LiteralWithPostBaseNameRef::new(3, letter(rt.alloc())?));
+    assert_eq!(rt;
+        read,
+        LiteralWithPostBaseNameRef::new(3, letter(rt.alloc())?)
+    );
     assert_eq!(rt; buf.remaining(), 0);
     Ok(())
 }
@@ -42,9 +49,21 @@ fn lines_with_a_named_value(rt: HostRuntime) -> Result<(), Fail> {
 #[test]
 fn lines_are_written_from_values(rt: HostRuntime) -> Result<(), Fail> {
     let mut out = Vec::new(rt.alloc());
-    LiteralWithNameRef::Static { index: 1, value: Vec::new(rt.alloc()) }.encode(&mut out)?;
-    LiteralWithPostBaseNameRef { index: 3, value: Vec::new(rt.alloc()) }.encode(&mut out)?;
-    Literal { name: Vec::new(rt.alloc()), value: Vec::new(rt.alloc()) }.encode(&mut out)?;
+    LiteralWithNameRef::Static {
+        index: 1,
+        value: Vec::new(rt.alloc()),
+    }
+    .encode(&mut out)?;
+    LiteralWithPostBaseNameRef {
+        index: 3,
+        value: Vec::new(rt.alloc()),
+    }
+    .encode(&mut out)?;
+    Literal {
+        name: Vec::new(rt.alloc()),
+        value: Vec::new(rt.alloc()),
+    }
+    .encode(&mut out)?;
     let want: &[u8] = &[0x51, 0x80, 0x03, 0x80, 0x28, 0x80];
     assert_eq!(rt; out.as_slice(), want);
     Ok(())
@@ -58,7 +77,10 @@ fn literal_lines(rt: HostRuntime) -> Result<(), Fail> {
     assert_eq!(rt; out.as_slice(), want);
     let mut buf = SliceCursor::new(want);
     let read = Literal::decode(rt.alloc(), &mut buf)?;
-    assert_eq!(rt; read, Literal::new(letter(rt.alloc())?, letter(rt.alloc())?));
+    assert_eq!(rt;
+        read,
+        Literal::new(letter(rt.alloc())?, letter(rt.alloc())?)
+    );
     assert_eq!(rt; buf.remaining(), 0);
     Ok(())
 }
@@ -69,8 +91,16 @@ fn insertions(rt: HostRuntime) -> Result<(), Fail> {
     InsertWithNameRef::write_static(1, b"a", &mut out)?;
     InsertWithNameRef::write_dynamic(2, b"a", &mut out)?;
     InsertWithoutNameRef::write(b"a", b"a", &mut out)?;
-    InsertWithNameRef::Dynamic { index: 0, value: Vec::new(rt.alloc()) }.encode(&mut out)?;
-    InsertWithoutNameRef { name: Vec::new(rt.alloc()), value: Vec::new(rt.alloc()) }.encode(&mut out)?;
+    InsertWithNameRef::Dynamic {
+        index: 0,
+        value: Vec::new(rt.alloc()),
+    }
+    .encode(&mut out)?;
+    InsertWithoutNameRef {
+        name: Vec::new(rt.alloc()),
+        value: Vec::new(rt.alloc()),
+    }
+    .encode(&mut out)?;
     let want: &[u8] = &[
         0xc1, 0x81, 31, 0x82, 0x81, 31, 0x61, 31, 0x81, 31, 0x80, 0x80, 0x60, 0x80,
     ];
@@ -81,17 +111,47 @@ fn insertions(rt: HostRuntime) -> Result<(), Fail> {
 #[test]
 fn kinds_by_the_first_byte(rt: HostRuntime) {
     assert_eq!(rt; HeaderBlockField::decode(0x80), HeaderBlockField::Indexed);
-    assert_eq!(rt; HeaderBlockField::decode(0x7f), HeaderBlockField::LiteralWithNameRef);
+    assert_eq!(rt;
+        HeaderBlockField::decode(0x7f),
+        HeaderBlockField::LiteralWithNameRef
+    );
     assert_eq!(rt; HeaderBlockField::decode(0x3f), HeaderBlockField::Literal);
-    assert_eq!(rt; HeaderBlockField::decode(0x1f), HeaderBlockField::IndexedWithPostBase);
-    assert_eq!(rt; HeaderBlockField::decode(0x0f), HeaderBlockField::LiteralWithPostBaseNameRef);
-    assert_eq!(rt; EncoderInstruction::decode(0x80), EncoderInstruction::InsertWithNameRef);
-    assert_eq!(rt; EncoderInstruction::decode(0x7f), EncoderInstruction::InsertWithoutNameRef);
-    assert_eq!(rt; EncoderInstruction::decode(0x3f), EncoderInstruction::DynamicTableSizeUpdate);
-    assert_eq!(rt; EncoderInstruction::decode(0x1f), EncoderInstruction::Duplicate);
-    assert_eq!(rt; DecoderInstruction::decode(0x80), DecoderInstruction::HeaderAck);
-    assert_eq!(rt; DecoderInstruction::decode(0x7f), DecoderInstruction::StreamCancel);
-    assert_eq!(rt; DecoderInstruction::decode(0x3f), DecoderInstruction::InsertCountIncrement);
+    assert_eq!(rt;
+        HeaderBlockField::decode(0x1f),
+        HeaderBlockField::IndexedWithPostBase
+    );
+    assert_eq!(rt;
+        HeaderBlockField::decode(0x0f),
+        HeaderBlockField::LiteralWithPostBaseNameRef
+    );
+    assert_eq!(rt;
+        EncoderInstruction::decode(0x80),
+        EncoderInstruction::InsertWithNameRef
+    );
+    assert_eq!(rt;
+        EncoderInstruction::decode(0x7f),
+        EncoderInstruction::InsertWithoutNameRef
+    );
+    assert_eq!(rt;
+        EncoderInstruction::decode(0x3f),
+        EncoderInstruction::DynamicTableSizeUpdate
+    );
+    assert_eq!(rt;
+        EncoderInstruction::decode(0x1f),
+        EncoderInstruction::Duplicate
+    );
+    assert_eq!(rt;
+        DecoderInstruction::decode(0x80),
+        DecoderInstruction::HeaderAck
+    );
+    assert_eq!(rt;
+        DecoderInstruction::decode(0x7f),
+        DecoderInstruction::StreamCancel
+    );
+    assert_eq!(rt;
+        DecoderInstruction::decode(0x3f),
+        DecoderInstruction::InsertCountIncrement
+    );
 }
 
 #[test]
@@ -107,8 +167,22 @@ fn windows(rt: HostRuntime) {
     let mut window = BitWindow::new();
     window.forwards(13);
     window.forwards(4);
-    assert_eq!(rt; window, BitWindow { byte: 1, bit: 5, count: 4 });
-    assert_eq!(rt; window.opposite_bit_window(), BitWindow { byte: 1, bit: 5, count: 3 });
+    assert_eq!(rt;
+        window,
+        BitWindow {
+            byte: 1,
+            bit: 5,
+            count: 4
+        }
+    );
+    assert_eq!(rt;
+        window.opposite_bit_window(),
+        BitWindow {
+            byte: 1,
+            bit: 5,
+            count: 3
+        }
+    );
 }
 
 #[test]

@@ -90,9 +90,17 @@ fn out_of_range(rt: HostRuntime) -> Result<(), Fail> {
 #[test]
 fn dynamic_lines(rt: HostRuntime) -> Result<(), Fail> {
     // a field and a name below the base, and from the base on
-    let rows: [&[u8]; 4] = [&[0, 0, 0x80], &[0, 0, 0x40, 0], &[0, 0, 0x10], &[0, 0, 0, 0]];
+    let rows: [&[u8]; 4] = [
+        &[0, 0, 0x80],
+        &[0, 0, 0x40, 0],
+        &[0, 0, 0x10],
+        &[0, 0, 0, 0],
+    ];
     for bytes in rows {
-        assert_eq!(rt; section_error(rt.alloc(), bytes)?, DecoderError::MissingRefs(0));
+        assert_eq!(rt;
+            section_error(rt.alloc(), bytes)?,
+            DecoderError::MissingRefs(0)
+        );
     }
     Ok(())
 }
@@ -100,11 +108,20 @@ fn dynamic_lines(rt: HostRuntime) -> Result<(), Fail> {
 #[test]
 fn lines_of_another_kind(rt: HostRuntime) -> Result<(), Fail> {
     let mut buf = SliceCursor::new(&[0x51, 0]);
-    assert_eq!(rt; Indexed::decode(&mut buf), Err(ParseError::InvalidPrefix(0x51)));
-    assert_eq!(rt; IndexedWithPostBase::decode(&mut buf), Err(ParseError::InvalidPrefix(0x51)));
+    assert_eq!(rt;
+        Indexed::decode(&mut buf),
+        Err(ParseError::InvalidPrefix(0x51))
+    );
+    assert_eq!(rt;
+        IndexedWithPostBase::decode(&mut buf),
+        Err(ParseError::InvalidPrefix(0x51))
+    );
     let literal = Literal::decode(rt.alloc(), &mut buf);
     assert_eq!(rt; literal.err(), Some(ParseError::InvalidPrefix(0x51)));
-    assert_eq!(rt; Duplicate::decode(&mut buf), Err(ParseError::InvalidPrefix(0x51)));
+    assert_eq!(rt;
+        Duplicate::decode(&mut buf),
+        Err(ParseError::InvalidPrefix(0x51))
+    );
     assert_eq!(rt; buf.remaining(), 2);
     Ok(())
 }

@@ -38,7 +38,10 @@ fn literal_with_a_static_name(rt: HostRuntime) -> Result<(), Fail> {
 #[test]
 fn insertions_with_static_names(rt: HostRuntime) -> Result<(), Fail> {
     let mut buf = SliceCursor::new(&[0x3f, 0xbd, 0x01]);
-    assert_eq!(rt; DynamicTableSizeUpdate::decode(&mut buf)?, Some(DynamicTableSizeUpdate(220)));
+    assert_eq!(rt;
+        DynamicTableSizeUpdate::decode(&mut buf)?,
+        Some(DynamicTableSizeUpdate(220))
+    );
     let authority = insertion(
         rt.alloc(),
         &[
@@ -64,8 +67,14 @@ fn insertions_with_static_names(rt: HostRuntime) -> Result<(), Fail> {
 fn post_base_lines(rt: HostRuntime) -> Result<(), Fail> {
     let mut buf = SliceCursor::new(&[0x03, 0x81, 0x10, 0x11]);
     assert_eq!(rt; HeaderPrefix::decode(&mut buf)?.get(2, 220), Ok((2, 0)));
-    assert_eq!(rt; IndexedWithPostBase::decode(&mut buf)?, IndexedWithPostBase(0));
-    assert_eq!(rt; IndexedWithPostBase::decode(&mut buf)?, IndexedWithPostBase(1));
+    assert_eq!(rt;
+        IndexedWithPostBase::decode(&mut buf)?,
+        IndexedWithPostBase(0)
+    );
+    assert_eq!(rt;
+        IndexedWithPostBase::decode(&mut buf)?,
+        IndexedWithPostBase(1)
+    );
     assert_eq!(rt; buf.remaining(), 0);
     let mut acknowledged = SliceCursor::new(&[0x84]);
     assert_eq!(rt; HeaderAck::decode(&mut acknowledged)?, Some(HeaderAck(4)));
@@ -86,7 +95,10 @@ fn speculative_insertion(rt: HostRuntime) -> Result<(), Fail> {
     assert_eq!(rt; read, Some(InsertWithoutNameRef::new(name, value)));
     assert_eq!(rt; buf.remaining(), 0);
     let mut told = SliceCursor::new(&[0x01]);
-    assert_eq!(rt; InsertCountIncrement::decode(&mut told)?, Some(InsertCountIncrement(1)));
+    assert_eq!(rt;
+        InsertCountIncrement::decode(&mut told)?,
+        Some(InsertCountIncrement(1))
+    );
     Ok(())
 }
 

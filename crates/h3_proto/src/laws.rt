@@ -127,5 +127,8 @@ pub fn sides() -> (u64, u64)
 pub fn most_bytes() -> (usize, usize)
     ensures { result ≡ (8, 128) }
 {
-    (StreamType::MAX_ENCODED_SIZE, frame::Settings::MAX_ENCODED_SIZE)
+    (
+        StreamType::MAX_ENCODED_SIZE,
+        frame::Settings::MAX_ENCODED_SIZE,
+    )
 }

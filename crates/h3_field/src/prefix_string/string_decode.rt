@@ -91,7 +91,8 @@ impl HpackStringDecode for Vec<u8> {
     ghost encoded = { λ bytes. bytes.items };
 
     fn hpack_decode(&self, alloc: Global) -> Result<DecodeIter, AllocError> {
-        match decode_payload(alloc, self.as_slice()) {
+        let encoded = self.as_slice();
+        match decode_payload(alloc, encoded) {
             Ok(bytes) => Ok(DecodeIter {
                 bytes,
                 next: 0,
@@ -100,7 +101,7 @@ impl HpackStringDecode for Vec<u8> {
             Err(prefix_string::Error::HuffmanDecoding) => Ok(DecodeIter {
                 bytes: Vec::new(alloc),
                 next: 0,
-                failed: Some(Error::Unhandled(BitWindow::new(), self.len())),
+                failed: Some(Error::Unhandled(BitWindow::new(), encoded.len())),
             }),
             Err(_) => Err(AllocError),
         }

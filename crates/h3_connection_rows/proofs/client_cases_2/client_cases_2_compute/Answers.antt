@@ -10,9 +10,9 @@ use Rattle.std.specs.Str.{is_utf8, chars}
 use lib.Utf8.{encode}
 use Rattle.h3_header.specs.Reads.{kind_of}
 use Rattle.h3_header.specs.HeadRead.{head_of}
-use Rattle.h3_connection.specs.StringValue.{unhuffman}
-use Rattle.h3_connection.specs.Hearing.{hear, listen}
-use Rattle.h3_connection.specs.DecodedSection.{fields_in, decode_section}
+use Rattle.h3_huffman.specs.Unhuffman.{unhuffman}
+use Rattle.h3_qpack.specs.Hearing.{hear, listen}
+use Rattle.h3_qpack.specs.DecodedSection.{fields_in, decode_section}
 use Rattle.h3_connection.specs.Skipping.{skipped}
 use Rattle.h3_connection.specs.PeerReading.{read_peer}
 use Rattle.h3_connection.specs.Pulling.{pull_stream}
