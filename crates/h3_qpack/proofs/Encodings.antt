@@ -196,7 +196,7 @@ pub record HasReadFor (s : Session) (b : UndecodedSection) (r : DecoderState) : 
 pub record Begins (r : DecoderState) (b : UndecodedSection) (base : ℕ) : Type 0 where
   pub begins : HasPrefix r (encoded_section b.encoder b.fields) (flat_map line_bytes (draft_of b.encoder b.fields).lines) (count_of b) base
 
-abbrev base_of : UndecodedSection → Bool → ℕ
+abbrev pub base_of : UndecodedSection → Bool → ℕ
 base_of b true = length b.encoder.inserted
 base_of b false = 0
 

@@ -1,5 +1,5 @@
 -- A section that is withdrawn as soon as it was written is one that was cut off: what was inserted for it stays.
-use Rattle.std.proofs.Common.{◌≡◌, ℕ, ◌==◌, Bool, true, false, if◌then◌else◌, List, [], ◌∷◌, ◌++◌, refl, sym, ◌∙◌, ap, arith, append-nil}
+use Rattle.std.proofs.Common.{◌≡◌, ℕ, ◌==◌, Bool, true, false, ◌||◌, if◌then◌else◌, List, [], ◌∷◌, ◌++◌, refl, sym, ◌∙◌, ap, arith, append-nil}
 use Rattle.std.specs.List.{list_any}
 use Rattle.std.proofs.lemmas.Grind.{common_steps}
 use Rattle.h3_field.specs.Field.{Field}
@@ -10,11 +10,11 @@ use Rattle.h3_qpack.specs.SectionEncoding.{draft_of, required_insert_count, sent
 
 last_passes : {X : Type 0} (test : X → Bool) (xs : List X) (x : X) → test x ≡ true → list_any test (xs ++ x ∷ []) ≡ true
 last_passes test [] x e = rw e refl
-last_passes test (y ∷ ys) x e = either (test y)
+last_passes test (y ∷ ys) x e = either (test y) (last_passes test ys x e)
   where
-    either : (b : Bool) → (if b then true else list_any test (ys ++ x ∷ [])) ≡ true
-    either true = refl
-    either false = last_passes test ys x e
+    either : (b : Bool) → list_any test (ys ++ x ∷ []) ≡ true → (b || list_any test (ys ++ x ∷ [])) ≡ true
+    either true later = refl
+    either false later = later
 
 without_last : {X : Type 0} (test : X → Bool) (xs : List X) (x : X) → test x ≡ true → without_newest test (xs ++ x ∷ []) ≡ xs
 without_last test [] x e = rw e refl

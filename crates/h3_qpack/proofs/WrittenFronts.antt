@@ -70,7 +70,7 @@ AtEncoder j js n b =
 
 pub front_read : (all : List EncoderInstruction) (n : ℕ) → AllByRecursion IsWrittenInstruction all → FrontRead all n
 front_read [] n w = (subst (λ b. AreInstructions b [] []) (sym (take_none n)) (NoInstruction []), refl)
-front_read (j ∷ js) n w = at (nat_le (length (encoder_bytes j)) n) refl
+front_read (j ∷ js) n w = at (nat_le (length (encoder_bytes j)) n) refl (front_read js (n - length (encoder_bytes j)) w.1)
   where
     own : List ℕ
     own = encoder_bytes j
@@ -78,14 +78,13 @@ front_read (j ∷ js) n w = at (nat_le (length (encoder_bytes j)) n) refl
     more : List ℕ
     more = flat_map encoder_bytes js
 
-    at : (b : Bool) → nat_le (length own) n ≡ b → AtEncoder j js n b
-    at true e =
-        let later = front_read js (n - length own) w.1 in
+    at : (b : Bool) → nat_le (length own) n ≡ b → FrontRead js (n - length own) → AtEncoder j js n b
+    at true e later =
         let k = whole_in encoder_bytes (n - length own) js in
         let rest = take (n - length own) more in
         let next = NextInstruction (own ++ rest) rest (rest_in encoder_bytes (n - length own) js) j (take k js) (instruction_reads_back j rest w.0.0 w.0.1 w.0.2) later.0 in
         (rw (first_whole n own more (leb-true (length own) n e), one_more k j js) next, later.1)
-    at false e =
+    at false e later =
         let few = above (length own) n e in
         let here = instruction_reads_back j [] w.0.0 w.0.1 w.0.2 in
         (subst (λ b. AreInstructions b [] (take n own)) (sym (first_cut n own more few)) (NoInstruction (take n own)),
@@ -114,7 +113,7 @@ AtDecoder j js n b =
 
 pub decoder_front_read : (all : List DecoderInstruction) (n : ℕ) → AllByRecursion IsReply all → DecoderFrontRead all n
 decoder_front_read [] n w = (subst (λ b. AreDecoderInstructions b [] []) (sym (take_none n)) (NoDecoderInstruction []), refl)
-decoder_front_read (j ∷ js) n w = at (nat_le (length (decoder_bytes j)) n) refl
+decoder_front_read (j ∷ js) n w = at (nat_le (length (decoder_bytes j)) n) refl (decoder_front_read js (n - length (decoder_bytes j)) w.1)
   where
     own : List ℕ
     own = decoder_bytes j
@@ -122,14 +121,13 @@ decoder_front_read (j ∷ js) n w = at (nat_le (length (decoder_bytes j)) n) ref
     more : List ℕ
     more = flat_map decoder_bytes js
 
-    at : (b : Bool) → nat_le (length own) n ≡ b → AtDecoder j js n b
-    at true e =
-        let later = decoder_front_read js (n - length own) w.1 in
+    at : (b : Bool) → nat_le (length own) n ≡ b → DecoderFrontRead js (n - length own) → AtDecoder j js n b
+    at true e later =
         let k = whole_in decoder_bytes (n - length own) js in
         let rest = take (n - length own) more in
         let next = NextDecoderInstruction (own ++ rest) rest (rest_in decoder_bytes (n - length own) js) j (take k js) (reply_reads_back j rest w.0) later.0 in
         (rw (first_whole n own more (leb-true (length own) n e), one_more k j js) next, later.1)
-    at false e =
+    at false e later =
         let few = above (length own) n e in
         let here = reply_reads_back j [] w.0 in
         (subst (λ b. AreDecoderInstructions b [] (take n own)) (sym (first_cut n own more few)) (NoDecoderInstruction (take n own)),
