@@ -86,9 +86,10 @@ front_read (j ∷ js) n w = at (nat_le (length (encoder_bytes j)) n) refl (front
         (rw (first_whole n own more (leb-true (length own) n e), one_more k j js) next, later.1)
     at false e later =
         let few = above (length own) n e in
-        let here = instruction_reads_back j [] w.0.0 w.0.1 w.0.2 in
-        (subst (λ b. AreInstructions b [] (take n own)) (sym (first_cut n own more few)) (NoInstruction (take n own)),
-        front_unfinished instruction own n here.form instruction_stable (rw (append-nil own) at here.whole) few)
+        let here = instruction_reads_back j [] w.0.0 w.0.1 w.0.2 in (
+          subst (λ b. AreInstructions b [] (take n own)) (sym (first_cut n own more few)) (NoInstruction (take n own)),
+          front_unfinished instruction own n here.form instruction_stable (rw (append-nil own) at here.whole) few,
+        )
 
 -- what is heard of it
 pub front_heard : (r new : DecoderState) (all : List EncoderInstruction) (n : ℕ) → AllByRecursion IsWrittenInstruction all → decoder_after_all (Some r) (take (whole_in encoder_bytes n all) all) ≡ Some new
@@ -129,9 +130,10 @@ decoder_front_read (j ∷ js) n w = at (nat_le (length (decoder_bytes j)) n) ref
         (rw (first_whole n own more (leb-true (length own) n e), one_more k j js) next, later.1)
     at false e later =
         let few = above (length own) n e in
-        let here = reply_reads_back j [] w.0 in
-        (subst (λ b. AreDecoderInstructions b [] (take n own)) (sym (first_cut n own more few)) (NoDecoderInstruction (take n own)),
-        front_unfinished decoder_instruction own n j decoder_instruction_stable (rw (append-nil own) at here) few)
+        let here = reply_reads_back j [] w.0 in (
+          subst (λ b. AreDecoderInstructions b [] (take n own)) (sym (first_cut n own more few)) (NoDecoderInstruction (take n own)),
+          front_unfinished decoder_instruction own n j decoder_instruction_stable (rw (append-nil own) at here) few,
+        )
 
 pub front_listened : (s : EncoderHistory) (all : List DecoderInstruction) (n : ℕ) → AllByRecursion IsReply all → AreAccepted s (take (whole_in decoder_bytes n all) all)
     → listen s (take n (flat_map decoder_bytes all)) ≡ listened (encoder_after_all s (take (whole_in decoder_bytes n all) all)) (rest_in decoder_bytes n all) false
