@@ -1,18 +1,14 @@
 -- The prefix of a section stands for one required insert count and one base.
-use Rattle.std.proofs.Common.{◌≡◌, inl, inr, ℕ, ◌<◌, ◌≤◌, Bool, true, false, List, length, Ok, refl, sym, ◌∙◌, arith, subst}
-use Rattle.h3_field.specs.Field.{Field}
-use Rattle.h3_field.specs.Section.{AreLines}
+use Rattle.std.proofs.Common.{◌≡◌, inl, inr, ℕ, ◌≤◌, Bool, true, false, List, Ok, refl, sym, ◌∙◌, arith, subst}
 use Rattle.h3_field.specs.Reading.{Reading, Whole, Unfinished, Bad}
 use Rattle.h3_field.specs.PrefixReading.{EncodedPrefix, prefix, IsPrefix, IsCount, IsBase}
 use Rattle.h3_field.specs.PrefixAnswer.{AnswersPrefix, HasNoPrefix}
 use Rattle.h3_field.specs.Errors.{decoder_parse}
 use Rattle.h3_field.specs.declared.parse_error.ParseError.{ParseError}
 use Rattle.h3_field.specs.declared.parse_error.ParseError.TheVariants.{Integer, String, InvalidPrefix, InvalidBase, OutOfMemory}
-use Rattle.h3_field.specs.declared.decoder_error.DecoderError.{DecoderError}
-use Rattle.h3_field.specs.declared.decoder_error.DecoderError.TheVariants as error
 use Rattle.h3_qpack.specs.DecoderState.{DecoderState, count_capacity}
-use Rattle.h3_qpack.specs.Meaning.{HasPrefix, HaveFields, IsBadSection}
-use Rattle.h3_qpack.specs.SectionAnswers.{BeginsWithNone, IsReasonFor, IsRefusal}
+use Rattle.h3_qpack.specs.Meaning.{HasPrefix, IsBadSection}
+use Rattle.h3_qpack.specs.SectionAnswers.{IsRefusal}
 use Rattle.h3_qpack.proofs.Counts.{one_count}
 
 -- the prefix that a decoder read, and what it goes by

@@ -1,7 +1,4 @@
 use Rattle.std.proofs.Common.{refl}
-use Rattle.h3_field.specs.Instruction.{DecoderInstruction}
-use Rattle.h3_field.specs.Instruction.DecoderInstruction.{Acknowledge, CancelStream, Increment}
-use Rattle.h3_qpack.specs.EncoderHistory.{EncoderHistory, encoder_after}
 use Rattle.h3_qpack.proofs.Withdrawals.{withdrawn_as_cut_off, counts_kept}
 use Rattle.h3_qpack.proofs.laws.sections_leave_their_counts.Goals as goal
 
