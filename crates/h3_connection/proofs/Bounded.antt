@@ -14,8 +14,8 @@ use Rattle.h3_connection.specs.Arrivals.{Arrival, BytesCame, EndCame, ResetCame,
 use Rattle.h3_connection.specs.StreamSets.{Streams, stream_at, set_stream}
 use Rattle.h3_connection.specs.StreamSetLaws.{other_id, set-here, set-other}
 use Rattle.h3_connection.specs.Incoming.{Incoming, nothing_came, given_up}
-use Rattle.h3_connection.specs.Readings.{instruction_of}
-use Rattle.h3_connection.specs.Hearing.{Heard, hear, hear_within, hear_form, hear_next, having_read_one}
+use Rattle.h3_field.specs.Values.{instruction_of}
+use Rattle.h3_qpack.specs.Hearing.{Heard, hear, hear_within, hear_form, hear_next, decoder_after_form}
 use Rattle.h3_connection.specs.Endpoint.{EndpointHistory, Kind, kind_of, heads_waiting, new_endpoint, replied}
 use Rattle.h3_connection.specs.Endpoint.Kind.{Request, ServerOpened, OwnUnidirectional, PeerUnidirectional}
 use Rattle.h3_connection.specs.Control.{Found, read_control, read_encoder, read_decoder}
@@ -43,6 +43,7 @@ use Rattle.h3_connection.specs.declared.setup.Announced.{Announced}
 use Rattle.h3_proto.specs.declared.stream.Side.{Side}
 use Rattle.h3_connection.proofs.PullBounds.{Ready, Good, pull_good, is_connection}
 use Rattle.h3_connection.proofs.Quiet.{Quiet, quiet_control, quiet_decoder}
+use Rattle.h3_connection.proofs.ReadingStays.{all_stays}
 use Rattle.h3_connection.proofs.Seen.{opened_here}
 use Rattle.h3_connection.proofs.WaitingCounts.{waits_at, waiting_above, count_set, count_inserted}
 
@@ -137,7 +138,7 @@ grows_one r (InsertWithEntryName index value) s is = grows_by r _ s is
 grows_one r (InsertLiteral name value) s is = grows_by r (Some (record { name = name; value = value })) s is
 grows_one r (Duplicate index) s is = grows_by r _ s is
 
-grows_form : (r : DecoderState) (i : Option EncoderInstruction) (s : DecoderState) → having_read_one r i ≡ Some s → Grows r s
+grows_form : (r : DecoderState) (i : Option EncoderInstruction) (s : DecoderState) → decoder_after_form r i ≡ Some s → Grows r s
 grows_form r None s is = cc
 grows_form r (Some i) s is = grows_one r i s is
 
@@ -148,7 +149,7 @@ grows_next go r bytes rest (Some s) each g = omega (arith, (g s refl).inserted, 
 
 grows_within : (go : DecoderState → List ℕ → Heard) (r : DecoderState) (bytes : List ℕ) (x : Reading InstructionForm) → ((s : DecoderState) (more : List ℕ) → s.table.inserted ≤ (go s more).decoder.table.inserted)
     → r.table.inserted ≤ (hear_form go r bytes x).decoder.table.inserted
-grows_within go r bytes (Whole f rest) each = grows_next go r bytes rest (having_read_one r (instruction_of f)) each (λ s is. grows_form r (instruction_of f) s is)
+grows_within go r bytes (Whole f rest) each = grows_next go r bytes rest (decoder_after_form r (instruction_of f)) each (λ s is. grows_form r (instruction_of f) s is)
 grows_within go r bytes Unfinished each = omega arith
 grows_within go r bytes Bad each = omega arith
 
@@ -329,58 +330,6 @@ after_kept : (found : Found) (id : ℕ) → IsBounded found.0 → found.0.closed
 after_kept (e, Some code) id h open_still = as_before e _ (record { incoming = refl; decoder = refl; announced = refl; closed = λ x. cc }) h
 after_kept (e, None) id h open_still = at_on e id (kind_of e.side id) open_still h
 
--- reading what came neither closes nor opens
-second_closed : (e : EndpointHistory) (b : Bool) (found : Found) → found.0.closed ≡ e.closed → (unless_second b e found).0.closed ≡ e.closed
-second_closed e true found h = refl
-second_closed e false found h = h
-
-role_closed : (e : EndpointHistory) (id : ℕ) (role : Role) (bytes : List ℕ) → (heard_as e id role bytes).0.closed ≡ e.closed
-role_closed e id (Untold front) bytes = refl
-role_closed e id Control bytes = second_closed e _ (read_control (record e { control_on = Some id }) bytes) (quiet_control (record e { control_on = Some id }) bytes).closed
-role_closed e id Encoder bytes = second_closed e _ (read_encoder (record e { encoder_on = Some id }) bytes) refl
-role_closed e id Decoder bytes = second_closed e _ (read_decoder (record e { decoder_on = Some id }) bytes) (quiet_decoder (record e { decoder_on = Some id }) bytes).closed
-role_closed e id (Session n) bytes = refl
-role_closed e id (Push n) bytes = refl
-role_closed e id Ignored bytes = refl
-
-peer_closed : (e : EndpointHistory) (id : ℕ) (o : Unidirectional) (read_as : Role × List ℕ) → (read_unidirectional e id o read_as).0.closed ≡ e.closed
-peer_closed e id o (role, bytes) = role_closed (with_unidirectional e id (with_bytes o (role, bytes))) id role bytes
-
-opened_closed : (e : EndpointHistory) (id : ℕ) (at : Option Incoming) → (opened_at e id at).closed ≡ e.closed
-opened_closed e id (Some i) = refl
-opened_closed e id None = refl
-
-bytes_closed : (e : EndpointHistory) (id : ℕ) (bytes : List ℕ) (k : Kind) → (bytes_at e id bytes k).0.closed ≡ e.closed
-bytes_closed e id bytes Request = opened_closed e id (stream_at e.incoming id)
-bytes_closed e id bytes ServerOpened = refl
-bytes_closed e id bytes OwnUnidirectional = refl
-bytes_closed e id bytes PeerUnidirectional = peer_closed e id (unidirectional_at e id) (role_after (unidirectional_at e id).role bytes)
-
-end_closed : (e : EndpointHistory) (id : ℕ) (k : Kind) → (end_at e id k).0.closed ≡ e.closed
-end_closed e id Request = opened_closed e id (stream_at e.incoming id)
-end_closed e id ServerOpened = refl
-end_closed e id OwnUnidirectional = refl
-end_closed e id PeerUnidirectional = refl
-
-reset_closed : (e : EndpointHistory) (id code : ℕ) (k : Kind) → (reset_at e id code k).0.closed ≡ e.closed
-reset_closed e id code Request = opened_closed e id (stream_at e.incoming id)
-reset_closed e id code ServerOpened = refl
-reset_closed e id code OwnUnidirectional = refl
-reset_closed e id code PeerUnidirectional = refl
-
-pub arrival_closed : (e : EndpointHistory) (a : Arrival) → (read_arrival e a).0.closed ≡ e.closed
-arrival_closed e (BytesCame id bytes) = bytes_closed e id bytes (kind_of e.side id)
-arrival_closed e (EndCame id) = end_closed e id (kind_of e.side id)
-arrival_closed e (ResetCame id code) = reset_closed e id code (kind_of e.side id)
-
-all_closed_after : (arrivals : List Arrival) (e : EndpointHistory) (found : Found) → found.0.closed ≡ e.closed → ((f : EndpointHistory) → (read_all arrivals f).0.closed ≡ f.closed) → (unless_faulty (read_all arrivals) found).0.closed ≡ e.closed
-all_closed_after arrivals e (f, Some code) h each = h
-all_closed_after arrivals e (f, None) h each = each f ∙ h
-
-pub all_closed : (arrivals : List Arrival) (e : EndpointHistory) → (read_all arrivals e).0.closed ≡ e.closed
-all_closed [] e = refl
-all_closed (a ∷ arrivals) e = all_closed_after arrivals e (read_arrival e a) (arrival_closed e a) (λ f. all_closed arrivals f)
-
 settled_or : (b : Bool) (x y : Pull × EndpointHistory) → IsBounded x.1 → IsBounded y.1 → IsBounded (if b then x else y).1
 settled_or true x y h k = h
 settled_or false x y h k = k
@@ -391,7 +340,7 @@ pulls_on e id h = behind e.kept
     behind : (arrivals : List Arrival) → IsBounded (pulls_behind arrivals e id).1
     behind [] = pull_on e id h
     behind (k ∷ arrivals) = unless_closed e e.closed _ refl h (λ open_still. settled_or (settles e id) _ _ (at_on e id (kind_of e.side id) open_still h)
-        (after_kept (read_all (k ∷ arrivals) (unkept e)) id (all_on (k ∷ arrivals) (unkept e) (forgets e h)) (all_closed (k ∷ arrivals) (unkept e) ∙ open_still)))
+        (after_kept (read_all (k ∷ arrivals) (unkept e)) id (all_on (k ∷ arrivals) (unkept e) (forgets e h)) ((all_stays (k ∷ arrivals) (unkept e)).closed ∙ open_still)))
 
 -- a stream changes, without being opened
 changes_at : (e : EndpointHistory) (id : ℕ) (j : Incoming) → IsBounded e → Calms (incoming_at e id) j → IsBounded (with_incoming e id j)

@@ -1,7 +1,3 @@
-pub mod Shorter
-pub mod HearingLaws
-pub mod DecodedLaws
-pub mod Cuts
 pub mod Quiet
 pub mod Seen
 pub mod SeenEncoder
@@ -12,5 +8,6 @@ pub mod Brought
 pub mod Distinct
 pub mod PullBounds
 pub mod WaitingCounts
+pub mod ReadingStays
 pub mod Bounded
 pub mod Closed

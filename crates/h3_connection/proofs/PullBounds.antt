@@ -18,7 +18,7 @@ use Rattle.h3_wire.specs.declared.proto.frame.Frame.{Frame}
 use Rattle.h3_wire.specs.declared.proto.frame.Frame.TheVariants as frame
 use Rattle.h3_connection.specs.Bounds.{TriesTwice, WaitsOnce}
 use Rattle.h3_connection.specs.Announcing.{section_of}
-use Rattle.h3_connection.specs.DecodedSection.{Decoded, Fields, Missing, BadSection, decode_section}
+use Rattle.h3_qpack.specs.DecodedSection.{DecodedSection, Fields, Missing, BadSection, decode_section}
 use Rattle.h3_connection.specs.Incoming.{Incoming, is_body}
 use Rattle.h3_connection.specs.Skipping.{skipped}
 use Rattle.h3_connection.specs.Pulling.{Pulled, just, connection_fault, malformed, whole_head, whole_trailer, head_or_trailer, judged, read_section, decoded, at_section, new_section, at_end, at_frame, framed, next_frame, between_frames, in_message, next_item, pull_stream, in_payload, body_of, raw_of, raw, tried, is_for, is_client, is_interim, told_size}
@@ -118,7 +118,7 @@ module _ (side : Side) (own : Announced) (id : ℕ) (r : DecoderState) where
   missing_good i count true is h = good _ (record { tries = tried_twice i h.once; once = λ waits. omega (arith, tried_first i is) })
   missing_good i count false is h = faulty _ (tried i) (tried_twice i h.once)
 
-  decoded_good : (i : Incoming) (d : Decoded) → Ready i → Good (decoded side own id r i d)
+  decoded_good : (i : Incoming) (d : DecodedSection) → Ready i → Good (decoded side own id r i d)
   decoded_good i (Fields fields count) h = read_good _ _ fields (record { tries = tried_twice i h.once; once = λ waits. absurd (omega (arith, waits)) })
   decoded_good i (Missing count) h = missing_good i count (i.waits_for == 0) refl h
   decoded_good i BadSection h = faulty _ (tried i) (tried_twice i h.once)

@@ -6,7 +6,7 @@ use Rattle.h3_field.specs.Instruction.DecoderInstruction.{Increment}
 use Rattle.h3_field.specs.Instruction.EncoderInstruction.{SetCapacity}
 use Rattle.h3_proto.specs.Settings.{value_of}
 use Rattle.h3_connection.specs.Codes.{encoder_stream_error, decoder_stream_error}
-use Rattle.h3_connection.specs.Hearing.{Listened, listen}
+use Rattle.h3_qpack.specs.Hearing.{Listened, listen}
 use Rattle.h3_connection.specs.Listeners.{fault_if, heard_more, after_hearing, insertions_heard}
 use Rattle.h3_connection.specs.PeerReading.{PeerFound, with_unread, read_peer}
 use Rattle.h3_connection.specs.Endpoint.{EndpointHistory, replied}

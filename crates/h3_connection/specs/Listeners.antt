@@ -5,7 +5,7 @@ use Rattle.h3_qpack.specs.EncoderHistory.{EncoderHistory}
 use Rattle.h3_qpack.specs.EncoderState.{EncoderState, encoder_state}
 use Rattle.h3_qpack.specs.Increments.{increment_for}
 use Rattle.h3_connection.specs.Codes.{encoder_stream_error, decoder_stream_error}
-use Rattle.h3_connection.specs.Hearing.{Heard, hear, listen}
+use Rattle.h3_qpack.specs.Hearing.{Heard, hear, listen}
 
 -- the decoder's table, and the bytes of the peer's encoder stream that are no whole instruction yet
 pub record Decoding : Type 0 where

@@ -8,7 +8,7 @@ use Rattle.h3_connection.specs.Control.{increment, if_learned}
 use Rattle.h3_connection.specs.Delivering.{unidirectional_at, with_incoming, with_end, kept, with_unidirectional}
 use Rattle.h3_connection.specs.Endpoint.{EndpointHistory, replied, is_second, kind_of}
 use Rattle.h3_connection.specs.Endpoint.Kind.{PeerUnidirectional}
-use Rattle.h3_connection.specs.Hearing.{hear, listen}
+use Rattle.h3_qpack.specs.Hearing.{hear, listen}
 use Rattle.h3_connection.specs.Incoming.{Incoming}
 use Rattle.h3_connection.specs.Keeping.{read_arrival, keeping, unkept}
 use Rattle.h3_connection.specs.Listeners.{Decoding}

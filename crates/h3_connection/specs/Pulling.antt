@@ -15,7 +15,7 @@ use Rattle.h3_wire.specs.declared.proto.frame.Frame.{Frame}
 use Rattle.h3_wire.specs.declared.proto.frame.Frame.TheVariants as frame
 use Rattle.h3_connection.specs.Announcing.{section_of}
 use Rattle.h3_connection.specs.Codes.{frame_unexpected, frame_error, id_error, decompression_failed, refusal_code}
-use Rattle.h3_connection.specs.DecodedSection.{Decoded, Fields, Missing, BadSection, decode_section}
+use Rattle.h3_qpack.specs.DecodedSection.{DecodedSection, Fields, Missing, BadSection, decode_section}
 use Rattle.h3_header.specs.HeadRead.{HeadRead, HeadRefusal, IsHead, IsNone, Name, Value, TooMany, head_of}
 use Rattle.h3_connection.specs.Incoming.{Incoming, given_up, is_body}
 use Rattle.h3_connection.specs.declared.place.Place.{Place}
@@ -151,7 +151,7 @@ module _ (side : Side) (own : Announced) (id : ℕ) (r : DecoderState) where
       else judged side id i replies (head_of fields)
 
   -- a section was tried
-  abbrev pub decoded : Incoming → Decoded → Pulled
+  abbrev pub decoded : Incoming → DecodedSection → Pulled
   decoded i (Fields fields count) = read_section (record (tried i) { waits_for = 0; section = None }) (acknowledgment id count) fields
   decoded i (Missing count) =
       if i.waits_for == 0 then just (pull.Waiting count) (record (tried i) { waits_for = count })

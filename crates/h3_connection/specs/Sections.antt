@@ -1,20 +1,21 @@
--- How a field section is written on a stream. To give way to the encoder's own rule, which knows the streams that were canceled.
+-- How a field section is written on a stream: without the table once a cancellation of the stream was read (RFC 9204, section
+-- 2.2.2.2), since nobody acknowledges it then.
 use Rattle.std.specs.Prelude.{ℕ, List, ◌++◌}
-use Rattle.h3_connection.specs.Endpoint.{EndpointHistory}
 use Rattle.h3_field.specs.Field.{Field}
 use Rattle.h3_field.specs.Instruction.{EncoderInstruction}
-use Rattle.h3_qpack.specs.EncoderHistory.{EncoderHistory}
-use Rattle.h3_qpack.specs.SectionEncoding as written
+use Rattle.h3_qpack.specs.EncoderHistory.{EncoderHistory, writing_on}
+use Rattle.h3_qpack.specs.SectionEncoding as section
+use Rattle.h3_connection.specs.Endpoint.{EndpointHistory}
 
 abbrev pub encoded_section : EncoderHistory → ℕ → List Field → List ℕ
-encoded_section s stream fields = written.encoded_section s fields
+encoded_section s stream fields = section.encoded_section (writing_on s stream) fields
 
 abbrev pub instructions_for : EncoderHistory → ℕ → List Field → List EncoderInstruction
-instructions_for s stream fields = written.instructions_for s fields
+instructions_for s stream fields = section.instructions_for (writing_on s stream) fields
 
 -- the encoder after the insertions for some fields, whose section was not written
 abbrev pub having_inserted : EncoderHistory → ℕ → List Field → EncoderHistory
-having_inserted s stream fields = record s { inserted = (written.draft_of s fields).inserted }
+having_inserted s stream fields = record s { inserted = (section.draft_of (writing_on s stream) fields).inserted }
 
 -- the endpoint after that: the instructions for them went out
 abbrev pub with_insertions : EndpointHistory → ℕ → List Field → EndpointHistory

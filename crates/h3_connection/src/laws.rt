@@ -1,27 +1,5 @@
-//! What the contracts of the layers below say of bytes and of fields, as values. These functions do nothing: their contracts are
-//! the laws. To go to the crates below.
-ghost use Rattle.std.specs.Prelude.{◌≡◌, ℕ, List, [], Some};
-ghost use Rattle.h3_field.specs.Field.{Field};
-ghost use Rattle.h3_qpack.specs.DecoderState.{DecoderState};
-ghost use Rattle.h3_qpack.specs.Meaning.{MeansFields, IsMissing, IsBadSection};
-ghost use Rattle.h3_connection.specs.DecodedSection.{Fields, Missing, BadSection, decode_section};
-
-/// What an encoded field section is to a decoder is its value.
-pub fn sections_are_their_value()
-    ensures fields { (r : DecoderState) (bytes : List ℕ) (count : ℕ) (fields : List Field) → MeansFields r bytes count fields → decode_section r bytes ≡ Fields fields count }
-    ensures missing { (r : DecoderState) (bytes : List ℕ) (count : ℕ) → IsMissing r bytes count → decode_section r bytes ≡ Missing count }
-    ensures bad { (r : DecoderState) (bytes : List ℕ) → IsBadSection r bytes → decode_section r bytes ≡ BadSection }
-{}
-
-ghost use Rattle.std.specs.Prelude.{◌++◌};
-ghost use Rattle.h3_connection.specs.Hearing.{hear, heard_then};
-
-/// However the bytes of an encoder are cut, they are heard alike.
-pub fn cuts_are_heard_alike()
-    ensures { (r : DecoderState) (bytes more : List ℕ) → hear r (bytes ++ more) ≡ heard_then (hear r bytes) more }
-{}
-
-ghost use Rattle.std.specs.Prelude.{Bool};
+//! What the definitions of an endpoint come to over lists of calls. These functions do nothing: their contracts are the laws.
+ghost use Rattle.std.specs.Prelude.{◌≡◌, ℕ, List, [], Some, Bool};
 ghost use Rattle.h3_proto.specs.declared.stream.Side.{Side};
 ghost use Rattle.h3_connection.specs.declared.setup.Announced.{Announced};
 ghost use Rattle.h3_connection.specs.Endpoint.{EndpointHistory, kind_of, new_endpoint};

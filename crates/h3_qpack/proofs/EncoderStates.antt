@@ -1,13 +1,13 @@
 -- What an encoder keeps, after an instruction of its decoder.
-use Rattle.std.proofs.Common.{◌≡◌, ℕ, ◌+◌, ◌-◌, ◌^◌, ◌≤◌, Bool, true, false, ◌||◌, List, [], ◌∷◌, length, map, filter, cond, min, refl, ap, arith, nat_lt, if◌then◌else◌}
+use Rattle.std.proofs.Common.{◌≡◌, ℕ, ◌+◌, ◌-◌, ◌^◌, ◌≤◌, Bool, true, false, not, ◌||◌, List, [], ◌∷◌, length, map, filter, cond, min, refl, ap, arith, nat_lt, if◌then◌else◌}
 use Rattle.std.specs.Prelude.{◌==◌}
 use Rattle.std.specs.List.{list_any, count_by}
 use Rattle.std.proofs.lemmas.List.Sums.{sum_by-cons}
 use Rattle.std.proofs.lemmas.Grind.{common_steps}
 use Rattle.h3_field.specs.Instruction.{DecoderInstruction}
 use Rattle.h3_field.specs.Instruction.DecoderInstruction.{Acknowledge, CancelStream, Increment}
-use Rattle.h3_qpack.specs.EncoderHistory.{EncoderHistory, UnacknowledgedSection, released, encoder_after}
-use Rattle.h3_qpack.specs.Tracking.{is_of, without_oldest_of}
+use Rattle.h3_qpack.specs.EncoderHistory.{EncoderHistory, UnacknowledgedSection, released, without_stream, encoder_after}
+use Rattle.h3_qpack.specs.Tracking.{is_of, without_oldest_of, without_all_of}
 use Rattle.h3_qpack.specs.EncoderState.{encoder_state, tracked_section, encoder_state_after}
 
 released_state : (stream : ℕ) (ts : List UnacknowledgedSection) → map tracked_section (released stream ts) ≡ without_oldest_of stream (map tracked_section ts)
@@ -18,6 +18,15 @@ released_state stream (t ∷ ts) = by_test (t.stream == stream) (released_state 
         → map tracked_section (if b then ts else t ∷ released stream ts) ≡ (if b then map tracked_section ts else tracked_section t ∷ without_oldest_of stream (map tracked_section ts))
     by_test true h = refl
     by_test false h = ap (λ us. tracked_section t ∷ us) h
+
+without_stored : (stream : ℕ) (ts : List UnacknowledgedSection) → map tracked_section (without_stream stream ts) ≡ without_all_of stream (map tracked_section ts)
+without_stored stream [] = refl
+without_stored stream (t ∷ ts) = by_test (not (t.stream == stream)) (without_stored stream ts)
+  where
+    by_test : (b : Bool) → map tracked_section (without_stream stream ts) ≡ without_all_of stream (map tracked_section ts)
+        → map tracked_section (cond b (t ∷ without_stream stream ts) (without_stream stream ts)) ≡ cond b (tracked_section t ∷ without_all_of stream (map tracked_section ts)) (without_all_of stream (map tracked_section ts))
+    by_test true h = ap (λ us. tracked_section t ∷ us) h
+    by_test false h = h
 
 -- a stream has a tracked section where it is kept with one
 pub tracked_state : (stream : ℕ) (ts : List UnacknowledgedSection) → list_any (λ t. t.stream == stream) ts ≡ list_any (is_of stream) (map tracked_section ts)
@@ -37,7 +46,7 @@ filter_twice known later (c ∷ cs) le = by_tests (nat_lt known c) (nat_lt later
 
 pub encoder_after_state : (s : EncoderHistory) (i : DecoderInstruction) → ((count : ℕ) → i ≡ Increment count → s.known_received ≤ 2 ^ 64 - 1) → encoder_state (encoder_after s i) ≡ encoder_state_after (encoder_state s) i
 encoder_after_state s (Acknowledge stream) small = rw (released_state stream s.tracked) refl
-encoder_after_state s (CancelStream stream) small = rw (released_state stream (released stream s.tracked), released_state stream s.tracked) refl
+encoder_after_state s (CancelStream stream) small = rw (without_stored stream s.tracked) refl
 encoder_after_state s (Increment count) small =
     rw (filter_twice s.known_received (min (s.known_received + count) (2 ^ 64 - 1)) s.required_insert_counts (omega (arith, small count refl))) refl
 

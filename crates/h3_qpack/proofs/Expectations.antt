@@ -8,7 +8,7 @@ use Rattle.h3_field.specs.Instruction.DecoderInstruction.{Acknowledge, CancelStr
 use Rattle.h3_qpack.specs.EncoderHistory.{EncoderHistory, encoder_after, encoder_after_all, blocks_out}
 use Rattle.h3_qpack.specs.Session.{Session, UndecodedSection, IsSound, is_canceled, oldest, inserted, after_cancellation}
 use Rattle.h3_qpack.specs.Schedule.{beginning}
-use Rattle.h3_qpack.specs.Expected.{EncodesTo, ReadsInsertions, DeliversInsertions, DeliversDecoderInstructions, DecodesAs, CancelsAs, Expects, Expected, NoEvent, NextEvent}
+use Rattle.h3_qpack.specs.Expected.{EncodesTo, ReadsInsertions, DeliversInsertions, ReadsDecoderInstructions, DeliversDecoderInstructions, DecodesAs, CancelsAs, Expects, Expected, NoEvent, NextEvent}
 use Rattle.h3_qpack.specs.declared.session.SessionEvent.{SessionEvent}
 use Rattle.h3_qpack.specs.declared.session.SessionEvent.TheVariants as event
 use Rattle.h3_qpack.specs.declared.session.SessionAnswer.{SessionAnswer}
@@ -47,7 +47,7 @@ encoder_after_all_limit s (i ∷ is) = encoder_after_all_limit (encoder_after s 
 
 encodes_keeps : (s : Session) (stream : ℕ) (fields : List Field) (a : SessionAnswer) (t : Session) → IsSound s → EncodesTo s stream fields a t → Keeps s t
 encodes_keeps s stream fields (answer.Encoded count) t h e = subst (Keeps s) (sym e.0) (record { sound = section_written s stream fields h; limit = refl })
-encodes_keeps s stream fields (answer.Refused x) t h e = subst (Keeps s) (sym e.1.2) (record { sound = insertions_kept s (take e.1.0 fields) h; limit = refl })
+encodes_keeps s stream fields (answer.Refused x) t h e = subst (Keeps s) (sym e.1.2) (record { sound = insertions_kept s stream (take e.1.0 fields) h; limit = refl })
 encodes_keeps s stream fields answer.Delivered t h e = absurd e
 encodes_keeps s stream fields (answer.Short most) t h e = absurd e
 encodes_keeps s stream fields (answer.Decoded fs) t h e = absurd e
@@ -72,11 +72,13 @@ delivers_keeps s (answer.Missing count) t h e = absurd e
 delivers_keeps s answer.NoBlock t h e = absurd e
 delivers_keeps s answer.Canceled t h e = absurd e
 
+heard_keeps : (s t : Session) → IsSound s → ReadsDecoderInstructions s t → Keeps s t
+heard_keeps s t h e = subst (Keeps s) (sym e.1) (record { sound = heard_sound e.0 s h; limit = encoder_after_all_limit s.encoder (take e.0 s.decoder_instructions) })
+
 replies_keeps : (s : Session) (a : SessionAnswer) (t : Session) → IsSound s → DeliversDecoderInstructions s a t → Keeps s t
 replies_keeps s (answer.Short most) t h e = stays s t h e
-replies_keeps s answer.Delivered t h e =
-    subst (Keeps s) (sym e.1) (record { sound = heard_sound e.0 s h; limit = encoder_after_all_limit s.encoder (take e.0 s.decoder_instructions) })
-replies_keeps s (answer.Refused x) t h e = absurd e
+replies_keeps s answer.Delivered t h e = heard_keeps s t h e
+replies_keeps s (answer.Refused x) t h e = heard_keeps s t h e.1
 replies_keeps s (answer.Encoded count) t h e = absurd e
 replies_keeps s (answer.Decoded fs) t h e = absurd e
 replies_keeps s (answer.Missing count) t h e = absurd e

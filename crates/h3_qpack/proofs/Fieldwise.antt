@@ -105,14 +105,14 @@ all_bytes t section lines instruction_bytes new next more later fields index i a
 -- a refused field leaves the section cut off behind the fields before it
 pub in_cut_off : (t : EncoderState) (section : Section) (lines instruction_bytes : List ℕ) (new : EncoderState) (next : Section) (more later : List ℕ) (fields : List Field) (index : ℕ)
     → InFields t section lines instruction_bytes new next more later fields index → index ≤ length fields
-    → (s : EncoderHistory) (start : List ℕ) → IsDrafted s (draft_of s []) t section lines start instruction_bytes → IsCutOff s fields new start later
+    → (s : EncoderHistory) (start : List ℕ) → IsDrafted s (draft_of s []) t section lines start instruction_bytes → IsCutOff s s fields new start later
 in_cut_off t section lines instruction_bytes new next more later fields index i le s start h =
     let d = i.drafted s start h in
     record { front = index; within = le; are_bytes = i.are_bytes; stores = d.state.stores; instructions_are = d.instructions_are }
 
 pub in_refused : (t : EncoderState) (section : Section) (lines instruction_bytes : List ℕ) (mid : EncoderState) (between : Section) (m l : List ℕ) (new : EncoderState) (later : List ℕ) (fields : List Field) (index : ℕ)
     → InFields t section lines instruction_bytes mid between m l fields index → index ≤ length fields → new ≡ mid → later ≡ l
-    → (s : EncoderHistory) (start : List ℕ) → IsDrafted s (draft_of s []) t section lines start instruction_bytes → IsCutOff s fields new start later
+    → (s : EncoderHistory) (start : List ℕ) → IsDrafted s (draft_of s []) t section lines start instruction_bytes → IsCutOff s s fields new start later
 in_refused t section lines instruction_bytes mid between m l new later fields index i le same unwritten s start h =
     rw (same, unwritten) (in_cut_off t section lines instruction_bytes mid between m l fields index i le s start h)
 

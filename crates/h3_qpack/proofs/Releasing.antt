@@ -1,11 +1,11 @@
 -- A section is taken away.
-use Rattle.std.proofs.Common.{◌≡◌, ℕ, zero, suc, ◌+◌, ◌<◌, Bool, true, false, ◌||◌, List, [], ◌∷◌, length, take, refl, sym, subst, arith, if◌then◌else◌, get_or}
+use Rattle.std.proofs.Common.{◌≡◌, ℕ, zero, suc, ◌+◌, ◌<◌, Bool, true, false, not, ◌||◌, List, [], ◌∷◌, length, take, cond, refl, sym, ap, subst, arith, if◌then◌else◌, get_or}
 use Rattle.std.specs.Prelude.{◌==◌}
 use Rattle.std.specs.List.{AllByRecursion, list_any, remove}
 use Rattle.std.proofs.lemmas.List.Sums.{sum_by-cons}
 use Rattle.h3_qpack.specs.declared.tracking.TrackedSection.{TrackedSection}
 use Rattle.h3_qpack.specs.EncoderHistory.{without_newest}
-use Rattle.h3_qpack.specs.Tracking.{reference_count, is_of, without_oldest_of, IsFirstOf, IsLast}
+use Rattle.h3_qpack.specs.Tracking.{reference_count, is_of, without_oldest_of, without_all_of, IsFirstOf, IsLast}
 
 pub All-remove : (P : TrackedSection → Type 0) (ts : List TrackedSection) (place : ℕ) → AllByRecursion P ts → AllByRecursion P (remove ts place)
 All-remove P [] zero h = tt
@@ -43,6 +43,31 @@ first_there stream (t ∷ ts) zero h = let yes = h.here t refl in rw yes refl
 first_there stream (t ∷ ts) (suc place) h =
     let e = neither (is_of stream t) (list_any (is_of stream) (take place ts)) h.before in
     rw (e.0, first_there stream ts place (record { inside = omega (arith, h.inside); before = e.1; here = h.here })) refl
+
+-- without all sections of the stream there are fewer, and the oldest one is among them
+pub all_after_oldest : (stream : ℕ) (ts : List TrackedSection) → without_all_of stream (without_oldest_of stream ts) ≡ without_all_of stream ts
+all_after_oldest stream [] = refl
+all_after_oldest stream (t ∷ ts) = by_test (is_of stream t) refl (all_after_oldest stream ts)
+  where
+    by_test : (b : Bool) → is_of stream t ≡ b → without_all_of stream (without_oldest_of stream ts) ≡ without_all_of stream ts
+        → without_all_of stream (if b then ts else t ∷ without_oldest_of stream ts) ≡ cond (not b) (t ∷ without_all_of stream ts) (without_all_of stream ts)
+    by_test true e h = refl
+    by_test false e h = rw e (ap (λ us. t ∷ us) h)
+
+pub all_of_none : (stream : ℕ) (ts : List TrackedSection) → list_any (is_of stream) ts ≡ false → without_all_of stream ts ≡ ts
+all_of_none stream [] h = refl
+all_of_none stream (t ∷ ts) h =
+    let e = neither (is_of stream t) (list_any (is_of stream) ts) h in
+    rw e.0 (ap (λ us. t ∷ us) (all_of_none stream ts e.1))
+
+pub fewer_left : (stream : ℕ) (ts : List TrackedSection) → list_any (is_of stream) ts ≡ true → length (without_oldest_of stream ts) < length ts
+fewer_left stream [] h = absurd (cc)
+fewer_left stream (t ∷ ts) h = by_test (is_of stream t) h (fewer_left stream ts)
+  where
+    by_test : (b : Bool) → (b || list_any (is_of stream) ts) ≡ true → (list_any (is_of stream) ts ≡ true → length (without_oldest_of stream ts) < length ts)
+        → length (if b then ts else t ∷ without_oldest_of stream ts) < length (t ∷ ts)
+    by_test true k later = omega arith
+    by_test false k later = omega (arith, later k)
 
 pub none_removed : (stream : ℕ) (ts : List TrackedSection) → list_any (is_of stream) ts ≡ false → without_oldest_of stream ts ≡ ts
 none_removed stream [] h = refl

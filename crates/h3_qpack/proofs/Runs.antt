@@ -19,13 +19,14 @@ use Rattle.h3_field.specs.declared.decoder_error.DecoderError.{DecoderError}
 use Rattle.h3_field.specs.declared.decoder_error.DecoderError.TheVariants as decoder_error
 use Rattle.h3_field.specs.declared.error.Error.{Error}
 use Rattle.h3_field.specs.declared.error.Error.TheVariants as of
-use Rattle.h3_qpack.specs.EncoderHistory.{EncoderHistory, encoder_after, encoder_after_all}
+use Rattle.h3_qpack.specs.EncoderHistory.{EncoderHistory, encoder_after, encoder_after_all, writing_on}
 use Rattle.h3_qpack.specs.TableHistory.{IsReadAs}
 use Rattle.h3_qpack.specs.DecoderState.{DecoderState, announcing, decoder_after_all}
 use Rattle.h3_qpack.specs.SectionEncoding.{draft_of, required_insert_count, encoded_section, instructions_for, sent_section}
 use Rattle.h3_qpack.specs.Meaning.{MeansFields, IsMissing, IsBadSection}
 use Rattle.h3_qpack.specs.SectionAnswers.{IsReasonFor}
 use Rattle.h3_qpack.specs.Instructions.{BeginsBad, BeginsRefused}
+use Rattle.h3_qpack.specs.EncoderAnswers.{IsLeft}
 use Rattle.h3_qpack.specs.Increments.{increment_for}
 use Rattle.h3_qpack.specs.Encodings.{IsWrittenLine, IsWrittenInstruction, IsWritten}
 use Rattle.h3_qpack.specs.Session.{Session, UndecodedSection, IsSound, is_canceled, oldest, without_oldest, count_of, encoded, inserted, decoded, after_cancellation}
@@ -45,6 +46,7 @@ use Rattle.h3_qpack.proofs.EncoderStreams.{EncoderStream, encoder_stream_is, enc
 use Rattle.h3_qpack.proofs.DecoderStreams.{DecoderStream, heard_so, heard_sound, decoder_stream_reads}
 use Rattle.h3_qpack.proofs.DecodesAgree.{IsDecoderOf, decodes_right, misses_right, none_bad}
 use Rattle.h3_qpack.proofs.Writable.{lines_written, instructions_written}
+use Rattle.h3_qpack.proofs.Canceled.{on_inserted, on_capacity}
 
 abbrev pub encoded_section_of : UndecodedSection → EncodedSection
 encoded_section_of b = record { stream = b.stream; bytes = encoded_section b.encoder b.fields }
@@ -52,7 +54,7 @@ encoded_section_of b = record { stream = b.stream; bytes = encoded_section b.enc
 pub record IsRunSection (capacity : ℕ) (b : UndecodedSection) : Type 0 where
   pub lines : AllByRecursion IsWrittenLine (draft_of b.encoder b.fields).lines
   pub base : length b.encoder.inserted < 2 ^ 62
-  pub capacity_is : b.encoder.capacity ≡ capacity
+  pub capacity_is : 0 < count_of b → b.encoder.capacity ≡ capacity
 
 -- The two ends are those of the session.
 pub record Stands (capacity : ℕ) (w : ExchangeHistory) (s : Session) : Type 0 where
@@ -67,7 +69,7 @@ pub record Stands (capacity : ℕ) (w : ExchangeHistory) (s : Session) : Type 0 
   pub written : AllByRecursion (IsRunSection capacity) s.sections
   pub canceled : (stream : ℕ) → is_given_up w.canceled stream ≡ is_canceled s stream
 
-reads_as : (capacity : ℕ) (w : ExchangeHistory) (s : Session) → Stands capacity w s → IsReadAs capacity capacity s.instructions s.encoder.inserted
+pub reads_as : (capacity : ℕ) (w : ExchangeHistory) (s : Session) → Stands capacity w s → IsReadAs capacity capacity s.instructions s.encoder.inserted
 reads_as capacity w s st = subst (λ c. IsReadAs c c s.instructions s.encoder.inserted) st.capacity_is st.sound.read
 
 -- more instructions are written
@@ -141,27 +143,30 @@ begun_stands capacity limit small =
 encoded_stands : (capacity : ℕ) (w : ExchangeHistory) (s : Session) (stream : ℕ) (fields : List Field) (count : ℕ) (new : ExchangeHistory) → Stands capacity w s → section_size fields < 2 ^ 62 → Encodes w stream fields (answer.Encoded count) new
     → (t : Session) × EncodesTo s stream fields (answer.Encoded count) t × Stands capacity new t
 encoded_stands capacity w s stream fields count new st size h =
-    let held : length (w.encoder_stream.bytes ++ flat_map encoder_bytes (instructions_for s.encoder fields)) < 2 ^ 63 =
-    subst (λ x. length (w.encoder_stream.bytes ++ flat_map encoder_bytes (instructions_for x fields)) < 2 ^ 63) st.encoder (subst (λ (x : ExchangeHistory). length x.encoder_stream.bytes < 2 ^ 63) h.3 h.1.few) in
-    let encoder_after = instructions_written s.encoder fields st.sound.small h.1.are_bytes size (omega (arith, held, length-append w.encoder_stream.bytes (flat_map encoder_bytes (instructions_for s.encoder fields)))) in
-    let section : length (encoded_section s.encoder fields) < 2 ^ 63 = subst (λ x. length (encoded_section x fields) < 2 ^ 63) st.encoder h.2 in
-    let lines = lines_written s.encoder fields st.sound.small h.1.are_bytes size
-    (omega (arith, section, length-append (prefix_bytes s.encoder.capacity (required_insert_count (draft_of s.encoder fields)) (length s.encoder.inserted)) (flat_map line_bytes (draft_of s.encoder fields).lines))) in
-    let one : UndecodedSection = record { stream = stream; fields = fields; encoder = s.encoder } in (
+    let by = writing_on s.encoder stream in
+    let same : writing_on w.encoder stream ≡ by = ap (λ x. writing_on x stream) st.encoder in
+    let small : length by.inserted < 2 ^ 62 = omega (arith, st.sound.small, ap length (on_inserted s.encoder stream)) in
+    let held : length (w.encoder_stream.bytes ++ flat_map encoder_bytes (instructions_for by fields)) < 2 ^ 63 =
+    subst (λ x. length (w.encoder_stream.bytes ++ flat_map encoder_bytes (instructions_for x fields)) < 2 ^ 63) same (subst (λ (x : ExchangeHistory). length x.encoder_stream.bytes < 2 ^ 63) h.3 h.1.few) in
+    let encoder_after = instructions_written by fields small h.1.are_bytes size (omega (arith, held, length-append w.encoder_stream.bytes (flat_map encoder_bytes (instructions_for by fields)))) in
+    let section : length (encoded_section by fields) < 2 ^ 63 = subst (λ x. length (encoded_section x fields) < 2 ^ 63) same h.2 in
+    let lines = lines_written by fields small h.1.are_bytes size
+    (omega (arith, section, length-append (prefix_bytes by.capacity (required_insert_count (draft_of by fields)) (length by.inserted)) (flat_map line_bytes (draft_of by fields).lines))) in
+    let one : UndecodedSection = record { stream = stream; fields = fields; encoder = by } in (
       encoded s stream fields,
-      (refl, h.0 ∙ ap (λ x. required_insert_count (draft_of x fields)) st.encoder),
+      (refl, h.0 ∙ ap (λ x. required_insert_count (draft_of x fields)) same),
       subst (λ x. Stands capacity x (encoded s stream fields)) (sym h.3) (record {
         sound = section_written s stream fields st.sound;
         encoder = ap (λ x. sent_section x stream fields) st.encoder;
         capacity_is = st.capacity_is;
         count = st.count;
-        encoder_stream = subst (λ x. EncoderStream capacity (s.instructions ++ instructions_for s.encoder fields) (writing w.encoder_stream (flat_map encoder_bytes (instructions_for x fields))) w.decoder st.count) (sym st.encoder)
-            (encoder_stream_more capacity s.instructions (instructions_for s.encoder fields) w.encoder_stream w.decoder st.count st.encoder_stream encoder_after);
+        encoder_stream = subst (λ x. EncoderStream capacity (s.instructions ++ instructions_for by fields) (writing w.encoder_stream (flat_map encoder_bytes (instructions_for x fields))) w.decoder st.count) (sym same)
+            (encoder_stream_more capacity s.instructions (instructions_for by fields) w.encoder_stream w.decoder st.count st.encoder_stream encoder_after);
         received = st.received;
         decoder_stream = st.decoder_stream;
-        sections = ap (λ bs. bs ++ record { stream = stream; bytes = encoded_section w.encoder fields } ∷ []) st.sections
-            ∙ ap (λ x. map encoded_section_of s.sections ++ record { stream = stream; bytes = encoded_section x fields } ∷ []) st.encoder ∙ sym (map-append encoded_section_of s.sections (one ∷ []));
-        written = All-join (IsRunSection capacity) s.sections (one ∷ []) st.written (record { lines = lines; base = st.sound.small; capacity_is = st.capacity_is }, tt);
+        sections = ap (λ bs. bs ++ record { stream = stream; bytes = encoded_section (writing_on w.encoder stream) fields } ∷ []) st.sections
+            ∙ ap (λ x. map encoded_section_of s.sections ++ record { stream = stream; bytes = encoded_section x fields } ∷ []) same ∙ sym (map-append encoded_section_of s.sections (one ∷ []));
+        written = All-join (IsRunSection capacity) s.sections (one ∷ []) st.written (record { lines = lines; base = small; capacity_is = λ above. on_capacity s.encoder stream fields above ∙ st.capacity_is }, tt);
         canceled = st.canceled;
       }),
     )
@@ -171,19 +176,22 @@ cut_stands : (capacity : ℕ) (w : ExchangeHistory) (s : Session) (stream : ℕ)
     → (t : Session) × EncodesTo s stream fields (answer.Refused e) t × Stands capacity new t
 cut_stands capacity w s stream fields e new st size h =
     let front = take h.1.0 fields in
-    let bytes : length (w.encoder_stream.bytes ++ flat_map encoder_bytes (instructions_for s.encoder front)) < 2 ^ 63 =
-    subst (λ x. length (w.encoder_stream.bytes ++ flat_map encoder_bytes (instructions_for x front)) < 2 ^ 63) st.encoder (subst (λ (x : ExchangeHistory). length x.encoder_stream.bytes < 2 ^ 63) h.1.3 h.1.2.few) in
-    let encoder_after = instructions_written s.encoder front st.sound.small h.1.2.are_bytes (omega (arith, size, sum_by-take-le field_size fields h.1.0))
-    (omega (arith, bytes, length-append w.encoder_stream.bytes (flat_map encoder_bytes (instructions_for s.encoder front)))) in (
-      without_section s front,
+    let by = writing_on s.encoder stream in
+    let same : writing_on w.encoder stream ≡ by = ap (λ x. writing_on x stream) st.encoder in
+    let small : length by.inserted < 2 ^ 62 = omega (arith, st.sound.small, ap length (on_inserted s.encoder stream)) in
+    let bytes : length (w.encoder_stream.bytes ++ flat_map encoder_bytes (instructions_for by front)) < 2 ^ 63 =
+    subst (λ x. length (w.encoder_stream.bytes ++ flat_map encoder_bytes (instructions_for x front)) < 2 ^ 63) same (subst (λ (x : ExchangeHistory). length x.encoder_stream.bytes < 2 ^ 63) h.1.3 h.1.2.few) in
+    let encoder_after = instructions_written by front small h.1.2.are_bytes (omega (arith, size, sum_by-take-le field_size fields h.1.0))
+    (omega (arith, bytes, length-append w.encoder_stream.bytes (flat_map encoder_bytes (instructions_for by front)))) in (
+      without_section s stream front,
       (h.0, (h.1.0, h.1.1, refl)),
-      subst (λ x. Stands capacity x (without_section s front)) (sym h.1.3) (record {
-        sound = insertions_kept s front st.sound;
-        encoder = ap (λ (x : EncoderHistory). record x { inserted = (draft_of x front).inserted }) st.encoder;
+      subst (λ x. Stands capacity x (without_section s stream front)) (sym h.1.3) (record {
+        sound = insertions_kept s stream front st.sound;
+        encoder = ap (λ (x : EncoderHistory). record x { inserted = (draft_of (writing_on x stream) front).inserted }) st.encoder;
         capacity_is = st.capacity_is;
         count = st.count;
-        encoder_stream = subst (λ x. EncoderStream capacity (s.instructions ++ instructions_for s.encoder front) (writing w.encoder_stream (flat_map encoder_bytes (instructions_for x front))) w.decoder st.count) (sym st.encoder)
-            (encoder_stream_more capacity s.instructions (instructions_for s.encoder front) w.encoder_stream w.decoder st.count st.encoder_stream encoder_after);
+        encoder_stream = subst (λ x. EncoderStream capacity (s.instructions ++ instructions_for by front) (writing w.encoder_stream (flat_map encoder_bytes (instructions_for x front))) w.decoder st.count) (sym same)
+            (encoder_stream_more capacity s.instructions (instructions_for by front) w.encoder_stream w.decoder st.count st.encoder_stream encoder_after);
         received = st.received;
         decoder_stream = st.decoder_stream;
         sections = st.sections;
@@ -320,7 +328,11 @@ decoder_stream_step capacity w s more new st d =
 pub decoder_stream_stands : (capacity : ℕ) (w : ExchangeHistory) (s : Session) (more : ℕ) (a : SessionAnswer) (new : ExchangeHistory) → Stands capacity w s → DeliversToEncoder w more a new → (t : Session) × DeliversDecoderInstructions s a t × Stands capacity new t
 decoder_stream_stands capacity w s more (answer.Short most) new st h = (s, refl, subst (λ x. Stands capacity x s) (sym h.2) st)
 decoder_stream_stands capacity w s more answer.Delivered new st h = let b = decoder_stream_step capacity w s more new st h.0 in (heard_so s b.0, (b.0, refl), b.1)
-decoder_stream_stands capacity w s more (answer.Refused (of.Encoder e)) new st h = let b = decoder_stream_step capacity w s more new st h.0 in absurd (b.2 h.1)
+decoder_stream_stands capacity w s more (answer.Refused (of.Encoder e)) new st h = by_kind h.1
+  where
+    by_kind : IsLeft new.encoder h.0.left e → (t : Session) × DeliversDecoderInstructions s (answer.Refused (of.Encoder e)) t × Stands capacity new t
+    by_kind (inl refused) = let b = decoder_stream_step capacity w s more new st h.0 in absurd (b.2 refused)
+    by_kind (inr lacks) = let b = decoder_stream_step capacity w s more new st h.0 in (heard_so s b.0, (ap of.Encoder lacks.memory, (b.0, refl)), b.1)
 decoder_stream_stands capacity w s more (answer.Refused (of.Decoder e)) new st h = absurd h
 decoder_stream_stands capacity w s more (answer.Encoded count) new st h = absurd h
 decoder_stream_stands capacity w s more (answer.Decoded fs) new st h = absurd h
@@ -404,7 +416,7 @@ tried capacity w s stream st h =
       of_stream = at.of_stream;
       alive = subst (λ n. is_canceled s n ≡ false) (sym at.of_stream) alive;
       alive_there = alive;
-      written = record { lines = own.lines; base = own.base; capacity = λ above. own.capacity_is ∙ sym st.capacity_is };
+      written = record { lines = own.lines; base = own.base; capacity = λ above. own.capacity_is above ∙ sym st.capacity_is };
       decoder = decoder_is capacity w s st;
     }
 

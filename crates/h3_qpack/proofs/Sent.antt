@@ -1,5 +1,5 @@
 -- A field section that is written whole: what is kept of it.
-use Rattle.std.proofs.Common.{◌≡◌, ◌⊎◌, inl, inr, ℕ, ◌-◌, ◌^◌, ◌<◌, ◌≤◌, Bool, true, false, List, [], ◌∷◌, ◌++◌, length, take, min, max, map, filter, fold, refl, sym, ◌∙◌, ap, arith, append-nil, append_assoc, nat_lt, if◌then◌else◌}
+use Rattle.std.proofs.Common.{◌≡◌, ◌⊎◌, inl, inr, ℕ, ◌-◌, ◌^◌, ◌<◌, ◌≤◌, Bool, true, false, List, [], ◌∷◌, ◌++◌, length, take, min, max, map, filter, fold, flat_map, refl, sym, ◌∙◌, ap, subst, arith, append-nil, append_assoc, nat_lt, if◌then◌else◌}
 use Rattle.std.specs.Prelude.{◌==◌}
 use Rattle.std.proofs.lemmas.Grind.{common_steps}
 use Rattle.std.proofs.lemmas.List.{map-append, take_all}
@@ -8,16 +8,18 @@ use Rattle.std.proofs.lemmas.List.Sums.{sum_by-cons}
 use Rattle.h3_field.specs.Field.{Field, field_size, section_size}
 use Rattle.std.specs.List.{AllByRecursion}
 use Rattle.h3_field.specs.ReadBack.{IsFieldOfBytes}
+use Rattle.h3_field.specs.Instruction.{encoder_bytes}
 use Rattle.h3_field.specs.Prefix.{prefix_bytes}
 use Rattle.h3_field.specs.PrefixReading.{EncodedPrefix}
 use Rattle.h3_field.specs.PrefixWriting.{written_prefix, encoded_bytes}
 use Rattle.h3_field.proofs.PrefixReadBack.{prefix_is_written}
-use Rattle.h3_qpack.specs.EncoderHistory.{EncoderHistory, UnacknowledgedSection}
+use Rattle.h3_qpack.specs.EncoderHistory.{EncoderHistory, UnacknowledgedSection, writing_on}
 use Rattle.h3_qpack.specs.EncoderState.{EncoderState, encoder_state, tracked_section, encoder_state_sent, least}
-use Rattle.h3_qpack.specs.SectionEncoding.{Draft, draft_of, required_insert_count, encoded_section, sent_section}
+use Rattle.h3_qpack.specs.SectionEncoding.{Draft, draft_of, required_insert_count, encoded_section, instructions_for, sent_section}
 use Rattle.h3_qpack.specs.Drafting.{IsDraftState, IsDrafted, IsOver, IsSmall, IsSent, IsCutOff, begun, oldest_of}
 use Rattle.h3_qpack.specs.declared.section.Section.{Section}
 use Rattle.h3_qpack.proofs.EncoderStates.{blocking_counted}
+use Rattle.h3_qpack.proofs.Canceled.{sent_draft}
 
 -- a section that names an entry is over a table that can have one
 one_fits : (fs : List Field) → 0 < length fs → 32 ≤ section_size fs
@@ -137,11 +139,11 @@ sent_plain s d stream t section k none =
     ∙ ap (λ ts. record (encoder_state (record s { inserted = d.inserted })) { blocking_counts = filter (λ c. nat_lt s.known_received c) (s.required_insert_counts ++ required_insert_count d ∷ []); tracked = ts })
     (tracked_same (required_insert_count d == 0) (record { stream = stream; references = d.references } ∷ []) s.tracked none_named)
 
--- The section and its instructions were written.
-pub section_sent : (s : EncoderHistory) (stream : ℕ) (fields : List Field) (t new : EncoderState) (section : Section) (lines before encoded start instruction_bytes : List ℕ) → IsDrafted s (draft_of s fields) t section lines start instruction_bytes
-    → encoded ≡ before ++ (prefix_bytes t.table.capacity section.newest section.base ++ lines) → new ≡ encoder_state (sent_section s stream fields)
+-- The section and its instructions were written, on a stream that is not canceled.
+pub section_sent : (s : EncoderHistory) (stream : ℕ) (fields : List Field) (t new : EncoderState) (section : Section) (lines before encoded start instruction_bytes : List ℕ) → writing_on s stream ≡ s → IsDrafted s (draft_of s fields) t section lines start instruction_bytes
+    → encoded ≡ before ++ (prefix_bytes t.table.capacity section.newest section.base ++ lines) → new ≡ encoder_state (sent_draft s stream (draft_of s fields))
     → AllByRecursion IsFieldOfBytes fields → IsSent s stream fields section.newest new before encoded start instruction_bytes
-section_sent s stream fields t new section lines before encoded start instruction_bytes h is kept are_bytes =
+section_sent s stream fields t new section lines before encoded start instruction_bytes own h is kept are_bytes =
     let d = draft_of s fields in
     let capacity : t.table.capacity ≡ s.capacity = ap (λ (u : EncoderState). u.table.capacity) h.state.stores in
     let prefix : prefix_bytes t.table.capacity section.newest section.base ≡ prefix_bytes s.capacity (required_insert_count d) (length s.inserted) =
@@ -149,15 +151,19 @@ section_sent s stream fields t new section lines before encoded start instructio
     let body : prefix_bytes t.table.capacity section.newest section.base ++ lines ≡ encoded_section s fields =
     ap (λ p. p ++ lines) prefix ∙ ap (λ ls. prefix_bytes s.capacity (required_insert_count d) (length s.inserted) ++ ls) h.lines_are in
     record {
-      stores = kept;
-      count_is = h.state.newest;
+      stores = kept ∙ ap (λ by. encoder_state (sent_draft s stream (draft_of by fields))) (sym own);
+      count_is = h.state.newest ∙ ap (λ by. required_insert_count (draft_of by fields)) (sym own);
       are_bytes = are_bytes;
-      encoded_is = is ∙ ap (λ b. before ++ b) body;
-      instructions_are = h.instructions_are;
+      encoded_is = is ∙ ap (λ b. before ++ b) body ∙ ap (λ by. before ++ encoded_section by fields) (sym own);
+      instructions_are = h.instructions_are ∙ ap (λ by. start ++ flat_map encoder_bytes (instructions_for by fields)) (sym own);
     }
 
+-- A section that is cut off is so on a stream that is not canceled.
+pub other_cut_off : (s : EncoderHistory) (stream : ℕ) (fields : List Field) (t : EncoderState) (start instruction_bytes : List ℕ) → writing_on s stream ≡ s → IsCutOff s s fields t start instruction_bytes → IsCutOff s (writing_on s stream) fields t start instruction_bytes
+other_cut_off s stream fields t start instruction_bytes own h = subst (λ by. IsCutOff s by fields t start instruction_bytes) (sym own) h
+
 -- A section whose fields are all written is cut off behind the last.
-pub whole_cut_off : (s : EncoderHistory) (fields : List Field) (t new : EncoderState) (section : Section) (lines start instruction_bytes : List ℕ) → IsDrafted s (draft_of s fields) t section lines start instruction_bytes → AllByRecursion IsFieldOfBytes fields → new ≡ t → IsCutOff s fields new start instruction_bytes
+pub whole_cut_off : (s : EncoderHistory) (fields : List Field) (t new : EncoderState) (section : Section) (lines start instruction_bytes : List ℕ) → IsDrafted s (draft_of s fields) t section lines start instruction_bytes → AllByRecursion IsFieldOfBytes fields → new ≡ t → IsCutOff s s fields new start instruction_bytes
 whole_cut_off s fields t new section lines start instruction_bytes h are_bytes same =
     let all : take (length fields) fields ≡ fields = take_all (length fields) fields (omega arith) in
     record { front = length fields; within = omega arith; are_bytes = rw all are_bytes; stores = same ∙ rw all h.state.stores; instructions_are = rw all h.instructions_are }

@@ -10,8 +10,9 @@ use Rattle.h3_field.specs.Field.{Field}
 use Rattle.h3_field.specs.Instruction.{DecoderInstruction}
 use Rattle.h3_field.specs.Instruction.DecoderInstruction.{Acknowledge, CancelStream, Increment}
 use Rattle.h3_qpack.specs.Table.{evictions}
-use Rattle.h3_qpack.specs.EncoderHistory.{EncoderHistory, UnacknowledgedSection, released, blocks_out}
-use Rattle.h3_qpack.specs.SectionEncoding.{draft_of, required_insert_count}
+use Rattle.h3_qpack.specs.EncoderHistory.{EncoderHistory, UnacknowledgedSection, released, without_stream, was_canceled, writing_on, blocks_out}
+use Rattle.h3_qpack.specs.SectionEncoding.{Draft, draft_of, required_insert_count}
+use Rattle.h3_qpack.proofs.Canceled.{canceled_more, on_static, on_other, sent_draft}
 use Rattle.h3_qpack.proofs.Insertions.{section_read_as}
 use Rattle.h3_qpack.proofs.Drafts.{All-join, All-first, All-second, draft_is_draft, IsNamed}
 use Rattle.h3_qpack.specs.Schedule.{without_section}
@@ -64,6 +65,25 @@ fewer_out [] known later le = omega arith
 fewer_out (c ∷ cs) known later le =
     grind (arith, common_steps, fewer_out cs known later le, sum_by-cons (λ c. if nat_lt later c then 1 else 0) c cs, sum_by-cons (λ c. if nat_lt known c then 1 else 0) c cs)
 
+-- all sections of a stream go, and those of other streams stay
+without_own : (stream : ℕ) (bs : List UnacknowledgedSection) → tracked_references stream (without_stream stream bs) ≡ []
+without_own stream [] = refl
+without_own stream (b ∷ bs) = by_test (b.stream == stream) refl (without_own stream bs)
+  where
+    by_test : (t : Bool) → (b.stream == stream) ≡ t → tracked_references stream (without_stream stream bs) ≡ []
+        → tracked_references stream (cond (not t) (b ∷ without_stream stream bs) (without_stream stream bs)) ≡ []
+    by_test true e h = h
+    by_test false e h = rw e h
+
+without_others : (stream other : ℕ) (bs : List UnacknowledgedSection) → stream ≢ other → tracked_references other (without_stream stream bs) ≡ tracked_references other bs
+without_others stream other [] ne = refl
+without_others stream other (b ∷ bs) ne = by_test (b.stream == stream) refl (without_others stream other bs ne)
+  where
+    by_test : (t : Bool) → (b.stream == stream) ≡ t → tracked_references other (without_stream stream bs) ≡ tracked_references other bs
+        → tracked_references other (cond (not t) (b ∷ without_stream stream bs) (without_stream stream bs)) ≡ (if b.stream == other then b.references ∷ tracked_references other bs else tracked_references other bs)
+    by_test true e h = let no : (b.stream == other) ≡ false = grind (arith, common_steps) in rw (no, h) refl
+    by_test false e h = rw h refl
+
 -- the increments are read: what is known grows
 increment_read : (s : Session) (count : ℕ) (rest : List DecoderInstruction) → s.decoder_instructions ≡ Increment count ∷ rest → IsSound s → IsSound (after_decoder_instruction s (Increment count) rest)
 increment_read s count rest is h =
@@ -79,6 +99,7 @@ increment_read s count rest is h =
       acknowledged = λ stream. omega (arith, h.acknowledged stream, acks stream);
       written = h.written;
       cancels = subst (CancelsAreLast s.canceled) is h.cancels;
+      untracked = h.untracked;
       within_limit = omega (arith, h.within_limit, fewer_out s.encoder.required_insert_counts s.encoder.known_received (min (s.encoder.known_received + count) (2 ^ 64 - 1)) (omega (arith, exact)));
       read = h.read;
       small = h.small;
@@ -105,6 +126,7 @@ insertions_read s count fits h =
       acknowledged = λ stream. omega (arith, h.acknowledged stream, acks stream);
       written = h.written;
       cancels = cancels_more s.canceled s.decoder_instructions count h.cancels;
+      untracked = h.untracked;
       within_limit = h.within_limit;
       read = h.read;
       small = h.small;
@@ -127,6 +149,22 @@ released_entries : (P : ℕ → Type 0) (stream : ℕ) (bs : List Unacknowledged
 released_entries P stream [] h = h
 released_entries P stream (b ∷ bs) h = released_first P stream b bs (b.stream == stream) (All-second P b.references (flat_map (λ b. b.references) bs) h)
     (All-join P b.references (flat_map (λ b. b.references) (released stream bs)) (All-first P b.references (flat_map (λ b. b.references) bs) h) (released_entries P stream bs (All-second P b.references (flat_map (λ b. b.references) bs) h)))
+
+-- the sections of other streams name less
+without_entries : (P : ℕ → Type 0) (stream : ℕ) (bs : List UnacknowledgedSection) → AllByRecursion P (flat_map (λ b. b.references) bs) → AllByRecursion P (flat_map (λ b. b.references) (without_stream stream bs))
+without_entries P stream [] h = h
+without_entries P stream (b ∷ bs) h = by_test (not (b.stream == stream)) (without_entries P stream bs (All-second P b.references (flat_map (λ b. b.references) bs) h))
+  where
+    by_test : (t : Bool) → AllByRecursion P (flat_map (λ b. b.references) (without_stream stream bs)) → AllByRecursion P (flat_map (λ b. b.references) (cond t (b ∷ without_stream stream bs) (without_stream stream bs)))
+    by_test true k = All-join P b.references (flat_map (λ b. b.references) (without_stream stream bs)) (All-first P b.references (flat_map (λ b. b.references) bs) h) k
+    by_test false k = k
+
+-- a stream without sections has none less
+none_released : (stream other : ℕ) (bs : List UnacknowledgedSection) → tracked_references other bs ≡ [] → tracked_references other (released stream bs) ≡ []
+none_released stream other bs none = ⊎_elim
+    (λ e. subst (λ n. tracked_references n bs ≡ [] → tracked_references n (released stream bs) ≡ []) e (λ k. released_names stream bs ∙ ap (drop 1) k) none)
+    (λ ne. released_others stream other bs ne ∙ none)
+    (cases_eq stream other)
 
 -- an acknowledgment is read: the stream's oldest section is released
 acknowledgment_read : (s : Session) (stream : ℕ) (rest : List DecoderInstruction) → s.decoder_instructions ≡ Acknowledge stream ∷ rest → IsSound s → IsSound (after_decoder_instruction s (Acknowledge stream) rest)
@@ -154,22 +192,23 @@ acknowledgment_read s stream rest is h =
           (cases_eq stream other);
       written = h.written;
       cancels = subst (CancelsAreLast s.canceled) is h.cancels;
+      untracked = λ other canceled. none_released stream other s.encoder.tracked (h.untracked other canceled);
       within_limit = h.within_limit;
       read = h.read;
       small = h.small;
     }
 
--- a cancellation is read: the stream's two oldest sections are released, and no acknowledgment of it is under way
+-- a cancellation is read: the stream's sections are released, and no acknowledgment of it is under way
 cancellation_read : (s : Session) (stream : ℕ) (rest : List DecoderInstruction) → s.decoder_instructions ≡ CancelStream stream ∷ rest → IsSound s → IsSound (after_decoder_instruction s (CancelStream stream) rest)
 cancellation_read s stream rest is h =
     let last : (is_canceled s stream ≡ true) × (acknowledgments stream rest ≡ 0) × CancelsAreLast s.canceled rest = subst (CancelsAreLast s.canceled) is h.cancels in
-    let others : (other : ℕ) → stream ≢ other → tracked_references other (released stream (released stream s.encoder.tracked)) ≡ tracked_references other s.encoder.tracked =
-    λ other ne. released_others stream other (released stream s.encoder.tracked) ne ∙ released_others stream other s.encoder.tracked ne in
+    let others : (other : ℕ) → stream ≢ other → tracked_references other (without_stream stream s.encoder.tracked) ≡ tracked_references other s.encoder.tracked =
+    λ other ne. without_others stream other s.encoder.tracked ne in
     record {
       received = h.received;
       accounted = subst (λ decoder_instructions. s.encoder.known_received + increments decoder_instructions ≡ s.received) is h.accounted;
       evictions_known = h.evictions_known;
-      references_present = released_entries _ stream (released stream s.encoder.tracked) (released_entries _ stream s.encoder.tracked h.references_present);
+      references_present = without_entries _ stream s.encoder.tracked h.references_present;
       tracked = λ other alive. ⊎_elim
           (λ e. let both : true ≡ false = sym last.0 ∙ subst (λ t. is_canceled s t ≡ false) (sym e) alive in cc)
           (λ ne. ap (drop (acknowledgments other rest)) (others other ne)
@@ -177,15 +216,22 @@ cancellation_read s stream rest is h =
           ∙ h.tracked other alive)
           (cases_eq stream other);
       acknowledged = λ other. ⊎_elim
-          (λ e. subst (λ t. acknowledgments t rest ≤ length (tracked_references t (released stream (released stream s.encoder.tracked)))) e (omega (arith, last.1)))
+          (λ e. subst (λ t. acknowledgments t rest ≤ length (tracked_references t (without_stream stream s.encoder.tracked))) e (omega (arith, last.1)))
           (λ ne. omega (arith, h.acknowledged other, ap length (others other ne), ap (acknowledgments other) is))
           (cases_eq stream other);
       written = h.written;
       cancels = last.2;
+      untracked = λ other canceled. ⊎_elim
+          (λ e. subst (λ t. tracked_references t (without_stream stream s.encoder.tracked) ≡ []) e (without_own stream s.encoder.tracked))
+          (λ ne. others other ne ∙ h.untracked other (sym (another stream other ne (was_canceled s.encoder other)) ∙ sym (canceled_more stream other s.encoder.canceled) ∙ canceled))
+          (cases_eq stream other);
       within_limit = h.within_limit;
       read = h.read;
       small = h.small;
     }
+  where
+    another : (stream other : ℕ) → stream ≢ other → (b : Bool) → ((stream == other) || b) ≡ b
+    another stream other ne b = let no : (stream == other) ≡ false = grind (arith, common_steps) in rw no refl
 
 -- the encoder reads whatever the decoder wrote
 pub reply_read : (s : Session) (instruction : DecoderInstruction) (rest : List DecoderInstruction) → s.decoder_instructions ≡ instruction ∷ rest → IsSound s → IsSound (after_decoder_instruction s instruction rest)
@@ -266,9 +312,66 @@ longer_written fs gs more e (b ∷ bs) h = (
   longer_written fs gs more e bs h.1,
 )
 
--- a section is written
-pub section_written : (s : Session) (stream : ℕ) (fields : List Field) → IsSound s → IsSound (encoded s stream fields)
-section_written s stream fields h =
+-- a section of a stream, as a draft says
+abbrev encoded_by : Session → ℕ → List Field → EncoderHistory → Draft → Session
+encoded_by s stream fields by draft =
+    record s {
+      encoder = sent_draft s.encoder stream draft;
+      instructions = s.instructions ++ draft.instructions;
+      sections = s.sections ++ record { stream = stream; fields = fields; encoder = by } ∷ [];
+    }
+
+not_own : (b : Bool) (n : ℕ) (names : List ℕ) → n ≡ 0 → (if b && nat_lt 0 n then names ∷ [] else []) ≡ []
+not_own true n names none = rw none refl
+not_own false n names none = refl
+
+-- a section of a stream whose cancellation was read: it names nothing
+plain_written : (s : Session) (one : UndecodedSection) → (draft_of one.encoder one.fields).inserted ≡ s.encoder.inserted → count_of one ≡ 0 → IsSound s
+    → IsSound (record s { encoder = record s.encoder { required_insert_counts = s.encoder.required_insert_counts ++ 0 ∷ [] }; sections = s.sections ++ one ∷ [] })
+plain_written s one same none h =
+    record {
+      received = h.received;
+      accounted = h.accounted;
+      evictions_known = h.evictions_known;
+      references_present = h.references_present;
+      tracked = λ other alive.
+          h.tracked other alive
+          ∙ sym (undecoded_references-append other s.sections (one ∷ []) ∙ ap (λ names. undecoded_references other s.sections ++ names) (not_own (one.stream == other) (count_of one) (references_of one) none)
+          ∙ append-nil (undecoded_references other s.sections));
+      acknowledged = h.acknowledged;
+      written = All-join (IsWrittenOver s.encoder.inserted) s.sections (one ∷ []) h.written (record { more = []; begins = sym (append-nil _ ∙ same) }, tt);
+      cancels = h.cancels;
+      untracked = h.untracked;
+      within_limit = one_more_out s.encoder 0 h.within_limit (λ lt. absurd (omega (arith, lt)));
+      read = h.read;
+      small = h.small;
+    }
+
+canceled_written : (s : Session) (stream : ℕ) (fields : List Field) → was_canceled s.encoder stream ≡ true → IsSound s → IsSound (encoded s stream fields)
+canceled_written s stream fields e h =
+    let static = on_static s.encoder stream fields e in
+    let one : UndecodedSection = record { stream = stream; fields = fields; encoder = writing_on s.encoder stream } in
+    let plain : Session = record s { encoder = record s.encoder { required_insert_counts = s.encoder.required_insert_counts ++ 0 ∷ [] }; sections = s.sections ++ one ∷ [] } in
+    let same : encoded s stream fields ≡ plain =
+    ap (encoded_by s stream fields (writing_on s.encoder stream)) static ∙ rw (append-nil s.instructions, append-nil s.encoder.tracked) refl in
+    subst IsSound (sym same) (plain_written s one (ap (λ (d : Draft). d.inserted) static) (ap required_insert_count static) h)
+
+-- a tracked section is of a stream that is not canceled
+still_untracked : (s : Session) (stream : ℕ) (draft : Draft) → was_canceled s.encoder stream ≡ false → IsSound s → (other : ℕ) → was_canceled s.encoder other ≡ true
+    → tracked_references other (sent_draft s.encoder stream draft).tracked ≡ []
+still_untracked s stream draft e h other canceled =
+    tracked_references-append other s.encoder.tracked (if required_insert_count draft == 0 then [] else record { stream = stream; references = draft.references } ∷ [])
+    ∙ ap (λ names. names ++ tracked_references other (if required_insert_count draft == 0 then [] else record { stream = stream; references = draft.references } ∷ [])) (h.untracked other canceled)
+    ∙ same_section other stream (required_insert_count draft) draft.references ∙ rw (no (stream == other) refl) refl
+  where
+    no : (b : Bool) → (stream == other) ≡ b → (stream == other) ≡ false
+    no true k =
+        let same : stream ≡ other = grind (arith, common_steps) in
+        let both : false ≡ true = sym e ∙ ap (was_canceled s.encoder) same ∙ canceled in cc
+    no false k = k
+
+other_written : (s : Session) (stream : ℕ) (fields : List Field) → was_canceled s.encoder stream ≡ false → IsSound s → IsSound (encoded_by s stream fields s.encoder (draft_of s.encoder fields))
+other_written s stream fields e h =
     let d = draft_is_draft s.encoder fields h.references_present in
     let draft = draft_of s.encoder fields in
     record {
@@ -292,10 +395,19 @@ section_written s stream fields h =
           (longer_written s.encoder.inserted draft.inserted d.more d.begins s.sections h.written)
           (record { more = []; begins = sym (append-nil draft.inserted) }, tt);
       cancels = h.cancels;
+      untracked = still_untracked s stream draft e h;
       within_limit = one_more_out s.encoder (required_insert_count draft) h.within_limit (may_block s.encoder draft.inserted draft.references 0 (omega arith) d.references);
       read = section_read_as s.encoder.capacity s.encoder s.instructions fields h.read;
       small = d.small h.small;
     }
+
+-- a section is written
+pub section_written : (s : Session) (stream : ℕ) (fields : List Field) → IsSound s → IsSound (encoded s stream fields)
+section_written s stream fields h = by_test (was_canceled s.encoder stream) refl
+  where
+    by_test : (b : Bool) → was_canceled s.encoder stream ≡ b → IsSound (encoded s stream fields)
+    by_test true e = canceled_written s stream fields e h
+    by_test false e = subst (λ by. IsSound (encoded_by s stream fields by (draft_of by fields))) (sym (on_other s.encoder stream e)) (other_written s stream fields e h)
 
 -- the oldest section of a stream goes: of the names under way its own are the first
 pub taken_names : (stream : ℕ) (sections : List UndecodedSection) (b : UndecodedSection) → oldest stream sections ≡ Some b
@@ -378,6 +490,7 @@ plain_decoded s b none is h =
       acknowledged = λ other. rw same (h.acknowledged other);
       written = without_written (IsWrittenOver s.encoder.inserted) b.stream s.sections h.written;
       cancels = rw same h.cancels;
+      untracked = h.untracked;
       within_limit = h.within_limit;
       read = h.read;
       small = h.small;
@@ -414,6 +527,7 @@ acknowledged_decoded s b some is alive h =
           (cases_eq b.stream other);
       written = without_written (IsWrittenOver s.encoder.inserted) b.stream s.sections h.written;
       cancels = cancels_without s.canceled s.decoder_instructions b.stream alive h.cancels;
+      untracked = h.untracked;
       within_limit = h.within_limit;
       read = h.read;
       small = h.small;
@@ -474,6 +588,7 @@ stream_abandoned s stream h =
       acknowledged = λ other. omega (arith, acks other, h.acknowledged other);
       written = kept_written (IsWrittenOver s.encoder.inserted) _ s.sections h.written;
       cancels = cancels_last s.canceled s.decoder_instructions stream h.cancels;
+      untracked = h.untracked;
       within_limit = h.within_limit;
       read = h.read;
       small = h.small;
@@ -483,8 +598,11 @@ stream_abandoned s stream h =
     same_no e = cc
 
 -- what was inserted for a section that doesn't go out
-pub insertions_kept : (s : Session) (fields : List Field) → IsSound s → IsSound (without_section s fields)
-insertions_kept s fields h =
+abbrev without_by : Session → Draft → Session
+without_by s draft = record s { encoder = record s.encoder { inserted = draft.inserted }; instructions = s.instructions ++ draft.instructions }
+
+other_kept : (s : Session) (fields : List Field) → IsSound s → IsSound (without_by s (draft_of s.encoder fields))
+other_kept s fields h =
     let d = draft_is_draft s.encoder fields h.references_present in
     let draft = draft_of s.encoder fields in
     record {
@@ -496,7 +614,17 @@ insertions_kept s fields h =
       acknowledged = h.acknowledged;
       written = longer_written s.encoder.inserted draft.inserted d.more d.begins s.sections h.written;
       cancels = h.cancels;
+      untracked = h.untracked;
       within_limit = h.within_limit;
       read = section_read_as s.encoder.capacity s.encoder s.instructions fields h.read;
       small = d.small h.small;
     }
+
+pub insertions_kept : (s : Session) (stream : ℕ) (fields : List Field) → IsSound s → IsSound (without_section s stream fields)
+insertions_kept s stream fields h = by_test (was_canceled s.encoder stream) refl
+  where
+    by_test : (b : Bool) → was_canceled s.encoder stream ≡ b → IsSound (without_section s stream fields)
+    by_test true e =
+        let same : without_section s stream fields ≡ s = ap (without_by s) (on_static s.encoder stream fields e) ∙ rw (append-nil s.instructions) refl in
+        subst IsSound (sym same) h
+    by_test false e = subst (λ by. IsSound (without_by s (draft_of by fields))) (sym (on_other s.encoder stream e)) (other_kept s fields h)

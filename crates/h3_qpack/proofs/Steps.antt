@@ -15,15 +15,15 @@ use Rattle.h3_field.specs.declared.encoder_error.EncoderError.TheVariants as enc
 use Rattle.h3_field.specs.declared.decoder_error.DecoderError.{DecoderError}
 use Rattle.h3_field.specs.declared.decoder_error.DecoderError.TheVariants as decoder_error
 use Rattle.h3_field.specs.declared.error.Error.TheVariants as of
-use Rattle.h3_qpack.specs.EncoderHistory.{EncoderHistory, encoder_after_all}
+use Rattle.h3_qpack.specs.EncoderHistory.{EncoderHistory, encoder_after_all, writing_on}
 use Rattle.h3_qpack.specs.EncoderState.{EncoderState, encoder_state}
 use Rattle.h3_qpack.specs.DecoderState.{DecoderState}
 use Rattle.h3_qpack.specs.Meaning.{MeansFields}
 use Rattle.h3_qpack.specs.SectionAnswers.{IsReasonFor, IsRefusal}
-use Rattle.h3_qpack.specs.Instructions.{HasRead, BeginsBad, BeginsRefused, AreDecoderInstructions}
-use Rattle.h3_qpack.specs.EncoderAnswers.{HasReadDecoderInstructions}
+use Rattle.h3_qpack.specs.Instructions.{HasRead, BeginsBad, AreDecoderInstructions}
+use Rattle.h3_qpack.specs.EncoderAnswers.{HasReadDecoderInstructions, IsLeft}
 use Rattle.h3_qpack.specs.Increments.{increment_for}
-use Rattle.h3_qpack.specs.SectionEncoding.{draft_of}
+use Rattle.h3_qpack.specs.SectionEncoding.{draft_of, instructions_for}
 use Rattle.h3_qpack.specs.Drafting.{IsCutOff}
 use Rattle.h3_qpack.specs.Exchange.{EncodedSection, EncoderReads, ExchangeHistory, ExchangeState, exchange_state, unread, undelivered, arriving, reading, writing, is_given_up, is_of, section_of, without_section_of, IsPlace, HasSection, IsEvent, Happens, Exchange, Before, Then, start, Encodes, DeliversToDecoder, DeliversToEncoder, Decodes, Cancels, giving_up, refused_section}
 use Rattle.h3_qpack.specs.declared.session.SessionEvent.{SessionEvent}
@@ -36,17 +36,18 @@ neither false b h = (refl, h)
 
 -- a section that was cut off
 pub encoding_cut : (w : ExchangeHistory) (k : ExchangeState) (stream : ℕ) (fields : List Field) (encoder : EncoderState) (bytes : List ℕ) (e : EncoderError) → k ≡ exchange_state w
-    → ((s : EncoderHistory) → k.encoder ≡ encoder_state s → IsCutOff s fields encoder k.encoder_stream.bytes bytes) → length bytes < 2 ^ 63 → e ≡ encoder_error.OutOfMemory
+    → ((s : EncoderHistory) → k.encoder ≡ encoder_state s → IsCutOff s (writing_on s stream) fields encoder k.encoder_stream.bytes bytes) → length bytes < 2 ^ 63 → e ≡ encoder_error.OutOfMemory
     → (new : ExchangeHistory) × Encodes w stream fields (answer.Refused (of.Encoder e)) new × (record k { encoder = encoder; encoder_stream = record k.encoder_stream { bytes = bytes } } ≡ exchange_state new)
 encoding_cut w k stream fields encoder bytes e same cut few is =
     let c = cut w.encoder (ap (λ (x : ExchangeState). x.encoder) same) in
-    let after : bytes ≡ w.encoder_stream.bytes ++ flat_map encoder_bytes (draft_of w.encoder (take c.front fields)).instructions =
-    c.instructions_are ∙ ap (λ bs. bs ++ flat_map encoder_bytes (draft_of w.encoder (take c.front fields)).instructions) (ap (λ (x : ExchangeState). x.encoder_stream.bytes) same) in (
+    let by = writing_on w.encoder stream in
+    let after : bytes ≡ w.encoder_stream.bytes ++ flat_map encoder_bytes (instructions_for by (take c.front fields)) =
+    c.instructions_are ∙ ap (λ bs. bs ++ flat_map encoder_bytes (instructions_for by (take c.front fields))) (ap (λ (x : ExchangeState). x.encoder_stream.bytes) same) in (
       _,
       (ap of.Encoder is, (c.front, c.within, record { are_bytes = c.are_bytes; few = subst (λ bs. length bs < 2 ^ 63) after few }, refl)),
       ap (λ (x : ExchangeState). record x { encoder = encoder; encoder_stream = record x.encoder_stream { bytes = bytes } }) same
           ∙ ap (λ s. record (exchange_state w) { encoder = s; encoder_stream = record w.encoder_stream { bytes = bytes } }) c.stores
-          ∙ ap (λ bs. record (exchange_state w) { encoder = encoder_state (record w.encoder { inserted = (draft_of w.encoder (take c.front fields)).inserted }); encoder_stream = record w.encoder_stream { bytes = bs } }) after,
+          ∙ ap (λ bs. record (exchange_state w) { encoder = encoder_state (record w.encoder { inserted = (draft_of by (take c.front fields)).inserted }); encoder_stream = record w.encoder_stream { bytes = bs } }) after,
     )
 
 -- bytes came to the decoder
@@ -140,11 +141,11 @@ decoder_stream_delivered w k count encoder left read same enough h read_is whole
     (c.new, (c.reads, ap decoder_instruction c.left_is ∙ whole), c.kept_is)
 
 pub decoder_stream_refused : (w : ExchangeHistory) (k : ExchangeState) (count : ℕ) (encoder : EncoderState) (left : List ℕ) (read : ℕ) (e : EncoderError) → k ≡ exchange_state w → count ≤ undelivered k.decoder_stream
-    → HasReadDecoderInstructions k.encoder encoder (unread (arriving k.decoder_stream count)) left → read ≡ k.decoder_stream.arrived + count - length left → ((s : EncoderHistory) → encoder ≡ encoder_state s → BeginsRefused s left)
+    → HasReadDecoderInstructions k.encoder encoder (unread (arriving k.decoder_stream count)) left → read ≡ k.decoder_stream.arrived + count - length left → ((s : EncoderHistory) → encoder ≡ encoder_state s → IsLeft s left e)
     → (new : ExchangeHistory) × DeliversToEncoder w count (answer.Refused (of.Encoder e)) new × (came_to_encoder k count encoder read ≡ exchange_state new)
 decoder_stream_refused w k count encoder left read e same enough h read_is refused =
     let c = decoder_stream_came w k count encoder left read same enough h read_is in
-    (c.new, (c.reads, subst (BeginsRefused c.new.encoder) (sym c.left_is) (refused c.new.encoder c.state_is)), c.kept_is)
+    (c.new, (c.reads, subst (λ bytes. IsLeft c.new.encoder bytes e) (sym c.left_is) (refused c.new.encoder c.state_is)), c.kept_is)
 
 -- a stream is given up
 pub given_up : (w : ExchangeHistory) (k : ExchangeState) (stream : ℕ) (decoder_stream canceled : List ℕ) (sections : List EncodedSection) → k ≡ exchange_state w → is_given_up k.canceled stream ≡ false

@@ -10,7 +10,7 @@ use Rattle.h3_field.specs.Instruction.{EncoderInstruction, encoder_bytes}
 use Rattle.h3_field.specs.Instruction.EncoderInstruction.{InsertWithStaticName, InsertWithEntryName, InsertLiteral, Duplicate}
 use Rattle.h3_qpack.specs.TableState.{TableState, evicted, newest_in, with_entry}
 use Rattle.h3_qpack.specs.Matches.{matches}
-use Rattle.h3_qpack.specs.EncoderHistory.{EncoderHistory, blocks_out}
+use Rattle.h3_qpack.specs.EncoderHistory.{EncoderHistory, blocks_out, writing_on}
 use Rattle.h3_qpack.specs.EncoderState.{EncoderState, encoder_state, MayInsertInto}
 use Rattle.h3_qpack.specs.SectionEncoding.{Draft, draft_of, required_insert_count, entry_name_line, encoded_section, instructions_for, sent_section}
 use Rattle.h3_qpack.specs.declared.entries.Match.TheVariants as what
@@ -133,19 +133,19 @@ pub record IsDrafted (s : EncoderHistory) (d : Draft) (t : EncoderState) (sectio
   pub lines_are : lines ≡ flat_map line_bytes d.lines
   pub instructions_are : instruction_bytes ≡ start ++ flat_map encoder_bytes d.instructions
 
--- The section was cut off behind some of its fields: what was inserted for them stays, and the instructions for that were
--- written behind what was there.
-pub record IsCutOff (s : EncoderHistory) (fields : List Field) (t : EncoderState) (start instruction_bytes : List ℕ) : Type 0 where
+-- The section, which is written by the other encoder, was cut off behind some of its fields: what was inserted for them stays,
+-- and the instructions for that were written behind what was there.
+pub record IsCutOff (s by : EncoderHistory) (fields : List Field) (t : EncoderState) (start instruction_bytes : List ℕ) : Type 0 where
   pub front : ℕ
   pub within : front ≤ length fields
   pub are_bytes : AllByRecursion IsFieldOfBytes (take front fields)
-  pub stores : t ≡ encoder_state (record s { inserted = (draft_of s (take front fields)).inserted })
-  pub instructions_are : instruction_bytes ≡ start ++ flat_map encoder_bytes (draft_of s (take front fields)).instructions
+  pub stores : t ≡ encoder_state (record s { inserted = (draft_of by (take front fields)).inserted })
+  pub instructions_are : instruction_bytes ≡ start ++ flat_map encoder_bytes (instructions_for by (take front fields))
 
 -- The section was written behind what was there, and its instructions behind what was there; it is counted and tracked.
 pub record IsSent (s : EncoderHistory) (stream : ℕ) (fields : List Field) (count : ℕ) (t : EncoderState) (before encoded start instruction_bytes : List ℕ) : Type 0 where
   pub stores : t ≡ encoder_state (sent_section s stream fields)
-  pub count_is : count ≡ required_insert_count (draft_of s fields)
+  pub count_is : count ≡ required_insert_count (draft_of (writing_on s stream) fields)
   pub are_bytes : AllByRecursion IsFieldOfBytes fields
-  pub encoded_is : encoded ≡ before ++ encoded_section s fields
-  pub instructions_are : instruction_bytes ≡ start ++ flat_map encoder_bytes (instructions_for s fields)
+  pub encoded_is : encoded ≡ before ++ encoded_section (writing_on s stream) fields
+  pub instructions_are : instruction_bytes ≡ start ++ flat_map encoder_bytes (instructions_for (writing_on s stream) fields)

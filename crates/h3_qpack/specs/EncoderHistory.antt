@@ -1,6 +1,8 @@
 -- What an encoder goes by: the insertions that it made, and what it read of the decoder.
-use Rattle.std.specs.Prelude.{ℕ, ◌+◌, ◌-◌, ◌^◌, min, Bool, false, not, List, [], ◌∷◌, flat_map, count_by, nat_lt, if◌then◌else◌, ◌==◌}
+use Rattle.std.specs.Prelude.{ℕ, ◌+◌, ◌-◌, ◌^◌, min, Bool, false, not, List, [], ◌∷◌, filter, flat_map, count_by, nat_lt, if◌then◌else◌, ◌==◌}
 use Rattle.std.specs.List.{list_any}
+use Rattle.std.specs.Ordering.{nat_cmp}
+use Rattle.std.specs.BTreeSet.{insert_key}
 use Rattle.h3_field.specs.Field.{Field}
 use Rattle.h3_field.specs.Instruction.{DecoderInstruction}
 use Rattle.h3_field.specs.Instruction.DecoderInstruction.{Acknowledge, CancelStream, Increment}
@@ -20,10 +22,12 @@ pub record EncoderHistory : Type 0 where
   -- the required counts of all sections written
   pub required_insert_counts : List ℕ
   pub tracked : List UnacknowledgedSection
+  -- the streams of which a cancellation was read, in increasing order
+  pub canceled : List ℕ
 
 -- an encoder that may not use a table
 abbrev pub no_table : EncoderHistory
-no_table = record { capacity = 0; limit = 0; inserted = []; known_received = 0; required_insert_counts = []; tracked = [] }
+no_table = record { capacity = 0; limit = 0; inserted = []; known_received = 0; required_insert_counts = []; tracked = []; canceled = [] }
 
 -- how many sections may still be blocked for insertions
 abbrev pub blocks_out : EncoderHistory → ℕ
@@ -38,11 +42,24 @@ abbrev pub released : ℕ → List UnacknowledgedSection → List Unacknowledged
 released stream [] = []
 released stream (section ∷ sections) = if section.stream == stream then sections else section ∷ released stream sections
 
+-- the sections without those of the stream
+abbrev pub without_stream : ℕ → List UnacknowledgedSection → List UnacknowledgedSection
+without_stream stream sections = filter (λ section. not (section.stream == stream)) sections
+
+-- A cancellation of the stream was read: nobody acknowledges what is sent on it from now on.
+abbrev pub was_canceled : EncoderHistory → ℕ → Bool
+was_canceled s stream = list_any (λ other. other == stream) s.canceled
+
+-- What a section on the stream is written by (RFC 9204, section 2.1.2): where a cancellation of the stream was read, an encoder
+-- of capacity 0 whose sections may not be blocked.
+abbrev pub writing_on : EncoderHistory → ℕ → EncoderHistory
+writing_on s stream = if was_canceled s stream then record s { capacity = 0; limit = 0 } else s
+
 -- the encoder after an instruction of the decoder. The known received count stops at the greatest number of 64 bits.
 -- That an increment is not 0, and not past what was sent (RFC 9204, section 4.4.3), is not enforced
 abbrev pub encoder_after : EncoderHistory → DecoderInstruction → EncoderHistory
 encoder_after s (Acknowledge stream) = record s { tracked = released stream s.tracked }
-encoder_after s (CancelStream stream) = record s { tracked = released stream (released stream s.tracked) }
+encoder_after s (CancelStream stream) = record s { tracked = without_stream stream s.tracked; canceled = insert_key nat_cmp s.canceled stream }
 encoder_after s (Increment count) = record s { known_received = min (s.known_received + count) (2 ^ 64 - 1) }
 
 abbrev pub encoder_after_all : EncoderHistory → List DecoderInstruction → EncoderHistory

@@ -1,8 +1,10 @@
 -- What an encoder keeps of its history.
 use Rattle.std.specs.Prelude.{◌≡◌, ◌⊎◌, false, ◌<◌, ◌≤◌, ℕ, ◌+◌, ◌-◌, ◌^◌, true, min, max, List, [], ◌∷◌, ◌++◌, length, map, filter, fold, nat_lt, if◌then◌else◌, ◌==◌}
+use Rattle.std.specs.Ordering.{nat_cmp}
+use Rattle.std.specs.BTreeSet.{insert_key}
 use Rattle.h3_field.specs.Instruction.{DecoderInstruction}
 use Rattle.h3_field.specs.Instruction.DecoderInstruction.{Acknowledge, CancelStream, Increment}
-use Rattle.h3_qpack.specs.Tracking.{is_free_to, without_oldest_of, without_newest_of}
+use Rattle.h3_qpack.specs.Tracking.{is_free_to, without_oldest_of, without_newest_of, without_all_of}
 use Rattle.h3_field.specs.Field.{Field, field_size}
 use Rattle.h3_qpack.specs.Table.{table}
 use Rattle.h3_qpack.specs.TableState.{TableState, evicted, with_entry, with_capacity}
@@ -18,6 +20,8 @@ pub record EncoderState : Type 0 where
   -- the required insert counts above what is known to be received
   pub blocking_counts : List ℕ
   pub tracked : List TrackedSection
+  -- the streams of which a cancellation was read
+  pub canceled : List ℕ
 
 -- the least of some numbers
 abbrev pub least : List ℕ → ℕ
@@ -35,6 +39,7 @@ encoder_state s =
       known_received = s.known_received;
       blocking_counts = filter (λ count. nat_lt s.known_received count) s.required_insert_counts;
       tracked = map tracked_section s.tracked;
+      canceled = s.canceled;
     }
 
 -- what is known to be received, after a further increment
@@ -46,7 +51,7 @@ raised s count =
 -- the state after an instruction of the decoder
 abbrev pub encoder_state_after : EncoderState → DecoderInstruction → EncoderState
 encoder_state_after s (Acknowledge stream) = record s { tracked = without_oldest_of stream s.tracked }
-encoder_state_after s (CancelStream stream) = record s { tracked = without_oldest_of stream (without_oldest_of stream s.tracked) }
+encoder_state_after s (CancelStream stream) = record s { tracked = without_all_of stream s.tracked; canceled = insert_key nat_cmp s.canceled stream }
 encoder_state_after s (Increment count) = raised s count
 
 -- The field may be inserted: it fits, and the entries that it evicts are known to be received, named by no section that is

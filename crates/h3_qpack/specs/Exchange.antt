@@ -16,12 +16,13 @@ use Rattle.h3_field.specs.declared.dynamic.Error.TheVariants.{MaximumTableSizeTo
 use Rattle.h3_field.specs.declared.error.Error.{Error}
 use Rattle.h3_field.specs.declared.error.Error.TheVariants as of
 use Rattle.h3_qpack.specs.EncoderState.{EncoderState, encoder_state}
-use Rattle.h3_qpack.specs.EncoderHistory.{EncoderHistory, no_table, encoder_after_all}
+use Rattle.h3_qpack.specs.EncoderHistory.{EncoderHistory, no_table, encoder_after_all, writing_on}
 use Rattle.h3_qpack.specs.SectionEncoding.{draft_of, required_insert_count, encoded_section, instructions_for, sent_section}
 use Rattle.h3_qpack.specs.DecoderState.{DecoderState, announcing}
 use Rattle.h3_qpack.specs.Meaning.{MeansFields, IsMissing, IsBadSection}
 use Rattle.h3_qpack.specs.SectionAnswers.{IsReasonFor}
-use Rattle.h3_qpack.specs.Instructions.{HasRead, BeginsBad, AreDecoderInstructions, AreAccepted, BeginsRefused}
+use Rattle.h3_qpack.specs.Instructions.{HasRead, BeginsBad, AreDecoderInstructions, AreAccepted}
+use Rattle.h3_qpack.specs.EncoderAnswers.{IsLeft}
 use Rattle.h3_qpack.specs.Increments.{increment_for}
 use Rattle.h3_qpack.specs.declared.session.SessionEvent.{SessionEvent}
 use Rattle.h3_qpack.specs.declared.session.SessionEvent.TheVariants as event
@@ -127,17 +128,18 @@ pub record AreInMemory (fields : List Field) (bytes : List ℕ) : Type 0 where
 -- The section is written, or cut off behind some of its fields for want of memory.
 abbrev pub Encodes : ExchangeHistory → ℕ → List Field → SessionAnswer → ExchangeHistory → Type 0
 Encodes w stream fields (answer.Encoded count) new =
-    (count ≡ required_insert_count (draft_of w.encoder fields)) × AreInMemory fields new.encoder_stream.bytes × (length (encoded_section w.encoder fields) < 2 ^ 63)
+    (count ≡ required_insert_count (draft_of (writing_on w.encoder stream) fields)) × AreInMemory fields new.encoder_stream.bytes
+    × (length (encoded_section (writing_on w.encoder stream) fields) < 2 ^ 63)
     × (new ≡ record w {
       encoder = sent_section w.encoder stream fields;
-      encoder_stream = writing w.encoder_stream (flat_map encoder_bytes (instructions_for w.encoder fields));
-      sections = w.sections ++ record { stream = stream; bytes = encoded_section w.encoder fields } ∷ [];
+      encoder_stream = writing w.encoder_stream (flat_map encoder_bytes (instructions_for (writing_on w.encoder stream) fields));
+      sections = w.sections ++ record { stream = stream; bytes = encoded_section (writing_on w.encoder stream) fields } ∷ [];
     })
 Encodes w stream fields (answer.Refused e) new =
     (e ≡ of.Encoder encoder_error.OutOfMemory)
     × ((front : ℕ) × (front ≤ length fields) × AreInMemory (take front fields) new.encoder_stream.bytes × (new ≡ record w {
-      encoder = record w.encoder { inserted = (draft_of w.encoder (take front fields)).inserted };
-      encoder_stream = writing w.encoder_stream (flat_map encoder_bytes (instructions_for w.encoder (take front fields)));
+      encoder = record w.encoder { inserted = (draft_of (writing_on w.encoder stream) (take front fields)).inserted };
+      encoder_stream = writing w.encoder_stream (flat_map encoder_bytes (instructions_for (writing_on w.encoder stream) (take front fields)));
     }))
 Encodes w stream fields other new = ⊥
 
@@ -170,7 +172,7 @@ pub record EncoderReads (w : ExchangeHistory) (count : ℕ) (new : ExchangeHisto
 abbrev pub DeliversToEncoder : ExchangeHistory → ℕ → SessionAnswer → ExchangeHistory → Type 0
 DeliversToEncoder w count (answer.Short most) new = (most ≡ undelivered w.decoder_stream) × (most < count) × (new ≡ w)
 DeliversToEncoder w count answer.Delivered new = (d : EncoderReads w count new) × (decoder_instruction d.left ≡ Unfinished)
-DeliversToEncoder w count (answer.Refused (of.Encoder e)) new = (d : EncoderReads w count new) × BeginsRefused new.encoder d.left
+DeliversToEncoder w count (answer.Refused (of.Encoder e)) new = (d : EncoderReads w count new) × IsLeft new.encoder d.left e
 DeliversToEncoder w count other new = ⊥
 
 -- The stream's oldest section is decoded and acknowledged where it names entries, or is left.

@@ -5,7 +5,7 @@ use Rattle.h3_field.specs.Field.{Field}
 use Rattle.h3_field.specs.declared.encoder_error.EncoderError.TheVariants as encoder_error
 use Rattle.h3_field.specs.declared.decoder_error.DecoderError.TheVariants as decoder_error
 use Rattle.h3_field.specs.declared.error.Error.TheVariants as of
-use Rattle.h3_qpack.specs.EncoderHistory.{encoder_after_all}
+use Rattle.h3_qpack.specs.EncoderHistory.{encoder_after_all, writing_on}
 use Rattle.h3_qpack.specs.Session.{Session, UndecodedSection, is_canceled, count_of, encoded, inserted, oldest, decoded, after_cancellation}
 use Rattle.h3_qpack.specs.Schedule.{without_section}
 use Rattle.h3_qpack.specs.declared.session.SessionEvent.{SessionEvent}
@@ -15,9 +15,9 @@ use Rattle.h3_qpack.specs.declared.session.SessionAnswer.TheVariants as answer
 
 -- the section, or the insertions for a front of its fields where memory is refused
 abbrev pub EncodesTo : Session → ℕ → List Field → SessionAnswer → Session → Type 0
-EncodesTo s stream fields (answer.Encoded count) new = (new ≡ encoded s stream fields) × (count ≡ count_of (record { stream = stream; fields = fields; encoder = s.encoder }))
+EncodesTo s stream fields (answer.Encoded count) new = (new ≡ encoded s stream fields) × (count ≡ count_of (record { stream = stream; fields = fields; encoder = writing_on s.encoder stream }))
 EncodesTo s stream fields (answer.Refused e) new =
-    (e ≡ of.Encoder encoder_error.OutOfMemory) × ((front : ℕ) × (front ≤ length fields) × (new ≡ without_section s (take front fields)))
+    (e ≡ of.Encoder encoder_error.OutOfMemory) × ((front : ℕ) × (front ≤ length fields) × (new ≡ without_section s stream (take front fields)))
 EncodesTo s stream fields other new = ⊥
 
 -- some more insertions are read, and none is refused
@@ -31,10 +31,14 @@ DeliversInsertions s (answer.Refused e) new = (e ≡ of.Decoder decoder_error.Ou
 DeliversInsertions s other new = ⊥
 
 -- the oldest of the decoder's instructions are read, and none is refused
+abbrev pub ReadsDecoderInstructions : Session → Session → Type 0
+ReadsDecoderInstructions s new =
+    (count : ℕ) × (new ≡ record s { encoder = encoder_after_all s.encoder (take count s.decoder_instructions); decoder_instructions = drop count s.decoder_instructions })
+
 abbrev pub DeliversDecoderInstructions : Session → SessionAnswer → Session → Type 0
 DeliversDecoderInstructions s (answer.Short most) new = new ≡ s
-DeliversDecoderInstructions s answer.Delivered new =
-    (count : ℕ) × (new ≡ record s { encoder = encoder_after_all s.encoder (take count s.decoder_instructions); decoder_instructions = drop count s.decoder_instructions })
+DeliversDecoderInstructions s answer.Delivered new = ReadsDecoderInstructions s new
+DeliversDecoderInstructions s (answer.Refused e) new = (e ≡ of.Encoder encoder_error.OutOfMemory) × ReadsDecoderInstructions s new
 DeliversDecoderInstructions s other new = ⊥
 
 -- exactly the fields that were encoded, or the count that was answered then, which is above the insertions read

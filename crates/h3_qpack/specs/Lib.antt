@@ -22,11 +22,17 @@ pub mod TableInside
 pub mod SectionAnswers
 pub mod InstructionAnswers
 pub mod EncoderAnswers
+pub mod DecoderInside
 pub mod Increments
 pub mod Encodings
 pub mod Exchange
 pub mod SessionInside
 pub mod Expected
+pub mod RunAnswers
 pub mod Views
 pub mod EncoderView
 pub mod Worked
+pub mod DecodedSection
+pub mod LineFields
+pub mod Sizes
+pub mod Hearing

@@ -2,7 +2,7 @@
 use Rattle.std.specs.Prelude.{◌≡◌, ℕ, ◌+◌, ◌++◌, ◌<◌, ◌≤◌, false, List, [], ◌∷◌, length, Some}
 use Rattle.h3_field.specs.Field.{Field}
 use Rattle.h3_field.specs.Instruction.{DecoderInstruction}
-use Rattle.h3_qpack.specs.EncoderHistory.{no_table}
+use Rattle.h3_qpack.specs.EncoderHistory.{no_table, writing_on}
 use Rattle.h3_qpack.specs.SectionEncoding.{draft_of, instructions_for}
 use Rattle.h3_qpack.specs.Session.{Session, UndecodedSection, encoded, inserted, oldest, is_canceled, count_of, decoded, after_cancellation, after_decoder_instruction}
 
@@ -10,8 +10,8 @@ pub data SessionEvent : Type 0 where
   -- the peer's limits come, before anything was inserted
   UseTable : (capacity limit : ℕ) → SessionEvent
   Encode : (stream : ℕ) (fields : List Field) → SessionEvent
-  -- a section is withdrawn, or was cut off behind these fields: what was inserted for it stays
-  CutOff : (fields : List Field) → SessionEvent
+  -- a section of the stream is withdrawn, or was cut off behind these fields: what was inserted for it stays
+  CutOff : (stream : ℕ) (fields : List Field) → SessionEvent
   InsertionsRead : (count : ℕ) → SessionEvent
   Decode : (section : UndecodedSection) → SessionEvent
   Cancel : (stream : ℕ) → SessionEvent
@@ -21,17 +21,17 @@ pub data SessionEvent : Type 0 where
 abbrev pub with_table : Session → ℕ → ℕ → Session
 with_table s capacity limit = record s { encoder = record s.encoder { capacity = capacity; limit = limit } }
 
-abbrev pub without_section : Session → List Field → Session
-without_section s fields =
+abbrev pub without_section : Session → ℕ → List Field → Session
+without_section s stream fields =
     record s {
-      encoder = record s.encoder { inserted = (draft_of s.encoder fields).inserted };
-      instructions = s.instructions ++ instructions_for s.encoder fields;
+      encoder = record s.encoder { inserted = (draft_of (writing_on s.encoder stream) fields).inserted };
+      instructions = s.instructions ++ instructions_for (writing_on s.encoder stream) fields;
     }
 
 abbrev pub SessionStep : Session → SessionEvent → Session → Type 0
 SessionStep s (UseTable capacity limit) new = (s.encoder.inserted ≡ []) × (s.encoder.limit ≡ 0) × (new ≡ with_table s capacity limit)
 SessionStep s (Encode stream fields) new = new ≡ encoded s stream fields
-SessionStep s (CutOff fields) new = new ≡ without_section s fields
+SessionStep s (CutOff stream fields) new = new ≡ without_section s stream fields
 SessionStep s (InsertionsRead count) new = (0 < count) × (s.received + count ≤ length s.encoder.inserted) × (new ≡ inserted s count)
 SessionStep s (Decode section) new =
     (oldest section.stream s.sections ≡ Some section) × (is_canceled s section.stream ≡ false) × (count_of section ≤ s.received) × (new ≡ decoded s section)

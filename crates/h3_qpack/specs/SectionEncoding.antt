@@ -9,7 +9,7 @@ use Rattle.h3_field.specs.Instruction.{EncoderInstruction}
 use Rattle.h3_field.specs.Instruction.EncoderInstruction.{InsertWithStaticName, InsertWithEntryName, InsertLiteral, Duplicate}
 use Rattle.h3_field.specs.Prefix.{prefix_bytes}
 use Rattle.h3_qpack.specs.Table.{evictions, newest}
-use Rattle.h3_qpack.specs.EncoderHistory.{EncoderHistory, blocks_out, referenced_entries}
+use Rattle.h3_qpack.specs.EncoderHistory.{EncoderHistory, blocks_out, referenced_entries, writing_on}
 
 -- a section under way: what was inserted so far, the instructions for that, the lines, and the entries that they name
 pub record Draft : Type 0 where
@@ -110,10 +110,10 @@ encoded_section s fields =
 abbrev pub instructions_for : EncoderHistory → List Field → List EncoderInstruction
 instructions_for s fields = (draft_of s fields).instructions
 
--- the encoder after the section, which is tracked where it names an entry
+-- the encoder after the section on a stream, which is tracked where it names an entry
 abbrev pub sent_section : EncoderHistory → ℕ → List Field → EncoderHistory
 sent_section s stream fields =
-    let draft = draft_of s fields in
+    let draft = draft_of (writing_on s stream) fields in
     record s {
       inserted = draft.inserted;
       required_insert_counts = s.required_insert_counts ++ required_insert_count draft ∷ [];

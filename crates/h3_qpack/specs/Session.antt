@@ -6,7 +6,7 @@ use Rattle.h3_field.specs.Instruction.{EncoderInstruction, DecoderInstruction}
 use Rattle.h3_field.specs.Instruction.DecoderInstruction.{Acknowledge, CancelStream, Increment}
 use Rattle.h3_qpack.specs.NamedFields.{StandFor}
 use Rattle.h3_qpack.specs.Table.{evictions}
-use Rattle.h3_qpack.specs.EncoderHistory.{EncoderHistory, UnacknowledgedSection, encoder_after, blocks_out, referenced_entries}
+use Rattle.h3_qpack.specs.EncoderHistory.{EncoderHistory, UnacknowledgedSection, encoder_after, blocks_out, referenced_entries, was_canceled, writing_on}
 use Rattle.h3_qpack.specs.SectionEncoding.{draft_of, instructions_for, required_insert_count, sent_section}
 use Rattle.h3_qpack.specs.TableHistory.{IsReadAs}
 
@@ -14,7 +14,7 @@ use Rattle.h3_qpack.specs.TableHistory.{IsReadAs}
 pub record UndecodedSection : Type 0 where
   pub stream : ℕ
   pub fields : List Field
-  -- what the encoder went by
+  -- what it was written by
   pub encoder : EncoderHistory
 
 pub record Session : Type 0 where
@@ -44,20 +44,20 @@ abbrev pub encoded : Session → ℕ → List Field → Session
 encoded s stream fields =
     record s {
       encoder = sent_section s.encoder stream fields;
-      instructions = s.instructions ++ instructions_for s.encoder fields;
-      sections = s.sections ++ record { stream = stream; fields = fields; encoder = s.encoder } ∷ [];
+      instructions = s.instructions ++ instructions_for (writing_on s.encoder stream) fields;
+      sections = s.sections ++ record { stream = stream; fields = fields; encoder = writing_on s.encoder stream } ∷ [];
     }
 
 -- more insertions were read, in one delivery
 abbrev pub inserted : Session → ℕ → Session
 inserted s count = record s { received = s.received + count; decoder_instructions = s.decoder_instructions ++ Increment count ∷ [] }
 
--- the stream's oldest section was decoded
 -- the oldest section of the stream
 abbrev pub oldest : ℕ → List UndecodedSection → Option UndecodedSection
 oldest stream [] = None
 oldest stream (b ∷ bs) = if b.stream == stream then Some b else oldest stream bs
 
+-- the stream's oldest section was decoded
 abbrev pub decoded : Session → UndecodedSection → Session
 decoded s b =
     record s {
@@ -135,6 +135,8 @@ pub record IsSound (s : Session) : Type 0 where
   pub acknowledged : (stream : ℕ) → acknowledgments stream s.decoder_instructions ≤ length (tracked_references stream s.encoder.tracked)
   pub written : AllByRecursion (IsWrittenOver s.encoder.inserted) s.sections
   pub cancels : CancelsAreLast s.canceled s.decoder_instructions
+  -- no tracked section is of a stream whose cancellation was read
+  pub untracked : (stream : ℕ) → was_canceled s.encoder stream ≡ true → tracked_references stream s.encoder.tracked ≡ []
   -- so many sections may still be blocked
   pub within_limit : blocks_out s.encoder ≤ s.encoder.limit
   -- what the encoder wrote is read as what it inserted

@@ -1,5 +1,5 @@
 -- Which sections hold which entries (RFC 9204, section 2.1.1).
-use Rattle.std.specs.Prelude.{◌≡◌, ◌<◌, ℕ, zero, suc, ◌+◌, Bool, true, false, length, take, drop, slice_index_or, List, [], ◌∷◌, count_by, nat_lt, if◌then◌else◌, ◌==◌}
+use Rattle.std.specs.Prelude.{◌≡◌, ◌<◌, ℕ, zero, suc, ◌+◌, Bool, true, false, not, length, take, drop, filter, slice_index_or, List, [], ◌∷◌, count_by, nat_lt, if◌then◌else◌, ◌==◌}
 use Rattle.std.specs.List.{list_all, list_any}
 use Rattle.h3_qpack.specs.EncoderHistory.{without_newest}
 use Rattle.h3_qpack.specs.declared.tracking.TrackedSection.{TrackedSection}
@@ -17,6 +17,10 @@ is_of stream t = t.stream == stream
 abbrev pub without_oldest_of : ℕ → List TrackedSection → List TrackedSection
 without_oldest_of stream [] = []
 without_oldest_of stream (t ∷ ts) = if t.stream == stream then ts else t ∷ without_oldest_of stream ts
+
+-- the sections without all of the stream
+abbrev pub without_all_of : ℕ → List TrackedSection → List TrackedSection
+without_all_of stream ts = filter (λ t. not (is_of stream t)) ts
 
 -- the sections without the newest one of the stream
 abbrev pub without_newest_of : ℕ → List TrackedSection → List TrackedSection

@@ -1,7 +1,7 @@
 -- The worked values that the definitions are tried at.
 use Rattle.std.specs.Prelude.{ℕ, List, [], ◌∷◌, codes}
 use Rattle.h3_field.specs.Field.{Field}
-use Rattle.h3_field.specs.Instruction.DecoderInstruction.{Increment}
+use Rattle.h3_field.specs.Instruction.DecoderInstruction.{CancelStream, Increment}
 use Rattle.h3_qpack.specs.EncoderHistory.{EncoderHistory, no_table, encoder_after}
 use Rattle.h3_field.specs.Instruction.EncoderInstruction.{SetCapacity, InsertLiteral, InsertWithEntryName, Duplicate}
 use Rattle.std.specs.Prelude.{Option, Some}
@@ -45,3 +45,15 @@ older_known = sent_section (encoder_after (sent_section (fresh 200 1) 0 (x_a_of 
 -- a table of two entries that three were inserted into
 abbrev pub three : Option DecoderState
 three = decoder_after_all (Some (announcing 100)) (SetCapacity 100 ∷ InsertLiteral (codes "x-a") (codes "1") ∷ Duplicate 0 ∷ InsertWithEntryName 0 (codes "2") ∷ [])
+
+-- Three responses on stream 0, two of them interim, each with one more field; then the insertion is
+-- known to be received, and the stream is canceled.
+abbrev pub three_canceled : EncoderHistory
+three_canceled =
+    let interim = record { name = codes ":status"; value = codes "103" } ∷ x_a ∷ [] in
+    let sent = sent_section (sent_section (sent_section (fresh 64 10) 0 interim) 0 interim) 0 (with_header x_a) in
+    encoder_after (encoder_after sent (Increment 1)) (CancelStream 0)
+
+-- Stream 0 is canceled before anything.
+abbrev pub canceled_first : EncoderHistory
+canceled_first = encoder_after (fresh 64 10) (CancelStream 0)

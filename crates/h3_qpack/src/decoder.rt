@@ -1,5 +1,5 @@
 //! A decoder with its dynamic table (RFC 9204, sections 2.2 and 4).
-ghost use Rattle.std.specs.Prelude.{◌≡◌, ◌≤◌, ◌<◌, ◌^◌, ℕ, ◌+◌, ◌-◌, [], true, false, length, min, nat_lt, drop, Some, None, MatchResult, unwrap_or, IfOk, IfErr, OnOk, OnErr, ◌++◌};
+ghost use Rattle.std.specs.Prelude.{◌≡◌, ◌≤◌, ◌<◌, ◌^◌, ℕ, ◌-◌, List, [], true, false, length, min, nat_lt, drop, IfOk, IfErr, OnOk, OnErr, ◌++◌};
 ghost use Rattle.h3_field.specs.Instruction.{decoder_bytes};
 ghost use Rattle.h3_field.specs.Instruction.DecoderInstruction.{Acknowledge, CancelStream};
 ghost use Rattle.h3_field.specs.Reading.{Unfinished};
@@ -7,29 +7,28 @@ ghost use Rattle.h3_field.specs.InstructionReading.{instruction};
 ghost use Rattle.h3_qpack.specs.Increments.{increment_for};
 ghost use Rattle.h3_field.specs.Field.{Field, section_size};
 ghost use Rattle.h3_field.specs.Shapes.{begins};
-ghost use Rattle.h3_field.specs.declared.decoder_error.DecoderError.TheVariants.{InvalidIndex};
-ghost use Rattle.h3_field.specs.declared.vas.Error.TheVariants.{RelativeIndex, PostbaseIndex};
-ghost use Rattle.h3_qpack.specs.TableState.{TableState, entry_at};
-ghost use Rattle.h3_qpack.specs.DecoderState.{DecoderState, announcing, count_capacity};
+ghost use Rattle.h3_qpack.specs.DecoderState.{DecoderState, announcing, greatest_capacity, count_capacity};
 ghost use Rattle.h3_qpack.specs.Meaning.{MeansFields};
-ghost use Rattle.h3_qpack.specs.SectionAnswers.{AnswersLineAt, IsRefusal, IsReasonFor};
+ghost use Rattle.h3_qpack.specs.DecodedSection.{decode_section, fields_in, with_fields, IsRefusalOf, Fields};
+ghost use Rattle.h3_qpack.specs.Sizes.{IsWithin};
+ghost use Rattle.h3_qpack.specs.SectionAnswers.{IsRefusal, IsReasonFor};
 ghost use Rattle.h3_qpack.specs.InstructionAnswers.{AnswersInsertionRead, AnswersOne};
 ghost use Rattle.h3_qpack.specs.Instructions.{HasRead, BeginsBad};
+ghost use Rattle.h3_qpack.specs.Hearing.{heard, hear};
 
 use crate::dynamic::DynamicTable;
 use crate::entries::{Entries, MAX_CAPACITY, MOST_INSERTIONS, size_of};
 use crate::increment::{INCREMENT_LEN, put_increment};
-use h3_field::block::{
-    HeaderBlockField, HeaderPrefix, Indexed, IndexedWithPostBase, Literal, LiteralWithNameRef,
-    LiteralWithPostBaseNameRef,
-};
+use crate::lines::{Lines, copy_of, named_as, relative};
+use crate::within::DecodedWithin;
+use h3_field::block::HeaderPrefix;
 use h3_field::dynamic::Error;
 use h3_field::static_::StaticTable;
 use h3_field::stream::{
     Duplicate, DynamicTableSizeUpdate, EncoderInstruction, HeaderAck, InsertWithNameRef,
     InsertWithoutNameRef, StreamCancel,
 };
-use h3_field::{Decoded, DecoderError, HeaderField, SliceCursor, vas};
+use h3_field::{Decoded, DecoderError, HeaderField, SliceCursor};
 use std::alloc::{AllocError, Global};
 use std::borrow::CowSlice;
 use std::marker::Model;
@@ -48,55 +47,11 @@ impl Model for Decoder {
 
     ghost Value = { DecoderState };
 
-    ghost use Rattle.std.specs.Prelude.{◌<◌, ◌-◌, ◌^◌, unwrap_or};
+    ghost use Rattle.h3_qpack.specs.DecoderInside.{decoder_state_inside, IsDecoder};
 
-    ghost view = { λ d. record { announced = d.announced; table = d.entries } };
+    ghost view = { decoder_state_inside };
 
-    ghost invariant = { λ d. unwrap_or d.announced (2 ^ 30 - 1) < 2 ^ 30 };
-}
-
-/// How many fields get room at first: most sections have no more, and the list of their fields need not grow.
-const FIRST_ROOM: usize = 16;
-
-/// A field with copies of the bytes of another. A static name is not copied.
-pub(crate) fn copy_of(alloc: Global, field: &HeaderField) -> Result<HeaderField, AllocError>
-    ensures { IfOk result (λ f. f ≡ field.now) }
-{
-    let value = Vec::from_slice(alloc, field.value())?;
-    field.with_value(alloc, CowSlice::Owned(value))
-}
-
-/// A field with the name of another. A static name is not copied.
-fn named_as(alloc: Global, field: &HeaderField, value: Vec<u8>) -> Result<HeaderField, AllocError>
-    ensures { IfOk result (λ f. f ≡ record { name = field.now.name; value = value.items }) }
-{
-    field.with_value(alloc, CowSlice::Owned(value))
-}
-
-/// The entry at a distance below the base.
-fn relative(entries: &Entries, base: usize, index: usize) -> Result<&HeaderField, DecoderError>
-    ensures { MatchResult result (λ f. entry_at entries.now (base - index) ≡ Some f.now) (λ e. (entry_at entries.now (base - index) ≡ None) × (e ≡ InvalidIndex (RelativeIndex index))) }
-{
-    match entries.get(base.saturating_sub(index)) {
-        Some(entry) => Ok(entry),
-        None => Err(DecoderError::InvalidIndex(vas::Error::RelativeIndex(index))),
-    }
-}
-
-/// The entry at a distance from the base on.
-fn post_base(entries: &Entries, base: usize, index: usize) -> Result<&HeaderField, DecoderError>
-    ensures { MatchResult result (λ f. entry_at entries.now (base + index + 1) ≡ Some f.now) (λ e. (entry_at entries.now (base + index + 1) ≡ None) × (e ≡ InvalidIndex (PostbaseIndex index))) }
-{
-    // beyond all numbers of entries, where the sum might not fit
-    let number = if base < MOST_INSERTIONS && index < MOST_INSERTIONS {
-        base + index + 1
-    } else {
-        MOST_INSERTIONS
-    };
-    match entries.get(number) {
-        Some(entry) => Ok(entry),
-        None => Err(DecoderError::InvalidIndex(vas::Error::PostbaseIndex(index))),
-    }
+    ghost invariant = { IsDecoder };
 }
 
 impl Decoder {
@@ -131,153 +86,23 @@ impl Decoder {
         self.entries.inserted()
     }
 
-    /// The field of an indexed line.
-    fn take_indexed(
-        &self,
-        base: usize,
-        buf: &mut SliceCursor<'_>,
-    ) -> Result<HeaderField, DecoderError>
-        requires some { 0 < length buf.old }
-        requires own { begins 128 255 buf.old ≡ true }
-        ensures { AnswersLineAt self.now.table base buf.old buf.new result }
+    /// The sum of the sizes of the entries of the table (RFC 9204, section 3.2.1): at most its capacity, which is at most the
+    /// announced one.
+    pub fn table_size(&self) -> usize
+        ensures value { result ≡ section_size self.now.table.entries }
+        ensures small { result ≤ self.now.table.capacity }
+        ensures announced { self.now.table.capacity ≤ greatest_capacity self.now }
     {
-        match Indexed::decode(buf) {
-            Ok(Indexed::Static(index)) => match StaticTable::get(index) {
-                Ok(field) => Ok(field),
-                Err(e) => Err(DecoderError::InvalidStaticIndex(e)),
-            },
-            Ok(Indexed::Dynamic(index)) => match relative(&self.entries, base, index) {
-                Ok(entry) => match copy_of(self.alloc, entry) {
-                    Ok(field) => Ok(field),
-                    Err(_) => Err(DecoderError::OutOfMemory),
-                },
-                Err(e) => Err(e),
-            },
-            Err(e) => Err(DecoderError::from(e)),
-        }
+        self.entries.size()
     }
 
-    /// The field of a line that is an entry, by its distance from the base on.
-    fn take_post_base(
-        &self,
-        base: usize,
-        buf: &mut SliceCursor<'_>,
-    ) -> Result<HeaderField, DecoderError>
-        requires some { 0 < length buf.old }
-        requires own { begins 16 31 buf.old ≡ true }
-        ensures { AnswersLineAt self.now.table base buf.old buf.new result }
+    /// The required insert count and the base of the section at the front, whose lines are left. What needs insertions that
+    /// were not read is refused.
+    fn take_prefix(&self, buf: &mut SliceCursor<'_>) -> Result<(usize, usize), DecoderError>
+        ensures ok { IfOk result (λ p. decode_section self.now buf.old ≡ with_fields p.0 (fields_in self.now.table p.1 buf.new)) }
+        ensures err { IfErr result (IsRefusalOf (decode_section self.now buf.old)) }
     {
-        match IndexedWithPostBase::decode(buf) {
-            Ok(IndexedWithPostBase(index)) => match post_base(&self.entries, base, index) {
-                Ok(entry) => match copy_of(self.alloc, entry) {
-                    Ok(field) => Ok(field),
-                    Err(_) => Err(DecoderError::OutOfMemory),
-                },
-                Err(e) => Err(e),
-            },
-            Err(e) => Err(DecoderError::from(e)),
-        }
-    }
-
-    /// The field of a line with a literal value and the name of an entry.
-    fn take_named(
-        &self,
-        base: usize,
-        buf: &mut SliceCursor<'_>,
-    ) -> Result<HeaderField, DecoderError>
-        requires some { 0 < length buf.old }
-        requires own { begins 64 127 buf.old ≡ true }
-        ensures { AnswersLineAt self.now.table base buf.old buf.new result }
-    {
-        match LiteralWithNameRef::decode(self.alloc, buf) {
-            Ok(LiteralWithNameRef::Static { index, value }) => match StaticTable::get_name(index) {
-                Ok(name) => Ok(HeaderField::with_static_name(name, value)),
-                Err(e) => Err(DecoderError::InvalidStaticIndex(e)),
-            },
-            Ok(LiteralWithNameRef::Dynamic { index, value }) => {
-                match relative(&self.entries, base, index) {
-                    Ok(entry) => match named_as(self.alloc, entry, value) {
-                        Ok(field) => Ok(field),
-                        Err(_) => Err(DecoderError::OutOfMemory),
-                    },
-                    Err(e) => Err(e),
-                }
-            }
-            Err(e) => Err(DecoderError::from(e)),
-        }
-    }
-
-    /// The field of a line with a literal value and the name of an entry, by its distance from the base on.
-    fn take_post_base_named(
-        &self,
-        base: usize,
-        buf: &mut SliceCursor<'_>,
-    ) -> Result<HeaderField, DecoderError>
-        requires some { 0 < length buf.old }
-        requires own { begins 0 15 buf.old ≡ true }
-        ensures { AnswersLineAt self.now.table base buf.old buf.new result }
-    {
-        match LiteralWithPostBaseNameRef::decode(self.alloc, buf) {
-            Ok(LiteralWithPostBaseNameRef { index, value }) => {
-                match post_base(&self.entries, base, index) {
-                    Ok(entry) => match named_as(self.alloc, entry, value) {
-                        Ok(field) => Ok(field),
-                        Err(_) => Err(DecoderError::OutOfMemory),
-                    },
-                    Err(e) => Err(e),
-                }
-            }
-            Err(e) => Err(DecoderError::from(e)),
-        }
-    }
-
-    /// The field of a line with a literal name and value.
-    fn take_literal(
-        &self,
-        base: usize,
-        buf: &mut SliceCursor<'_>,
-    ) -> Result<HeaderField, DecoderError>
-        requires some { 0 < length buf.old }
-        requires own { begins 32 63 buf.old ≡ true }
-        ensures { AnswersLineAt self.now.table base buf.old buf.new result }
-    {
-        match Literal::decode(self.alloc, buf) {
-            Ok(Literal { name, value }) => Ok(HeaderField::new(
-                CowSlice::Owned(name),
-                CowSlice::Owned(value),
-            )),
-            Err(e) => Err(DecoderError::from(e)),
-        }
-    }
-
-    /// The field of the line at the front.
-    fn take_field(
-        &self,
-        base: usize,
-        buf: &mut SliceCursor<'_>,
-    ) -> Result<HeaderField, DecoderError>
-        requires { 0 < length buf.old }
-        ensures { AnswersLineAt self.now.table base buf.old buf.new result }
-    {
-        match HeaderBlockField::decode(buf.chunk()[0]) {
-            HeaderBlockField::Indexed => self.take_indexed(base, buf),
-            HeaderBlockField::LiteralWithNameRef => self.take_named(base, buf),
-            HeaderBlockField::Literal => self.take_literal(base, buf),
-            HeaderBlockField::IndexedWithPostBase => self.take_post_base(base, buf),
-            HeaderBlockField::LiteralWithPostBaseNameRef => self.take_post_base_named(base, buf),
-            HeaderBlockField::Unknown => Err(DecoderError::UnexpectedEnd),
-        }
-    }
-
-    /// Decodes an encoded field section, to the end of `buf`. Where it needs insertions that were not read, no line is
-    /// read. A refused read takes nothing.
-    pub fn decode_header(&self, buf: &mut SliceCursor<'_>) -> Result<Decoded, DecoderError>
-        ensures ok { IfOk result (λ d. (count : ℕ) × MeansFields self.now buf.old count d.fields.items × (d.dyn_ref ≡ nat_lt 0 count)
-            × (d.mem_size ≡ min (2 ^ 64 - 1) (section_size d.fields.items)) × (buf.new ≡ [])) }
-        ensures err { IfErr result (λ e. IsRefusal self.now buf.old e × (buf.new ≡ buf.old)) }
-    {
-        let mut ahead = SliceCursor::new(buf.chunk());
-        let prefix = match HeaderPrefix::decode(&mut ahead) {
+        let prefix = match HeaderPrefix::decode(buf) {
             Ok(prefix) => prefix,
             Err(e) => return Err(DecoderError::from(e)),
         };
@@ -290,27 +115,53 @@ impl Decoder {
         if count > inserted {
             return Err(DecoderError::MissingRefs(count));
         }
-        let mut fields = Vec::new(self.alloc);
-        if fields.reserve(ahead.remaining().min(FIRST_ROOM)).is_err() {
-            return Err(DecoderError::OutOfMemory);
+        Ok((count, base))
+    }
+
+    /// Decodes an encoded field section, to the end of `buf`, whose fields may sum to any size: as `decode_header_within`.
+    pub fn decode_header(&self, buf: &mut SliceCursor<'_>) -> Result<Decoded, DecoderError>
+        ensures ok { IfOk result (λ d. (count : ℕ) × MeansFields self.now buf.old count d.fields.items × (d.dyn_ref ≡ nat_lt 0 count)
+            × (d.mem_size ≡ min (2 ^ 64 - 1) (section_size d.fields.items)) × (buf.new ≡ [])) }
+        ensures value { IfOk result (λ d. (count : ℕ) × (decode_section self.now buf.old ≡ Fields d.fields.items count) × (d.dyn_ref ≡ nat_lt 0 count)) }
+        ensures err { IfErr result (λ e. IsRefusal self.now buf.old e × (buf.new ≡ buf.old)) }
+        ensures refusal { IfErr result (IsRefusalOf (decode_section self.now buf.old)) }
+    {
+        match self.decode_header_within(buf, u64::MAX, &[]) {
+            Ok(DecodedWithin::Fields(decoded)) => Ok(decoded),
+            Ok(DecodedWithin::TooLarge(_)) => unreachable!(),
+            Err(e) => Err(e),
         }
-        let mut mem_size: u64 = 0;
-        'lines: while ahead.remaining() > 0 {
-            let field = match self.take_field(base, &mut ahead) {
-                Ok(field) => field,
-                Err(e) => return Err(e),
-            };
-            mem_size = mem_size.saturating_add(field.mem_size() as u64);
-            let Ok(()) = fields.push(field) else {
-                return Err(DecoderError::OutOfMemory);
-            };
+    }
+
+    /// Decodes an encoded field section, to the end of `buf` (RFC 9204, section 4.5). It answers the fields where their
+    /// sizes sum to at most `max`. Else it answers the sum, and the value of the last field named `name`, and keeps no
+    /// field: what it holds at one time is at most the fields up to the limit, one line and one value.
+    ///
+    /// Where the section needs insertions that were not read, no line is read. One that is bad is refused even where its
+    /// fields before that pass the limit. A refused read takes nothing.
+    pub fn decode_header_within(
+        &self,
+        buf: &mut SliceCursor<'_>,
+        max: u64,
+        name: &[u8],
+    ) -> Result<DecodedWithin, DecoderError>
+        ensures ok { IfOk result (λ d. (fields : List Field) × (count : ℕ) × (decode_section self.now buf.old ≡ Fields fields count)
+            × IsWithin max name.now (nat_lt 0 count) fields d × (buf.new ≡ [])) }
+        ensures err { IfErr result (λ e. IsRefusalOf (decode_section self.now buf.old) e × (buf.new ≡ buf.old)) }
+    {
+        let mut ahead = SliceCursor::new(buf.chunk());
+        let (count, base) = match self.take_prefix(&mut ahead) {
+            Ok(found) => found,
+            Err(e) => return Err(e),
+        };
+        let lines = Lines::new(self.alloc, &self.entries, base);
+        match lines.take_within(&mut ahead, count > 0, max, name) {
+            Ok(decoded) => {
+                *buf = ahead;
+                Ok(decoded)
+            }
+            Err(e) => Err(e),
         }
-        *buf = ahead;
-        Ok(Decoded {
-            fields,
-            dyn_ref: count > 0,
-            mem_size,
-        })
     }
 
     /// The field of an insertion with the name of an entry.
@@ -481,6 +332,8 @@ impl Decoder {
         ensures rest { read.new ≡ drop (length read.old - length read.new) read.old }
         ensures ok { IfOk result (λ n. (n ≡ self.new.table.inserted) × (instruction read.new ≡ Unfinished)) }
         ensures err { IfErr result (IsReasonFor (BeginsBad self.new read.new) (λ count. ⊥)) }
+        ensures value { OnOk result (hear self.old read.old ≡ heard self.new read.new false) }
+        ensures bad { IfErr result (IsReasonFor (hear self.old read.old ≡ heard self.new read.new true) (λ count. ⊥)) }
         ensures increment { write.new.items ≡ write.old.items ++ increment_for (self.new.table.inserted - self.old.table.inserted) }
     {
         if write.reserve(INCREMENT_LEN).is_err() {
@@ -490,10 +343,10 @@ impl Decoder {
         let outcome = self.take_instructions(read);
         let count = self.entries.inserted() - before;
         put_increment(count, write);
-        match outcome {
-            Ok(()) => Ok(self.entries.inserted()),
-            Err(e) => Err(e),
+        if let Err(e) = outcome {
+            return Err(e);
         }
+        Ok(self.entries.inserted())
     }
 }
 

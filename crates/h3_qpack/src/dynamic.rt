@@ -2,13 +2,14 @@
 ghost use Rattle.std.specs.Prelude.{◌≡◌, ℕ, ◌+◌, ◌-◌, ◌^◌, ◌<◌, ◌≤◌, List, [], ◌∷◌, ◌++◌, length, min, max, true, false, None, filter, nat_lt, IfSome, IfNone, ◌==◌, IfOk, IfErr, OnErr, OnOk};
 ghost use Rattle.std.specs.List.{list_any};
 ghost use Rattle.std.specs.Option.{option_copied};
-ghost use Rattle.h3_field.specs.Field.{Field, field_size};
+ghost use Rattle.h3_field.specs.Field.{Field, field_size, section_size};
 ghost use Rattle.h3_qpack.specs.TableState.{TableState, no_entries, evicted, entry_at, newest_in, with_entry, with_capacity};
 ghost use Rattle.h3_qpack.specs.Matches.{matches};
 ghost use Rattle.h3_qpack.specs.Index.{IsIndexed, HasRoom};
 ghost use Rattle.h3_qpack.specs.EncoderHistory.{without_newest};
-ghost use Rattle.h3_qpack.specs.Tracking.{IsLast, is_of, is_free_to, without_oldest_of, without_newest_of};
-ghost use Rattle.h3_qpack.specs.EncoderState.{EncoderState, MayInsertInto, MayHaveCapacity, IsCapacityRefusal, raised, encoder_state_sent, encoder_state_withdrawn};
+ghost use Rattle.h3_qpack.specs.Tracking.{IsLast, is_of, is_free_to, without_oldest_of};
+ghost use Rattle.h3_field.specs.Instruction.DecoderInstruction.{CancelStream};
+ghost use Rattle.h3_qpack.specs.EncoderState.{EncoderState, MayInsertInto, MayHaveCapacity, IsCapacityRefusal, raised, encoder_state_sent, encoder_state_after, encoder_state_withdrawn};
 ghost use Rattle.h3_qpack.specs.Drafting.{begun, IsOver, IsSmall};
 ghost use Rattle.h3_field.specs.declared.dynamic.Error.TheVariants.{MaxBlockedStreamsTooLarge};
 
@@ -18,12 +19,13 @@ use crate::index::Index;
 use crate::tracking::{TrackedSection, Tracking};
 use crate::view::DynamicTableDecoder;
 use h3_field::HeaderField;
-use h3_field::dynamic::Error;
+pub use h3_field::dynamic::Error;
 use std::alloc::{AllocError, Global};
+use std::collections::BTreeSet;
 use std::marker::Model;
 
 /// The most sections that may be blocked at a decoder.
-const MAX_BLOCKED: usize = 65535;
+pub(crate) const MAX_BLOCKED: usize = 65535;
 
 /// The entries of a table, and what an encoder knows of its decoder: the greatest number of insertions known to be
 /// received, the sections that may be blocked there, and those that hold entries.
@@ -34,6 +36,8 @@ pub struct DynamicTable {
     names: Index,
     fields: Index,
     tracking: Tracking,
+    // the streams of which a cancellation was read, which nobody acknowledges any more
+    canceled: BTreeSet<u64>,
     // how many sections may be blocked at the decoder
     limit: usize,
     known_received: usize,
@@ -90,13 +94,14 @@ fn reserve(names: &mut Index, fields: &mut Index) -> Result<(), AllocError>
 impl DynamicTable {
     /// A table of capacity 0, whose sections may not be blocked.
     pub fn new(alloc: Global) -> DynamicTable
-        ensures { result ≡ record { table = no_entries; limit = 0; known_received = 0; blocking_counts = []; tracked = [] } }
+        ensures { result ≡ record { table = no_entries; limit = 0; known_received = 0; blocking_counts = []; tracked = []; canceled = [] } }
     {
         DynamicTable {
             entries: Entries::new(alloc),
             names: Index::new(alloc),
             fields: Index::new(alloc),
             tracking: Tracking::new(alloc),
+            canceled: BTreeSet::new(alloc),
             limit: 0,
             known_received: 0,
             blocking_counts: Vec::new(alloc),
@@ -104,8 +109,10 @@ impl DynamicTable {
     }
 
     pub(crate) fn into_entries(self) -> Entries
-        ensures { result ≡ self.table }
+        ensures value { result ≡ self.table }
+        ensures small { result.capacity < 2 ^ 30 }
     {
+        self.entries.capacity();
         self.entries
     }
 
@@ -224,6 +231,35 @@ impl DynamicTable {
         ensures ok { OnOk result (MayHaveCapacity self.old size × (self.new ≡ record self.old { table = with_capacity self.old.table size })) }
         ensures err { IfErr result (λ e. IsCapacityRefusal self.old size e × (self.new ≡ self.old)) }
     {
+        let after = match self.evicted_with_capacity(size) {
+            Ok(after) => after,
+            Err(e) => return Err(e),
+        };
+        let count = after - self.entries.evicted();
+        self.entries.set_capacity(size);
+        self.names.evict_oldest(count);
+        self.fields.evict_oldest(count);
+        self.tracking.drop_to(after);
+        Ok(())
+    }
+
+    /// Sets the capacity of a table without entries, and how many sections may be blocked at the decoder.
+    pub(crate) fn use_capacity(&mut self, capacity: usize, limit: usize)
+        requires empty { self.old.table.inserted ≡ 0 }
+        requires small { capacity < 2 ^ 30 }
+        requires few { limit ≤ 65535 }
+        ensures { self.new ≡ record self.old { table = with_capacity self.old.table capacity; limit = limit } }
+    {
+        self.entries.evicted();
+        self.entries.set_capacity(capacity);
+        self.limit = limit;
+    }
+
+    /// How many entries are evicted once the table has this capacity, where it may have it.
+    pub(crate) fn evicted_with_capacity(&self, size: usize) -> Result<usize, Error>
+        ensures ok { IfOk result (λ n. MayHaveCapacity self.now size × (n ≡ evicted (with_capacity self.now.table size)) × (evicted self.now.table ≤ n) × (n ≤ self.now.table.inserted)) }
+        ensures err { IfErr result (IsCapacityRefusal self.now size) }
+    {
         if size > MAX_CAPACITY {
             return Err(Error::MaximumTableSizeTooLarge);
         }
@@ -234,12 +270,15 @@ impl DynamicTable {
         if !self.tracking.is_free_to(after) {
             return Err(Error::MaxTableSizeReached);
         }
-        let count = after - self.entries.evicted();
-        self.entries.set_capacity(size);
-        self.names.evict_oldest(count);
-        self.fields.evict_oldest(count);
-        self.tracking.drop_to(after);
-        Ok(())
+        Ok(after)
+    }
+
+    /// The sum of the sizes of the entries.
+    pub(crate) fn size(&self) -> usize
+        ensures value { result ≡ section_size self.now.table.entries }
+        ensures small { result ≤ self.now.table.capacity }
+    {
+        self.entries.size()
     }
 
     /// How many entries are evicted once the field is inserted, where it may be: the entries to be evicted are known to be
@@ -328,6 +367,27 @@ impl DynamicTable {
     {
         self.tracking.release(stream)
     }
+
+    /// Whether a cancellation of the stream was read.
+    pub(crate) fn is_canceled(&self, stream: u64) -> bool
+        ensures { result ≡ list_any (λ other. other == stream) self.now.canceled }
+    {
+        self.canceled.contains(&stream)
+    }
+
+    /// Keeps that a cancellation of the stream was read, and releases all its tracked sections. Where memory is refused nothing
+    /// changes; none is needed where one was read before.
+    pub(crate) fn cancel(&mut self, stream: u64) -> Result<(), AllocError>
+        ensures ok { OnOk result (self.new ≡ encoder_state_after self.old (CancelStream stream)) }
+        ensures err { OnErr result ((self.new ≡ self.old) × (list_any (λ other. other == stream) self.old.canceled ≡ false)) }
+    {
+        let Ok(_) = self.canceled.insert(stream) else {
+            return Err(AllocError);
+        };
+        self.tracking.release_all(stream);
+        Ok(())
+    }
+
     /// Takes back the newest section of a stream, which has that required insert count, as if it had not been sent.
     pub(crate) fn withdraw(&mut self, stream: u64, count: usize)
         ensures { self.new ≡ encoder_state_withdrawn self.old stream count }

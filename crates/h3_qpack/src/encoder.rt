@@ -1,28 +1,30 @@
 //! An encoder with its dynamic table: what it writes, and what it reads of its decoder (RFC 9204, sections 2.1 and 4).
-ghost use Rattle.std.specs.Prelude.{◌≡◌, ◌<◌, ◌≤◌, ◌^◌, ◌++◌, ◌-◌, ℕ, true, false, length, drop, IfOk, IfErr, OnOk, OnErr};
+ghost use Rattle.std.specs.Prelude.{◌≡◌, ◌≢◌, ◌==◌, ◌<◌, ◌≤◌, ◌^◌, ◌++◌, ◌-◌, ℕ, true, false, length, drop, IfOk, IfErr, OnOk, OnErr};
+ghost use Rattle.std.specs.List.{list_any};
 ghost use Rattle.std.specs.Result.{IsOkUnless};
 ghost use Rattle.h3_field.specs.Field.{section_size};
 ghost use Rattle.h3_field.specs.declared.encoder_error.EncoderError.TheVariants.{OutOfMemory};
 ghost use Rattle.h3_field.specs.Reading.{Unfinished};
 ghost use Rattle.h3_field.specs.Shapes.{begins};
 ghost use Rattle.h3_field.specs.InstructionReading.{decoder_instruction};
-ghost use Rattle.h3_qpack.specs.EncoderHistory.{EncoderHistory, no_table, blocks_out, withdrawn};
+ghost use Rattle.h3_qpack.specs.EncoderHistory.{EncoderHistory, no_table, blocks_out, was_canceled, writing_on, withdrawn};
+ghost use Rattle.h3_qpack.specs.Table.{table};
 ghost use Rattle.h3_qpack.specs.EncoderState.{encoder_state, MayHaveCapacity};
 ghost use Rattle.h3_qpack.specs.Drafting.{IsSent, IsCutOff};
 ghost use Rattle.h3_qpack.specs.TableState.{with_capacity};
 ghost use Rattle.h3_field.specs.Instruction.{encoder_bytes};
 ghost use Rattle.h3_field.specs.Instruction.EncoderInstruction.{SetCapacity};
-ghost use Rattle.h3_qpack.specs.Instructions.{BeginsRefused};
-ghost use Rattle.h3_qpack.specs.EncoderAnswers.{HasReadDecoderInstructions, AnswersDecoderInstruction, IsDecoderInstructionRefusal, IsSizeRefusal};
+ghost use Rattle.h3_qpack.specs.Hearing.{HasListened};
+ghost use Rattle.h3_qpack.specs.EncoderAnswers.{HasReadDecoderInstructions, AnswersDecoderInstruction, IsLeft, IsDecoderInstructionRefusal, IsSizeRefusal, IsTableRefusal};
 
-use crate::dynamic::DynamicTable;
+use crate::dynamic::{DynamicTable, MAX_BLOCKED};
 use crate::entries::MAX_CAPACITY;
 use crate::section::Section;
 use crate::writing::{put_fields, put_section};
 use h3_field::stream::{
     DecoderInstruction, DynamicTableSizeUpdate, HeaderAck, InsertCountIncrement, StreamCancel,
 };
-use h3_field::{EncoderError, HeaderField, SliceCursor, dynamic};
+use h3_field::{EncoderError, HeaderField, SliceCursor, dynamic, encode_stateless};
 use std::alloc::Global;
 use std::marker::Model;
 
@@ -77,6 +79,60 @@ impl Encoder {
         self.table.blocks_out()
     }
 
+    /// How many fields were ever inserted into the table.
+    pub fn inserted(&self) -> usize
+        ensures value { result ≡ self.now.table.inserted }
+        ensures small { result < 2 ^ 62 }
+        ensures history { (s : EncoderHistory) → self.now ≡ encoder_state s → result ≡ length s.inserted }
+    {
+        self.table.inserted()
+    }
+
+    /// The sum of the sizes of the entries of the table (RFC 9204, section 3.2.1), at most its capacity.
+    pub fn table_size(&self) -> usize
+        ensures value { result ≡ section_size self.now.table.entries }
+        ensures small { result ≤ self.now.table.capacity }
+        ensures history { (s : EncoderHistory) → self.now ≡ encoder_state s → result ≡ section_size (table s.capacity s.inserted) }
+    {
+        self.table.size()
+    }
+
+    /// Whether a cancellation of the stream was read (RFC 9204, section 4.4.2): what is written on it names no entry.
+    pub fn is_canceled(&self, stream: u64) -> bool
+        ensures value { result ≡ list_any (λ other. other == stream) self.now.canceled }
+        ensures history { (s : EncoderHistory) → self.now ≡ encoder_state s → result ≡ was_canceled s stream }
+    {
+        self.table.is_canceled(stream)
+    }
+
+    /// Lets an encoder that has inserted nothing use a table of that capacity, at most 2^30 - 1, where up to `blocked` sections,
+    /// at most 65535, may be blocked at the decoder; and appends the instruction for the capacity (RFC 9204, section 4.3.1). What was
+    /// written and read before stands. A refusal changes nothing.
+    pub fn use_table(
+        &mut self,
+        capacity: usize,
+        blocked: usize,
+        out: &mut Vec<u8>,
+    ) -> Result<(), EncoderError>
+        requires { self.old.table.inserted ≡ 0 }
+        ensures limits { OnOk result ((capacity < 2 ^ 30) × (blocked ≤ 65535)) }
+        ensures ok { OnOk result ((s : EncoderHistory) → self.old ≡ encoder_state s → self.new ≡ encoder_state (record s { capacity = capacity; limit = blocked })) }
+        ensures written { OnOk result (out.new.items ≡ out.old.items ++ encoder_bytes (SetCapacity capacity)) }
+        ensures err { IfErr result (λ e. IsTableRefusal capacity blocked e × (self.new ≡ self.old) × (out.new.items ≡ out.old.items)) }
+    {
+        if capacity > MAX_CAPACITY {
+            return Err(EncoderError::Insertion(dynamic::Error::MaximumTableSizeTooLarge));
+        }
+        if blocked > MAX_BLOCKED {
+            return Err(EncoderError::Insertion(dynamic::Error::MaxBlockedStreamsTooLarge));
+        }
+        if DynamicTableSizeUpdate(capacity).encode(out).is_err() {
+            return Err(EncoderError::OutOfMemory);
+        }
+        self.table.use_capacity(capacity, blocked);
+        Ok(())
+    }
+
     /// Reads the acknowledgment at the front. What is refused is left unread.
     fn take_acknowledgment(&mut self, buf: &mut SliceCursor<'_>) -> Result<bool, EncoderError>
         requires some { 0 < length buf.old }
@@ -98,7 +154,8 @@ impl Encoder {
         }
     }
 
-    /// Reads the cancellation at the front. What is refused is left unread.
+    /// Reads the cancellation at the front: its stream is kept, and all its tracked sections are released. Where there is no memory to
+    /// keep the stream, the instruction is left unread and nothing is released.
     fn take_cancellation(&mut self, buf: &mut SliceCursor<'_>) -> Result<bool, EncoderError>
         requires some { 0 < length buf.old }
         requires own { begins 64 127 buf.old ≡ true }
@@ -107,8 +164,9 @@ impl Encoder {
         let mut ahead = SliceCursor::new(buf.chunk());
         match StreamCancel::decode(&mut ahead) {
             Ok(Some(StreamCancel(stream))) => {
-                self.table.release(stream);
-                self.table.release(stream);
+                let Ok(()) = self.table.cancel(stream) else {
+                    return Err(EncoderError::OutOfMemory);
+                };
                 *buf = ahead;
                 Ok(true)
             }
@@ -148,13 +206,16 @@ impl Encoder {
     }
 
     /// Reads a decoder's instructions: the whole ones at the front, up to the first that is refused. One that is not
-    /// whole, or is refused, is left unread; those before it stand. Refused are an integer out of range, and an
-    /// acknowledgment of a stream without a tracked section. What is left unread is an end of what was there.
+    /// whole, or is refused, is left unread; those before it stand. Refused are an integer out of range, an acknowledgment of a
+    /// stream without a tracked section, and for want of memory the first cancellation of a stream. What is left unread is an end
+    /// of what was there.
     pub fn on_decoder_recv(&mut self, read: &mut SliceCursor<'_>) -> Result<(), EncoderError>
         ensures read_before { HasReadDecoderInstructions self.old self.new read.old read.new }
         ensures rest { read.new ≡ drop (length read.old - length read.new) read.old }
         ensures ok { OnOk result (decoder_instruction read.new ≡ Unfinished) }
-        ensures err { IfErr result (λ e. ((s : EncoderHistory) → self.new ≡ encoder_state s → BeginsRefused s read.new) × IsDecoderInstructionRefusal (decoder_instruction read.new) e) }
+        ensures err { IfErr result (λ e. ((s : EncoderHistory) → self.new ≡ encoder_state s → IsLeft s read.new e) × IsDecoderInstructionRefusal (decoder_instruction read.new) e) }
+        ensures value { OnOk result ((s : EncoderHistory) → self.old ≡ encoder_state s → HasListened s self.new read.old read.new false) }
+        ensures refused { IfErr result (λ e. e ≢ OutOfMemory → (s : EncoderHistory) → self.old ≡ encoder_state s → HasListened s self.new read.old read.new true) }
     {
         while read.remaining() > 0 {
             let is_read = match self.take_instruction(read) {
@@ -170,8 +231,9 @@ impl Encoder {
 
     /// Appends an encoded field section to `block`, and the instructions for it to `encoder_buf`, and answers its required
     /// insert count (RFC 9204, sections 2.1 and 4.5). The sizes of the fields sum to less than 2^62. The section is tracked
-    /// under its stream where it names entries. Refused is only memory: then `block` is as it was, and `encoder_buf` gained
-    /// whole instructions, those of the insertions that were made.
+    /// under its stream where it names entries. On a stream whose cancellation was read it names none and inserts nothing, since
+    /// nobody acknowledges it. Refused is only memory: then `block` is as it was, and `encoder_buf` gained whole instructions,
+    /// those of the insertions that were made.
     pub fn encode(
         &mut self,
         stream: u64,
@@ -185,8 +247,12 @@ impl Encoder {
             IsSent s stream fields.now count self.new block.old.items block.new.items encoder_buf.old.items encoder_buf.new.items) }
         ensures grows { length encoder_buf.old.items ≤ length encoder_buf.new.items }
         ensures unwritten { OnErr result (block.new.items ≡ block.old.items) }
-        ensures cut_off { OnErr result ((s : EncoderHistory) → self.old ≡ encoder_state s → IsCutOff s fields.now self.new encoder_buf.old.items encoder_buf.new.items) }
+        ensures cut_off { OnErr result ((s : EncoderHistory) → self.old ≡ encoder_state s → IsCutOff s (writing_on s stream) fields.now self.new encoder_buf.old.items encoder_buf.new.items) }
     {
+        if self.table.is_canceled(stream) {
+            encode_stateless(block, fields)?;
+            return Ok(0);
+        }
         self.lines.clear();
         let mut section = Section::begin(&self.table);
         put_fields(
@@ -217,7 +283,8 @@ impl Encoder {
     }
 }
 
-/// Sets the capacity of a table, and appends the instruction for it (RFC 9204, section 4.3.1). A refusal changes nothing.
+/// Sets the capacity of a table, and appends the instruction for it (RFC 9204, section 4.3.1). A refusal changes nothing; memory is
+/// asked for last, where the table may have the capacity.
 pub fn set_dynamic_table_size(
     table: &mut DynamicTable,
     out: &mut Vec<u8>,
@@ -227,16 +294,10 @@ pub fn set_dynamic_table_size(
     ensures written { OnOk result (out.new.items ≡ out.old.items ++ encoder_bytes (SetCapacity size)) }
     ensures err { IfErr result (λ e. IsSizeRefusal table.old size e × (table.new ≡ table.old) × (out.new.items ≡ out.old.items)) }
 {
-    if size > MAX_CAPACITY {
-        return Err(EncoderError::Insertion(dynamic::Error::MaximumTableSizeTooLarge));
-    }
-    let start = out.len();
+    table.evicted_with_capacity(size)?;
     if DynamicTableSizeUpdate(size).encode(out).is_err() {
         return Err(EncoderError::OutOfMemory);
     }
-    if let Err(e) = table.set_max_size(size) {
-        out.truncate(start);
-        return Err(EncoderError::Insertion(e));
-    }
+    table.set_max_size(size)?;
     Ok(())
 }

@@ -3,7 +3,7 @@ ghost use Rattle.std.specs.Prelude.{◌≡◌, ℕ, ◌∷◌, ◌++◌, [], Lis
 ghost use Rattle.h3_field.specs.Field.{Field};
 ghost use Rattle.h3_field.specs.Instruction.{encoder_bytes};
 ghost use Rattle.h3_field.specs.Instruction.DecoderInstruction.{CancelStream, Increment};
-ghost use Rattle.h3_qpack.specs.EncoderHistory.{encoder_after};
+ghost use Rattle.h3_qpack.specs.EncoderHistory.{encoder_after, writing_on};
 ghost use Rattle.h3_qpack.specs.SectionEncoding.{encoded_section, instructions_for, sent_section};
 ghost use Rattle.std.specs.Prelude.{Some, None, option_map, true, false};
 ghost use Rattle.h3_field.specs.Instruction.DecoderInstruction.{Acknowledge};
@@ -11,7 +11,7 @@ ghost use Rattle.h3_field.specs.Instruction.EncoderInstruction.{SetCapacity, Ins
 ghost use Rattle.h3_qpack.specs.EncoderHistory.{is_refused, encoder_after_front, withdrawn};
 ghost use Rattle.h3_qpack.specs.Table.{table};
 ghost use Rattle.h3_qpack.specs.DecoderState.{announcing, decoder_after, decoder_after_all};
-ghost use Rattle.h3_qpack.specs.Worked.{three, fresh, sample, host_text, path_text, with_header, x_a, x_b, x_a_of, older_known};
+ghost use Rattle.h3_qpack.specs.Worked.{three, fresh, sample, host_text, path_text, with_header, x_a, x_b, x_a_of, older_known, three_canceled, canceled_first};
 
 /// Three requests for the same page: the first inserts two fields, the second names them, and the third may not.
 #[tactic(auto, unfolding(h3_field::specs::StaticTable::static_table, h3_field::specs::StaticTable::static_field, h3_field::specs::StaticTable::static_name, h3_huffman::specs::Huffman::huffman, h3_huffman::specs::Huffman::octets, h3_huffman::specs::Huffman::code_word, h3_huffman::specs::Huffman::bits))]
@@ -63,4 +63,12 @@ pub fn withdrawal()
     ensures tracked { (withdrawn (sent_section (fresh 64 10) 0 (with_header x_a)) 0 1).tracked ≡ [] }
     ensures counts { (withdrawn (sent_section (fresh 64 10) 0 (with_header x_a)) 0 1).required_insert_counts ≡ [] }
     ensures inserted { (withdrawn (sent_section (fresh 64 10) 0 (with_header x_a)) 0 1).inserted ≡ x_a ∷ [] }
+{}
+
+/// A cancellation releases all sections of its stream, and what is written on it later names no entry.
+#[tactic(auto, unfolding(h3_field::specs::StaticTable::static_table, h3_field::specs::StaticTable::static_field, h3_field::specs::StaticTable::static_name, h3_huffman::specs::Huffman::huffman, h3_huffman::specs::Huffman::octets, h3_huffman::specs::Huffman::code_word, h3_huffman::specs::Huffman::bits))]
+pub fn cancellations()
+    ensures released { encoded_section (writing_on three_canceled 4) (with_header x_b) ≡ 3 ∷ 128 ∷ 217 ∷ 16 ∷ [] }
+    ensures canceled { encoded_section (writing_on canceled_first 0) (with_header x_a) ≡ 0 ∷ 0 ∷ 217 ∷ 43 ∷ 242 ∷ 176 ∷ 255 ∷ 129 ∷ 15 ∷ [] }
+    ensures other { encoded_section (writing_on canceled_first 4) (with_header x_a) ≡ 2 ∷ 128 ∷ 217 ∷ 16 ∷ [] }
 {}

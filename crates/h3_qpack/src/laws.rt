@@ -1,6 +1,10 @@
 //! Laws over the definitions.
 
-ghost use Rattle.std.specs.Prelude.{◌≡◌, ℕ, ◌+◌, ◌*◌, ◌%◌, ◌^◌, ◌<◌, ◌≤◌, false, List, Some};
+ghost use Rattle.std.specs.Prelude.{◌≡◌, ◌==◌, ◌||◌, ℕ, ◌+◌, ◌*◌, ◌%◌, ◌^◌, ◌<◌, ◌≤◌, true, false, List, Some};
+ghost use Rattle.h3_field.specs.Field.{Field, section_size};
+ghost use Rattle.h3_field.specs.Section.{section_bytes};
+ghost use Rattle.h3_field.specs.Instruction.DecoderInstruction.{Acknowledge, CancelStream, Increment};
+ghost use Rattle.h3_qpack.specs.Table.{table};
 ghost use Rattle.std.specs.Prelude.{take, length, [], ◌++◌};
 ghost use Rattle.h3_qpack.specs.DecoderState.{DecoderState};
 ghost use Rattle.std.specs.Prelude.{flat_map};
@@ -8,17 +12,56 @@ ghost use Rattle.std.specs.List.{AllByRecursion};
 ghost use Rattle.h3_field.specs.Instruction.{EncoderInstruction, encoder_bytes};
 ghost use Rattle.h3_qpack.specs.Instructions.{HasRead, AreInstructions};
 ghost use Rattle.h3_qpack.specs.TableHistory.{table_after_all, table_of};
-ghost use Rattle.h3_qpack.specs.Meaning.{MeansFields};
-ghost use Rattle.h3_qpack.specs.SectionEncoding.{encoded_section};
+ghost use Rattle.h3_qpack.specs.Meaning.{MeansFields, IsMissing};
+ghost use Rattle.h3_qpack.specs.DecodedSection.{DecodedSection, decode_section, IsDecodedAs};
+ghost use Rattle.h3_qpack.specs.Hearing.{Heard, hear, heard_then, IsHeardAs, Listened, listen, listened_then, IsListenedAs};
+ghost use Rattle.h3_qpack.specs.SectionEncoding.{draft_of, encoded_section, instructions_for, sent_section};
 ghost use Rattle.h3_qpack.specs.Encodings.{decoder_of, IsWritten, IsWrittenInstruction};
 ghost use Rattle.h3_field.specs.Prefix.{most_entries, IsRequiredCount};
-ghost use Rattle.h3_qpack.specs.Session.{Session, UndecodedSection, oldest, is_canceled, count_of, IsSound, DecodesTo};
+ghost use Rattle.h3_qpack.specs.Session.{Session, UndecodedSection, oldest, is_canceled, count_of, tracked_references, IsSound, DecodesTo};
 ghost use Rattle.h3_qpack.specs.Schedule.{SessionEvent, SessionRun, beginning};
-ghost use Rattle.h3_qpack.specs.EncoderHistory.{blocks_out};
+ghost use Rattle.h3_qpack.specs.EncoderHistory.{EncoderHistory, blocks_out, encoder_after, was_canceled, writing_on};
+ghost use Rattle.h3_qpack.specs.EncoderState.{encoder_state};
 ghost use Rattle.h3_qpack.specs.Exchange.{ExchangeHistory, Exchange, start, opening};
 ghost use Rattle.h3_qpack.specs.Expected.{Expected};
 ghost use Rattle.h3_qpack.specs.declared.session.SessionEvent.{SessionEvent as RunEvent};
 ghost use Rattle.h3_qpack.specs.declared.session.SessionAnswer.{SessionAnswer};
+
+/// A table holds entries whose sizes sum to at most its capacity.
+pub fn no_table_passes_its_capacity()
+    ensures { (capacity : ℕ) (inserted : List Field) → section_size (table capacity inserted) ≤ capacity }
+{}
+
+/// A section on a stream whose cancellation was read names no entry, and nothing is inserted for it. Its bytes are those of static
+/// lines and literals with static or literal names.
+pub fn canceled_streams_use_no_table()
+    ensures bytes { (s : EncoderHistory) (stream : ℕ) (fields : List Field) → was_canceled s stream ≡ true → encoded_section (writing_on s stream) fields ≡ section_bytes fields }
+    ensures names { (s : EncoderHistory) (stream : ℕ) (fields : List Field) → was_canceled s stream ≡ true → (draft_of (writing_on s stream) fields).references ≡ [] }
+    ensures inserts { (s : EncoderHistory) (stream : ℕ) (fields : List Field) → was_canceled s stream ≡ true → instructions_for (writing_on s stream) fields ≡ [] }
+    ensures same { (s : EncoderHistory) (stream : ℕ) (fields : List Field) → was_canceled s stream ≡ true → encoder_state (sent_section s stream fields) ≡ encoder_state s }
+{}
+
+/// An encoder of limit 0 that has inserted nothing names no entry and inserts nothing, whatever its capacity: so a table may come
+/// into use later.
+pub fn encoders_without_insertions_use_no_table()
+    ensures bytes { (s : EncoderHistory) (stream : ℕ) (fields : List Field) → s.limit ≡ 0 → s.inserted ≡ [] → encoded_section (writing_on s stream) fields ≡ section_bytes fields }
+    ensures inserts { (s : EncoderHistory) (stream : ℕ) (fields : List Field) → s.limit ≡ 0 → s.inserted ≡ [] → instructions_for (writing_on s stream) fields ≡ [] }
+    ensures still { (s : EncoderHistory) (stream : ℕ) (fields : List Field) → s.limit ≡ 0 → s.inserted ≡ [] → (sent_section s stream fields).inserted ≡ [] }
+{}
+
+/// Every cancellation that was read is kept, and nothing else is.
+pub fn cancellations_are_kept()
+    ensures canceled { (s : EncoderHistory) (stream other : ℕ) → was_canceled (encoder_after s (CancelStream stream)) other ≡ ((stream == other) || was_canceled s other) }
+    ensures acknowledged { (s : EncoderHistory) (stream other : ℕ) → was_canceled (encoder_after s (Acknowledge stream)) other ≡ was_canceled s other }
+    ensures counted { (s : EncoderHistory) (count other : ℕ) → was_canceled (encoder_after s (Increment count)) other ≡ was_canceled s other }
+    ensures sent { (s : EncoderHistory) (stream other : ℕ) (fields : List Field) → was_canceled (sent_section s stream fields) other ≡ was_canceled s other }
+{}
+
+/// Over every schedule, no tracked section is of a stream whose cancellation was read.
+pub fn canceled_streams_are_not_tracked()
+    ensures { (capacity limit : ℕ) (events : List SessionEvent) (s : Session) (stream : ℕ) → SessionRun (beginning capacity limit) events s → was_canceled s.encoder stream ≡ true →
+        tracked_references stream s.encoder.tracked ≡ [] }
+{}
 
 /// Over every schedule, what is under way fits what both ends have.
 pub fn every_session_is_sound()
@@ -73,4 +116,34 @@ pub fn pieces_do_not_matter()
 pub fn instructions_read_back()
     ensures { (instructions : List EncoderInstruction) (rest : List ℕ) → AllByRecursion IsWrittenInstruction instructions →
         AreInstructions (flat_map encoder_bytes instructions ++ rest) instructions rest }
+{}
+
+/// What an encoded field section is to a decoder is a value: the value says it, and whatever is said of the section is its
+/// value.
+pub fn sections_are_their_value()
+    ensures value { (r : DecoderState) (bytes : List ℕ) → IsDecodedAs r bytes (decode_section r bytes) }
+    ensures only { (r : DecoderState) (bytes : List ℕ) (d : DecodedSection) → IsDecodedAs r bytes d → decode_section r bytes ≡ d }
+{}
+
+/// A section has one meaning: one list of fields and one required insert count, or one count that is missing.
+pub fn sections_have_one_meaning()
+    ensures fields { (r : DecoderState) (bytes : List ℕ) (n m : ℕ) (fs gs : List Field) → MeansFields r bytes n fs → MeansFields r bytes m gs → (n ≡ m) × (fs ≡ gs) }
+    ensures missing { (r : DecoderState) (bytes : List ℕ) (n m : ℕ) → IsMissing r bytes n → IsMissing r bytes m → n ≡ m }
+    ensures either { (r : DecoderState) (bytes : List ℕ) (n m : ℕ) (fs : List Field) → MeansFields r bytes n fs → IsMissing r bytes m → ⊥ }
+{}
+
+/// What a decoder makes of any bytes of an encoder is a value: the decoder after them, the bytes left, and whether a bad
+/// instruction stands there. However the bytes are cut, it is the same.
+pub fn encoder_bytes_are_their_value()
+    ensures value { (r : DecoderState) (bytes : List ℕ) → IsHeardAs r bytes (hear r bytes) }
+    ensures only { (r : DecoderState) (bytes : List ℕ) (h : Heard) → IsHeardAs r bytes h → hear r bytes ≡ h }
+    ensures cuts { (r : DecoderState) (bytes more : List ℕ) → hear r (bytes ++ more) ≡ heard_then (hear r bytes) more }
+{}
+
+/// What an encoder makes of any bytes of a decoder is a value: the encoder after them, the bytes left, and whether a
+/// refused instruction stands there. However the bytes are cut, it is the same.
+pub fn decoder_bytes_are_their_value()
+    ensures value { (s : EncoderHistory) (bytes : List ℕ) → IsListenedAs s bytes (listen s bytes) }
+    ensures only { (s : EncoderHistory) (bytes : List ℕ) (l : Listened) → IsListenedAs s bytes l → listen s bytes ≡ l }
+    ensures cuts { (s : EncoderHistory) (bytes more : List ℕ) → listen s (bytes ++ more) ≡ listened_then (listen s bytes) more }
 {}

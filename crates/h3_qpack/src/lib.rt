@@ -1,6 +1,8 @@
 //! QPACK's dynamic table (RFC 9204): what a decoder reads, what an encoder writes, and the law of their sessions.
 #![tactic(auto)]
 
+#[cfg(test)]
+mod canceled_tests;
 pub mod decoder;
 pub mod dynamic;
 #[cfg(test)]
@@ -14,6 +16,7 @@ pub mod examples;
 mod increment;
 mod index;
 pub mod laws;
+mod lines;
 mod pending_section;
 #[cfg(test)]
 mod run_tests;
@@ -23,6 +26,7 @@ pub mod session;
 mod tests;
 mod tracking;
 pub mod view;
+pub mod within;
 mod writing;
 
 pub use decoder::{Decoder, ack_header, stream_canceled};
@@ -30,8 +34,10 @@ pub use dynamic::DynamicTable;
 pub use encoder::{Encoder, set_dynamic_table_size};
 pub use encoder_view::{DynamicInsertionResult, DynamicLookupResult, DynamicTableEncoder};
 pub use h3_field::{
-    Decoded, DecoderError, EncoderError, Error, HeaderField, SliceCursor, decode_stateless,
-    encode_stateless,
+    Decoded, DecoderError, EncoderError, Error, HeaderField, SliceCursor, block, cursor,
+    decode_stateless, encode_stateless, field, parse_error, prefix_int, prefix_string, static_,
+    stream, vas,
 };
 pub use session::{SessionAnswer, SessionEvent, run};
 pub use view::DynamicTableDecoder;
+pub use within::{DecodedWithin, LargeSection};

@@ -6,12 +6,8 @@ ghost use Rattle.std.specs.List.{AllByRecursion, list_any};
 ghost use Rattle.h3_field.specs.Field.{section_size};
 ghost use Rattle.h3_qpack.specs.Meaning.{MeansFields};
 ghost use Rattle.h3_qpack.specs.SectionAnswers.{IsRefusal};
-ghost use Rattle.h3_qpack.specs.EncoderHistory.{blocks_out};
-ghost use Rattle.h3_qpack.specs.Session as sessions;
-ghost use Rattle.h3_qpack.specs.Session.{IsSound};
-ghost use Rattle.h3_qpack.specs.Schedule.{beginning};
-ghost use Rattle.h3_qpack.specs.Expected.{Expected};
-ghost use Rattle.h3_qpack.specs.Exchange.{ExchangeHistory, ExchangeState, exchange_state, start, is_given_up, is_of, Encodes, DeliversToDecoder, DeliversToEncoder, Decodes, Cancels, Happens, Exchange, IsEvent, IsPlace, refused_section, IsNoBeginning, IsNoRun};
+ghost use Rattle.h3_qpack.specs.RunAnswers.{HasAnswered};
+ghost use Rattle.h3_qpack.specs.Exchange.{ExchangeHistory, ExchangeState, exchange_state, start, is_given_up, is_of, Encodes, DeliversToDecoder, DeliversToEncoder, Decodes, Cancels, Happens, IsEvent, IsPlace, refused_section, IsNoBeginning, IsNoRun};
 
 use crate::pending_section::PendingSection;
 use crate::{Decoder, DynamicTable, Encoder, ack_header, set_dynamic_table_size, stream_canceled};
@@ -276,7 +272,7 @@ impl Session {
     /// An encoder that may use a table of that capacity, and a decoder that announced it. For a capacity above 0 the
     /// encoder's stream begins with the instruction for it.
     fn begin(alloc: Global, capacity: usize, blocked: usize) -> Result<Session, EncoderError>
-        ensures ok { IfOk result (λ session. (capacity < 2 ^ 30) × (session ≡ exchange_state (start capacity blocked))) }
+        ensures ok { IfOk result (λ session. (capacity < 2 ^ 30) × (blocked ≤ 65535) × (session ≡ exchange_state (start capacity blocked))) }
         ensures err { IfErr result (IsNoBeginning capacity blocked) }
     {
         let mut table = DynamicTable::new(alloc);
@@ -315,8 +311,8 @@ pub fn run(
     events: &[SessionEvent],
 ) -> Result<Vec<SessionAnswer>, Error>
     requires { AllByRecursion IsEvent events.now }
-    ensures ok { IfOk result (λ answers. (end : ExchangeHistory) × Exchange (start capacity blocked) events.now answers.items end) }
-    ensures expected { IfOk result (λ answers. (s : sessions.Session) × Expected (beginning capacity blocked) events.now answers.items s × IsSound s × (blocks_out s.encoder ≤ blocked)) }
+    ensures limits { OnOk result ((capacity < 2 ^ 30) × (blocked ≤ 65535)) }
+    ensures ok { IfOk result (λ answers. HasAnswered capacity blocked events.now answers.items) }
     ensures err { IfErr result (IsNoRun capacity blocked) }
 {
     let mut session = Session::begin(alloc, capacity, blocked)?;

@@ -2,7 +2,7 @@
 //! them hold each entry.
 ghost use Rattle.std.specs.Prelude.{◌≡◌, ℕ, ◌+◌, ◌-◌, ◌^◌, ◌<◌, ◌≤◌, List, [], ◌∷◌, ◌++◌, length, true, false, drop, IfSome, IfNone, OnErr, OnOk};
 ghost use Rattle.std.specs.List.{list_any, remove, AllByRecursion};
-ghost use Rattle.h3_qpack.specs.Tracking.{TrackingState, is_of, reference_count, is_free_to, without_oldest_of, without_newest_of, IsFirstOf, IsLastOf};
+ghost use Rattle.h3_qpack.specs.Tracking.{TrackingState, is_of, reference_count, is_free_to, without_oldest_of, without_newest_of, without_all_of, IsFirstOf, IsLastOf};
 
 use std::alloc::{AllocError, Global};
 use std::collections::VecDeque;
@@ -176,6 +176,13 @@ impl Tracking {
         };
         self.forget(place);
         true
+    }
+
+    /// Releases all sections of a stream.
+    pub(crate) fn release_all(&mut self, stream: u64)
+        ensures { self.new ≡ record self.old { sections = without_all_of stream self.old.sections } }
+    {
+        while self.release(stream) {}
     }
 
     /// Releases the newest section of a stream, if there is one.

@@ -4,9 +4,9 @@ ghost use Rattle.h3_field.specs.declared.dynamic.Error.TheVariants.{BadRelativeI
 ghost use Rattle.h3_qpack.specs.TableState.{entry_at};
 ghost use Rattle.h3_qpack.specs.Views.{AnswersEntry};
 
-use crate::decoder::copy_of;
 use crate::dynamic::DynamicTable;
 use crate::entries::MOST_INSERTIONS;
+use crate::lines::copy_of;
 use h3_field::HeaderField;
 use h3_field::dynamic::Error;
 use std::marker::Model;

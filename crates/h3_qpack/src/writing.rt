@@ -16,9 +16,9 @@ ghost use Rattle.h3_qpack.specs.EncoderHistory.{EncoderHistory};
 ghost use Rattle.h3_qpack.specs.SectionEncoding.{Draft, add_field, draft_of, entry_name_line};
 ghost use Rattle.h3_qpack.specs.Drafting.{naming, IsOver, IsPossible, line_for, section_after, encoder_state_with, instructions_after, insertion_for, IsDrafted, IsCutOff};
 
-use crate::decoder::copy_of;
 use crate::dynamic::DynamicTable;
 use crate::entries::Match;
+use crate::lines::copy_of;
 use crate::section::{Choice, Section};
 use h3_field::block::{
     HeaderPrefix, Indexed, IndexedWithPostBase, Literal, LiteralWithNameRef,
@@ -217,7 +217,7 @@ pub(crate) fn put_fields(
         IsDrafted s (draft_of s fields.now) table.new section.new lines.new.items start encoder_buf.new.items) }
     ensures bytes { OnOk result (AllByRecursion IsFieldOfBytes fields.now) }
     ensures err { OnErr result ((s : EncoderHistory) (start : List ℕ) → IsDrafted s (draft_of s []) table.old section.old lines.old.items start encoder_buf.old.items →
-        IsCutOff s fields.now table.new start encoder_buf.new.items) }
+        IsCutOff s s fields.now table.new start encoder_buf.new.items) }
 {
     'fields: for field in fields {
         field.are_bytes();

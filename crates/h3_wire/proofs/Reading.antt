@@ -9,6 +9,10 @@ use Rattle.h3_wire.specs.Given.{AddsPieces, asked_no_more, gave_once}
 use Rattle.h3_wire.proofs.PieceLemmas.{with_piece-some}
 use Rattle.h3_wire.specs.Streams.{Buffered, ReadsMore, Tells, AsksFirst, stream_error}
 use Rattle.h3_wire.specs.declared.frame.errors.FrameStreamError.{FrameStreamError}
+use Rattle.h3_wire.specs.declared.stream.Received.{Received}
+use Rattle.h3_wire.specs.declared.stream.Received.TheVariants as received
+use Rattle.h3_wire.specs.Asking.{Asks, no_room, once}
+use Rattle.h3_wire.specs.AskingLaws.{same_buffered}
 
 -- What a read of an open stream leaves.
 pub record Reading {S : Type 0} (rest : S → List ℕ) (answers : S → Answer → S → Type 0) (old new : Buffered S) : Type 0 where
@@ -138,3 +142,33 @@ adds_pieces rest answers polls Pending old new h = ([], gave_once answers old.so
 -- and none where the source is not asked
 pub adds_none : {S : Type 0} (answers : S → Answer → S → Type 0) (s t : S) (old new : List (List ℕ)) → t ≡ s → new ≡ old → AddsPieces answers s old t new
 adds_none answers s t old new same e = ([], asked_no_more s t [] same refl, e ∙ sym (append-nil old))
+
+-- what a read answers, as it is told
+abbrev pub told_of : Poll (Result Bool StreamErrorIncoming) → Result Received FrameStreamError
+told_of (Ready (Ok false)) = Ok received.More
+told_of (Ready (Ok true)) = Ok received.End
+told_of (Ready (Err e)) = Err (stream_error e)
+told_of Pending = Ok received.Nothing
+
+asks_error : {S : Type 0} (answers : S → Answer → S → Type 0) (old new : Buffered S) (e : StreamErrorIncoming) → old.is_eos ≡ false → answers old.source (Ready (Err e)) new.source
+    → new.buffered ≡ old.buffered → new.is_eos ≡ old.is_eos → new.pieces ≡ old.pieces → Asks answers old (Err (stream_error e)) new
+asks_error answers old new e open_here a b k p =
+    once (Ready (Err e)) open_here a refl (b ∙ sym (append-nil old.buffered)) (p ∙ sym (append-nil old.pieces)) (k ∙ open_here)
+
+-- a read of an open stream asks once
+pub asks_of : {S : Type 0} (rest : S → List ℕ) (answers : S → Answer → S → Type 0) → ((s t : S) (answer : Answer) → answers s answer t → Polls answer (rest s) (rest t))
+    → (r : Poll (Result Bool StreamErrorIncoming)) (old new : Buffered S) → old.is_eos ≡ false → ReadsMore answers r old new → Asks answers old (told_of r) new
+asks_of rest answers polls (Ready (Ok false)) old new open_here h =
+    let some = (polls old.source new.source (Ready (Ok (Some h.0))) h.1).0 in
+    once (Ready (Ok (Some h.0))) open_here h.1 refl (h.2 ∙ ap (λ l. old.buffered ++ l) (sym (append-nil h.0))) (h.4 ∙ with_piece-some old.pieces h.0 some) (h.3 ∙ open_here)
+asks_of rest answers polls (Ready (Ok true)) old new open_here h =
+    once (Ready (Ok None)) open_here h.0 refl (h.1 ∙ sym (append-nil old.buffered)) (h.3 ∙ sym (append-nil old.pieces)) h.2
+asks_of rest answers polls (Ready (Err incoming.OutOfMemory)) old new open_here h = elim h.2 [
+  | inl same ↦ no_room open_here refl (same_buffered new old h.0 h.3 same h.1)
+  | inr a ↦ asks_error answers old new incoming.OutOfMemory open_here a h.0 h.1 h.3
+]
+asks_of rest answers polls (Ready (Err incoming.Unknown)) old new open_here h = asks_error answers old new incoming.Unknown open_here h.2 h.0 h.1 h.3
+asks_of rest answers polls (Ready (Err (incoming.ConnectionErrorIncoming code))) old new open_here h = asks_error answers old new (incoming.ConnectionErrorIncoming code) open_here h.2 h.0 h.1 h.3
+asks_of rest answers polls (Ready (Err (incoming.StreamTerminated code))) old new open_here h = asks_error answers old new (incoming.StreamTerminated code) open_here h.2 h.0 h.1 h.3
+asks_of rest answers polls Pending old new open_here h =
+    once Pending open_here h.0 refl (h.1 ∙ sym (append-nil old.buffered)) (h.3 ∙ sym (append-nil old.pieces)) (h.2 ∙ open_here)

@@ -1,5 +1,5 @@
 -- A one-way stream by its type.
-use Rattle.std.specs.Prelude.{◌≡◌, ◌≢◌, ℕ, false, Some}
+use Rattle.std.specs.Prelude.{◌≡◌, ◌≢◌, ℕ, false, Some, None}
 use Rattle.h3_wire.specs.declared.stream.accept.AcceptedRecvStream.{AcceptedRecvStream}
 use Rattle.h3_wire.specs.declared.stream.accept.AcceptedRecvStream.TheVariants as accepted
 use Rattle.h3_wire.specs.Streams.{Framing, stream_part, is_open}
@@ -7,7 +7,7 @@ use Rattle.h3_wire.specs.Accepting.{Accepting, stream_of}
 
 -- frames are read from here on
 abbrev pub Frames : {S : Type 0} → Framing S → Accepting S → Type 0
-Frames f s = (stream_part f ≡ stream_of s) × (is_open f.payload ≡ false)
+Frames f s = (stream_part f ≡ stream_of s) × (is_open f.payload ≡ false) × (f.decoder ≡ record { expected = None; tries = 0 })
 
 -- what follows type and id is handed on whole
 abbrev pub Accepts : {S : Type 0} → AcceptedRecvStream S → Accepting S → Type 0

@@ -27,3 +27,7 @@ pub mod Cut
 pub mod Texts
 pub mod UnfinishedLaws
 pub mod GivesLaws
+pub mod Asking
+pub mod AskingLaws
+pub mod Starting
+pub mod StartingLaws

@@ -17,6 +17,7 @@ use Rattle.h3_wire.specs.Source.{Answer, coming}
 use Rattle.h3_wire.specs.Pieces.{with_piece}
 use Rattle.h3_wire.specs.Frames.{Whole, Refused, frame_at}
 use Rattle.h3_wire.specs.Known.{known, refusal, IsWaiting}
+use Rattle.h3_wire.specs.Tries.{Decoding}
 
 -- the bytes that were read and not yet taken, the pieces that they lie in, where the rest comes from, and whether the end
 -- was told
@@ -26,13 +27,14 @@ pub record Buffered (S : Type 0) : Type 0 where
   pub source : S
   pub is_eos : Bool
 
--- the same, and what is left of the payload under way
+-- the same, what is left of the payload under way, and the decoder of frames
 pub record Framing (S : Type 0) : Type 0 where
   pub buffered : List ℕ
   pub pieces : List (List ℕ)
   pub source : S
   pub is_eos : Bool
   pub payload : PayloadLeft
+  pub decoder : Decoding
 
 -- the bytes that are left
 abbrev pub left : {S : Type 0} → (S → List ℕ) → Framing S → List ℕ

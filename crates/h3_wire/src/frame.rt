@@ -1,8 +1,10 @@
 //! A stream of frames.
-ghost use Rattle.std.specs.Prelude.{◌≡◌, ◌<◌, ◌≤◌, ◌-◌, ◌^◌, ℕ, List, false, true, None, Ok, [], length, MatchOption, IfOk, OnErr};
+ghost use Rattle.std.specs.Prelude.{◌≡◌, ◌<◌, ◌≤◌, ◌-◌, ◌^◌, ℕ, List, false, true, None, Ok, [], length, MatchOption, IfOk, IfErr, OnErr};
 ghost use Rattle.h3_wire.specs.declared.quic.Poll.TheVariants.{Ready};
 ghost use Rattle.std.specs.Borrow.{Lends, sem};
 ghost use Rattle.h3_wire.specs.contracts.frame.FrameStream.{the_row};
+ghost use Rattle.h3_wire.specs.Asking.{Asks, IsRoundBefore, Rounds, ReadsOnce, TakesFirst};
+ghost use Rattle.h3_wire.specs.declared.frame.errors.FrameStreamError.TheVariants as stream;
 ghost use Rattle.h3_wire.specs.Source.{Asked, coming};
 ghost use Rattle.std.specs.List.{concat};
 ghost use Rattle.h3_wire.specs.Cut.{PollsPiece, TellsEnd, cut, is_cut_short};
@@ -42,7 +44,7 @@ impl<S> Model for FrameStream<S> {
 
     ghost Value = { Framing S };
 
-    ghost view = { λ s. record { buffered = s.stream.buffered; pieces = s.stream.pieces; source = s.stream.source; is_eos = s.stream.is_eos; payload = s.payload } };
+    ghost view = { λ s. record { buffered = s.stream.buffered; pieces = s.stream.pieces; source = s.stream.source; is_eos = s.stream.is_eos; payload = s.payload; decoder = s.decoder } };
 
     ghost invariant = { λ s. Expects s.decoder s.stream.buffered × (is_open s.payload ≡ true → s.decoder.expected ≡ None) };
 }
@@ -66,6 +68,7 @@ impl<S> FrameStream<S> {
         ensures source { result.source ≡ stream.source }
         ensures is_eos { result.is_eos ≡ stream.is_eos }
         ensures payload { is_open result.payload ≡ false }
+        ensures decoder { result.decoder ≡ record { expected = None; tries = 0 } }
     {
         FrameStream {
             stream,
@@ -93,6 +96,15 @@ impl<S> FrameStream<S> {
             PayloadLeft::Bytes(count) => 0 < count,
             PayloadLeft::ToEnd => true,
         }
+    }
+
+    /// How often the frame under way was tried, or else the last one that was taken, an unknown one
+    /// too: at most 17 times, and 0 before the first.
+    pub fn tries(&self) -> u8
+        ensures value { result ≡ self.now.decoder.tries }
+        ensures bound { result ≤ 17 }
+    {
+        self.decoder.tries()
     }
 
     /// The bytes are the pieces joined. This does nothing.
@@ -125,6 +137,7 @@ impl<S: RecvStream> FrameStream<S> {
         requires closed { is_open self.old.payload ≡ false }
         requires few { length (left S.rest self.old) < 2 ^ 62 }
         ensures reads { (more : List ℕ) → ReadsFrame S.rest result self.old self.new more }
+        ensures rounds { Rounds S.answers self.old result self.new }
         ensures polls { PollsFrame S.rest S.answers result self.old self.new }
         ensures fewer { length (left S.rest self.new) ≤ length (left S.rest self.old) }
         ensures asked { Asked S.answers self.old.source self.new.source }
@@ -140,6 +153,7 @@ impl<S: RecvStream> FrameStream<S> {
     fn poll_frame(&mut self) -> Poll<Result<Option<Frame<PayloadLen>>, FrameStreamError>>
         requires closed { is_open self.old.payload ≡ false }
         requires few { length (left S.rest self.old) < 2 ^ 62 }
+        ensures rounds { Rounds S.answers self.old result self.new }
         ensures polls { PollsFrame S.rest S.answers result self.old self.new }
         ensures fewer { length (left S.rest self.new) ≤ length (left S.rest self.old) }
         ensures asked { Asked S.answers self.old.source self.new.source }
@@ -158,6 +172,7 @@ impl<S: RecvStream> FrameStream<S> {
     fn read_frame(&mut self) -> Option<Poll<Result<Option<Frame<PayloadLen>>, FrameStreamError>>>
         requires closed { is_open self.old.payload ≡ false }
         requires few { length (left S.rest self.old) < 2 ^ 62 }
+        ensures round { MatchOption result (IsRoundBefore S.answers self.old self.new) (λ answer. Rounds S.answers self.old answer self.new) }
         ensures polls { MatchOption result (Continues S.rest self.old self.new)
             (λ answer. PollsFrame S.rest S.answers answer self.old self.new) }
         ensures fewer { length (left S.rest self.new) ≤ length (left S.rest self.old) }
@@ -195,6 +210,7 @@ impl<S: RecvStream> FrameStream<S> {
         requires { length (left S.rest self.old) < 2 ^ 62 }
         ensures reads { (more : List ℕ) → ReadsData S.rest result self.old self.new more }
         ensures closed { is_open self.old.payload ≡ false → (result ≡ Ready (Ok None)) × (self.new ≡ self.old) }
+        ensures once { ReadsOnce S.answers self.old result self.new }
         ensures polls { PollsData S.rest S.answers result self.old self.new }
         ensures asked { Asked S.answers self.old.source self.new.source }
         ensures ended { EndIsTold S.answers self.new.source self.old.is_eos self.new.is_eos }
@@ -208,6 +224,7 @@ impl<S: RecvStream> FrameStream<S> {
     fn poll_payload(&mut self) -> Poll<Result<Option<Bytes>, FrameStreamError>>
         requires { length (left S.rest self.old) < 2 ^ 62 }
         ensures closed { is_open self.old.payload ≡ false → (result ≡ Ready (Ok None)) × (self.new ≡ self.old) }
+        ensures once { ReadsOnce S.answers self.old result self.new }
         ensures polls { PollsData S.rest S.answers result self.old self.new }
         ensures asked { Asked S.answers self.old.source self.new.source }
         ensures ended { EndIsTold S.answers self.new.source self.old.is_eos self.new.is_eos }
@@ -254,6 +271,8 @@ impl<S: RecvStream> FrameStream<S> {
         ensures pieces { AddsPieces S.answers self.old.source self.old.pieces self.new.source self.new.pieces }
         ensures end { TellsEnd result self.new.is_eos }
         ensures joined { self.new.buffered ≡ concat self.new.pieces }
+        ensures asks { Asks S.answers (stream_part self.old) result (stream_part self.new) }
+        ensures decoder { self.new.decoder ≡ self.old.decoder }
     {
         let received = self.stream.receive();
         self.stream.known();
@@ -283,6 +302,10 @@ impl<S> FrameStream<S> {
         ensures takes { TakesData result self.old self.new }
         ensures pieces { IfOk result (λ o. (o, self.new.pieces) ≡ cut self.old.payload self.old.pieces) }
         ensures err { OnErr result (self.new.pieces ≡ self.old.pieces) }
+        ensures first { IfOk result (λ o. TakesFirst (stream_part self.old) self.old.payload o self.new) }
+        ensures none { OnErr result (self.new ≡ self.old) }
+        ensures memory { IfErr result (λ e. e ≡ stream.OutOfMemory) }
+        ensures decoder { self.new.decoder ≡ self.old.decoder }
         ensures source { self.new.source ≡ self.old.source }
         ensures is_eos { self.new.is_eos ≡ self.old.is_eos }
     {

@@ -1,9 +1,14 @@
 //! What holds of every frame. These functions do nothing: their contracts are the laws.
 ghost use Rattle.std.specs.Prelude.{◌≡◌, ◌<◌, ℕ, List, ◌++◌, length, take, Err};
+ghost use Rattle.h3_wire.specs.Asking.{ReadsOnce, Rounds};
+ghost use Rattle.h3_wire.specs.AskingLaws.{IsFunction, OneAnswer};
+ghost use Rattle.h3_wire.specs.Buffering.{AnswersFrom};
 ghost use Rattle.h3_wire.specs.Encoded.{encoding_of, needed_of, HasLength, IsReserved};
 ghost use Rattle.h3_wire.specs.EncodedLaws.{read_back};
 ghost use Rattle.h3_wire.specs.Frames.{frame_at};
 ghost use Rattle.h3_wire.specs.Known.{Gives};
+ghost use Rattle.h3_wire.specs.Starting.{StartRounds};
+ghost use Rattle.h3_wire.specs.StartingLaws.{OneStart};
 ghost use Rattle.h3_wire.specs.UnfinishedLaws.{IsUnfinishedFront};
 ghost use Rattle.h3_wire.specs.declared.frame.errors.FrameProtocolError.{FrameProtocolError};
 ghost use Rattle.h3_wire.specs.declared.frame.errors.FrameStreamError.TheVariants as stream;
@@ -11,6 +16,7 @@ ghost use Rattle.h3_wire.specs.Reads.{reads, then_more};
 ghost use Rattle.h3_wire.specs.declared.frame.payload_left.PayloadLeft.{PayloadLeft};
 
 use crate::proto::frame::Frame;
+use crate::quic::RecvStream;
 use bytes::Buf;
 
 /// A frame that was written is read as it was, whatever follows it: of DATA the head, with the
@@ -42,4 +48,14 @@ pub fn less_than_a_frame_is_unfinished<B: Buf>(frame: &Frame<B>)
 /// A refused frame is refused again, whatever follows it, and nothing of it is taken.
 pub fn refused_stays_refused()
     ensures { (e : FrameProtocolError) (old new more : List ℕ) → Gives (Err (stream.Proto e)) old new → Gives (Err (stream.Proto e)) (new ++ more) (new ++ more) }
+{}
+
+/// What a stream of frames, a stream whose type is read, or a buffered stream answers and leaves
+/// rests on its own buffer and source alone: where the source has one answer, so has each call, but
+/// for want of memory.
+pub fn answers_rest_on_buffer_and_source<S: RecvStream>()
+    ensures frame { IsFunction S.answers → OneAnswer (Rounds S.answers) }
+    ensures piece { IsFunction S.answers → OneAnswer (ReadsOnce S.answers) }
+    ensures start { IsFunction S.answers → OneStart (StartRounds S.answers) }
+    ensures buffered { IsFunction S.answers → IsFunction (AnswersFrom S.answers) }
 {}

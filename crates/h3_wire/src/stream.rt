@@ -4,12 +4,13 @@ ghost use Rattle.h3_wire.specs.Source.{Asked, coming};
 ghost use Rattle.std.specs.Borrow.{Lends, sem};
 ghost use Rattle.h3_wire.specs.contracts.stream.BufRecvStream.{the_row};
 ghost use Rattle.h3_wire.specs.Accepting.{TakesNumber};
+ghost use Rattle.h3_wire.specs.Asking.{Asks};
 ghost use Rattle.h3_wire.specs.Buffering.{left_behind, AnswersFrom, polls_behind, same_behind};
 ghost use Rattle.h3_wire.specs.Known.{Gives};
 ghost use Rattle.h3_wire.specs.Cut.{TellsEnd};
 ghost use Rattle.h3_wire.specs.Given.{AddsPieces};
 ghost use Rattle.h3_wire.specs.Pieces.{IsRest, chunk_of, ending, first_of};
-ghost use Rattle.h3_wire.specs.Tries.{Expects};
+ghost use Rattle.h3_wire.specs.Tries.{Counts, Expects};
 ghost use Rattle.std.specs.List.{concat};
 ghost use Rattle.h3_wire.specs.Streams.{ReadsMore, Tells, Adds, EndIsTold, AsksFirst, stream_error, error_of};
 
@@ -195,6 +196,7 @@ impl<S: RecvStream> BufRecvStream<S> {
         ensures first { self.old.is_eos ≡ false → AsksFirst S.answers self.old.source (error_of result) }
         ensures pieces { AddsPieces S.answers self.old.source self.old.pieces self.new.source self.new.pieces }
         ensures end { TellsEnd result self.new.is_eos }
+        ensures asks { Asks S.answers self.old result self.new }
     {
         if self.eos {
             return Ok(Received::End);
@@ -216,6 +218,7 @@ impl<S: RecvStream> BufRecvStream<S> {
         requires expects { Expects decoder.old self.old.buffered }
         ensures gives { Gives result self.old.buffered self.new.buffered }
         ensures expects { Expects decoder.new self.new.buffered }
+        ensures counts { Counts decoder.old self.old.buffered result decoder.new }
         ensures fresh { IfOk result (λ o. IfSome o (λ f. decoder.new.expected ≡ None)) }
         ensures pieces { self.new.pieces ≡ ending (length self.new.buffered) self.old.pieces }
         ensures source { self.new.source ≡ self.old.source }

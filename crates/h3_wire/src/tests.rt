@@ -2,6 +2,8 @@
 mod decoder;
 mod feed;
 mod frames;
+mod large;
 mod memory;
 mod pieces;
+mod sending;
 mod streams;

@@ -9,6 +9,8 @@ ghost use Rattle.h3_wire.specs.Source.{Asked};
 ghost use Rattle.h3_wire.specs.Streams.{Adds, EndIsTold, Tells};
 ghost use Rattle.h3_wire.specs.Accepting.{has_id, start_from, all_left, stream_of, resolved, Short, PollsType, type_error};
 ghost use Rattle.h3_wire.specs.Accepted.{Accepts};
+ghost use Rattle.h3_wire.specs.Asking.{Asks};
+ghost use Rattle.h3_wire.specs.Starting.{Starts, StartRounds, type_read, behind_type_read, id_read, behind_id_read};
 
 use super::{BufRecvStream, Received};
 use crate::frame::{FrameStream, FrameStreamError};
@@ -136,6 +138,24 @@ impl<S> AcceptRecvStream<S> {
         ensures rest { IsRest self.old.pieces self.new.pieces }
         ensures source { self.new.source ≡ self.old.source }
         ensures is_eos { self.new.is_eos ≡ self.old.is_eos }
+        ensures starts { Starts self.old self.new }
+    {
+        let whole = self.take_type_and_id();
+        self.known();
+        whole
+    }
+
+    fn take_type_and_id(&mut self) -> bool
+        ensures same { (more : List ℕ) → start_from self.new.kind self.new.id (self.new.buffered ++ more) ≡ start_from self.old.kind self.old.id (self.old.buffered ++ more) }
+        ensures resolved { result ≡ resolved self.new.kind self.new.id }
+        ensures short { result ≡ false → start_from self.new.kind self.new.id self.new.buffered ≡ Short }
+        ensures fewer { length self.new.buffered ≤ length self.old.buffered }
+        ensures rest { IsRest self.old.pieces self.new.pieces }
+        ensures source { self.new.source ≡ self.old.source }
+        ensures is_eos { self.new.is_eos ≡ self.old.is_eos }
+        ensures kind { self.new.kind ≡ type_read self.old.kind self.old.buffered }
+        ensures id { self.new.id ≡ id_read self.new.kind self.old.id (behind_type_read self.old.kind self.old.buffered) }
+        ensures buffered { self.new.buffered ≡ behind_id_read self.new.kind self.old.id (behind_type_read self.old.kind self.old.buffered) }
     {
         if !self.take_type() {
             return false;
@@ -153,6 +173,10 @@ impl<S> AcceptRecvStream<S> {
         ensures rest { IsRest self.old.pieces self.new.pieces }
         ensures source { self.new.source ≡ self.old.source }
         ensures is_eos { self.new.is_eos ≡ self.old.is_eos }
+        ensures kind { self.new.kind ≡ type_read self.old.kind self.old.buffered }
+        ensures id { self.new.id ≡ self.old.id }
+        ensures buffered { self.new.buffered ≡ behind_type_read self.old.kind self.old.buffered }
+        ensures none { result ≡ false → self.new.kind ≡ None }
     {
         if self.ty.is_some() {
             return true;
@@ -175,6 +199,9 @@ impl<S> AcceptRecvStream<S> {
         ensures rest { IsRest self.old.pieces self.new.pieces }
         ensures source { self.new.source ≡ self.old.source }
         ensures is_eos { self.new.is_eos ≡ self.old.is_eos }
+        ensures kind { self.new.kind ≡ self.old.kind }
+        ensures id { self.new.id ≡ id_read self.old.kind self.old.id self.old.buffered }
+        ensures buffered { self.new.buffered ≡ behind_id_read self.old.kind self.old.id self.old.buffered }
     {
         if self.is_resolved() {
             return true;
@@ -209,6 +236,7 @@ impl<S: RecvStream> AcceptRecvStream<S> {
         ensures same { (more : List ℕ) → start_from self.new.kind self.new.id (all_left S.rest self.new ++ more)
             ≡ start_from self.old.kind self.old.id (all_left S.rest self.old ++ more) }
         ensures polls { PollsType S.answers result self.new }
+        ensures rounds { StartRounds S.answers self.old result self.new }
         ensures asked { Asked S.answers self.old.source self.new.source }
         ensures ended { EndIsTold S.answers self.new.source self.old.is_eos self.new.is_eos }
         ensures fewer { length (all_left S.rest self.new) ≤ length (all_left S.rest self.old) }
@@ -224,6 +252,7 @@ impl<S: RecvStream> AcceptRecvStream<S> {
         ensures same { (more : List ℕ) → start_from self.new.kind self.new.id (all_left S.rest self.new ++ more)
             ≡ start_from self.old.kind self.old.id (all_left S.rest self.old ++ more) }
         ensures polls { PollsType S.answers result self.new }
+        ensures rounds { StartRounds S.answers self.old result self.new }
         ensures asked { Asked S.answers self.old.source self.new.source }
         ensures ended { EndIsTold S.answers self.new.source self.old.is_eos self.new.is_eos }
         ensures fewer { length (all_left S.rest self.new) ≤ length (all_left S.rest self.old) }
@@ -238,7 +267,12 @@ impl<S: RecvStream> AcceptRecvStream<S> {
                 Ok(Received::End) => return Poll::Ready(Err(PollTypeError::EndOfStream)),
                 Ok(Received::Nothing) => return Poll::Pending,
                 Err(FrameStreamError::Quic(e)) => return Poll::Ready(Err(as_type_error(e))),
-                Err(_) => return Poll::Ready(Err(PollTypeError::OutOfMemory)),
+                Err(FrameStreamError::OutOfMemory) => {
+                    return Poll::Ready(Err(PollTypeError::OutOfMemory));
+                }
+                // A read has no other error.
+                Err(FrameStreamError::Proto(_)) => unreachable!(),
+                Err(FrameStreamError::UnexpectedEnd) => unreachable!(),
             }
         }
     }
@@ -256,6 +290,7 @@ impl<S: RecvStream> AcceptRecvStream<S> {
         ensures asked { Asked S.answers self.old.source self.new.source }
         ensures ended { EndIsTold S.answers self.new.source self.old.is_eos self.new.is_eos }
         ensures pieces { AddsPieces S.answers self.old.source self.old.pieces self.new.source self.new.pieces }
+        ensures asks { Asks S.answers (stream_of self.old) result (stream_of self.new) }
     {
         self.stream.receive()
     }

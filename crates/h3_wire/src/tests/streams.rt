@@ -10,7 +10,7 @@ use std::test::Fail;
 
 /// Reads all frames and payloads: writes the texts of the frames into `log` and how it ended, and
 /// puts the bytes of payloads into `payload`.
-fn read_all(
+pub fn read_all(
     alloc: Global,
     feed: Feed<'_>,
     log: &mut String,

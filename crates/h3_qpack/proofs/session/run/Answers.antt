@@ -1,6 +1,5 @@
 use Rattle.std.proofs.Common.{◌<◌, ◌^◌, rules, arith}
-use Rattle.h3_qpack.proofs.Runs.{run_as_expected}
-use Rattle.h3_qpack.proofs.Expectations.{expected_sound}
+use Rattle.h3_qpack.proofs.RunEnds.{has_answered}
 use Rattle.h3_qpack.proofs.Steps.{run_begun, run_more, run_done, event_at}
 use Rattle.h3_qpack.proofs.session.run.Goals as goal
 
@@ -13,10 +12,8 @@ events-preserved c = (
   omega (arith, c.events.invariant.1, c.events-test.true, c.push_reserved.ensures.len, c.push_reserved.ensures.capacity),
 )
 
-pub returns-clause-expected : goal.returns-clause-expected
-returns-clause-expected c =
+pub returns-clause-ok : goal.returns-clause-ok
+returns-clause-ok c =
     let r = run_done _ _ _ _ _ _ c.events.invariant.0 (omega arith) in
     let small : c.args.capacity < 2 ^ 30 = search rules in
-    let x = run_as_expected _ _ _ _ r.0 small r.1 in
-    let s = expected_sound _ _ _ _ x.session x.expected in
-    (x.session, x.expected, s.0, s.1)
+    has_answered _ _ _ _ r.0 small r.1

@@ -1,4 +1,4 @@
-use Rattle.std.proofs.Common.{◌≡◌, true, false, inr, refl, sym, ◌∙◌, ap, rules}
+use Rattle.std.proofs.Common.{◌≡◌, true, false, inl, inr, refl, sym, ◌∙◌, ap, rules}
 use Rattle.std.specs.List.{list_any}
 use Rattle.h3_field.specs.InstructionReading.{acknowledgment}
 use Rattle.h3_field.specs.InstructionAnswer.{section_acknowledgment}
@@ -13,7 +13,7 @@ returns-then-not-release c =
     let whole = is_acknowledgment _ c.requires.some c.requires.own
     ∙ reply_here section_acknowledgment (acknowledgment c.args.buf.now) c.args.buf.now c.decode.new.buf c.in-Ok-Some.field-0 c.in-Ok-Some.field-0-0 c.in-Ok-Some.field-0-is (own c.requires.own) in
     let missing : false ≡ list_any (is_of c.in-Ok-Some.field-0-0.0) c.args.self.now.tracked = search rules in (
-      λ s e. inr (section_acknowledgment c.in-Ok-Some.field-0-0, c.decode.new.buf, whole, acknowledged c.args.self.now c.in-Ok-Some.field-0-0.0 false missing s e),
+      λ s e. inl (inr (section_acknowledgment c.in-Ok-Some.field-0-0, c.decode.new.buf, whole, acknowledged c.args.self.now c.in-Ok-Some.field-0-0.0 false missing s e)),
       rw whole refl,
       rw (← c.self.view_is) (c.release.ensures.after ∙ ap (λ ts. record c.self.inside.table { tracked = ts }) (none_removed c.in-Ok-Some.field-0-0.0 c.self.inside.table.tracked (rw c.self.view_is (sym missing)))),
       refl,

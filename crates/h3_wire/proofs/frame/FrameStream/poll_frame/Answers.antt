@@ -1,4 +1,5 @@
 use Rattle.std.proofs.Common.{arith, ◌∙◌, refl, subst, inl, inr, None}
+use Rattle.h3_wire.specs.Asking.{goes_on}
 use Rattle.h3_wire.specs.Source.{done, asked_then}
 use Rattle.h3_wire.specs.Given.{passes_then, rest_passes}
 use Rattle.h3_wire.specs.PieceLaws.{rest_same}
@@ -7,7 +8,7 @@ use Rattle.h3_wire.proofs.Reading.{no_error_first}
 use Rattle.h3_wire.proofs.frame.FrameStream.poll_frame.Goals as goal
 
 pub loop-answer-init : goal.loop-answer-init
-loop-answer-init g c = record { same = refl; fewer = omega arith; payload = refl; is_eos = refl; first = λ _. inl refl; pieces = rest_passes g.S.RecvStream.answers _ _ _ _ refl (rest_same _ _ refl); asked = done _ _ refl }
+loop-answer-init g c = record { same = refl; fewer = omega arith; payload = refl; is_eos = refl; first = λ _. inl refl; pieces = rest_passes g.S.RecvStream.answers _ _ _ _ refl (rest_same _ _ refl); rounds = λ answer new h. h; asked = done _ _ refl }
 
 pub returns-in-Some-clause-asked : goal.returns-in-Some-clause-asked
 returns-in-Some-clause-asked g c = asked_then _ _ _ _ c.loop-answer.invariant.asked c.read_frame.ensures.asked
@@ -23,6 +24,9 @@ loop-answer-preserved g c = record {
     | inr a ↦ inr a
   ];
   pieces = passes_then g.S.RecvStream.answers _ _ _ _ _ _ c.loop-answer.invariant.pieces c.read_frame.ensures.pieces;
+  rounds = λ answer new h.
+      let r = c.in_default.ensures.round in
+      c.loop-answer.invariant.rounds answer new (goes_on c.loop-answer.self c.read_frame.new.self new r.0 r.1 answer r.2 r.3 h);
   asked = asked_then _ _ _ _ c.loop-answer.invariant.asked c.read_frame.ensures.asked;
 }
 
@@ -40,3 +44,6 @@ returns-in-Some-clause-first g c = λ e. elim (c.loop-answer.invariant.first e) 
   | inl same ↦ subst (λ s. AsksFirst g.S.RecvStream.answers s (poll_error c.in-Some.answer)) same (c.in-Some.ensures.first (c.loop-answer.invariant.is_eos ∙ e))
   | inr a ↦ no_error_first g.S.RecvStream.answers _ _ a
 ]
+
+pub returns-in-Some-clause-rounds : goal.returns-in-Some-clause-rounds
+returns-in-Some-clause-rounds g c = c.loop-answer.invariant.rounds c.in-Some.answer c.read_frame.new.self c.in-Some.ensures.round

@@ -1,8 +1,9 @@
-use Rattle.std.proofs.Common.{refl, sym, ap, ◌∙◌, inl, Some}
+use Rattle.std.proofs.Common.{refl, sym, ap, subst, ◌∙◌, inl, Some, Err, Ok, true, false}
+use Rattle.h3_wire.specs.Asking.{Asks, at_end}
 use Rattle.h3_wire.specs.Source.{done}
 use Rattle.h3_wire.specs.Streams.{Buffered, stream_error}
-use Rattle.h3_wire.specs.declared.quic.Poll.TheVariants.{Ready}
-use Rattle.h3_wire.proofs.Reading.{reading, adds_pieces, adds_none, error_keeps, error_adds, asks_first, tells_error, read_error}
+use Rattle.h3_wire.specs.declared.quic.Poll.TheVariants.{Ready, Pending}
+use Rattle.h3_wire.proofs.Reading.{reading, adds_pieces, adds_none, error_keeps, error_adds, asks_first, asks_of, told_of, tells_error, read_error}
 use Rattle.h3_wire.specs.ReadLaws.{apart}
 use Rattle.h3_wire.proofs.stream.BufRecvStream.receive.Goals as goal
 
@@ -63,4 +64,27 @@ returns-in-Ready-Err g c =
       first = λ _. asks_first g.S.RecvStream.answers c.poll_read.result c.args.self.now c.poll_read.new.self _ c.poll_read.ensures (λ e q. ap (λ x. Some x) c.as_stream_error.ensures ∙ ap (λ x. Some (stream_error x)) (read_error c.poll_read.result c.in-Ready-Err.e e (c.in-Ready-Err.is ∙ ap (λ x. Ready x) c.in-Ready-Err.field-0-is) q));
       pieces = adds_pieces g.S.RecvStream.rest g.S.RecvStream.answers g.met.S.RecvStream.polls c.poll_read.result _ _ c.poll_read.ensures;
       end = tt;
+      asks = subst (λ r. Asks g.S.RecvStream.answers c.args.self.now (Err r) c.poll_read.new.self) (sym c.as_stream_error.ensures) (asks_of g.S.RecvStream.rest g.S.RecvStream.answers g.met.S.RecvStream.polls (Ready (Err c.in-Ready-Err.e)) c.args.self.now c.poll_read.new.self open_here here);
     }
+
+pub returns-then-self-clause-asks : goal.returns-then-self-clause-asks
+returns-then-self-clause-asks g c = at_end (sym (ap (λ (b : Buffered g.row.S.Denot). b.is_eos) c.self.view_is) ∙ c.if-self.true) refl refl
+
+pub returns-in-Ready-Ok-true-clause-asks : goal.returns-in-Ready-Ok-true-clause-asks
+returns-in-Ready-Ok-true-clause-asks g c =
+    let open_here = sym (ap (λ (b : Buffered g.row.S.Denot). b.is_eos) c.self.view_is) ∙ c.if-self.false in
+    let h = c.in-Ready-Ok-true in
+    subst (λ r. Asks g.S.RecvStream.answers c.args.self.now r c.poll_read.new.self) (ap told_of (h.is ∙ ap (λ x. Ready x) (h.field-0-is ∙ ap (λ x. Ok x) h.field-0-0-test)))
+    (asks_of g.S.RecvStream.rest g.S.RecvStream.answers g.met.S.RecvStream.polls c.poll_read.result c.args.self.now c.poll_read.new.self open_here c.poll_read.ensures)
+
+pub returns-in-Ready-Ok-false-clause-asks : goal.returns-in-Ready-Ok-false-clause-asks
+returns-in-Ready-Ok-false-clause-asks g c =
+    let open_here = sym (ap (λ (b : Buffered g.row.S.Denot). b.is_eos) c.self.view_is) ∙ c.if-self.false in
+    let h = c.in-Ready-Ok-false in
+    subst (λ r. Asks g.S.RecvStream.answers c.args.self.now r c.poll_read.new.self) (ap told_of (h.is ∙ ap (λ x. Ready x) (h.field-0-is ∙ ap (λ x. Ok x) h.field-0-0-test)))
+    (asks_of g.S.RecvStream.rest g.S.RecvStream.answers g.met.S.RecvStream.polls c.poll_read.result c.args.self.now c.poll_read.new.self open_here c.poll_read.ensures)
+
+pub returns-in-Pending-clause-asks : goal.returns-in-Pending-clause-asks
+returns-in-Pending-clause-asks g c =
+    let open_here = sym (ap (λ (b : Buffered g.row.S.Denot). b.is_eos) c.self.view_is) ∙ c.if-self.false in
+    asks_of g.S.RecvStream.rest g.S.RecvStream.answers g.met.S.RecvStream.polls Pending c.args.self.now c.poll_read.new.self open_here c.in-Pending.ensures

@@ -1,0 +1,12 @@
+pub mod Worked
+pub mod KeptRows
+pub mod MessageRows
+pub mod FaultRows
+pub mod TableRows
+pub mod IsolationRows
+pub mod ClientCases1
+pub mod ClientCases2
+pub mod ClientCases3
+pub mod ServerCases1
+pub mod ServerCases2
+pub mod ServerCases3

@@ -1,0 +1,14 @@
+//! Rows and hostile lists of calls that the definitions of an endpoint compute, as laws with closed equations.
+#![tactic(auto)]
+
+pub mod client_cases_1;
+pub mod client_cases_2;
+pub mod client_cases_3;
+pub mod fault_rows;
+pub mod isolation_rows;
+pub mod kept_rows;
+pub mod message_rows;
+pub mod server_cases_1;
+pub mod server_cases_2;
+pub mod server_cases_3;
+pub mod table_rows;

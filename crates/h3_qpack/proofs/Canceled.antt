@@ -1,0 +1,239 @@
+-- A section on a stream whose cancellation was read: it is written as static lines, and nothing else changes.
+use Rattle.std.proofs.Common.{Less, Equal, Greater, ◌≡◌, ℕ, ◌+◌, ◌-◌, ◌<◌, Bool, true, false, ◌&&◌, ◌||◌, List, [], ◌∷◌, ◌++◌, length, map, filter, fold, take, refl, sym, ◌∙◌, ap, arith, nat_lt, nat_le, cond, append_assoc, append-nil, flat_map, if◌then◌else◌, Option, Some, None, option_map, unwrap_or}
+use Rattle.std.specs.Prelude.{◌==◌}
+use Rattle.std.specs.List.{AllByRecursion, list_any}
+use Rattle.std.specs.Ordering.{nat_cmp, match_ordering}
+use Rattle.std.specs.BTreeMap.{is_at}
+use Rattle.std.specs.BTreeSet.{insert_key}
+use Rattle.std.proofs.lemmas.Grind.{common_steps}
+use Rattle.std.proofs.lemmas.List.Elements.{filter-append}
+use Rattle.std.proofs.lemmas.List.Sums.{sum_by-cons}
+use Rattle.h3_field.specs.Field.{Field, field_size, section_size}
+use Rattle.h3_field.specs.ReadBack.{IsFieldOfBytes}
+use Rattle.h3_field.specs.StaticTable.{static_field, static_name}
+use Rattle.h3_field.specs.Line.{FieldLine, line_bytes}
+use Rattle.h3_field.specs.Line.FieldLine.{StaticField, RelativeField, StaticName, Literal}
+use Rattle.h3_field.specs.Instruction.{encoder_bytes}
+use Rattle.h3_field.specs.Prefix.{prefix_bytes}
+use Rattle.h3_field.specs.Section.{literal_line, line_or_literal, static_line, static_lines, section_bytes}
+use Rattle.h3_qpack.specs.Table.{table, evictions}
+use Rattle.h3_qpack.specs.EncoderHistory.{EncoderHistory, UnacknowledgedSection, blocks_out, was_canceled, writing_on}
+use Rattle.h3_qpack.specs.EncoderState.{EncoderState, encoder_state}
+use Rattle.h3_qpack.specs.SectionEncoding.{Draft, add_line, add_literal, add_field, found, found_name, entry_name_line, is_insertable, draft_of, required_insert_count, encoded_section, instructions_for, sent_section}
+use Rattle.h3_qpack.specs.Drafting.{IsSent, IsCutOff}
+use Rattle.h3_qpack.proofs.Newest.{newest_from-none}
+
+-- the id of a stream that was kept, and all others
+pub canceled_more : (stream other : ℕ) (ids : List ℕ) → list_any (λ id. id == other) (insert_key nat_cmp ids stream) ≡ ((stream == other) || list_any (λ id. id == other) ids)
+canceled_more stream other [] = refl
+canceled_more stream other (id ∷ ids) = by_order (nat_lt stream id) (stream == id) refl (canceled_more stream other ids)
+  where
+    twice : (a b : Bool) → (a || b) ≡ (a || (a || b))
+    twice true b = refl
+    twice false b = refl
+
+    swapped : (a b c : Bool) → (a || (b || c)) ≡ (b || (a || c))
+    swapped true true c = refl
+    swapped true false c = refl
+    swapped false b c = refl
+
+    by_order : (a b : Bool) → (stream == id) ≡ b → list_any (λ k. k == other) (insert_key nat_cmp ids stream) ≡ ((stream == other) || list_any (λ k. k == other) ids)
+        → list_any (λ k. k == other) (match_ordering (cond a Less (cond b Equal Greater)) (stream ∷ id ∷ ids) (id ∷ ids) (id ∷ insert_key nat_cmp ids stream)) ≡ ((stream == other) || ((id == other) || list_any (λ k. k == other) ids))
+    by_order true b e h = refl
+    by_order false true e h =
+        let same : stream ≡ id = grind (arith, common_steps) in
+        rw same (twice (id == other) (list_any (λ k. k == other) ids))
+    by_order false false e h = rw h (swapped (id == other) (stream == other) (list_any (λ k. k == other) ids))
+
+-- a set's own test finds an id
+pub id_found : (stream : ℕ) (ids : List ℕ) → list_any (is_at (nat_cmp stream)) ids ≡ list_any (λ id. id == stream) ids
+id_found stream [] = refl
+id_found stream (id ∷ ids) = grind (arith, common_steps, id_found stream ids)
+
+-- No section may be blocked, and no entry is there.
+pub record NamesNone (s : EncoderHistory) : Type 0 where
+  pub limit : s.limit ≡ 0
+  pub evicted : evictions s.capacity s.inserted ≡ length s.inserted
+
+-- a draft of such an encoder
+abbrev pub with_lines : EncoderHistory → List FieldLine → Draft
+with_lines s lines = record { inserted = s.inserted; instructions = []; lines = lines; references = [] }
+
+not_below : (n : ℕ) → nat_lt n 0 ≡ false
+not_below n = grind (arith, common_steps)
+
+not_above : (n most : ℕ) → n < 1 + most → nat_lt most n ≡ false
+not_above n most h = grind (arith, common_steps, h)
+
+not_insertable : (s : EncoderHistory) (lines : List FieldLine) (f : Field) → NamesNone s → is_insertable s (with_lines s lines) f ≡ false
+not_insertable s lines f h = grind (arith, common_steps, h.limit, not_below (blocks_out s))
+
+none_found : (s : EncoderHistory) (lines : List FieldLine) (f : Field) → NamesNone s → found s (with_lines s lines) f ≡ None
+none_found s lines f h =
+    newest_from-none _ 1 s.inserted (λ n e below. grind (arith, common_steps, h.evicted, not_above n (length s.inserted) below))
+
+no_name : (s : EncoderHistory) (lines : List FieldLine) (f : Field) → NamesNone s → found_name s (with_lines s lines) f ≡ None
+no_name s lines f h =
+    newest_from-none _ 1 s.inserted (λ n e below. grind (arith, common_steps, h.evicted, not_above n (length s.inserted) below))
+
+literal_added : (s : EncoderHistory) (lines : List FieldLine) (f : Field) (o n : Option ℕ) → n ≡ None
+    → unwrap_or (option_map (λ index. add_line (with_lines s lines) (StaticName index f.value) []) o) (
+    unwrap_or (option_map (λ number. add_line (with_lines s lines) (entry_name_line (length s.inserted) number f.value) (number ∷ [])) n)
+    (add_line (with_lines s lines) (Literal f.name f.value) []))
+    ≡ with_lines s (lines ++ literal_line o f ∷ [])
+literal_added s lines f None None e = refl
+literal_added s lines f (Some i) None e = refl
+literal_added s lines f o (Some i) e = absurd (grind (arith, common_steps, e))
+
+line_added : (s : EncoderHistory) (lines : List FieldLine) (f : Field) (o n : Option ℕ) (b : Bool) (inserted literal : Draft) → n ≡ None → b ≡ false
+    → literal ≡ with_lines s (lines ++ literal_line (static_name f.name) f ∷ [])
+    → unwrap_or (option_map (λ index. add_line (with_lines s lines) (StaticField index) []) o) (
+    unwrap_or (option_map (λ number. add_line (with_lines s lines) (RelativeField (length s.inserted - number)) (number ∷ [])) n)
+    (if b then inserted else literal))
+    ≡ with_lines s (lines ++ line_or_literal o f ∷ [])
+line_added s lines f (Some i) None false inserted literal e d l = refl
+line_added s lines f None None false inserted literal e d l = l
+line_added s lines f o (Some i) b inserted literal e d l = absurd (grind (arith, common_steps, e))
+line_added s lines f o None true inserted literal e d l = absurd (grind (arith, common_steps, d))
+
+field_added : (s : EncoderHistory) (lines : List FieldLine) (f : Field) → NamesNone s → add_field s (with_lines s lines) f ≡ with_lines s (lines ++ static_line f ∷ [])
+field_added s lines f h =
+    line_added s lines f (static_field f) (found s (with_lines s lines) f) (is_insertable s (with_lines s lines) f) _ (add_literal s (with_lines s lines) f)
+    (none_found s lines f h) (not_insertable s lines f h)
+    (literal_added s lines f (static_name f.name) (found_name s (with_lines s lines) f) (no_name s lines f h))
+
+fields_added : (s : EncoderHistory) (lines : List FieldLine) (fields : List Field) → NamesNone s
+    → fold (add_field s) (with_lines s lines) fields ≡ with_lines s (lines ++ map static_line fields)
+fields_added s lines [] h = ap (λ l. with_lines s l) (sym (append-nil lines))
+fields_added s lines (f ∷ fs) h =
+    ap (λ d. fold (add_field s) d fs) (field_added s lines f h) ∙ fields_added s (lines ++ static_line f ∷ []) fs h
+    ∙ ap (λ l. with_lines s l) (append_assoc lines (static_line f ∷ []) (map static_line fs))
+
+lines_of : (fields : List Field) → flat_map line_bytes (map static_line fields) ≡ static_lines fields
+lines_of [] = refl
+lines_of (f ∷ fs) = ap (λ bytes. line_bytes (static_line f) ++ bytes) (lines_of fs)
+
+-- The draft has static lines alone, and names nothing.
+pub draft_is_static : (s : EncoderHistory) (fields : List Field) → NamesNone s → draft_of s fields ≡ with_lines s (map static_line fields)
+draft_is_static s fields h = fields_added s [] fields h
+
+-- Its bytes are those of a section that names no dynamic entry.
+pub section_is_static : (s : EncoderHistory) (fields : List Field) → NamesNone s → encoded_section s fields ≡ section_bytes fields
+section_is_static s fields h =
+    ap (λ d. prefix_bytes s.capacity (required_insert_count d) (length s.inserted) ++ flat_map line_bytes d.lines) (draft_is_static s fields h)
+    ∙ ap (λ bytes. 0 ∷ 0 ∷ bytes) (lines_of fields)
+
+-- a table of capacity 0 holds nothing
+nothing_fits : (fs : List Field) → table 0 fs ≡ []
+nothing_fits [] = refl
+nothing_fits (f ∷ fs) =
+    either (nat_le (section_size (f ∷ fs)) 0) (grind (arith, common_steps, sum_by-cons field_size f fs)) (nothing_fits fs)
+  where
+    either : (b : Bool) → b ≡ false → table 0 fs ≡ [] → (if b then f ∷ fs else table 0 fs) ≡ []
+    either true e h = absurd (grind (arith, common_steps, e))
+    either false e h = h
+
+-- what a section on a canceled stream is written by
+abbrev pub without_table : EncoderHistory → EncoderHistory
+without_table s = record s { capacity = 0; limit = 0 }
+
+minus_none : (n : ℕ) → n - 0 ≡ n
+minus_none n = omega arith
+
+pub names_none : (s : EncoderHistory) → NamesNone (without_table s)
+names_none s = record { limit = refl; evicted = ap (λ fs. length s.inserted - length fs) (nothing_fits s.inserted) ∙ minus_none (length s.inserted) }
+
+pub on_canceled : (s : EncoderHistory) (stream : ℕ) → was_canceled s stream ≡ true → writing_on s stream ≡ without_table s
+on_canceled s stream e = rw e refl
+
+pub on_other : (s : EncoderHistory) (stream : ℕ) → was_canceled s stream ≡ false → writing_on s stream ≡ s
+on_other s stream e = rw e refl
+
+pub on_static : (s : EncoderHistory) (stream : ℕ) (fields : List Field) → was_canceled s stream ≡ true → draft_of (writing_on s stream) fields ≡ with_lines s (map static_line fields)
+on_static s stream fields e = ap (λ by. draft_of by fields) (on_canceled s stream e) ∙ draft_is_static (without_table s) fields (names_none s)
+
+pub on_bytes : (s : EncoderHistory) (stream : ℕ) (fields : List Field) → was_canceled s stream ≡ true → encoded_section (writing_on s stream) fields ≡ section_bytes fields
+on_bytes s stream fields e = ap (λ by. encoded_section by fields) (on_canceled s stream e) ∙ section_is_static (without_table s) fields (names_none s)
+
+-- the insertions are the encoder's
+pub on_inserted : (s : EncoderHistory) (stream : ℕ) → (writing_on s stream).inserted ≡ s.inserted
+on_inserted s stream = by_test (was_canceled s stream)
+  where
+    by_test : (b : Bool) → (if b then without_table s else s).inserted ≡ s.inserted
+    by_test true = refl
+    by_test false = refl
+
+-- a section that names entries is written with the encoder's capacity
+pub on_capacity : (s : EncoderHistory) (stream : ℕ) (fields : List Field) → 0 < required_insert_count (draft_of (writing_on s stream) fields) → (writing_on s stream).capacity ≡ s.capacity
+on_capacity s stream fields above = by_test (was_canceled s stream) refl
+  where
+    by_test : (b : Bool) → was_canceled s stream ≡ b → (writing_on s stream).capacity ≡ s.capacity
+    by_test true e = let none = ap required_insert_count (on_static s stream fields e) in absurd (omega (arith, above, none))
+    by_test false e = ap (λ (by : EncoderHistory). by.capacity) (on_other s stream e)
+
+-- what is kept of the ids
+pub kept_id : (s : EncoderHistory) (t : EncoderState) (stream : ℕ) (b : Bool) → t ≡ encoder_state s → b ≡ list_any (λ id. id == stream) t.canceled → was_canceled s stream ≡ b
+kept_id s t stream b e is = sym (is ∙ ap (λ (u : EncoderState). list_any (λ id. id == stream) u.canceled) e)
+
+none_waits : (known : ℕ) (counts : List ℕ) → filter (λ c. nat_lt known c) (counts ++ 0 ∷ []) ≡ filter (λ c. nat_lt known c) counts
+none_waits known counts =
+    let none : filter (λ c. nat_lt known c) (0 ∷ []) ≡ [] = rw (not_below known) refl in
+    filter-append (λ c. nat_lt known c) counts (0 ∷ []) ∙ ap (λ cs. filter (λ c. nat_lt known c) counts ++ cs) none ∙ append-nil _
+
+-- what is sent of a draft
+abbrev pub sent_draft : EncoderHistory → ℕ → Draft → EncoderHistory
+sent_draft s stream draft =
+    record s {
+      inserted = draft.inserted;
+      required_insert_counts = s.required_insert_counts ++ required_insert_count draft ∷ [];
+      tracked = s.tracked ++ (if required_insert_count draft == 0 then [] else record { stream = stream; references = draft.references } ∷ []);
+    }
+
+-- A section on a canceled stream is not tracked, and inserts nothing.
+pub canceled_kept : (s : EncoderHistory) (stream : ℕ) (fields : List Field) → was_canceled s stream ≡ true → encoder_state s ≡ encoder_state (sent_section s stream fields)
+canceled_kept s stream fields e =
+    sym (ap (λ d. encoder_state (sent_draft s stream d)) (on_static s stream fields e)
+    ∙ rw (none_waits s.known_received s.required_insert_counts, append-nil s.tracked) refl)
+
+pub canceled_sent : (s : EncoderHistory) (stream : ℕ) (fields : List Field) (t : EncoderState) (before block start : List ℕ) → was_canceled s stream ≡ true → t ≡ encoder_state s
+    → block ≡ before ++ section_bytes fields → AllByRecursion IsFieldOfBytes fields → IsSent s stream fields 0 t before block start start
+canceled_sent s stream fields t before block start e same is are_bytes =
+    let static = on_static s stream fields e in
+    record {
+      stores = same ∙ canceled_kept s stream fields e;
+      count_is = ap required_insert_count (sym static);
+      are_bytes = are_bytes;
+      encoded_is = is ∙ ap (λ bytes. before ++ bytes) (sym (on_bytes s stream fields e));
+      instructions_are = sym (append-nil start) ∙ ap (λ (d : Draft). start ++ flat_map encoder_bytes d.instructions) (sym static);
+    }
+
+pub nothing_written : (s : EncoderHistory) (stream : ℕ) (fields : List Field) (t : EncoderState) (start : List ℕ) → t ≡ encoder_state s → IsCutOff s (writing_on s stream) fields t start start
+nothing_written s stream fields t start same =
+    record {
+      front = 0;
+      within = omega arith;
+      are_bytes = tt;
+      stores = same ∙ ap (λ fs. encoder_state (record s { inserted = fs })) (sym (on_inserted s stream));
+      instructions_are = sym (append-nil start);
+    }
+
+-- An encoder of limit 0 that has inserted nothing names none.
+early_names_none : (s : EncoderHistory) → s.limit ≡ 0 → s.inserted ≡ [] → NamesNone s
+early_names_none s none empty = record { limit = none; evicted = ap (λ fs. evictions s.capacity fs) empty ∙ ap (λ fs. length fs) (sym empty) }
+
+on_none : (s : EncoderHistory) (stream : ℕ) → s.limit ≡ 0 → s.inserted ≡ [] → NamesNone (writing_on s stream)
+on_none s stream none empty = by_test (was_canceled s stream)
+  where
+    by_test : (b : Bool) → NamesNone (if b then without_table s else s)
+    by_test true = names_none s
+    by_test false = early_names_none s none empty
+
+pub early_bytes : (s : EncoderHistory) (stream : ℕ) (fields : List Field) → s.limit ≡ 0 → s.inserted ≡ [] → encoded_section (writing_on s stream) fields ≡ section_bytes fields
+early_bytes s stream fields none empty = section_is_static (writing_on s stream) fields (on_none s stream none empty)
+
+pub early_inserts : (s : EncoderHistory) (stream : ℕ) (fields : List Field) → s.limit ≡ 0 → s.inserted ≡ [] → instructions_for (writing_on s stream) fields ≡ []
+early_inserts s stream fields none empty = ap (λ (d : Draft). d.instructions) (draft_is_static (writing_on s stream) fields (on_none s stream none empty))
+
+pub early_still : (s : EncoderHistory) (stream : ℕ) (fields : List Field) → s.limit ≡ 0 → s.inserted ≡ [] → (sent_section s stream fields).inserted ≡ []
+early_still s stream fields none empty =
+    ap (λ (d : Draft). d.inserted) (draft_is_static (writing_on s stream) fields (on_none s stream none empty)) ∙ on_inserted s stream ∙ empty

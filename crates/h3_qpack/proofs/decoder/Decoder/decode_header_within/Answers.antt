@@ -1,0 +1,18 @@
+use Rattle.std.proofs.Common.{ap, sym, ◌∙◌}
+use Rattle.h3_qpack.specs.DecoderState.{DecoderState}
+use Rattle.h3_qpack.specs.DecodedSection.{with_fields, fields_in}
+use Rattle.h3_qpack.proofs.decoder.Decoder.decode_header_within.Goals as goal
+
+pub returns-in-Ok-take_within-clause-ok : goal.returns-in-Ok-take_within-clause-ok
+returns-in-Ok-take_within-clause-ok c =
+    let d = c.in-Ok-take_within.ensures.ok in
+    let lines = rw c.new-lines.ensures at d.1 in
+    let begins = rw (c.new-ahead.ensures, c.chunk.ensures) at c.in-Ok.ensures.ok in (
+      d.0,
+      c.in-Ok.found.0,
+      begins
+          ∙ ap (λ (r : DecoderState). with_fields c.in-Ok.found.0 (fields_in r.table c.in-Ok.found.1 c.take_prefix.new.buf)) (sym c.self.view_is)
+          ∙ ap (λ o. with_fields c.in-Ok.found.0 o) lines,
+      d.2,
+      d.3,
+    )

@@ -1,0 +1,47 @@
+-- Decoded fields under a limit on the sum of their sizes.
+use Rattle.std.specs.Prelude.{◌≡◌, ◌<◌, ◌≤◌, ℕ, ◌+◌, ◌-◌, ◌^◌, Bool, List, min, fold, bytes_eq, if◌then◌else◌, Option, Some, None, option_map}
+use Rattle.h3_field.specs.Field.{Field, field_size, section_size}
+use Rattle.h3_qpack.specs.declared.within.DecodedWithin.{DecodedWithin}
+use Rattle.h3_qpack.specs.declared.within.DecodedWithin.TheVariants.{Fields, TooLarge}
+use Rattle.h3_qpack.specs.declared.within.LargeSection.{LargeSection}
+
+-- the sum of the fields' sizes, which stops at the greatest number of 64 bits
+abbrev pub told_size : List Field → ℕ
+told_size fields = min (2 ^ 64 - 1) (section_size fields)
+
+-- the value of a field of that name, or the one before
+abbrev pub value_after : List ℕ → Option (List ℕ) → Field → Option (List ℕ)
+value_after name last f = if bytes_eq f.name name then Some f.value else last
+
+-- the value of the last field of that name
+abbrev pub last_value : List ℕ → List Field → Option (List ℕ)
+last_value name fields = fold (value_after name) None fields
+
+-- fields that are counted and not kept
+pub record Counted : Type 0 where
+  pub sum : ℕ
+  pub last : Option (List ℕ)
+
+abbrev pub counted : List ℕ → List Field → Counted
+counted name fields = record { sum = told_size fields; last = last_value name fields }
+
+-- with one field more
+abbrev pub counted_on : List ℕ → Counted → Field → Counted
+counted_on name c f = record { sum = min (c.sum + field_size f) (2 ^ 64 - 1); last = value_after name c.last f }
+
+-- what is told of a section of these fields that sum to more than the limit
+pub record IsLarge (name : List ℕ) (dyn_ref : Bool) (fields : List Field) (l : LargeSection) : Type 0 where
+  pub size : l.mem_size ≡ told_size fields
+  pub dynamic : l.dyn_ref ≡ dyn_ref
+  pub last : option_map (λ v. v.items) l.last_value ≡ last_value name fields
+
+abbrev pub IsTooLarge : List ℕ → Bool → List Field → DecodedWithin → Type 0
+IsTooLarge name dyn_ref fields (Fields d) = ⊥
+IsTooLarge name dyn_ref fields (TooLarge l) = IsLarge name dyn_ref fields l
+
+-- The answer of a decoder whose caller takes sums up to a limit and asks for the last value of a name: the fields, or their
+-- exact sum.
+abbrev pub IsWithin : ℕ → List ℕ → Bool → List Field → DecodedWithin → Type 0
+IsWithin max name dyn_ref fields (Fields d) =
+    (told_size fields ≤ max) × (d.fields.items ≡ fields) × (d.dyn_ref ≡ dyn_ref) × (d.mem_size ≡ told_size fields)
+IsWithin max name dyn_ref fields (TooLarge l) = (max < told_size fields) × IsLarge name dyn_ref fields l

@@ -1,0 +1,311 @@
+//! The field lines of a section, read over a table (RFC 9204, section 4.5).
+ghost use Rattle.std.specs.Prelude.{◌≡◌, ◌+◌, ◌-◌, ◌^◌, ◌<◌, ℕ, true, length, min, bytes_eq, IfOk, Some, None, MatchResult};
+ghost use Rattle.h3_field.specs.Field.{Field, field_size};
+ghost use Rattle.h3_field.specs.Shapes.{begins};
+ghost use Rattle.h3_field.specs.declared.decoder_error.DecoderError.TheVariants.{InvalidIndex};
+ghost use Rattle.h3_field.specs.declared.vas.Error.TheVariants.{RelativeIndex, PostbaseIndex};
+ghost use Rattle.h3_qpack.specs.TableState.{entry_at};
+ghost use Rattle.h3_qpack.specs.SectionAnswers.{AnswersLineAt};
+
+use crate::entries::{Entries, MOST_INSERTIONS, size_of};
+use h3_field::block::{
+    HeaderBlockField, Indexed, IndexedWithPostBase, Literal, LiteralWithNameRef,
+    LiteralWithPostBaseNameRef,
+};
+use h3_field::static_::StaticTable;
+use h3_field::{DecoderError, HeaderField, SliceCursor, vas};
+use std::alloc::{AllocError, Global};
+use std::borrow::CowSlice;
+use std::marker::Model;
+
+/// The field of a line. What is an entry's is not copied yet.
+#[derive(Drop)]
+pub(crate) struct LineField<'t> {
+    source: Source<'t>,
+}
+
+#[derive(Drop)]
+pub(crate) enum Source<'t> {
+    /// A field that is no entry's.
+    Own(HeaderField),
+    /// An entry.
+    Entry(&'t HeaderField),
+    /// A value under the name of an entry.
+    Named(&'t HeaderField, Vec<u8>),
+}
+
+impl<'t> Model for LineField<'t> {
+    ghost use Rattle.h3_field.specs.Field.{Field};
+    ghost use Rattle.h3_qpack.specs.LineFields.{field_from};
+
+    ghost Value = { Field };
+
+    ghost view = { λ l. field_from l.source };
+}
+
+impl<'t> LineField<'t> {
+    fn own(field: HeaderField) -> LineField<'t>
+        ensures { result ≡ field }
+    {
+        LineField {
+            source: Source::Own(field),
+        }
+    }
+
+    fn entry(entry: &'t HeaderField) -> LineField<'t>
+        ensures { result ≡ entry.now }
+    {
+        LineField {
+            source: Source::Entry(entry),
+        }
+    }
+
+    fn named(entry: &'t HeaderField, value: Vec<u8>) -> LineField<'t>
+        ensures { result ≡ record { name = entry.now.name; value = value.items } }
+    {
+        LineField {
+            source: Source::Named(entry, value),
+        }
+    }
+
+    fn name(&self) -> &[u8]
+        ensures { result.now ≡ self.now.name }
+    {
+        match &self.source {
+            Source::Own(field) => field.name(),
+            Source::Entry(entry) => entry.name(),
+            Source::Named(entry, _) => entry.name(),
+        }
+    }
+
+    fn value(&self) -> &[u8]
+        ensures { result.now ≡ self.now.value }
+    {
+        match &self.source {
+            Source::Own(field) => field.value(),
+            Source::Entry(entry) => entry.value(),
+            Source::Named(_, value) => value.as_slice(),
+        }
+    }
+
+    /// The size of the field, which stops at the greatest number (RFC 9204, section 3.2.1).
+    pub(crate) fn mem_size(&self) -> usize
+        ensures { result ≡ min (2 ^ 64 - 1) (field_size self.now) }
+    {
+        self.name()
+            .len()
+            .saturating_add(self.value().len())
+            .saturating_add(32)
+    }
+
+    pub(crate) fn has_name(&self, name: &[u8]) -> bool
+        ensures { result ≡ bytes_eq self.now.name name.now }
+    {
+        self.name() == name
+    }
+
+    /// The field, with copies of the bytes that are an entry's. A static name is not copied.
+    pub(crate) fn into_field(self, alloc: Global) -> Result<HeaderField, AllocError>
+        ensures { IfOk result (λ f. f ≡ self.entry) }
+    {
+        match self.source {
+            Source::Own(field) => Ok(field),
+            Source::Entry(entry) => copy_of(alloc, entry),
+            Source::Named(entry, value) => named_as(alloc, entry, value),
+        }
+    }
+
+    /// A copy of the value.
+    pub(crate) fn copy_value(&self, alloc: Global) -> Result<Vec<u8>, AllocError>
+        ensures { IfOk result (λ v. v.items ≡ self.now.value) }
+    {
+        Vec::from_slice(alloc, self.value())
+    }
+}
+
+/// A field with copies of the bytes of another. A static name is not copied.
+pub(crate) fn copy_of(alloc: Global, field: &HeaderField) -> Result<HeaderField, AllocError>
+    ensures { IfOk result (λ f. f ≡ field.now) }
+{
+    let value = Vec::from_slice(alloc, field.value())?;
+    field.with_value(alloc, CowSlice::Owned(value))
+}
+
+/// A field with the name of another. A static name is not copied.
+pub(crate) fn named_as(
+    alloc: Global,
+    field: &HeaderField,
+    value: Vec<u8>,
+) -> Result<HeaderField, AllocError>
+    ensures { IfOk result (λ f. f ≡ record { name = field.now.name; value = value.items }) }
+{
+    field.with_value(alloc, CowSlice::Owned(value))
+}
+
+/// The entry at a distance below the base.
+pub(crate) fn relative(
+    entries: &Entries,
+    base: usize,
+    index: usize,
+) -> Result<&HeaderField, DecoderError>
+    ensures { MatchResult result (λ f. entry_at entries.now (base - index) ≡ Some f.now) (λ e. (entry_at entries.now (base - index) ≡ None) × (e ≡ InvalidIndex (RelativeIndex index))) }
+{
+    match entries.get(base.saturating_sub(index)) {
+        Some(entry) => Ok(entry),
+        None => Err(DecoderError::InvalidIndex(vas::Error::RelativeIndex(index))),
+    }
+}
+
+/// The entry at a distance from the base on.
+fn post_base(entries: &Entries, base: usize, index: usize) -> Result<&HeaderField, DecoderError>
+    ensures { MatchResult result (λ f. entry_at entries.now (base + index + 1) ≡ Some f.now) (λ e. (entry_at entries.now (base + index + 1) ≡ None) × (e ≡ InvalidIndex (PostbaseIndex index))) }
+{
+    // beyond all numbers of entries, where the sum might not fit
+    let number = if base < MOST_INSERTIONS && index < MOST_INSERTIONS {
+        base + index + 1
+    } else {
+        MOST_INSERTIONS
+    };
+    match entries.get(number) {
+        Some(entry) => Ok(entry),
+        None => Err(DecoderError::InvalidIndex(vas::Error::PostbaseIndex(index))),
+    }
+}
+
+/// The lines of a section with a base, over a table.
+#[derive(Drop)]
+pub(crate) struct Lines<'t> {
+    alloc: Global,
+    entries: &'t Entries,
+    base: usize,
+}
+
+impl<'t> Model for Lines<'t> {
+    ghost use Rattle.h3_qpack.specs.Views.{Based};
+
+    ghost Value = { Based };
+
+    ghost view = { λ l. record { table = l.entries.now; base = l.base } };
+}
+
+impl<'t> Lines<'t> {
+    pub(crate) fn new(alloc: Global, entries: &'t Entries, base: usize) -> Lines<'t>
+        ensures { result ≡ record { table = entries.now; base = base } }
+    {
+        Lines {
+            alloc,
+            entries,
+            base,
+        }
+    }
+
+    pub(crate) fn alloc(&self) -> Global {
+        self.alloc
+    }
+
+    /// The field of an indexed line.
+    fn take_indexed(&self, buf: &mut SliceCursor<'_>) -> Result<LineField<'t>, DecoderError>
+        requires some { 0 < length buf.old }
+        requires own { begins 128 255 buf.old ≡ true }
+        ensures { AnswersLineAt self.now.table self.now.base buf.old buf.new result }
+    {
+        match Indexed::decode(buf) {
+            Ok(Indexed::Static(index)) => match StaticTable::get(index) {
+                Ok(field) => Ok(LineField::own(field)),
+                Err(e) => Err(DecoderError::InvalidStaticIndex(e)),
+            },
+            Ok(Indexed::Dynamic(index)) => match relative(self.entries, self.base, index) {
+                Ok(entry) => Ok(LineField::entry(entry)),
+                Err(e) => Err(e),
+            },
+            Err(e) => Err(DecoderError::from(e)),
+        }
+    }
+
+    /// The field of a line that is an entry, by its distance from the base on.
+    fn take_post_base(&self, buf: &mut SliceCursor<'_>) -> Result<LineField<'t>, DecoderError>
+        requires some { 0 < length buf.old }
+        requires own { begins 16 31 buf.old ≡ true }
+        ensures { AnswersLineAt self.now.table self.now.base buf.old buf.new result }
+    {
+        match IndexedWithPostBase::decode(buf) {
+            Ok(IndexedWithPostBase(index)) => match post_base(self.entries, self.base, index) {
+                Ok(entry) => Ok(LineField::entry(entry)),
+                Err(e) => Err(e),
+            },
+            Err(e) => Err(DecoderError::from(e)),
+        }
+    }
+
+    /// The field of a line with a literal value and the name of an entry.
+    fn take_named(&self, buf: &mut SliceCursor<'_>) -> Result<LineField<'t>, DecoderError>
+        requires some { 0 < length buf.old }
+        requires own { begins 64 127 buf.old ≡ true }
+        ensures { AnswersLineAt self.now.table self.now.base buf.old buf.new result }
+    {
+        match LiteralWithNameRef::decode(self.alloc, buf) {
+            Ok(LiteralWithNameRef::Static { index, value }) => match StaticTable::get_name(index) {
+                Ok(name) => Ok(LineField::own(HeaderField::with_static_name(name, value))),
+                Err(e) => Err(DecoderError::InvalidStaticIndex(e)),
+            },
+            Ok(LiteralWithNameRef::Dynamic { index, value }) => match relative(
+                self.entries,
+                self.base,
+                index,
+            ) {
+                Ok(entry) => Ok(LineField::named(entry, value)),
+                Err(e) => Err(e),
+            },
+            Err(e) => Err(DecoderError::from(e)),
+        }
+    }
+
+    /// The field of a line with a literal value and the name of an entry, by its distance from the base on.
+    fn take_post_base_named(&self, buf: &mut SliceCursor<'_>) -> Result<LineField<'t>, DecoderError>
+        requires some { 0 < length buf.old }
+        requires own { begins 0 15 buf.old ≡ true }
+        ensures { AnswersLineAt self.now.table self.now.base buf.old buf.new result }
+    {
+        match LiteralWithPostBaseNameRef::decode(self.alloc, buf) {
+            Ok(LiteralWithPostBaseNameRef { index, value }) => match post_base(
+                self.entries,
+                self.base,
+                index,
+            ) {
+                Ok(entry) => Ok(LineField::named(entry, value)),
+                Err(e) => Err(e),
+            },
+            Err(e) => Err(DecoderError::from(e)),
+        }
+    }
+
+    /// The field of a line with a literal name and value.
+    fn take_literal(&self, buf: &mut SliceCursor<'_>) -> Result<LineField<'t>, DecoderError>
+        requires some { 0 < length buf.old }
+        requires own { begins 32 63 buf.old ≡ true }
+        ensures { AnswersLineAt self.now.table self.now.base buf.old buf.new result }
+    {
+        match Literal::decode(self.alloc, buf) {
+            Ok(Literal { name, value }) => Ok(LineField::own(HeaderField::new(
+                CowSlice::Owned(name),
+                CowSlice::Owned(value),
+            ))),
+            Err(e) => Err(DecoderError::from(e)),
+        }
+    }
+
+    /// The field of the line at the front.
+    pub(crate) fn take(&self, buf: &mut SliceCursor<'_>) -> Result<LineField<'t>, DecoderError>
+        requires { 0 < length buf.old }
+        ensures { AnswersLineAt self.now.table self.now.base buf.old buf.new result }
+    {
+        match HeaderBlockField::decode(buf.chunk()[0]) {
+            HeaderBlockField::Indexed => self.take_indexed(buf),
+            HeaderBlockField::LiteralWithNameRef => self.take_named(buf),
+            HeaderBlockField::Literal => self.take_literal(buf),
+            HeaderBlockField::IndexedWithPostBase => self.take_post_base(buf),
+            HeaderBlockField::LiteralWithPostBaseNameRef => { self.take_post_base_named(buf) }
+            HeaderBlockField::Unknown => Err(DecoderError::UnexpectedEnd),
+        }
+    }
+}

@@ -1,0 +1,6 @@
+pub mod Owned
+pub mod Fronts
+pub mod Judged
+pub mod Faults
+pub mod Kinds
+pub mod Rows

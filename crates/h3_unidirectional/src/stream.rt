@@ -1,0 +1,333 @@
+//! A unidirectional stream of the peer (RFC 9114, section 6.2), and what its first bytes make of it.
+ghost use Rattle.std.specs.Prelude.{◌≡◌, ◌+◌, ◌-◌, ◌<◌, ◌≤◌, ◌^◌, ℕ, List, [], true, length, drop, Some, IfOk, IfErr, OnOk};
+ghost use Rattle.std.specs.List.{concat};
+ghost use Rattle.h3_coding.specs.Varint.{varint_at};
+ghost use Rattle.h3_connection.specs.Unidirectional.{untold, is_closed, is_critical, role_after, with_bytes, may_be_session, untold_pull, raw, if_over, pull_unidirectional};
+ghost use Rattle.h3_connection.specs.Unidirectional.Role.{Untold, Session};
+ghost use Rattle.h3_unidirectional.specs.Kinds.{role_of, is_told_kind, is_untold, Tells, received_by};
+
+use bytes::{Buf, Bytes};
+use h3_coding::coding::BufExt;
+use h3_connection::event::{Fault, Item, Pull, StreamFault};
+use h3_proto::webtransport::SessionId;
+use h3_wire::buf::BufList;
+use std::alloc::Global;
+use std::marker::Model;
+
+/// What it is read as.
+#[derive(Clone, Copy)]
+pub enum Kind {
+    /// Its type, or the id that follows it, is not whole.
+    Untold,
+    Control,
+    Encoder,
+    Decoder,
+    /// A WebTransport stream of this session.
+    Session(SessionId),
+    /// The push stream of this id.
+    Push(u64),
+    /// A type without a meaning.
+    Ignored,
+}
+
+/// What came is for this reader.
+#[derive(Drop)]
+pub enum Received {
+    Control(Bytes),
+    Encoder(Bytes),
+    Decoder(Bytes),
+    /// The stream is a push stream.
+    Push,
+    /// For none: the bytes are of a session, which is pulled, or are thrown away, or tell no role yet.
+    Nothing,
+}
+
+/// What came on it, and how far it was handed out.
+#[derive(Drop)]
+pub struct UnidirectionalStream {
+    kind: Kind,
+    // the first bytes, while the type or the id is not whole
+    front: Vec<u8>,
+    // what came of a session and was not handed out
+    unread: BufList<Bytes>,
+    ended: bool,
+    reset_code: Option<u64>,
+    is_told: bool,
+    is_over: bool,
+}
+
+impl Model for UnidirectionalStream {
+    ghost use Rattle.h3_connection.specs.Unidirectional.{Unidirectional};
+    ghost use Rattle.h3_unidirectional.specs.Kinds.{role_of, IsUnfinished};
+
+    ghost Value = { Unidirectional };
+
+    ghost view = { λ s. record { role = role_of s.kind s.front.items; unread = s.unread.pieces; ended = s.ended; reset_code = s.reset_code; is_told = s.is_told; is_over = s.is_over } };
+
+    ghost invariant = { λ s. IsUnfinished s.kind s.front.items };
+}
+
+/// Reads what a stream begins with: its type, and the id behind it where it is a push stream (RFC 9114, section 4.6) or one of a
+/// WebTransport session. `None` where that is not whole.
+fn read_kind<B: Buf>(buf: &mut B) -> Option<Kind>
+    ensures { Tells (B.unread buf.old) (B.unread buf.new) result }
+{
+    let Ok(kind) = buf.get_var() else {
+        return None;
+    };
+    match kind {
+        0 => Some(Kind::Control),
+        1 => {
+            let Ok(id) = buf.get_var() else {
+                return None;
+            };
+            Some(Kind::Push(id))
+        }
+        2 => Some(Kind::Encoder),
+        3 => Some(Kind::Decoder),
+        0x54 => {
+            let Ok(id) = buf.get_var() else {
+                return None;
+            };
+            let Ok(session) = SessionId::try_from(id) else {
+                return None;
+            };
+            Some(Kind::Session(session))
+        }
+        _ => Some(Kind::Ignored),
+    }
+}
+
+/// Whether the type of a WebTransport stream is there, or no whole type.
+fn may_be_session(front: &[u8]) -> bool
+    ensures { result ≡ may_be_session (varint_at front.now) }
+{
+    let mut ahead = front;
+    match ahead.get_var() {
+        Ok(kind) => kind == 0x54,
+        Err(_) => true,
+    }
+}
+
+impl UnidirectionalStream {
+    /// A stream of which nothing came.
+    #[tactic(auto, using(crate::proofs::Heads::nothing_told))]
+    pub fn new(alloc: Global) -> UnidirectionalStream
+        ensures { result ≡ untold }
+    {
+        UnidirectionalStream {
+            kind: Kind::Untold,
+            front: Vec::new(alloc),
+            unread: BufList::new(alloc),
+            ended: false,
+            reset_code: None,
+            is_told: false,
+            is_over: false,
+        }
+    }
+
+    /// Whether its end or its reset came.
+    pub fn is_closed(&self) -> bool
+        ensures { result ≡ is_closed self.now }
+    {
+        self.ended || self.reset_code.is_some()
+    }
+
+    /// Whether it may not be closed: it is read as the control, encoder or decoder stream.
+    pub fn is_critical(&self) -> bool
+        ensures { result ≡ is_critical self.now.role }
+    {
+        match self.kind {
+            Kind::Control => true,
+            Kind::Encoder => true,
+            Kind::Decoder => true,
+            Kind::Untold => false,
+            Kind::Session(_) => false,
+            Kind::Push(_) => false,
+            Kind::Ignored => false,
+        }
+    }
+
+    /// How many bytes of a session came and were not handed out.
+    pub fn unread_len(&self) -> usize
+        ensures { result ≡ length (concat self.now.unread) }
+    {
+        self.unread.known();
+        self.unread.remaining()
+    }
+
+    /// Its end came. This takes no memory.
+    pub fn end(&mut self)
+        ensures { self.new ≡ record self.old { ended = true } }
+    {
+        self.ended = true;
+    }
+
+    /// It was cut off by its sender, with this code. This takes no memory.
+    pub fn reset(&mut self, code: u64)
+        ensures { self.new ≡ record self.old { reset_code = Some code } }
+    {
+        self.reset_code = Some(code);
+    }
+
+    /// Stores the bytes of a session without those that were passed.
+    fn keep(&mut self, session: SessionId, mut bytes: Bytes, passed: usize) -> Result<(), Bytes>
+        requires inside { passed ≤ length bytes }
+        requires fits { length (concat self.old.unread) + length bytes < 2 ^ 64 }
+        ensures ok { OnOk result (self.new ≡ with_bytes self.old (Session session, drop passed bytes)) }
+        ensures err { IfErr result (λ back. (back ≡ bytes) × (self.new ≡ self.old)) }
+    {
+        self.unread.known();
+        if self.unread.reserve().is_err() {
+            return Err(bytes);
+        }
+        bytes.advance(passed);
+        self.unread.push_reserved(bytes);
+        self.kind = Kind::Session(session);
+        Ok(())
+    }
+
+    /// The role is known: the bytes behind those that were passed are for it.
+    fn take(&mut self, kind: Kind, mut bytes: Bytes, passed: usize) -> Result<Received, Bytes>
+        requires told { is_told_kind kind ≡ true }
+        requires inside { passed ≤ length bytes }
+        requires fits { length (concat self.old.unread) + length bytes < 2 ^ 64 }
+        ensures ok { IfOk result (λ received. (self.new ≡ with_bytes self.old (role_of kind [], drop passed bytes)) × (received ≡ received_by (role_of kind [], drop passed bytes))) }
+        ensures err { IfErr result (λ back. (back ≡ bytes) × (self.new ≡ self.old)) }
+    {
+        match kind {
+            Kind::Session(session) => match self.keep(session, bytes, passed) {
+                Ok(()) => Ok(Received::Nothing),
+                Err(back) => Err(back),
+            },
+            Kind::Control => {
+                self.kind = Kind::Control;
+                bytes.advance(passed);
+                Ok(Received::Control(bytes))
+            }
+            Kind::Encoder => {
+                self.kind = Kind::Encoder;
+                bytes.advance(passed);
+                Ok(Received::Encoder(bytes))
+            }
+            Kind::Decoder => {
+                self.kind = Kind::Decoder;
+                bytes.advance(passed);
+                Ok(Received::Decoder(bytes))
+            }
+            Kind::Push(id) => {
+                self.kind = Kind::Push(id);
+                Ok(Received::Push)
+            }
+            Kind::Ignored => {
+                self.kind = Kind::Ignored;
+                Ok(Received::Nothing)
+            }
+            Kind::Untold => unreachable!(),
+        }
+    }
+
+    /// The role is not known: it is told by the first bytes with these behind them.
+    fn tell(&mut self, bytes: Bytes) -> Result<Received, Bytes>
+        requires untold { is_untold self.old.role ≡ true }
+        requires fits { length (concat self.old.unread) + length bytes < 2 ^ 64 }
+        ensures ok { IfOk result (λ received. (self.new ≡ with_bytes self.old (role_after self.old.role bytes)) × (received ≡ received_by (role_after self.old.role bytes))) }
+        ensures err { IfErr result (λ back. (back ≡ bytes) × (self.new ≡ self.old)) }
+    {
+        let mut both = self.front.as_slice().chain(bytes.as_slice());
+        let kind = read_kind(&mut both);
+        let left = both.remaining();
+        match kind {
+            Some(kind) => {
+                let passed = bytes.len() - left;
+                self.take(kind, bytes, passed)
+            }
+            None => {
+                if self.front.extend_from_slice(bytes.as_slice()).is_err() {
+                    return Err(bytes);
+                }
+                Ok(Received::Nothing)
+            }
+        }
+    }
+
+    /// Bytes come: they tell the role, or are for it. What a session got is stored as it is, without a copy. An `Err` changes
+    /// nothing, and hands the bytes back.
+    pub fn receive(&mut self, bytes: Bytes) -> Result<Received, Bytes>
+        requires { length (concat self.old.unread) + length bytes < 2 ^ 64 }
+        ensures ok { IfOk result (λ received. (self.new ≡ with_bytes self.old (role_after self.old.role bytes)) × (received ≡ received_by (role_after self.old.role bytes))) }
+        ensures err { IfErr result (λ back. (back ≡ bytes) × (self.new ≡ self.old)) }
+    {
+        let kind = self.kind;
+        match kind {
+            Kind::Untold => self.tell(bytes),
+            Kind::Control => self.take(Kind::Control, bytes, 0),
+            Kind::Encoder => self.take(Kind::Encoder, bytes, 0),
+            Kind::Decoder => self.take(Kind::Decoder, bytes, 0),
+            Kind::Session(session) => self.take(Kind::Session(session), bytes, 0),
+            Kind::Push(id) => self.take(Kind::Push(id), bytes, 0),
+            Kind::Ignored => self.take(Kind::Ignored, bytes, 0),
+        }
+    }
+
+    #[tactic(auto, using(crate::proofs::Heads::untold_front))]
+    fn pull_untold(&self) -> Pull
+        ensures { (front : List ℕ) → self.now.role ≡ Untold front → result ≡ untold_pull self.now front }
+    {
+        if self.is_closed() {
+            return Pull::NoMessages;
+        }
+        if may_be_session(self.front.as_slice()) {
+            return Pull::Pending;
+        }
+        Pull::NoMessages
+    }
+
+    fn pull_raw(&mut self) -> Pull
+        ensures { raw self.old self.old.unread ≡ (result, self.new) }
+    {
+        match self.unread.take_first_chunk() {
+            Some(piece) => Pull::Item(Item::Raw(piece)),
+            None => {
+                if self.ended {
+                    self.is_over = true;
+                    return Pull::Item(Item::End);
+                }
+                Pull::Pending
+            }
+        }
+    }
+
+    fn pull_session(&mut self, session: SessionId) -> Pull
+        ensures { if_over self.old.is_over self.old session ≡ (result, self.new) }
+    {
+        if self.is_over {
+            return Pull::Item(Item::End);
+        }
+        if let Some(code) = self.reset_code {
+            return Pull::Fault(Fault::Stream(StreamFault::Reset(code)));
+        }
+        if !self.is_told {
+            self.is_told = true;
+            return Pull::Item(Item::Session(session));
+        }
+        self.pull_raw()
+    }
+
+    /// What it gives next: of a session its id, the bytes that came in pieces, and its end; of any other stream no messages.
+    /// While its type, or the id of a session, is not whole and it may come, that is pending. This takes no memory.
+    pub fn pull(&mut self) -> Pull
+        ensures { pull_unidirectional self.old self.old.role ≡ (result, self.new) }
+    {
+        let kind = self.kind;
+        match kind {
+            Kind::Untold => self.pull_untold(),
+            Kind::Session(session) => self.pull_session(session),
+            Kind::Control => Pull::NoMessages,
+            Kind::Encoder => Pull::NoMessages,
+            Kind::Decoder => Pull::NoMessages,
+            Kind::Push(_) => Pull::NoMessages,
+            Kind::Ignored => Pull::NoMessages,
+        }
+    }
+}
