@@ -22,9 +22,10 @@ abbrev pub MakesEnd : Side → Result Announced NewError → EndpointState → T
 MakesEnd side (Ok announced) s = StandsFor s (new_endpoint side announced)
 MakesEnd side (Err e) s = ⊥
 
+-- what was to be announced is refused first, and memory last
 abbrev pub IsNewError : NewError → Result Announced NewError → Type 0
-IsNewError NoMemory made = Unit {0}
-IsNewError e made = made ≡ Err e
+IsNewError e (Ok announced) = e ≡ NoMemory
+IsNewError e (Err refused) = e ≡ refused
 
 -- the refusal, or want of memory in its place
 abbrev pub IsRefusal : Option Refusal → Refusal → Type 0

@@ -58,3 +58,15 @@ pub fn tries_and_waiting_streams_are_bounded()
     ensures tries { (e : EndpointHistory) (id : ℕ) → IsBounded e → block_tries e id ≤ 2 }
     ensures waiting { (e : EndpointHistory) → IsBounded e → waiting_heads e ≤ e.announced.limits.blocked }
 {}
+
+ghost use Rattle.h3_connection.specs.Delivering.{delivery_refusal, unidirectional_at, with_unidirectional};
+ghost use Rattle.h3_connection.specs.Endpoint.Kind.{PeerUnidirectional};
+ghost use Rattle.h3_connection.specs.Unidirectional.{role_after};
+ghost use Rattle.h3_connection.specs.Unidirectional.Role.{Ignored};
+
+/// Bytes of a unidirectional stream of unknown type change nothing but what is known of that stream.
+pub fn unknown_streams_change_nothing_else()
+    ensures { (e : EndpointHistory) (id : ℕ) (bytes rest : List ℕ) → e.closed ≡ None → kind_of e.side id ≡ PeerUnidirectional → delivery_refusal e id ≡ None →
+        role_after (unidirectional_at e id).role bytes ≡ (Ignored, rest) →
+        deliver e id bytes ≡ (None, with_unidirectional e id (record (unidirectional_at e id) { role = Ignored })) }
+{}

@@ -354,3 +354,77 @@ interim_heads_in_the_table_answers =
     Waits (hex (codes "023f2163f2b0ff810f")) ∷
     Waits (hex (codes "01040280d81001040200d88001040200d980")) ∷
     []
+
+abbrev pub canceled_stream_without_the_table_endpoint : EndpointHistory
+canceled_stream_without_the_table_endpoint = new_endpoint Server (plain 1000 0 0)
+
+abbrev pub canceled_stream_without_the_table : List Call
+canceled_stream_without_the_table =
+    Deliver 0 [] ∷
+    Deliver 4 [] ∷
+    Deliver 8 [] ∷
+    Deliver 2 (hex (codes "000405014040070a")) ∷
+    Deliver 10 (hex (codes "0340")) ∷
+    SendHead 0 (head (field (codes ":status") (codes "200") ∷ field (codes "x-a") (codes "1") ∷ [])) ∷
+    Outgoing 0 ∷
+    Outgoing 7 ∷
+    SendHead 4 (head (field (codes ":status") (codes "200") ∷ field (codes "x-a") (codes "1") ∷ [])) ∷
+    Outgoing 4 ∷
+    Outgoing 7 ∷
+    SendHead 8 (head (field (codes ":status") (codes "200") ∷ field (codes "x-a") (codes "1") ∷ [])) ∷
+    Deliver 10 (hex (codes "0188")) ∷
+    Outgoing 8 ∷
+    []
+
+abbrev pub canceled_stream_without_the_table_answers : List Result
+canceled_stream_without_the_table_answers =
+    Done ∷
+    Done ∷
+    Done ∷
+    Done ∷
+    Done ∷
+    Done ∷
+    Waits (hex (codes "01090000d92bf2b0ff810f")) ∷
+    Waits (hex (codes "023f21")) ∷
+    Done ∷
+    Waits (hex (codes "01040280d910")) ∷
+    Waits (hex (codes "023f2163f2b0ff810f")) ∷
+    Done ∷
+    Done ∷
+    Waits (hex (codes "01040200d980")) ∷
+    []
+
+abbrev pub cancellation_releases_all_sections_endpoint : EndpointHistory
+cancellation_releases_all_sections_endpoint = new_endpoint Server (plain 1000 0 0)
+
+abbrev pub cancellation_releases_all_sections : List Call
+cancellation_releases_all_sections =
+    Deliver 0 [] ∷
+    Deliver 4 [] ∷
+    Deliver 2 (hex (codes "000405014040070a")) ∷
+    SendHead 0 (head (field (codes ":status") (codes "103") ∷ field (codes "x-a") (codes "1") ∷ [])) ∷
+    SendHead 0 (head (field (codes ":status") (codes "103") ∷ field (codes "x-a") (codes "1") ∷ [])) ∷
+    SendHead 0 (head (field (codes ":status") (codes "200") ∷ field (codes "x-a") (codes "1") ∷ [])) ∷
+    Outgoing 0 ∷
+    Outgoing 7 ∷
+    Deliver 10 (hex (codes "030140")) ∷
+    SendHead 4 (head (field (codes ":status") (codes "200") ∷ field (codes "x-b") (codes "2") ∷ [])) ∷
+    Outgoing 4 ∷
+    Outgoing 7 ∷
+    []
+
+abbrev pub cancellation_releases_all_sections_answers : List Result
+cancellation_releases_all_sections_answers =
+    Done ∷
+    Done ∷
+    Done ∷
+    Done ∷
+    Done ∷
+    Done ∷
+    Waits (hex (codes "01040280d81001040200d88001040200d980")) ∷
+    Waits (hex (codes "023f2163f2b0ff810f")) ∷
+    Done ∷
+    Done ∷
+    Waits (hex (codes "01040380d910")) ∷
+    Waits (hex (codes "023f2163f2b0ff810f63f2b47f8117")) ∷
+    []

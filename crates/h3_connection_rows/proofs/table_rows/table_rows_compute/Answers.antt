@@ -90,3 +90,11 @@ returns-clause-tries_while_it_waits c = refl
 pub returns-clause-tries_of_a_section_missing_twice : goal.returns-clause-tries_of_a_section_missing_twice
 unfolding encoding static_field static_name chars encode varint_at split_of bits code_word octets huffman static_table frame_at frame_of known is_token_byte is_utf8 kind_of head_of unhuffman hear listen fields_in decode_section skipped read_peer pull_stream
 returns-clause-tries_of_a_section_missing_twice c = refl
+
+pub returns-clause-canceled_stream_without_the_table : goal.returns-clause-canceled_stream_without_the_table
+unfolding encoding static_field static_name chars encode varint_at split_of bits code_word octets huffman static_table frame_at frame_of known is_token_byte is_utf8 kind_of head_of unhuffman hear listen fields_in decode_section skipped read_peer pull_stream
+returns-clause-canceled_stream_without_the_table c = refl
+
+pub returns-clause-cancellation_releases_all_sections : goal.returns-clause-cancellation_releases_all_sections
+unfolding encoding static_field static_name chars encode varint_at split_of bits code_word octets huffman static_table frame_at frame_of known is_token_byte is_utf8 kind_of head_of unhuffman hear listen fields_in decode_section skipped read_peer pull_stream
+returns-clause-cancellation_releases_all_sections c = refl
