@@ -11,3 +11,5 @@ pub mod WaitingCounts
 pub mod ReadingStays
 pub mod Bounded
 pub mod Closed
+pub mod PullEnds
+pub mod EndStays

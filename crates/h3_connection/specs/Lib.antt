@@ -27,6 +27,7 @@ pub mod PartReading
 pub mod Calls
 pub mod Answers
 pub mod Bounds
+pub mod HandedOut
 pub mod Conditions
 pub mod SendingContracts
 pub mod ReceivingContracts

@@ -59,6 +59,17 @@ pub fn tries_and_waiting_streams_are_bounded()
     ensures waiting { (e : EndpointHistory) → IsBounded e → waiting_heads e ≤ e.announced.limits.blocked }
 {}
 
+ghost use Rattle.h3_connection.specs.declared.event.Item.TheVariants as item;
+ghost use Rattle.h3_connection.specs.HandedOut.{RequestIsOver, SessionIsOver, EndsSoundly};
+
+/// Once the end of a stream was handed out, every later pull of it answers the end, up to a connection fault.
+pub fn the_end_stays()
+    ensures begins { (e : EndpointHistory) (id : ℕ) → (pull e id).0 ≡ answer.Item item.End → EndsSoundly e id → RequestIsOver (pull e id).1 id }
+    ensures stays { (e : EndpointHistory) (calls : List Call) (id : ℕ) → IsBounded e → e.closed ≡ None → RequestIsOver e id → FindsNoFault e calls →
+        (pull (endpoint_after e calls) id).0 ≡ answer.Item item.End }
+    ensures session { (e : EndpointHistory) (id : ℕ) → e.closed ≡ None → SessionIsOver e id → (pull e id).0 ≡ answer.Item item.End }
+{}
+
 ghost use Rattle.h3_connection.specs.Delivering.{delivery_refusal, unidirectional_at, with_unidirectional};
 ghost use Rattle.h3_connection.specs.Endpoint.Kind.{PeerUnidirectional};
 ghost use Rattle.h3_connection.specs.Unidirectional.{role_after};
