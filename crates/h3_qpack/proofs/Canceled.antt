@@ -1,5 +1,5 @@
 -- A section on a stream whose cancellation was read: it is written as static lines, and nothing else changes.
-use Rattle.std.proofs.Common.{Less, Equal, Greater, ◌≡◌, ℕ, ◌+◌, ◌-◌, ◌<◌, Bool, true, false, ◌&&◌, ◌||◌, List, [], ◌∷◌, ◌++◌, length, map, filter, fold, take, refl, sym, ◌∙◌, ap, arith, nat_lt, nat_le, cond, append_assoc, append-nil, flat_map, if◌then◌else◌, Option, Some, None, option_map, unwrap_or}
+use Rattle.std.proofs.Common.{Less, Equal, Greater, ◌≡◌, ℕ, ◌+◌, ◌-◌, ◌<◌, Bool, true, false, ◌||◌, List, [], ◌∷◌, ◌++◌, length, map, filter, fold, refl, sym, ◌∙◌, ap, arith, nat_lt, nat_le, cond, append_assoc, append-nil, flat_map, if◌then◌else◌, Option, Some, None, option_map, unwrap_or}
 use Rattle.std.specs.Prelude.{◌==◌}
 use Rattle.std.specs.List.{AllByRecursion, list_any}
 use Rattle.std.specs.Ordering.{nat_cmp, match_ordering}
@@ -17,7 +17,7 @@ use Rattle.h3_field.specs.Instruction.{encoder_bytes}
 use Rattle.h3_field.specs.Prefix.{prefix_bytes}
 use Rattle.h3_field.specs.Section.{literal_line, line_or_literal, static_line, static_lines, section_bytes}
 use Rattle.h3_qpack.specs.Table.{table, evictions}
-use Rattle.h3_qpack.specs.EncoderHistory.{EncoderHistory, UnacknowledgedSection, blocks_out, was_canceled, writing_on}
+use Rattle.h3_qpack.specs.EncoderHistory.{EncoderHistory, blocks_out, was_canceled, writing_on}
 use Rattle.h3_qpack.specs.EncoderState.{EncoderState, encoder_state}
 use Rattle.h3_qpack.specs.SectionEncoding.{Draft, add_line, add_literal, add_field, found, found_name, entry_name_line, is_insertable, draft_of, required_insert_count, encoded_section, instructions_for, sent_section}
 use Rattle.h3_qpack.specs.Drafting.{IsSent, IsCutOff}

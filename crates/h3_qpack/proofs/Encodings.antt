@@ -27,7 +27,8 @@ use Rattle.h3_field.specs.PrefixReading.{EncodedPrefix, prefix, IsPrefix}
 use Rattle.h3_field.specs.PrefixWriting.{written_prefix}
 use Rattle.h3_field.specs.Section.{with_value}
 use Rattle.h3_field.proofs.PrefixReadBack.{prefix_is_written, prefix_reads_back, prefix_is_read}
-use Rattle.h3_qpack.specs.Meaning.{MeansFields}
+use Rattle.h3_qpack.specs.Meaning.{HasPrefix, MeansFields}
+use Rattle.h3_qpack.specs.DecoderState.{DecoderState, count_capacity}
 use Rattle.h3_qpack.specs.SectionEncoding.{encoded_section}
 use Rattle.h3_qpack.specs.Encodings.{decoder_of, IsWritten}
 use Rattle.h3_qpack.specs.Session.{Session, UndecodedSection, oldest, is_canceled, count_of, IsSound, DecodesTo}
@@ -185,10 +186,89 @@ prefix_read capacity count base rest few low =
         either true = omega (arith, few)
         either false = omega (arith, low)
 
--- A section whose insertions came means its fields.
-pub section_means : (s : Session) (b : UndecodedSection) → IsSound s → oldest b.stream s.sections ≡ Some b → is_canceled s b.stream ≡ false → count_of b ≤ s.received → IsWritten s b
-    → MeansFields (decoder_of s) (encoded_section b.encoder b.fields) (count_of b) b.fields
-section_means s b h is alive came w = by_count (nat_lt 0 (count_of b)) refl
+-- what a decoder has read of the session, as far as the section needs it
+pub record HasReadFor (s : Session) (b : UndecodedSection) (r : DecoderState) : Type 0 where
+  pub inserted : r.table.inserted ≡ s.received
+  pub entries : r.table.entries ≡ (decoder_of s).table.entries
+  pub capacity : 0 < count_of b → count_capacity r ≡ s.encoder.capacity
+
+-- the prefix of a section, whenever it is tried
+pub record Begins (r : DecoderState) (b : UndecodedSection) (base : ℕ) : Type 0 where
+  pub begins : HasPrefix r (encoded_section b.encoder b.fields) (flat_map line_bytes (draft_of b.encoder b.fields).lines) (count_of b) base
+
+abbrev pub base_of : UndecodedSection → Bool → ℕ
+base_of b true = length b.encoder.inserted
+base_of b false = 0
+
+pub section_begins : (s : Session) (b : UndecodedSection) (r : DecoderState) → IsSound s → HasReadFor s b r → oldest b.stream s.sections ≡ Some b → is_canceled s b.stream ≡ false → count_of b < 2 ^ 62 → IsWritten s b → Begins r b (base_of b (nat_lt 0 (count_of b)))
+section_begins s b r h of is alive few w = by_count (nat_lt 0 (count_of b)) refl
+  where
+    by_count : (t : Bool) → nat_lt 0 (count_of b) ≡ t → Begins r b (base_of b t)
+    by_count true e =
+        let above : 0 < count_of b = grind (arith, common_steps) in
+        let window = count_in_window s b h is alive above in
+        let some : 0 < s.encoder.capacity = omega (arith, window.not_too_old, window.not_too_new) in
+        let taken : IsPrefix s.encoder.capacity s.received (written_prefix s.encoder.capacity (count_of b) (length b.encoder.inserted)) (count_of b) (length b.encoder.inserted) =
+        prefix_is_read s.encoder.capacity s.received (count_of b) (length b.encoder.inserted) some (λ z. absurd (omega (arith, z, above))) window.not_too_old window.not_too_new in
+        record {
+          begins = record {
+            encoded = written_prefix b.encoder.capacity (count_of b) (length b.encoder.inserted);
+            whole = prefix_read b.encoder.capacity (count_of b) (length b.encoder.inserted) _ few w.base;
+            is = subst (λ c. IsPrefix c r.table.inserted (written_prefix b.encoder.capacity (count_of b) (length b.encoder.inserted)) (count_of b) (length b.encoder.inserted)) (sym (of.capacity above))
+                (subst (λ n. IsPrefix s.encoder.capacity n (written_prefix b.encoder.capacity (count_of b) (length b.encoder.inserted)) (count_of b) (length b.encoder.inserted)) (sym of.inserted)
+                (subst (λ c. IsPrefix s.encoder.capacity s.received (written_prefix c (count_of b) (length b.encoder.inserted)) (count_of b) (length b.encoder.inserted)) (sym (w.capacity above)) taken));
+          };
+        }
+    by_count false e =
+        let none : count_of b ≡ 0 = grind (arith, common_steps) in
+        record {
+          begins = record {
+            encoded = written_prefix b.encoder.capacity (count_of b) (length b.encoder.inserted);
+            whole = prefix_read b.encoder.capacity (count_of b) (length b.encoder.inserted) _ few w.base;
+            is = rw none (plain (nat_lt 0 (count_capacity r)) refl);
+          };
+        }
+      where
+        plain : (t : Bool) → nat_lt 0 (count_capacity r) ≡ t → IsPrefix (count_capacity r) r.table.inserted (written_prefix b.encoder.capacity 0 (length b.encoder.inserted)) 0 0
+        plain true e = inr (grind (arith, common_steps), inl (refl, refl), refl)
+        plain false e = inl (grind (arith, common_steps), refl, refl)
+
+entry_among : List Field → ℕ → ℕ → Option Field
+entry_among entries inserted number = if nat_lt (inserted - length entries) number then slice_get entries (number - (inserted - length entries) - 1) else None
+
+-- what entries a line finds does not rest on the capacity
+entry_same : (h k : TableState) (number : ℕ) → h.entries ≡ k.entries → h.inserted ≡ k.inserted → entry_at h number ≡ entry_at k number
+unfolding entry_among
+entry_same h k number e f = ap (λ es. entry_among es h.inserted number) e ∙ ap (λ n. entry_among k.entries n number) f
+
+line_same : (h k : TableState) (base : ℕ) (l : FieldLine) → h.entries ≡ k.entries → h.inserted ≡ k.inserted → field_at h base l ≡ field_at k base l
+line_same h k base (StaticField index) e f = refl
+line_same h k base (RelativeField index) e f = entry_same h k (base - index) e f
+line_same h k base (PostBaseField index) e f = entry_same h k (base + index + 1) e f
+line_same h k base (StaticName index value) e f = refl
+line_same h k base (RelativeName index value) e f = ap (with_value value) (entry_same h k (base - index) e f)
+line_same h k base (PostBaseName index value) e f = ap (with_value value) (entry_same h k (base + index + 1) e f)
+line_same h k base (Literal name value) e f = refl
+
+lines_same : (h k : TableState) (base : ℕ) (ls : List FieldLine) (fs : List Field) → h.entries ≡ k.entries → h.inserted ≡ k.inserted → HaveFields h base ls fs → HaveFields k base ls fs
+lines_same h k base [] [] e f a = tt
+lines_same h k base (l ∷ ls) (g ∷ fs) e f a = (sym (line_same h k base l e f) ∙ a.0, lines_same h k base ls fs e f a.1)
+lines_same h k base [] (g ∷ fs) e f a = a
+lines_same h k base (l ∷ ls) [] e f a = a
+
+-- A section whose insertions came means its fields to a decoder that has read them.
+pub section_means : (s : Session) (b : UndecodedSection) (r : DecoderState) → IsSound s → HasReadFor s b r → oldest b.stream s.sections ≡ Some b → is_canceled s b.stream ≡ false → count_of b ≤ s.received → IsWritten s b
+    → MeansFields r (encoded_section b.encoder b.fields) (count_of b) b.fields
+section_means s b r h of is alive came w =
+    record {
+      rest = flat_map line_bytes lines;
+      base = base_of b (nat_lt 0 (count_of b));
+      lines = lines;
+      begins = (section_begins s b r h of is alive few w).begins;
+      received = omega (arith, came, of.inserted);
+      split = lines_read lines w.lines;
+      named = by_count (nat_lt 0 (count_of b)) refl;
+    }
   where
     d : DecodesTo s b
     d = section_decodes s b h is alive came
@@ -202,45 +282,16 @@ section_means s b h is alive came w = by_count (nat_lt 0 (count_of b)) refl
     few : count_of b < 2 ^ 62
     few = omega (arith, came, h.received, h.small)
 
-    by_count : (t : Bool) → nat_lt 0 (count_of b) ≡ t → MeansFields (decoder_of s) (encoded_section b.encoder b.fields) (count_of b) b.fields
+    by_count : (t : Bool) → nat_lt 0 (count_of b) ≡ t → HaveFields r.table (base_of b t) lines b.fields
     by_count true e =
-        let above : 0 < count_of b = grind (arith, common_steps) in
-        let window = count_in_window s b h is alive above in
-        let some : 0 < s.encoder.capacity = omega (arith, window.not_too_old, window.not_too_new) in
-        let taken : IsPrefix s.encoder.capacity s.received (written_prefix s.encoder.capacity (count_of b) (length b.encoder.inserted)) (count_of b) (length b.encoder.inserted) =
-        prefix_is_read s.encoder.capacity s.received (count_of b) (length b.encoder.inserted) some (λ z. absurd (omega (arith, z, above))) window.not_too_old window.not_too_new in
-        record {
-          rest = flat_map line_bytes lines;
-          base = length b.encoder.inserted;
-          lines = lines;
-          begins = record {
-            encoded = written_prefix b.encoder.capacity (count_of b) (length b.encoder.inserted);
-            whole = prefix_read b.encoder.capacity (count_of b) (length b.encoder.inserted) _ few w.base;
-            is = subst (λ n. IsPrefix s.encoder.capacity n (written_prefix b.encoder.capacity (count_of b) (length b.encoder.inserted)) (count_of b) (length b.encoder.inserted)) (sym received_is)
-                (subst (λ c. IsPrefix s.encoder.capacity s.received (written_prefix c (count_of b) (length b.encoder.inserted)) (count_of b) (length b.encoder.inserted)) (sym (w.capacity above)) taken);
-          };
-          received = omega (arith, came, received_is);
-          split = lines_read lines w.lines;
-          named = lines_held s.encoder.capacity (take s.received s.encoder.inserted) (length b.encoder.inserted) lines b.fields
-              (lines_name (λ n. evictions s.encoder.capacity (take s.received s.encoder.inserted) < n) b.encoder b.fields d.present) d.lines;
-        }
+        lines_same (decoder_of s).table r.table (length b.encoder.inserted) lines b.fields (sym of.entries) (received_is ∙ sym of.inserted)
+        (lines_held s.encoder.capacity (take s.received s.encoder.inserted) (length b.encoder.inserted) lines b.fields
+        (lines_name (λ n. evictions s.encoder.capacity (take s.received s.encoder.inserted) < n) b.encoder b.fields d.present) d.lines)
     by_count false e =
         let none : count_of b ≡ 0 = grind (arith, common_steps) in
         let counted : AllByRecursion (λ line. entry_number (length b.encoder.inserted) line ≤ count_of b) lines = (section_counted b.encoder b.fields).lines in
-        record {
-          rest = flat_map line_bytes lines;
-          base = 0;
-          lines = lines;
-          begins = record {
-            encoded = written_prefix b.encoder.capacity (count_of b) (length b.encoder.inserted);
-            whole = prefix_read b.encoder.capacity (count_of b) (length b.encoder.inserted) _ few w.base;
-            is = rw none (plain (nat_lt 0 s.encoder.capacity) refl);
-          };
-          received = omega (arith, came, received_is);
-          split = lines_read lines w.lines;
-          named = lines_plain (table_state (table_of s.encoder.capacity (take s.received s.encoder.inserted))) (take s.received s.encoder.inserted) (length b.encoder.inserted) lines b.fields (rw none at counted) d.lines;
-        }
-      where
-        plain : (t : Bool) → nat_lt 0 s.encoder.capacity ≡ t → IsPrefix s.encoder.capacity (length (take s.received s.encoder.inserted)) (written_prefix b.encoder.capacity 0 (length b.encoder.inserted)) 0 0
-        plain true e = inr (grind (arith, common_steps), inl (refl, refl), refl)
-        plain false e = inl (grind (arith, common_steps), refl, refl)
+        lines_plain r.table (take s.received s.encoder.inserted) (length b.encoder.inserted) lines b.fields (rw none at counted) d.lines
+
+-- the session's own decoder has read so
+pub own_read : (s : Session) (b : UndecodedSection) → IsSound s → HasReadFor s b (decoder_of s)
+own_read s b h = record { inserted = length-take-le s.received s.encoder.inserted h.received; entries = refl; capacity = λ above. refl }

@@ -1,20 +1,15 @@
 -- The prefix of a section stands for one required insert count and one base.
-use Rattle.std.proofs.Common.{◌≡◌, inl, inr, ℕ, ◌<◌, ◌≤◌, Bool, true, false, List, length, Ok, refl, sym, ◌∙◌, arith, subst}
-use Rattle.h3_field.specs.Field.{Field}
-use Rattle.h3_field.specs.Section.{AreLines}
+use Rattle.std.proofs.Common.{◌≡◌, inl, inr, ℕ, ◌≤◌, Bool, true, false, List, Ok, refl, sym, ◌∙◌, arith, subst}
 use Rattle.h3_field.specs.Reading.{Reading, Whole, Unfinished, Bad}
 use Rattle.h3_field.specs.PrefixReading.{EncodedPrefix, prefix, IsPrefix, IsCount, IsBase}
 use Rattle.h3_field.specs.PrefixAnswer.{AnswersPrefix, HasNoPrefix}
 use Rattle.h3_field.specs.Errors.{decoder_parse}
 use Rattle.h3_field.specs.declared.parse_error.ParseError.{ParseError}
 use Rattle.h3_field.specs.declared.parse_error.ParseError.TheVariants.{Integer, String, InvalidPrefix, InvalidBase, OutOfMemory}
-use Rattle.h3_field.specs.declared.decoder_error.DecoderError.{DecoderError}
-use Rattle.h3_field.specs.declared.decoder_error.DecoderError.TheVariants as error
 use Rattle.h3_qpack.specs.DecoderState.{DecoderState, count_capacity}
-use Rattle.h3_qpack.specs.Meaning.{HasPrefix, HaveFields, IsBadSection}
-use Rattle.h3_qpack.specs.SectionAnswers.{BeginsWithNone, IsReasonFor, IsRefusal}
+use Rattle.h3_qpack.specs.Meaning.{HasPrefix, IsBadSection}
+use Rattle.h3_qpack.specs.SectionAnswers.{IsRefusal}
 use Rattle.h3_qpack.proofs.Counts.{one_count}
-use Rattle.h3_qpack.proofs.Standing.{Standing, stand_bad}
 
 -- the prefix that a decoder read, and what it goes by
 pub record Begun (r : DecoderState) (bytes new : List ℕ) (p : EncodedPrefix) (inserted capacity : ℕ) : Type 0 where
@@ -111,40 +106,3 @@ no_prefix r bytes new p inserted capacity InvalidBase b h = begins_nowhere r byt
 no_prefix r bytes new p inserted capacity (Integer e) b h = absurd h
 no_prefix r bytes new p inserted capacity (String e) b h = absurd h
 no_prefix r bytes new p inserted capacity OutOfMemory b h = absurd h
-
--- a section whose insertions came, and a line of which is of no field
-bad_line : (r : DecoderState) (bytes new rest : List ℕ) (p : EncodedPrefix) (inserted capacity count base : ℕ) (fields : List Field) → Begun r bytes new p inserted capacity
-    → IsPrefix capacity inserted p count base → count ≤ inserted → Standing r.table base new fields rest → 0 < length rest → BeginsWithNone r.table base rest → IsBadSection r bytes
-bad_line r bytes new rest p inserted capacity count base fields b is came s above none =
-    record {
-      no_fields = λ other all m.
-          let one = begins_once r bytes new m.rest p inserted capacity count base other m.base b is m.begins in
-          let split = subst (λ x. AreLines x m.lines) (sym one.rest_is) m.split in
-          let named = subst (λ x. HaveFields r.table x m.lines all) (sym one.base_is) m.named in
-          stand_bad r.table base new fields rest s above none m.lines all split named;
-      none_missing = λ other m.
-          let one = begins_once r bytes new m.rest p inserted capacity count base other m.base b is m.begins in
-          omega (arith, m.missing, one.count_is, came, b.inserted_is);
-    }
-
-pub refused_line : (r : DecoderState) (bytes new rest : List ℕ) (p : EncodedPrefix) (inserted capacity count base : ℕ) (fields : List Field) (e : DecoderError) → Begun r bytes new p inserted capacity
-    → IsPrefix capacity inserted p count base → count ≤ inserted → Standing r.table base new fields rest → 0 < length rest
-    → IsReasonFor (BeginsWithNone r.table base rest) (λ count. ⊥) e → IsRefusal r bytes e
-refused_line r bytes new rest p inserted capacity count base fields e b is came s above n = from e n
-  where
-    bad : BeginsWithNone r.table base rest → IsBadSection r bytes
-    bad none = bad_line r bytes new rest p inserted capacity count base fields b is came s above none
-
-    from : (e : DecoderError) → IsReasonFor (BeginsWithNone r.table base rest) (λ count. ⊥) e → IsRefusal r bytes e
-    from error.OutOfMemory n = tt
-    from (error.HeaderTooLong sum) n = absurd n
-    from (error.InvalidInteger x) n = bad n
-    from (error.InvalidString x) n = bad n
-    from (error.InvalidIndex x) n = bad n
-    from (error.DynamicTable x) n = bad n
-    from (error.InvalidStaticIndex x) n = bad n
-    from (error.UnknownPrefix x) n = bad n
-    from (error.MissingRefs x) n = absurd n
-    from error.BadBaseIndex n = bad n
-    from error.UnexpectedEnd n = bad n
-    from error.BufSize n = bad n

@@ -1,6 +1,5 @@
 -- A table that is used from now on: nothing was inserted before.
-use Rattle.std.proofs.Common.{◌≡◌, ℕ, ◌-◌, ◌≤◌, List, [], ◌∷◌, length, map, refl, sym, ◌∙◌, ap, subst, arith}
-use Rattle.h3_field.specs.Field.{Field}
+use Rattle.std.proofs.Common.{◌≡◌, ℕ, ◌≤◌, List, [], ◌∷◌, length, map, refl, sym, ◌∙◌, ap, subst, arith}
 use Rattle.h3_qpack.specs.Table.{table}
 use Rattle.h3_qpack.specs.TableState.{TableState, evicted, with_capacity}
 use Rattle.h3_qpack.specs.Index.{IsIndexed}

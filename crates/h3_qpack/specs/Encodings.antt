@@ -1,5 +1,5 @@
 -- What a writer of a section takes, and the decoder that reads it.
-use Rattle.std.specs.Prelude.{◌≡◌, ◌<◌, ◌^◌, length, take, Some}
+use Rattle.std.specs.Prelude.{◌≡◌, ◌⊎◌, ◌<◌, ◌^◌, ℕ, [], length, take, nat_le, if◌then◌else◌, Some}
 use Rattle.std.specs.List.{AllByRecursion}
 use Rattle.h3_field.specs.Line.{FieldLine, line_bytes}
 use Rattle.h3_field.specs.LineAnswer.{IsWritable}
@@ -7,6 +7,7 @@ use Rattle.h3_field.specs.ReadBack.{IsLineOfBytes, IsInstructionOfBytes}
 use Rattle.h3_field.specs.Instruction.{EncoderInstruction, encoder_bytes}
 use Rattle.h3_field.specs.InstructionAnswer.{IsSendable}
 use Rattle.h3_qpack.specs.DecoderState.{DecoderState}
+use Rattle.h3_qpack.specs.DecodedSection.{DecodedSection, Fields, Missing}
 use Rattle.h3_qpack.specs.TableHistory.{table_state, table_of}
 use Rattle.h3_qpack.specs.SectionEncoding.{draft_of}
 use Rattle.h3_qpack.specs.Session.{Session, UndecodedSection, count_of}
@@ -29,3 +30,15 @@ pub record IsWritten (s : Session) (b : UndecodedSection) : Type 0 where
   pub lines : AllByRecursion IsWrittenLine (draft_of b.encoder b.fields).lines
   pub base : length b.encoder.inserted < 2 ^ 62
   pub capacity : 0 < count_of b → b.encoder.capacity ≡ s.encoder.capacity
+
+-- A decoder that announced this capacity and has read so many insertions of the session, whatever capacity it has read. The
+-- encoder has learned the announced capacity, or has inserted nothing.
+pub record IsDecoderAt (announced : ℕ) (s : Session) (r : DecoderState) : Type 0 where
+  pub capacity : r.announced ≡ Some announced
+  pub entries : r.table.entries ≡ (decoder_of s).table.entries
+  pub inserted : r.table.inserted ≡ s.received
+  pub learned : (s.encoder.capacity ≡ announced) ⊎ (s.encoder.inserted ≡ [])
+
+-- what such a decoder makes of a section whenever it is tried: its fields once the insertions came, and until then how many it needs
+abbrev pub tried : Session → UndecodedSection → DecodedSection
+tried s b = if nat_le (count_of b) s.received then Fields b.fields (count_of b) else Missing (count_of b)

@@ -232,9 +232,9 @@ abbrev pub refused_section : DecoderError → SessionAnswer
 refused_section (decoder_error.MissingRefs count) = answer.Missing count
 refused_section e = answer.Refused (of.Decoder e)
 
--- Why a session does not begin: the limit is judged first.
+-- Why a session does not begin: the limit is judged first, then the capacity, and memory is asked for last.
 abbrev pub IsNoBeginning : ℕ → ℕ → EncoderError → Type 0
-IsNoBeginning capacity limit encoder_error.OutOfMemory = Unit {0}
+IsNoBeginning capacity limit encoder_error.OutOfMemory = (limit ≤ 65535) × (capacity < 2 ^ 30)
 IsNoBeginning capacity limit (encoder_error.Insertion MaxBlockedStreamsTooLarge) = 65535 < limit
 IsNoBeginning capacity limit (encoder_error.Insertion MaximumTableSizeTooLarge) = (limit ≤ 65535) × (2 ^ 30 ≤ capacity)
 IsNoBeginning capacity limit e = ⊥

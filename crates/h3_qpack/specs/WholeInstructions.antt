@@ -9,6 +9,12 @@ whole_in bytes_of count [] = 0
 whole_in bytes_of count (x ∷ xs) =
     if nat_le (length (bytes_of x)) count then whole_in bytes_of (count - length (bytes_of x)) xs + 1 else 0
 
+-- what came of the first text that is not whole
+abbrev pub rest_in : {X : Type 0} → (X → List ℕ) → ℕ → List X → List ℕ
+rest_in bytes_of count [] = []
+rest_in bytes_of count (x ∷ xs) =
+    if nat_le (length (bytes_of x)) count then rest_in bytes_of (count - length (bytes_of x)) xs else take count (bytes_of x)
+
 abbrev pub is_insertion : EncoderInstruction → Bool
 is_insertion (SetCapacity capacity) = false
 is_insertion _ = true

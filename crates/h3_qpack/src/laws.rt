@@ -1,26 +1,30 @@
 //! Laws over the definitions.
 
-ghost use Rattle.std.specs.Prelude.{◌≡◌, ◌==◌, ◌||◌, ℕ, ◌+◌, ◌*◌, ◌%◌, ◌^◌, ◌<◌, ◌≤◌, true, false, List, Some};
+ghost use Rattle.std.specs.Prelude.{◌≡◌, ◌==◌, ◌||◌, ℕ, ◌+◌, ◌*◌, ◌%◌, ◌^◌, ◌<◌, ◌≤◌, ◌∷◌, true, false, List, Some};
 ghost use Rattle.h3_field.specs.Field.{Field, section_size};
 ghost use Rattle.h3_field.specs.Section.{section_bytes};
 ghost use Rattle.h3_field.specs.Instruction.DecoderInstruction.{Acknowledge, CancelStream, Increment};
 ghost use Rattle.h3_qpack.specs.Table.{table};
 ghost use Rattle.std.specs.Prelude.{take, length, [], ◌++◌};
-ghost use Rattle.h3_qpack.specs.DecoderState.{DecoderState};
+ghost use Rattle.h3_qpack.specs.DecoderState.{DecoderState, decoder_after_all};
 ghost use Rattle.std.specs.Prelude.{flat_map};
 ghost use Rattle.std.specs.List.{AllByRecursion};
-ghost use Rattle.h3_field.specs.Instruction.{EncoderInstruction, encoder_bytes};
-ghost use Rattle.h3_qpack.specs.Instructions.{HasRead, AreInstructions};
+ghost use Rattle.h3_field.specs.Instruction.{EncoderInstruction, encoder_bytes, DecoderInstruction, decoder_bytes};
+ghost use Rattle.h3_field.specs.InstructionAnswer.{IsReply};
+ghost use Rattle.h3_field.specs.InstructionReading.{instruction, decoder_instruction};
+ghost use Rattle.h3_field.specs.Reading.{Unfinished};
+ghost use Rattle.h3_qpack.specs.WholeInstructions.{whole_in, rest_in, decoder_instructions_in};
+ghost use Rattle.h3_qpack.specs.Instructions.{HasRead, AreInstructions, AreDecoderInstructions, AreAccepted};
 ghost use Rattle.h3_qpack.specs.TableHistory.{table_after_all, table_of};
 ghost use Rattle.h3_qpack.specs.Meaning.{MeansFields, IsMissing};
 ghost use Rattle.h3_qpack.specs.DecodedSection.{DecodedSection, decode_section, IsDecodedAs};
-ghost use Rattle.h3_qpack.specs.Hearing.{Heard, hear, heard_then, IsHeardAs, Listened, listen, listened_then, IsListenedAs};
-ghost use Rattle.h3_qpack.specs.SectionEncoding.{draft_of, encoded_section, instructions_for, sent_section};
-ghost use Rattle.h3_qpack.specs.Encodings.{decoder_of, IsWritten, IsWrittenInstruction};
+ghost use Rattle.h3_qpack.specs.Hearing.{Heard, heard, hear, heard_then, IsHeardAs, Listened, listened, listen, listened_then, IsListenedAs};
+ghost use Rattle.h3_qpack.specs.SectionEncoding.{draft_of, encoded_section, instructions_for, required_insert_count, sent_section};
+ghost use Rattle.h3_qpack.specs.Encodings.{decoder_of, IsDecoderAt, IsWritten, IsWrittenInstruction, tried};
 ghost use Rattle.h3_field.specs.Prefix.{most_entries, IsRequiredCount};
 ghost use Rattle.h3_qpack.specs.Session.{Session, UndecodedSection, oldest, is_canceled, count_of, tracked_references, IsSound, DecodesTo};
 ghost use Rattle.h3_qpack.specs.Schedule.{SessionEvent, SessionRun, beginning};
-ghost use Rattle.h3_qpack.specs.EncoderHistory.{EncoderHistory, blocks_out, encoder_after, was_canceled, writing_on};
+ghost use Rattle.h3_qpack.specs.EncoderHistory.{EncoderHistory, blocks_out, encoder_after, encoder_after_all, was_canceled, withdrawn, writing_on};
 ghost use Rattle.h3_qpack.specs.EncoderState.{encoder_state};
 ghost use Rattle.h3_qpack.specs.Exchange.{ExchangeHistory, Exchange, start, opening};
 ghost use Rattle.h3_qpack.specs.Expected.{Expected};
@@ -78,12 +82,26 @@ pub fn every_section_decodes()
         IsRequiredCount s.encoder.capacity s.received (count_of b % (2 * most_entries s.encoder.capacity) + 1) (count_of b) }
 {}
 
-/// Over every schedule, the encoding of a section that is tried once its insertions came means the section's fields to the
-/// decoder, whose table is that of the insertions read.
+/// Over every schedule, the encoding of a section means the section's fields to a decoder that has read its insertions, and
+/// before that it is missing exactly so many: never bad. The decoder announced the capacity that the encoder has, or any other
+/// while the encoder has inserted nothing, as before the peer's settings came.
 pub fn every_encoding_means_its_fields()
-    ensures { (capacity limit : ℕ) (events : List SessionEvent) (s : Session) (b : UndecodedSection) → SessionRun (beginning capacity limit) events s →
+    ensures means { (capacity limit : ℕ) (events : List SessionEvent) (s : Session) (b : UndecodedSection) → SessionRun (beginning capacity limit) events s →
         oldest b.stream s.sections ≡ Some b → is_canceled s b.stream ≡ false → count_of b ≤ s.received → IsWritten s b →
         MeansFields (decoder_of s) (encoded_section b.encoder b.fields) (count_of b) b.fields }
+    ensures value { (capacity limit announced : ℕ) (events : List SessionEvent) (s : Session) (b : UndecodedSection) (r : DecoderState) → SessionRun (beginning capacity limit) events s → IsDecoderAt announced s r →
+        oldest b.stream s.sections ≡ Some b → is_canceled s b.stream ≡ false → IsWritten s b →
+        decode_section r (encoded_section b.encoder b.fields) ≡ tried s b }
+{}
+
+/// A section that is withdrawn as soon as it was written leaves what one leaves that was cut off: its insertions. Of the required
+/// insert counts that an encoder keeps, a section that was sent adds its own, and no decoder instruction takes one away.
+pub fn sections_leave_their_counts()
+    ensures withdrawn { (s : EncoderHistory) (stream : ℕ) (fields : List Field) →
+        withdrawn (sent_section s stream fields) stream (required_insert_count (draft_of (writing_on s stream) fields)) ≡ record s { inserted = (draft_of (writing_on s stream) fields).inserted } }
+    ensures sent { (s : EncoderHistory) (stream : ℕ) (fields : List Field) →
+        (sent_section s stream fields).required_insert_counts ≡ s.required_insert_counts ++ required_insert_count (draft_of (writing_on s stream) fields) ∷ [] }
+    ensures read { (s : EncoderHistory) (i : DecoderInstruction) → (encoder_after s i).required_insert_counts ≡ s.required_insert_counts }
 {}
 
 /// Every run in bytes is a session, and answers what is expected of it: each decode exactly the fields that were encoded, or
@@ -146,4 +164,23 @@ pub fn decoder_bytes_are_their_value()
     ensures value { (s : EncoderHistory) (bytes : List ℕ) → IsListenedAs s bytes (listen s bytes) }
     ensures only { (s : EncoderHistory) (bytes : List ℕ) (l : Listened) → IsListenedAs s bytes l → listen s bytes ≡ l }
     ensures cuts { (s : EncoderHistory) (bytes more : List ℕ) → listen s (bytes ++ more) ≡ listened_then (listen s bytes) more }
+{}
+
+/// Of the first bytes of written encoder instructions a decoder that refuses none reads the whole ones, and what came of the
+/// next one is left, and is not whole.
+pub fn fronts_of_written_instructions()
+    ensures instructions { (all : List EncoderInstruction) (n : ℕ) → AllByRecursion IsWrittenInstruction all →
+        AreInstructions (take n (flat_map encoder_bytes all)) (take (whole_in encoder_bytes n all) all) (rest_in encoder_bytes n all) × (instruction (rest_in encoder_bytes n all) ≡ Unfinished) }
+    ensures decoder { (r new : DecoderState) (all : List EncoderInstruction) (n : ℕ) → AllByRecursion IsWrittenInstruction all → decoder_after_all (Some r) (take (whole_in encoder_bytes n all) all) ≡ Some new →
+        hear r (take n (flat_map encoder_bytes all)) ≡ heard new (rest_in encoder_bytes n all) false }
+{}
+
+/// Of the first bytes of written decoder instructions an encoder that refuses none reads the whole ones, and what came of the
+/// next one is left, and is not whole. All bytes are read as all instructions.
+pub fn fronts_of_written_decoder_instructions()
+    ensures instructions { (all : List DecoderInstruction) (n : ℕ) → AllByRecursion IsReply all →
+        AreDecoderInstructions (take n (flat_map decoder_bytes all)) (decoder_instructions_in n all) (rest_in decoder_bytes n all) × (decoder_instruction (rest_in decoder_bytes n all) ≡ Unfinished) }
+    ensures encoder { (s : EncoderHistory) (all : List DecoderInstruction) (n : ℕ) → AllByRecursion IsReply all → AreAccepted s (decoder_instructions_in n all) →
+        listen s (take n (flat_map decoder_bytes all)) ≡ listened (encoder_after_all s (decoder_instructions_in n all)) (rest_in decoder_bytes n all) false }
+    ensures all { (all : List DecoderInstruction) (rest : List ℕ) → AllByRecursion IsReply all → AreDecoderInstructions (flat_map decoder_bytes all ++ rest) all rest }
 {}

@@ -104,7 +104,7 @@ whole_front : (kind number : ℕ) (bytes mid behind rest : List ℕ) → IsNumbe
     → IsFrontOf bytes rest (with_head (length bytes) kind number behind)
 whole_front kind number bytes mid behind rest k n t =
     let all : (more : List ℕ) → (k.front ++ (n.front ++ t.tail)) ++ more ≡ k.front ++ (n.front ++ (t.tail ++ more)) =
-        λ more. append_assoc k.front (n.front ++ t.tail) more ∙ ap (λ l. k.front ++ l) (append_assoc n.front t.tail more) in
+    λ more. append_assoc k.front (n.front ++ t.tail) more ∙ ap (λ l. k.front ++ l) (append_assoc n.front t.tail more) in
     record {
       front = k.front ++ (n.front ++ t.tail);
       split = k.split ∙ ap (λ l. k.front ++ l) (n.split ∙ ap (λ l. n.front ++ l) t.split) ∙ sym (all rest);

@@ -100,7 +100,7 @@ ends_within before bytes rest r unfinished h told (inl longer) =
     let sizes : length before + length bytes ≡ length h.front + length rest = sym (length-append before bytes) ∙ ap length h.split ∙ length-append h.front rest in
     let size : length before ≡ length h.front + n = omega (arith, sizes, longer) in
     let is : before ≡ h.front ++ take n rest =
-        sym (take_at before bytes (length before) refl) ∙ ap (λ l. take (length before) l) h.split ∙ ap (λ k. take k (h.front ++ rest)) size ∙ take-append-add h.front rest n in
+    sym (take_at before bytes (length before) refl) ∙ ap (λ l. take (length before) l) h.split ∙ ap (λ k. take k (h.front ++ rest)) size ∙ take-append-add h.front rest n in
     absurd (not_told r before (take n rest) [] told (sym unfinished ∙ ap head_of is ∙ h.alike (take n rest)))
 ends_within before bytes rest r unfinished h told (inr fits) =
     let n = length bytes - length rest in

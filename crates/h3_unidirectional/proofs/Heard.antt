@@ -1,20 +1,18 @@
 -- What `on_encoder_recv` says, as what the peer's encoder stream makes of it.
 use Rattle.std.proofs.Common.{◌≡◌, ℕ, ◌-◌, ◌++◌, true, false, List, [], ◌∷◌, append-nil, append_assoc, length, length-append, Result, Ok, Err, drop, Some, None, refl, ap, sym, ◌∙◌, subst, arith}
 use Rattle.std.specs.Prelude.{IfOk, IfErr, OnOk, OnErr}
-use Rattle.h3_field.specs.Reading.{Unfinished}
 use Rattle.h3_field.specs.Instruction.{EncoderInstruction}
-use Rattle.h3_field.specs.InstructionReading.{instruction}
 use Rattle.h3_field.specs.declared.decoder_error.DecoderError.{DecoderError}
 use Rattle.h3_qpack.specs.Increments.{increment_for}
-use Rattle.h3_qpack.specs.Instructions.{AreInstructions, NoInstruction, NextInstruction, HasRead, BeginsBad}
+use Rattle.h3_qpack.specs.Instructions.{AreInstructions, NoInstruction, NextInstruction, HasRead}
 use Rattle.h3_qpack.specs.DecoderState.{DecoderState}
 use Rattle.h3_qpack.specs.SectionAnswers.{IsReasonFor}
 use Rattle.h3_qpack.proofs.InsertionsAt.{reason_map}
-use Rattle.h3_connection.specs.Hearing.{Heard, heard, hear, heard_then}
+use Rattle.h3_qpack.specs.Hearing.{Heard, heard, hear, heard_then}
 use Rattle.h3_connection.specs.Codes.{encoder_stream_error}
 use Rattle.h3_connection.specs.Listeners.{Decoding, Hears, fault_if, heard_more, after_hearing, insertions_heard}
-use Rattle.h3_connection.proofs.HearingLaws.{heard_whole, heard_bad}
-use Rattle.h3_connection.proofs.Cuts.{cuts_are_heard_alike}
+use Rattle.h3_qpack.proofs.HearingLaws.{heard_is}
+use Rattle.h3_qpack.proofs.StreamCuts.{cuts_are_heard_alike}
 use Rattle.h3_unidirectional.specs.Fronts.{HearsFront, StopsHearing}
 use Rattle.h3_unidirectional.proofs.InstructionFronts.{instruction_fronts}
 
@@ -60,24 +58,25 @@ hears old new left before after is_bad is rest increment =
       increment = increment ∙ ap (λ (x : Heard). before ++ increment_for (insertions_heard old x)) (sym all);
     }
 
-pub hears_ok : (r : Result ℕ DecoderError) (old new : Decoding) (left before after : List ℕ) → HasRead old.decoder new.decoder old.unread left → IfOk r (λ n. (n ≡ new.decoder.table.inserted) × (instruction left ≡ Unfinished))
+pub hears_ok : (r : Result ℕ DecoderError) (old new : Decoding) (left before after : List ℕ) → HasRead old.decoder new.decoder old.unread left → OnOk r (hear old.decoder old.unread ≡ heard new.decoder left false)
     → new.unread ≡ drop (length old.unread - length left) old.unread → after ≡ before ++ increment_for (new.decoder.table.inserted - old.decoder.table.inserted) → OnOk r (Hears old new [] None before after)
-hears_ok (Ok n) old new left before after read ok rest increment =
-    hears old new left before after false (heard_whole old.decoder new.decoder old.unread left read ok.1) (rest ∙ left_is old.decoder new.decoder old.unread left read) increment
-hears_ok (Err e) old new left before after read ok rest increment = tt
+hears_ok (Ok n) old new left before after read value rest increment = hears old new left before after false value (rest ∙ left_is old.decoder new.decoder old.unread left read) increment
+hears_ok (Err e) old new left before after read value rest increment = tt
 
-pub hears_err : (r : Result ℕ DecoderError) (old new : Decoding) (left before after : List ℕ) → HasRead old.decoder new.decoder old.unread left → IfErr r (IsReasonFor (BeginsBad new.decoder left) (λ count. ⊥))
+pub hears_err : (r : Result ℕ DecoderError) (old new : Decoding) (left before after : List ℕ) → HasRead old.decoder new.decoder old.unread left
+    → IfErr r (IsReasonFor (hear old.decoder old.unread ≡ heard new.decoder left true) (λ count. ⊥))
     → new.unread ≡ drop (length old.unread - length left) old.unread → after ≡ before ++ increment_for (new.decoder.table.inserted - old.decoder.table.inserted) → IfErr r (IsReasonFor (Hears old new [] (Some encoder_stream_error) before after) (λ count. ⊥))
-hears_err (Ok n) old new left before after read err rest increment = tt
-hears_err (Err e) old new left before after read err rest increment =
-    reason_map _ _ e (λ bad. hears old new left before after true (heard_bad old.decoder new.decoder old.unread left read bad) (rest ∙ left_is old.decoder new.decoder old.unread left read) increment) err
+hears_err (Ok n) old new left before after read bad rest increment = tt
+hears_err (Err e) old new left before after read bad rest increment =
+    reason_map _ _ e (λ is. hears old new left before after true is (rest ∙ left_is old.decoder new.decoder old.unread left read) increment) bad
 
 -- whole instructions were read, whatever the answer
 pub hears_to : (old new : Decoding) (left : List ℕ) → HasRead old.decoder new.decoder old.unread left → new.unread ≡ drop (length old.unread - length left) old.unread → HearsFront old new
 hears_to old new left read rest =
     let f = instructions_front old.unread left read.instructions read.split in
     let whole : hear old.decoder f.front ≡ heard new.decoder [] false =
-        heard_whole old.decoder new.decoder f.front [] (record { instructions = read.instructions; split = subst (λ x. AreInstructions x read.instructions []) (append-nil f.front) (f.alike []); table = read.table }) refl in
+    heard_is old.decoder f.front (heard new.decoder [] false)
+    (record { read = record { instructions = read.instructions; split = subst (λ x. AreInstructions x read.instructions []) (append-nil f.front) (f.alike []); table = read.table }; stops = refl }) in
     record {
       front = f.front;
       split = f.split ∙ ap (λ l. f.front ++ l) (sym (rest ∙ dropped old.unread f.front left f.split));

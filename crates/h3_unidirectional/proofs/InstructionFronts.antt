@@ -104,7 +104,7 @@ bytes_fronts : (count : ℕ) → HasFronts (bytes_reading count)
 bytes_fronts count bytes rest value = by_size (cases_lt (length bytes) count)
   where
     by_size : (length bytes < count) ⊎ (count ≤ length bytes) → bytes_reading count bytes ≡ Whole value rest → IsFront (bytes_reading count) value bytes rest
-    by_size (inl few) e = 
+    by_size (inl few) e =
         let none : bytes_reading count bytes ≡ Unfinished = rw (lt-leb count (length bytes) few) refl in
         absurd (not_whole (bytes_reading count bytes) value rest none e)
     by_size (inr enough) e =

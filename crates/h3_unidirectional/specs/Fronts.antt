@@ -3,7 +3,7 @@ use Rattle.std.specs.Prelude.{◌≡◌, ℕ, false, List, [], ◌++◌, None}
 use Rattle.h3_proto.specs.declared.stream.Side.{Side}
 use Rattle.h3_qpack.specs.EncoderHistory.{EncoderHistory}
 use Rattle.h3_qpack.specs.EncoderState.{encoder_state}
-use Rattle.h3_connection.specs.Hearing.{hear, heard}
+use Rattle.h3_qpack.specs.Hearing.{hear, heard, listen}
 use Rattle.h3_connection.specs.Listeners.{Decoding, Encoding, heard_more}
 use Rattle.h3_connection.specs.PartReading.{PeerReadsPart, HearsPart, ListensPart}
 use Rattle.h3_connection.specs.PeerReading.{Peer, with_unread, read_peer}
@@ -36,3 +36,4 @@ pub record StopsListening (s : EncoderHistory) (old new : Encoding) : Type 0 whe
   pub after : EncoderHistory
   pub state : new.encoder ≡ encoder_state after
   pub part : ListensPart s after old.unread new.unread
+  pub resumes : (more : List ℕ) → listen after (new.unread ++ more) ≡ listen s (old.unread ++ more)

@@ -4,3 +4,5 @@ pub mod Judged
 pub mod Faults
 pub mod Kinds
 pub mod Rows
+pub mod Learned
+pub mod OwnLaws

@@ -1,14 +1,22 @@
 //! The own encoder, and the peer's decoder stream that tells it what was received (RFC 9204, section 4.4).
-ghost use Rattle.std.specs.Prelude.{◌≡◌, ◌++◌, ℕ, [], Some, None, length, IfOk, IfErr, OnOk, OnErr};
-ghost use Rattle.h3_qpack.specs.EncoderHistory.{EncoderHistory, no_table};
+ghost use Rattle.std.specs.Prelude.{◌≡◌, ◌<◌, ◌^◌, ◌++◌, [], Some, None, IfOk, IfErr, OnOk, OnErr};
+ghost use Rattle.h3_field.specs.Field.{section_size};
+ghost use Rattle.h3_qpack.specs.Drafting.{IsSent, IsCutOff};
+ghost use Rattle.h3_qpack.specs.EncoderHistory.{EncoderHistory, no_table, withdrawn, writing_on};
 ghost use Rattle.h3_qpack.specs.EncoderState.{encoder_state};
 ghost use Rattle.h3_connection.specs.Codes.{decoder_stream_error};
+ghost use Rattle.h3_connection.specs.Control.{is_usable};
 ghost use Rattle.h3_connection.specs.Listeners.{Listens};
 ghost use Rattle.h3_unidirectional.specs.Faults.{IsReplyFaultOf, UnlessMemory};
 ghost use Rattle.h3_unidirectional.specs.Fronts.{StopsListening};
+ghost use Rattle.h3_unidirectional.specs.Learned.{having_learned, capacity_bytes};
 
 use crate::decoding::drop_front;
+use crate::waiting::WaitingBytes;
+use h3_field::HeaderField;
 use h3_proto::error::Code;
+use h3_proto::frame::{SettingId, Settings};
+use h3_proto::stream::StreamId;
 use h3_qpack::{Encoder, EncoderError, SliceCursor};
 use std::alloc::{AllocError, Global};
 use std::marker::Model;
@@ -48,6 +56,76 @@ impl Encoding {
         self.unread.extend_from_slice(bytes)
     }
 
+    /// The encoder.
+    pub fn encoder(&self) -> &Encoder
+        ensures { result.now ≡ self.now.encoder }
+    {
+        &self.encoder
+    }
+
+    /// The peer's settings came. Where they allow a table of 1 to 2^30 - 1 bytes and at most 65535 blocked streams (RFC 9204,
+    /// section 5) it is used from now on, and its capacity is written; else nothing changes. A refusal changes nothing.
+    pub fn learn(&mut self, settings: &Settings, out: &mut WaitingBytes) -> Result<(), AllocError>
+        requires { self.old.encoder.table.inserted ≡ 0 }
+        ensures ok { OnOk result ((s : EncoderHistory) → self.old.encoder ≡ encoder_state s → self.new.encoder ≡ encoder_state (having_learned s settings.now)) }
+        ensures written { OnOk result (out.new ≡ out.old ++ capacity_bytes settings.now) }
+        ensures err { OnErr result ((self.new ≡ self.old) × (out.new ≡ out.old)) }
+        ensures unread { self.new.unread ≡ self.old.unread }
+    {
+        let capacity = settings
+            .get(SettingId::QPACK_MAX_TABLE_CAPACITY)
+            .unwrap_or(0);
+        let blocked = settings
+            .get(SettingId::QPACK_MAX_BLOCKED_STREAMS)
+            .unwrap_or(0);
+        if !is_usable(capacity, blocked) {
+            return Ok(());
+        }
+        let Ok(()) = self
+            .encoder
+            .use_table(capacity as usize, blocked as usize, out.bytes_mut())
+        else {
+            return Err(AllocError);
+        };
+        Ok(())
+    }
+
+    /// Appends an encoded field section to `block`, and the instructions for it to what waits on the own encoder stream, and
+    /// answers its required insert count (RFC 9204, sections 2.1 and 4.5). The sizes of the fields sum to less than 2^62.
+    /// Where memory is refused `block` is as it was, and the encoder stream gained whole instructions, those of the insertions
+    /// that were made.
+    pub fn encode(
+        &mut self,
+        stream: StreamId,
+        block: &mut Vec<u8>,
+        out: &mut WaitingBytes,
+        fields: &[HeaderField],
+    ) -> Result<usize, AllocError>
+        requires { section_size fields.now < 2 ^ 62 }
+        ensures sent { IfOk result (λ count. (s : EncoderHistory) → self.old.encoder ≡ encoder_state s →
+            IsSent s stream fields.now count self.new.encoder block.old.items block.new.items out.old out.new) }
+        ensures unwritten { OnErr result (block.new.items ≡ block.old.items) }
+        ensures cut_off { OnErr result ((s : EncoderHistory) → self.old.encoder ≡ encoder_state s → IsCutOff s (writing_on s stream) fields.now self.new.encoder out.old out.new) }
+        ensures unread { self.new.unread ≡ self.old.unread }
+    {
+        let Ok(count) = self
+            .encoder
+            .encode(stream.into_inner(), block, out.bytes_mut(), fields)
+        else {
+            return Err(AllocError);
+        };
+        Ok(count)
+    }
+
+    /// Takes back the newest section of a stream, where `count` is its required insert count, as if it had not been written.
+    /// Its insertions stay.
+    pub fn withdraw(&mut self, stream: StreamId, count: usize)
+        ensures encoder { (s : EncoderHistory) → self.old.encoder ≡ encoder_state s → self.new.encoder ≡ encoder_state (withdrawn s stream count) }
+        ensures unread { self.new.unread ≡ self.old.unread }
+    {
+        self.encoder.withdraw(stream.into_inner(), count);
+    }
+
     fn read_front(&mut self) -> Result<(), EncoderError>
         ensures front { (s : EncoderHistory) → self.old.encoder ≡ encoder_state s → StopsListening s self.old self.new }
         ensures ok { OnOk result ((s : EncoderHistory) → self.old.encoder ≡ encoder_state s → Listens s self.old.unread self.new None) }
@@ -74,6 +152,13 @@ impl Encoding {
             Err(e) => fault_of(e),
         }
     }
+}
+
+/// Whether the table may be used with these limits.
+fn is_usable(capacity: u64, blocked: u64) -> bool
+    ensures { result ≡ is_usable capacity blocked }
+{
+    capacity > 0 && capacity < 1 << 30 && blocked < 1 << 16
 }
 
 /// The fault that a refused instruction is, unless memory was refused.

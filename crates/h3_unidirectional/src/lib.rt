@@ -7,6 +7,6 @@ pub mod decoding;
 pub mod encoding;
 pub mod own;
 pub mod stream;
-pub mod waiting;
 #[cfg(test)]
 mod tests;
+pub mod waiting;

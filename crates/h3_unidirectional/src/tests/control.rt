@@ -45,7 +45,10 @@ fn answers_faults_of_a_client(rt: HostRuntime) -> Result<(), Fail> {
         (&[4, 0, 3, 1, 0], Code::H3_ID_ERROR),
     ];
     for (bytes, want) in &rows {
-        assert_eq!(rt; fault_of(rt.alloc(), Side::Client, *bytes, 100)?, Some(*want));
+        assert_eq!(rt;
+            fault_of(rt.alloc(), Side::Client, *bytes, 100)?,
+            Some(*want)
+        );
         assert_eq!(rt; fault_of(rt.alloc(), Side::Client, *bytes, 1)?, Some(*want));
     }
     Ok(())

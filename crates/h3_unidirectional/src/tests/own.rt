@@ -66,7 +66,10 @@ fn writes_decoder_instructions(rt: HostRuntime) -> Result<(), Fail> {
     let decoder = id(10)?;
     own.acknowledge(stream)?;
     own.cancel(stream)?;
-    assert_eq!(rt; own.outgoing(Side::Client, decoder), [3, 132, 68].as_slice());
+    assert_eq!(rt;
+        own.outgoing(Side::Client, decoder),
+        [3, 132, 68].as_slice()
+    );
     own.decoder.bytes_mut().push(1)?;
     assert_eq!(rt; own.waiting(Side::Client, decoder), 4);
     Ok(())

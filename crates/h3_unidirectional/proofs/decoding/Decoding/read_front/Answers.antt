@@ -6,13 +6,15 @@ pub returns-clause-ok : goal.returns-clause-ok
 returns-clause-ok c =
     let read = rw (c.new-cursor.ensures, c.as_slice-bytes.ensures.value) at c.on_encoder_recv-outcome.ensures.read in
     let left = rw (c.saturating_sub-taken.ensures, c.as_slice-bytes.ensures.value, c.remaining.ensures) at c.drop_front.ensures in
-    rw (sym c.self.view_is) (hears_ok _ _ _ _ _ _ read c.on_encoder_recv-outcome.ensures.ok left c.on_encoder_recv-outcome.ensures.increment)
+    let value = rw (c.new-cursor.ensures, c.as_slice-bytes.ensures.value) at c.on_encoder_recv-outcome.ensures.value in
+    rw (sym c.self.view_is) (hears_ok _ _ _ _ _ _ read value left c.on_encoder_recv-outcome.ensures.increment)
 
 pub returns-clause-err : goal.returns-clause-err
 returns-clause-err c =
     let read = rw (c.new-cursor.ensures, c.as_slice-bytes.ensures.value) at c.on_encoder_recv-outcome.ensures.read in
     let left = rw (c.saturating_sub-taken.ensures, c.as_slice-bytes.ensures.value, c.remaining.ensures) at c.drop_front.ensures in
-    rw (sym c.self.view_is) (hears_err _ _ _ _ _ _ read c.on_encoder_recv-outcome.ensures.err left c.on_encoder_recv-outcome.ensures.increment)
+    let bad = rw (c.new-cursor.ensures, c.as_slice-bytes.ensures.value) at c.on_encoder_recv-outcome.ensures.bad in
+    rw (sym c.self.view_is) (hears_err _ _ _ _ _ _ read bad left c.on_encoder_recv-outcome.ensures.increment)
 
 pub returns-clause-front : goal.returns-clause-front
 returns-clause-front c =
