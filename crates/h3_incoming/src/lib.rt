@@ -6,7 +6,5 @@ mod judge;
 mod replies;
 mod section;
 pub mod stream;
-#[cfg(test)]
-mod tests;
 
 pub use stream::IncomingStream;
