@@ -1,0 +1,122 @@
+-- What the calls do to what is kept of a request stream is what they do to its history.
+use Rattle.std.proofs.Common.{arith, ◌≡◌, ◌≢◌, ◌≤◌, ℕ, ◌+◌, ◌-◌, Bool, true, false, List, [], ◌∷◌, ◌++◌, length, drop, refl, sym, ap, ◌∙◌, subst, length-append}
+use Rattle.std.specs.Prelude.{not, ◌&&◌, ◌||◌, map, flat_map, if◌then◌else◌, ◌==◌}
+use Rattle.std.proofs.lemmas.Grind.{flat_map-append}
+use Rattle.std.proofs.lemmas.List.{length-drop}
+use Rattle.h3_wire.specs.Outgoing.{Outgoing as Piece, all_of}
+use Rattle.h3_connection.specs.Outgoing as history
+use Rattle.h3_connection.specs.Outgoing.{Outgoing, OwnPart, OwnInterim, OwnHead, OwnBody, OwnTrailer, part_bytes, part_bytes_waiting, is_unsent, last_is_trailer}
+use Rattle.h3_connection.specs.State.{OutgoingState, IsOfOutgoing, place_of}
+use Rattle.h3_connection.specs.WaitingPieces.{piece_of, bytes_of, pieces_waiting, without_front}
+use Rattle.h3_connection.specs.WaitingPieceLaws.{bytes-without, without-append, without-without}
+use Rattle.h3_connection.specs.declared.place.SendPlace.{SendPlace}
+use Rattle.h3_connection.specs.declared.place.SendPlace.TheVariants.{NothingSent, HeadSent, TrailerSent}
+use Rattle.h3_outgoing.specs.Sent.{is_open, is_before_head, is_in_body, takes_head, takes_body, takes_end, is_sent_off, has_ended, was_cut_off, taken_from}
+
+-- the place of a message by its parts
+abbrev place : Bool → Bool → SendPlace
+place unsent trailer = if unsent then NothingSent else (if trailer then TrailerSent else HeadSent)
+
+before : (unsent trailer : Bool) → is_before_head (place unsent trailer) ≡ unsent
+before true trailer = refl
+before false true = refl
+before false false = refl
+
+inside : (is unsent trailer : Bool) → (is && is_in_body (place unsent trailer)) ≡ ((is && not unsent) && not trailer)
+inside false unsent trailer = refl
+inside true true trailer = refl
+inside true false true = refl
+inside true false false = refl
+
+opened : (o : Outgoing) (w : OutgoingState) → IsOfOutgoing o w → is_open w ≡ history.is_open o
+opened o w h = ap (λ b. not b && not w.is_reset) h.is_finished ∙ ap (λ b. not o.is_finished && not b) h.is_reset
+
+-- Whether a part may be sent is told by what is kept.
+pub head_taken : (o : Outgoing) (w : OutgoingState) → IsOfOutgoing o w → takes_head w ≡ history.takes_head o
+head_taken o w h =
+    ap (λ b. b && is_before_head w.place) (opened o w h)
+    ∙ ap (λ p. history.is_open o && is_before_head p) h.place ∙ ap (λ b. history.is_open o && b) (before (is_unsent o.parts) (last_is_trailer o.parts))
+
+pub body_taken : (o : Outgoing) (w : OutgoingState) → IsOfOutgoing o w → takes_body w ≡ history.takes_body o
+body_taken o w h =
+    ap (λ b. b && is_in_body w.place) (opened o w h)
+    ∙ ap (λ p. history.is_open o && is_in_body p) h.place ∙ inside (history.is_open o) (is_unsent o.parts) (last_is_trailer o.parts)
+
+pub end_taken : (o : Outgoing) (w : OutgoingState) → IsOfOutgoing o w → takes_end w ≡ history.takes_end o
+end_taken o w h =
+    ap (λ b. b && not (is_before_head w.place)) (opened o w h)
+    ∙ ap (λ p. history.is_open o && not (is_before_head p)) h.place ∙ ap (λ b. history.is_open o && not b) (before (is_unsent o.parts) (last_is_trailer o.parts))
+
+-- the bytes of parts
+pub bytes_of_parts : (parts : List OwnPart) → bytes_of (map piece_of parts) ≡ flat_map part_bytes parts
+bytes_of_parts [] = refl
+bytes_of_parts (OwnInterim section ∷ parts) = ap (λ l. part_bytes (OwnInterim section) ++ l) (bytes_of_parts parts)
+bytes_of_parts (OwnHead section ∷ parts) = ap (λ l. part_bytes (OwnHead section) ++ l) (bytes_of_parts parts)
+bytes_of_parts (OwnBody bytes ∷ parts) = ap (λ l. part_bytes (OwnBody bytes) ++ l) (bytes_of_parts parts)
+bytes_of_parts (OwnTrailer section ∷ parts) = ap (λ l. part_bytes (OwnTrailer section) ++ l) (bytes_of_parts parts)
+
+-- what waits
+waits_by : (reset : Bool) (taken : ℕ) (parts : List OwnPart) → bytes_of (if reset then [] else without_front taken (map piece_of parts)) ≡ (if reset then [] else drop taken (flat_map part_bytes parts))
+waits_by true taken parts = refl
+waits_by false taken parts = bytes-without taken (map piece_of parts) ∙ ap (drop taken) (bytes_of_parts parts)
+
+pub waits : (o : Outgoing) (w : OutgoingState) → IsOfOutgoing o w → bytes_of w.pieces ≡ part_bytes_waiting o
+waits o w h = ap bytes_of h.pieces ∙ waits_by o.is_reset o.taken o.parts
+
+pub sent_off : (o : Outgoing) (w : OutgoingState) → IsOfOutgoing o w → is_sent_off w ≡ history.is_sent_off o
+sent_off o w h =
+    ap (λ b. b || (w.is_finished && (length (bytes_of w.pieces) == 0))) h.is_reset
+    ∙ ap (λ b. o.is_reset || (b && (length (bytes_of w.pieces) == 0))) h.is_finished
+    ∙ ap (λ l. o.is_reset || (o.is_finished && (length l == 0))) (waits o w h)
+
+-- The message is whole.
+pub ended : (o : Outgoing) (w : OutgoingState) → IsOfOutgoing o w → IsOfOutgoing (record o { is_finished = true }) (has_ended w)
+ended o w h = record { pieces = h.pieces; place = h.place; is_finished = refl; is_reset = h.is_reset; taken = h.taken }
+
+-- Sending is cut off.
+pub cut_off : (o : Outgoing) (w : OutgoingState) → IsOfOutgoing o w → IsOfOutgoing (record o { is_reset = true; is_finished = false }) (was_cut_off w)
+cut_off o w h = record { pieces = refl; place = h.place; is_finished = refl; is_reset = refl; taken = λ never. absurd (cc) }
+
+-- Some bytes are taken.
+taken_by : (reset : Bool) (taken count : ℕ) (parts : List OwnPart) → without_front count (if reset then [] else without_front taken (map piece_of parts)) ≡ (if reset then [] else without_front (taken + count) (map piece_of parts))
+taken_by true taken count parts = refl
+taken_by false taken count parts = without-without count taken (map piece_of parts)
+
+few_by : (reset : Bool) (taken count : ℕ) (parts : List OwnPart) → reset ≡ false → taken ≤ length (flat_map part_bytes parts)
+    → count ≤ length (if reset then [] else drop taken (flat_map part_bytes parts)) → taken + count ≤ length (flat_map part_bytes parts)
+few_by true taken count parts never few more = absurd (cc)
+few_by false taken count parts here few more = omega (arith, few, more, length-drop taken (flat_map part_bytes parts))
+
+pub advanced : (o : Outgoing) (w : OutgoingState) (count : ℕ) → IsOfOutgoing o w → count ≤ length (part_bytes_waiting o) → IsOfOutgoing (record o { taken = o.taken + count }) (taken_from w count)
+advanced o w count h few =
+    record {
+      pieces = ap (without_front count) h.pieces ∙ taken_by o.is_reset o.taken count o.parts;
+      place = h.place;
+      is_finished = h.is_finished;
+      is_reset = h.is_reset;
+      taken = λ here. few_by o.is_reset o.taken count o.parts here (h.taken here) few;
+    }
+
+-- A part more.
+map_push : (parts : List OwnPart) (part : OwnPart) → map piece_of (parts ++ part ∷ []) ≡ map piece_of parts ++ piece_of part ∷ []
+map_push [] part = refl
+map_push (p ∷ parts) part = ap (λ l. piece_of p ∷ l) (map_push parts part)
+
+pushed_by : (reset : Bool) (taken : ℕ) (parts : List OwnPart) (part : OwnPart) → reset ≡ false → taken ≤ length (flat_map part_bytes parts)
+    → (if reset then [] else without_front taken (map piece_of parts)) ++ piece_of part ∷ [] ≡ (if reset then [] else without_front taken (map piece_of (parts ++ part ∷ [])))
+pushed_by true taken parts part never few = absurd (cc)
+pushed_by false taken parts part here few =
+    let inside : taken ≤ length (bytes_of (map piece_of parts)) = subst (λ l. taken ≤ length l) (sym (bytes_of_parts parts)) few in
+    sym (ap (without_front taken) (map_push parts part) ∙ without-append taken (map piece_of parts) (piece_of part ∷ []) inside)
+
+pub appended : (o : Outgoing) (w : OutgoingState) (part : OwnPart) (at : SendPlace) → IsOfOutgoing o w → o.is_reset ≡ false → at ≡ place_of (o.parts ++ part ∷ [])
+    → IsOfOutgoing (record o { parts = o.parts ++ part ∷ [] }) (record w { pieces = w.pieces ++ piece_of part ∷ []; place = at })
+appended o w part at h here is =
+    record {
+      pieces = ap (λ l. l ++ piece_of part ∷ []) h.pieces ∙ pushed_by o.is_reset o.taken o.parts part here (h.taken here);
+      place = is;
+      is_finished = h.is_finished;
+      is_reset = h.is_reset;
+      taken = λ again. let all = flat_map-append part_bytes o.parts (part ∷ []) in
+          omega (arith, h.taken again, ap length all, length-append (flat_map part_bytes o.parts) (flat_map part_bytes (part ∷ [])));
+    }
