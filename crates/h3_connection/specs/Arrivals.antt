@@ -1,11 +1,8 @@
 -- What came from the peer and was stored, and is not read yet because memory was refused.
 use Rattle.std.specs.Prelude.{ℕ, Bool, false, List, ◌==◌}
 use Rattle.std.specs.List.{list_any}
-
-pub data Arrival : Type 0 where
-  BytesCame : (id : ℕ) (bytes : List ℕ) → Arrival
-  EndCame : (id : ℕ) → Arrival
-  ResetCame : (id code : ℕ) → Arrival
+pub use Rattle.h3_connection.specs.declared.arrival.Arrival.{Arrival}
+pub use Rattle.h3_connection.specs.declared.arrival.Arrival.TheVariants.{BytesCame, EndCame, ResetCame}
 
 abbrev pub stream_of : Arrival → ℕ
 stream_of (BytesCame id bytes) = id

@@ -28,7 +28,6 @@ pub mod Calls
 pub mod Answers
 pub mod Bounds
 pub mod HandedOut
-pub mod Conditions
 pub mod SendingContracts
 pub mod ReceivingContracts
 pub mod ReadingContracts

@@ -1,12 +1,12 @@
 -- What each call that sends, opens or gives up promises: for every history that is stored, the exact answer, what stands after
 -- it, and what is left where memory was refused.
-use Rattle.std.specs.Prelude.{◌≡◌, ◌≢◌, ℕ, ◌≤◌, List, length, take, Option, Some, None, Result, Ok, Err}
+use Rattle.std.specs.Prelude.{◌≡◌, ◌≢◌, ℕ, ◌≤◌, List, length, take, min, Option, Some, None, Result, Ok, Err}
 use Rattle.h3_field.specs.Field.{Field}
 use Rattle.h3_header.specs.Head.{Head, head_fields}
 use Rattle.h3_proto.specs.declared.stream.Side.{Side}
 use Rattle.h3_connection.specs.Answers.{call_refused, body_refused}
 use Rattle.h3_connection.specs.Calls.{IsSame, MakesEnd, IsNewError}
-use Rattle.h3_connection.specs.Endpoint.{EndpointHistory}
+use Rattle.h3_connection.specs.Endpoint.{EndpointHistory, bytes_waiting}
 use Rattle.h3_connection.specs.Sections.{with_insertions}
 use Rattle.h3_connection.specs.Sending.{open_request, send_head, send_body, send_trailer, finish, reset, goaway, cancel, advance}
 use Rattle.h3_connection.specs.State.{EndpointState, StandsFor}
@@ -81,6 +81,6 @@ GoesAway old new id result = DoesOrRefuses (λ e. goaway e id) old new (call_ref
 abbrev pub Cancels : EndpointState → EndpointState → ℕ → Result Unit Refusal → Type 0
 Cancels old new id result = DoesOrRefuses (λ e. cancel e id) old new (call_refused result)
 
--- `advance` takes so many bytes of what waits
+-- `advance` takes so many bytes of what waits, at most all
 abbrev pub Advances : EndpointState → EndpointState → ℕ → ℕ → Type 0
-Advances old new id count = (e : EndpointHistory) → StandsFor old e → StandsFor new (advance e id count)
+Advances old new id count = (e : EndpointHistory) → StandsFor old e → StandsFor new (advance e id (min count (length (bytes_waiting e id))))

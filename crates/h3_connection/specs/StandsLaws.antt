@@ -1,14 +1,16 @@
 -- What is stored stands for the endpoint's history, when one part of both changes.
 use Rattle.std.proofs.Common.{◌≡◌, ℕ, List, Option, Some, None, refl, ap, sym, subst, ◌∙◌, inl, inr}
-use Rattle.std.specs.Prelude.{◌≢◌, option_map}
+use Rattle.std.specs.Prelude.{◌≢◌, ◌⊎◌, option_map, IsSome, All}
 use Rattle.std.proofs.lemmas.Bool.{cases_eq}
+use Rattle.std.proofs.lemmas.List.Elements.{All-weaker}
+use Rattle.h3_connection.specs.Arrivals.{Arrival, stream_of}
 use Rattle.h3_connection.specs.Calls.{Sets, AllSame}
 use Rattle.h3_connection.specs.Delivering.{with_incoming, with_unidirectional}
 use Rattle.h3_connection.specs.Endpoint.{EndpointHistory}
 use Rattle.h3_connection.specs.Incoming.{Incoming}
 use Rattle.h3_connection.specs.Outgoing.{Outgoing}
 use Rattle.h3_connection.specs.Sending.{with_outgoing}
-use Rattle.h3_connection.specs.State.{EndpointState, RequestState, OwnState, StandsFor, OwnStands, TakesWhatIsThere, IsOfOutgoing, SameAt, kept_at}
+use Rattle.h3_connection.specs.State.{EndpointState, RequestState, OwnState, StandsFor, OwnStands, TakesWhatIsThere, IsOfOutgoing, IsReached, KeepsOpen, SameAt, kept_at}
 use Rattle.h3_connection.specs.StreamSets.{Streams, stream_at, set_stream}
 use Rattle.h3_connection.specs.StreamSetLaws.{other_id, set-here, set-other, set-distinct}
 use Rattle.h3_connection.specs.Unidirectional.{Unidirectional}
@@ -21,6 +23,29 @@ own_same own e f is h = subst (OwnStands own) (sym is) (record {
   decoder = h.decoder;
   taken = record { control = h.taken.control; encoder = h.taken.encoder; decoder = h.taken.decoder };
 })
+
+-- what every history has in common, of one that differs elsewhere
+pub reached_same : (e f : EndpointHistory) → f ≡ record e { outgoing = f.outgoing; unidirectional = f.unidirectional; sent = f.sent; next_id = f.next_id; closed = f.closed; own = f.own } → IsReached e → IsReached f
+reached_same e f is h = subst IsReached (sym is) (record { unlearned = h.unlearned; control = h.control; encoder = h.encoder; decoder = h.decoder; kept = h.kept })
+
+-- a stream that is there stays there
+there_by : (streams : Streams Incoming) (id q : ℕ) (i : Incoming) → q ≡ id ⊎ q ≢ id → IsSome (stream_at streams q) → IsSome (stream_at (set_stream streams id i) q)
+there_by streams id q i (inl same) h = rw same (rw (set-here streams id i) refl)
+there_by streams id q i (inr differs) h = rw (set-other streams id q i (other_id q id differs)) h
+
+pub still_there : (streams : Streams Incoming) (id q : ℕ) (i : Incoming) → IsSome (stream_at streams q) → IsSome (stream_at (set_stream streams id i) q)
+still_there streams id q i h = there_by streams id q i (cases_eq q id) h
+
+-- and of one whose receiver changes
+pub reached_receiving : (e : EndpointHistory) (id : ℕ) (i : Incoming) → IsReached e → IsReached (with_incoming e id i)
+reached_receiving e id i h =
+    record {
+      unlearned = h.unlearned;
+      control = h.control;
+      encoder = h.encoder;
+      decoder = h.decoder;
+      kept = All-weaker (KeepsOpen e.side e.incoming) (KeepsOpen e.side (set_stream e.incoming id i)) (λ a keeps is. still_there e.incoming id (stream_of a) i (keeps is)) e.kept h.kept;
+    }
 
 -- a map whose stream at this id is now another one, seen through one part of its streams
 pub part_set : {X Y : Type 0} (part : X → Y) (old new : Streams X) (streams : Streams Y) (id : ℕ) (x : X) → ((q : ℕ) → option_map part (kept_at old q) ≡ stream_at streams q)
@@ -80,6 +105,7 @@ stands_sending s e new id before x o h was same is sets =
       last_goaway = h.last_goaway;
       kept = h.kept;
       sent = h.sent;
+      reached = reached_same e (with_outgoing e id o) refl h.reached;
     }
 
 -- The receiver's part of a request stream changes.
@@ -106,6 +132,7 @@ stands_receiving s e new id before x h was same sets =
       last_goaway = h.last_goaway;
       kept = h.kept;
       sent = h.sent;
+      reached = reached_receiving e id x.incoming h.reached;
     }
 
 -- A unidirectional stream of the peer changes, or is the first that comes of it.
@@ -135,4 +162,5 @@ stands_unidirectional s e new id o h sets =
       last_goaway = h.last_goaway;
       kept = h.kept;
       sent = h.sent;
+      reached = reached_same e (with_unidirectional e id o) refl h.reached;
     }

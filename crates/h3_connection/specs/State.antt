@@ -1,5 +1,5 @@
 -- What an endpoint stores, and which histories that stands for.
-use Rattle.std.specs.Prelude.{if◌then◌else◌, ◌≡◌, ℕ, ◌+◌, Bool, List, [], length, Option, Some, None, option_map, ◌≤◌, flat_map, ◌++◌, false}
+use Rattle.std.specs.Prelude.{if◌then◌else◌, ◌≡◌, ℕ, ◌+◌, Bool, List, [], length, Option, Some, None, option_map, ◌≤◌, flat_map, ◌++◌, false, All, IsSome}
 use Rattle.h3_coding.specs.Encodings.{encoding}
 use Rattle.h3_wire.specs.StreamHeaders.{control_encoding}
 use Rattle.h3_field.specs.Instruction.{encoder_bytes, decoder_bytes}
@@ -18,9 +18,10 @@ use Rattle.h3_connection.specs.WaitingPieces.{pieces_waiting}
 use Rattle.h3_wire.specs.Outgoing.{Outgoing as Piece}
 use Rattle.h3_connection.specs.OwnIds.{control_id, encoder_id, decoder_id}
 use Rattle.h3_connection.specs.PeerReading.{Peer}
-use Rattle.h3_connection.specs.Arrivals.{Arrival}
+use Rattle.h3_connection.specs.Arrivals.{Arrival, stream_of}
 use Rattle.h3_connection.specs.StreamSets.{Streams, HaveDistinctIds, stream_at}
-use Rattle.h3_connection.specs.Endpoint.{EndpointHistory, goaway_encoding, own_waiting, is_read_as}
+use Rattle.h3_connection.specs.Endpoint.{EndpointHistory, goaway_encoding, own_waiting, kind_of}
+use Rattle.h3_connection.specs.Endpoint.Kind.{Request}
 use Rattle.h3_connection.specs.declared.setup.Announced.{Announced}
 use Rattle.h3_connection.specs.declared.place.SendPlace.{SendPlace}
 use Rattle.h3_connection.specs.declared.place.SendPlace.TheVariants.{NothingSent, HeadSent, TrailerSent}
@@ -99,6 +100,21 @@ pub record OwnStands (own : OwnState) (e : EndpointHistory) : Type 0 where
   pub decoder : own.decoder ≡ own_waiting e (decoder_id e.side)
   pub taken : TakesWhatIsThere e
 
+-- what comes on a request stream is kept only where that is open
+abbrev pub KeepsOpen : Side → Streams Incoming → Arrival → Type 0
+KeepsOpen side streams a = kind_of side (stream_of a) ≡ Request → IsSome (stream_at streams (stream_of a))
+
+-- What every history has in common that calls made: no other one is stood for.
+pub record IsReached (e : EndpointHistory) : Type 0 where
+  -- no table is used before the peer's settings came
+  pub unlearned : e.peer.settings ≡ None → (e.encoder.capacity ≡ 0) × (e.encoder.inserted ≡ [])
+  -- nothing is unread of a stream that did not come
+  pub control : e.control_on ≡ None → e.peer.unread ≡ []
+  pub encoder : e.encoder_on ≡ None → e.decoding.unread ≡ []
+  pub decoder : e.decoder_on ≡ None → e.decoder_unread ≡ []
+  -- a request stream of which something is kept is open
+  pub kept : All (KeepsOpen e.side e.incoming) e.kept
+
 -- What is stored is what this history leaves.
 pub record StandsFor (s : EndpointState) (e : EndpointHistory) : Type 0 where
   pub side : s.side ≡ e.side
@@ -121,3 +137,4 @@ pub record StandsFor (s : EndpointState) (e : EndpointHistory) : Type 0 where
   pub last_goaway : s.last_goaway ≡ last_id e.own.goaways
   pub kept : s.kept ≡ e.kept
   pub sent : s.sent ≡ e.sent
+  pub reached : IsReached e

@@ -2,6 +2,7 @@
 //! any bytes and any order of calls. The types of its answers stand here too.
 #![tactic(auto)]
 
+pub mod arrival;
 pub mod event;
 pub mod laws;
 pub mod place;

@@ -30,6 +30,8 @@ pub resumes_same : (old new : Incoming) → new ≡ old → Resumes old new
 resumes_same old new e = subst (λ x. Resumes old x) (sym e) (record {
   pulls = λ side own id r pieces ends. refl;
   gives_up = λ fault. refl;
+  place = refl;
+  is_over = refl;
   waits_for = refl;
   tries = refl;
   ended = refl;
@@ -74,6 +76,8 @@ pub resumes_passed : (old new : Incoming) → IsBetween old → Passes old new �
 resumes_passed old new b p skips = record {
   pulls = λ side own id r pieces ends. goes_on_alike side own id r pieces ends;
   gives_up = λ fault. ap {A = Incoming} (λ i. given_up i fault) p.same;
+  place = ap {A = Incoming} (λ i. i.place) p.same;
+  is_over = ap {A = Incoming} (λ i. i.is_over) p.same;
   waits_for = ap {A = Incoming} (λ i. i.waits_for) p.same;
   tries = ap {A = Incoming} (λ i. i.tries) p.same;
   ended = ap {A = Incoming} (λ i. i.ended) p.same;
@@ -142,6 +146,8 @@ begun_alike side own id r pieces ends mid new (frame.Grease kind) place b h some
 -- what is the same of a receiver that has begun what a frame gives
 record IsBegun (old new : Incoming) : Type 0 where
   gives_up : (fault : StreamFault) → given_up new fault ≡ given_up old fault
+  place : new.place ≡ old.place
+  is_over : new.is_over ≡ old.is_over
   waits_for : new.waits_for ≡ 0
   tries : new.tries ≡ old.tries
   ended : new.ended ≡ old.ended
@@ -149,10 +155,10 @@ record IsBegun (old new : Incoming) : Type 0 where
   fault : new.fault ≡ old.fault
 
 section_begun : (mid : Incoming) (bytes : List ℕ) → IsBegun mid (begun_section mid bytes)
-section_begun mid bytes = record { gives_up = λ fault. refl; waits_for = refl; tries = refl; ended = refl; was_reset = refl; fault = refl }
+section_begun mid bytes = record { gives_up = λ fault. refl; place = refl; is_over = refl; waits_for = refl; tries = refl; ended = refl; was_reset = refl; fault = refl }
 
 payload_begun : (mid : Incoming) (size : ℕ) → mid.waits_for ≡ 0 → IsBegun mid (begun_payload mid size)
-payload_begun mid size none = record { gives_up = λ fault. refl; waits_for = none; tries = refl; ended = refl; was_reset = refl; fault = refl }
+payload_begun mid size none = record { gives_up = λ fault. refl; place = refl; is_over = refl; waits_for = none; tries = refl; ended = refl; was_reset = refl; fault = refl }
 
 is_begun : (mid new : Incoming) (f : Frame PayloadLen) (place : Place) → mid.waits_for ≡ 0 → Begins place f mid new → IsBegun mid new
 is_begun mid new (frame.Headers bytes) place none h = subst (λ x. IsBegun mid x) (sym h.1) (section_begun mid bytes)
@@ -173,6 +179,8 @@ resumes_begun old mid new f b p finds begins =
     record {
       pulls = λ side own id r pieces ends. goes_on_alike side own id r pieces ends here;
       gives_up = λ fault. begun.gives_up fault ∙ ap {A = Incoming} (λ i. given_up i fault) p.same;
+      place = begun.place ∙ ap {A = Incoming} (λ i. i.place) p.same;
+      is_over = begun.is_over ∙ ap {A = Incoming} (λ i. i.is_over) p.same;
       waits_for = begun.waits_for ∙ sym b.waits;
       tries = begun.tries ∙ ap {A = Incoming} (λ i. i.tries) p.same;
       ended = begun.ended ∙ ap {A = Incoming} (λ i. i.ended) p.same;

@@ -33,6 +33,9 @@ pub record Resumes (old new : Incoming) : Type 0 where
   pub pulls : (side : Side) (own : Announced) (id : ℕ) (r : DecoderState) (pieces : List (List ℕ)) (ends : Bool)
       → pull_stream side own id r (delivered new pieces ends) ≡ pull_stream side own id r (delivered old pieces ends)
   pub gives_up : (fault : StreamFault) → given_up new fault ≡ given_up old fault
+  -- where its message is
+  pub place : new.place ≡ old.place
+  pub is_over : new.is_over ≡ old.is_over
   -- what the endpoint sees of it
   pub waits_for : new.waits_for ≡ old.waits_for
   pub tries : new.tries ≡ old.tries

@@ -1,5 +1,6 @@
 //! What is sent on a request stream: where its message is, and the frames that wait.
-ghost use Rattle.std.specs.Prelude.{◌≡◌, ◌≢◌, ◌+◌, ◌-◌, ◌<◌, ◌≤◌, ◌^◌, [], length, true, false, OnOk, OnErr, IfErr, IsTrue};
+ghost use Rattle.std.specs.Prelude.{◌≡◌, ◌≢◌, ◌+◌, ◌-◌, ◌<◌, ◌≤◌, ◌^◌, ◌++◌, [], length, take, true, false, OnOk, OnErr, IfErr, IsTrue};
+ghost use Rattle.h3_wire.specs.Outgoing.{all_of};
 ghost use Rattle.h3_connection.specs.WaitingPieces.{bytes_of, lent, without_front};
 ghost use Rattle.h3_connection.specs.State.{nothing_waits};
 ghost use Rattle.h3_outgoing.specs.Sent.{has_section, has_body, has_ended, was_cut_off, taken_from, takes_head, takes_body, takes_end, is_sent_off};
@@ -156,6 +157,24 @@ impl OutgoingStream {
         }
     }
 
+    /// Appends the first `count` bytes that wait, at most all, over frames too. They keep waiting. A refusal appends nothing.
+    pub fn copy_front(&self, count: usize, out: &mut Vec<u8>) -> Result<(), AllocError>
+        ensures ok { OnOk result (out.new.items ≡ out.old.items ++ take count (bytes_of self.now.pieces)) }
+        ensures err { OnErr result (out.new.items ≡ out.old.items) }
+    {
+        let start = out.len();
+        let mut left = count;
+        for index in 0..self.pieces.len() {
+            let piece = &self.pieces[index];
+            let Ok(()) = copy_piece(piece, left, out) else {
+                out.truncate(start);
+                return Err(AllocError);
+            };
+            left = left.saturating_sub(piece.remaining());
+        }
+        Ok(())
+    }
+
     /// How many bytes wait.
     pub fn waiting(&self) -> usize
         ensures { result ≡ length (bytes_of self.now.pieces) }
@@ -216,4 +235,30 @@ impl OutgoingStream {
     {
         self.is_reset || (self.is_finished && self.waiting == 0)
     }
+}
+
+/// The first `count` bytes, at most all.
+fn front(bytes: &[u8], count: usize) -> &[u8]
+    ensures { result.now ≡ take count bytes.now }
+{
+    if count < bytes.len() {
+        return &bytes[..count];
+    }
+    bytes
+}
+
+/// Appends the first `count` bytes of a frame, at most all. A refusal appends nothing.
+fn copy_piece(piece: &MessageBuf<Bytes>, count: usize, out: &mut Vec<u8>) -> Result<(), AllocError>
+    ensures ok { OnOk result (out.new.items ≡ out.old.items ++ take count (all_of piece.now)) }
+    ensures err { OnErr result (out.new.items ≡ out.old.items) }
+{
+    let start = out.len();
+    let head = piece.head();
+    out.extend_from_slice(front(head, count))?;
+    let of_payload = count.saturating_sub(head.len());
+    let Ok(()) = out.extend_from_slice(front(piece.payload(), of_payload)) else {
+        out.truncate(start);
+        return Err(AllocError);
+    };
+    Ok(())
 }

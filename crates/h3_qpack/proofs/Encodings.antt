@@ -99,6 +99,11 @@ pub lines_name : (P : ℕ → Type 0) (s : EncoderHistory) (fields : List Field)
 lines_name P s fields all =
     (fields_named P s (record { inserted = s.inserted; instructions = []; lines = []; references = [] }) fields (record { longer = omega arith; each = λ none. tt })).each all
 
+-- a section takes no insertion away
+pub section_longer : (s : EncoderHistory) (fields : List Field) → length s.inserted ≤ length (draft_of s fields).inserted
+section_longer s fields =
+    (fields_named (λ n. Unit {0}) s (record { inserted = s.inserted; instructions = []; lines = []; references = [] }) fields (record { longer = omega arith; each = λ none. tt })).longer
+
 -- an entry that is not evicted is found where it is held
 pub still_held : (fs : List Field) (evicted number : ℕ) (f : Field) → evicted < number → evicted ≤ length fs → insertion_at fs number ≡ Some f
     → slice_get (drop evicted fs) (number - evicted - 1) ≡ Some f

@@ -42,7 +42,7 @@ table_used s capacity limit none zero_limit h =
       small = h.small;
     }
 
-step_is_sound : (s : Session) (event : SessionEvent) (new : Session) → IsSound s → SessionStep s event new → IsSound new
+pub step_is_sound : (s : Session) (event : SessionEvent) (new : Session) → IsSound s → SessionStep s event new → IsSound new
 step_is_sound s (UseTable capacity limit) new h e = subst IsSound (sym e.2) (table_used s capacity limit e.0 e.1 h)
 step_is_sound s (Encode stream fields) new h e = subst IsSound (sym e) (section_written s stream fields h)
 step_is_sound s (CutOff stream fields) new h e = subst IsSound (sym e) (insertions_kept s stream fields h)

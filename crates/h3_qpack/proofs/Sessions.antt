@@ -455,7 +455,7 @@ cancels_without canceled (CancelStream other ∷ decoder_instructions) stream al
 cancels_without canceled (Acknowledge other ∷ decoder_instructions) stream alive h = cancels_without canceled decoder_instructions stream alive h
 cancels_without canceled (Increment count ∷ decoder_instructions) stream alive h = cancels_without canceled decoder_instructions stream alive h
 
-without_written : (P : UndecodedSection → Type 0) (stream : ℕ) (sections : List UndecodedSection) → AllByRecursion P sections → AllByRecursion P (without_oldest stream sections)
+pub without_written : (P : UndecodedSection → Type 0) (stream : ℕ) (sections : List UndecodedSection) → AllByRecursion P sections → AllByRecursion P (without_oldest stream sections)
 without_written P stream [] h = tt
 without_written P stream (x ∷ xs) h = either_all (x.stream == stream) h.0 h.1 (without_written P stream xs h.1)
   where
@@ -463,7 +463,7 @@ without_written P stream (x ∷ xs) h = either_all (x.stream == stream) h.0 h.1 
     either_all true p h k = h
     either_all false p h k = (p, k)
 
-kept_written : (P : UndecodedSection → Type 0) (test : UndecodedSection → Bool) (sections : List UndecodedSection) → AllByRecursion P sections → AllByRecursion P (filter test sections)
+pub kept_written : (P : UndecodedSection → Type 0) (test : UndecodedSection → Bool) (sections : List UndecodedSection) → AllByRecursion P sections → AllByRecursion P (filter test sections)
 kept_written P test [] h = tt
 kept_written P test (x ∷ xs) h = either_all (test x) h.0 (kept_written P test xs h.1)
   where

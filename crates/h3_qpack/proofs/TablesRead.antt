@@ -1,5 +1,5 @@
 -- A decoder that reads what an encoder wrote has the encoder's table after as many insertions.
-use Rattle.std.proofs.Common.{◌≡◌, ◌⊎◌, inl, inr, ℕ, zero, suc, ◌+◌, ◌-◌, ◌^◌, ◌<◌, ◌≤◌, Bool, true, false, ◌&&◌, List, [], ◌∷◌, ◌++◌, length, take, drop, max, Option, Some, None, refl, sym, ◌∙◌, ap, arith, length-drop, nat_lt, nat_le, if◌then◌else◌, unwrap_or, get_or}
+use Rattle.std.proofs.Common.{◌≡◌, ◌⊎◌, inl, inr, ℕ, zero, suc, ◌+◌, ◌-◌, ◌^◌, ◌<◌, ◌≤◌, Bool, true, false, ◌&&◌, List, [], ◌∷◌, ◌++◌, length, take, drop, max, Option, Some, None, refl, sym, ◌∙◌, ap, subst, arith, length-drop, nat_lt, nat_le, if◌then◌else◌, unwrap_or, get_or}
 use Rattle.std.specs.Prelude.{◌==◌}
 use Rattle.std.proofs.lemmas.Grind.{common_steps}
 use Rattle.std.proofs.lemmas.List.{take_more, length-take-le}
@@ -12,6 +12,7 @@ use Rattle.h3_qpack.specs.NamedFields.{insertion_at}
 use Rattle.h3_qpack.specs.TableState.{entry_at, with_entry}
 use Rattle.h3_qpack.specs.TableHistory.{TableHistory, table_state, entry_still_at, field_inserted, table_after_insertion, table_after, table_after_all, table_of, IsReadAs}
 use Rattle.h3_qpack.specs.DecoderState.{DecoderState, announcing, insertion_of, inserting, decoder_after, decoder_after_all}
+use Rattle.h3_qpack.specs.Encodings.{HasInsertions}
 use Rattle.h3_qpack.specs.Exchange.{opening}
 use Rattle.h3_qpack.proofs.TableStates.{table_state_of, table-end, with_entry-held}
 use Rattle.h3_qpack.proofs.Insertions.{table_after_all-append}
@@ -151,3 +152,19 @@ at_read (suc c) instructions inserted k r le = opened k (suc c == 0) refl le
           reads = rw e (ap (λ o. decoder_after_all o (take k instructions)) begun ∙ h);
           is = inr (rw (e, same) refl);
         }
+
+-- a decoder after any first instructions
+pub record ReadInsertions (capacity : ℕ) (instructions : List EncoderInstruction) (inserted : List Field) (k : ℕ) : Type 0 where
+  pub decoder : DecoderState
+  pub reads : decoder_after_all (Some (announcing capacity)) (take k (opening capacity ++ instructions)) ≡ Some decoder
+  pub has : HasInsertions capacity (take (k - length (opening capacity)) inserted) decoder
+
+pub insertions_at : (capacity : ℕ) (instructions : List EncoderInstruction) (inserted : List Field) (k : ℕ) → IsReadAs capacity capacity instructions inserted → k ≤ length (opening capacity ++ instructions)
+    → ReadInsertions capacity instructions inserted k
+insertions_at capacity instructions inserted k r le = let at = at_read capacity instructions inserted k r le in record { decoder = at.decoder; reads = at.reads; has = by_start at.decoder at.is }
+  where
+    by_start : (d : DecoderState) → ((k ≡ 0) × (d ≡ announcing capacity)) ⊎ (d ≡ decoder_at capacity (take (k - length (opening capacity)) inserted)) → HasInsertions capacity (take (k - length (opening capacity)) inserted) d
+    by_start d (inl start) =
+        let none : k - length (opening capacity) ≡ 0 = omega (arith, start.0) in
+        subst (λ n. HasInsertions capacity (take n inserted) d) (sym none) (subst (HasInsertions capacity []) (sym start.1) (record { announced = refl; entries = refl; count = refl }))
+    by_start d (inr is) = subst (HasInsertions capacity (take (k - length (opening capacity)) inserted)) (sym is) (record { announced = refl; entries = refl; count = refl })

@@ -1,6 +1,7 @@
 -- What a writer of a section takes, and the decoder that reads it.
-use Rattle.std.specs.Prelude.{◌≡◌, ◌⊎◌, ◌<◌, ◌^◌, ℕ, [], length, take, nat_le, if◌then◌else◌, Some}
+use Rattle.std.specs.Prelude.{◌≡◌, ◌⊎◌, ◌<◌, ◌^◌, ℕ, List, [], length, take, nat_le, if◌then◌else◌, Some}
 use Rattle.std.specs.List.{AllByRecursion}
+use Rattle.h3_field.specs.Field.{Field}
 use Rattle.h3_field.specs.Line.{FieldLine, line_bytes}
 use Rattle.h3_field.specs.LineAnswer.{IsWritable}
 use Rattle.h3_field.specs.ReadBack.{IsLineOfBytes, IsInstructionOfBytes}
@@ -38,6 +39,12 @@ pub record IsDecoderAt (announced : ℕ) (s : Session) (r : DecoderState) : Type
   pub entries : r.table.entries ≡ (decoder_of s).table.entries
   pub inserted : r.table.inserted ≡ s.received
   pub learned : (s.encoder.capacity ≡ announced) ⊎ (s.encoder.inserted ≡ [])
+
+-- A decoder that announced this capacity and has read these insertions, and the capacity where there is one.
+pub record HasInsertions (capacity : ℕ) (inserted : List Field) (r : DecoderState) : Type 0 where
+  pub announced : r.announced ≡ Some capacity
+  pub entries : r.table.entries ≡ (table_state (table_of capacity inserted)).entries
+  pub count : r.table.inserted ≡ length inserted
 
 -- what such a decoder makes of a section whenever it is tried: its fields once the insertions came, and until then how many it needs
 abbrev pub tried : Session → UndecodedSection → DecodedSection

@@ -133,6 +133,17 @@ impl Encoder {
         Ok(())
     }
 
+    /// The same where the instruction for the capacity is written by the caller. It takes no memory.
+    pub fn allow_table(&mut self, capacity: usize, blocked: usize)
+        requires empty { self.old.table.inserted ≡ 0 }
+        requires small { capacity < 2 ^ 30 }
+        requires few { blocked ≤ 65535 }
+        ensures { (s : EncoderHistory) → self.old ≡ encoder_state s → self.new ≡ encoder_state (record s { capacity = capacity; limit = blocked }) }
+    {
+        let table = &mut self.table;
+        table.use_capacity(capacity, blocked);
+    }
+
     /// Reads the acknowledgment at the front. What is refused is left unread.
     fn take_acknowledgment(&mut self, buf: &mut SliceCursor<'_>) -> Result<bool, EncoderError>
         requires some { 0 < length buf.old }

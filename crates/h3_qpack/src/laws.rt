@@ -1,12 +1,13 @@
 //! Laws over the definitions.
 
-ghost use Rattle.std.specs.Prelude.{◌≡◌, ◌==◌, ◌||◌, ℕ, ◌+◌, ◌*◌, ◌%◌, ◌^◌, ◌<◌, ◌≤◌, ◌∷◌, true, false, List, Some};
+ghost use Rattle.std.specs.Prelude.{◌≡◌, ◌==◌, ◌||◌, ℕ, ◌+◌, ◌-◌, ◌*◌, ◌%◌, ◌^◌, ◌<◌, ◌≤◌, ◌∷◌, true, false, List, Some};
 ghost use Rattle.h3_field.specs.Field.{Field, section_size};
+ghost use Rattle.h3_field.specs.ReadBack.{IsFieldOfBytes};
 ghost use Rattle.h3_field.specs.Section.{section_bytes};
 ghost use Rattle.h3_field.specs.Instruction.DecoderInstruction.{Acknowledge, CancelStream, Increment};
 ghost use Rattle.h3_qpack.specs.Table.{table};
 ghost use Rattle.std.specs.Prelude.{take, length, [], ◌++◌};
-ghost use Rattle.h3_qpack.specs.DecoderState.{DecoderState, decoder_after_all};
+ghost use Rattle.h3_qpack.specs.DecoderState.{DecoderState, announcing, decoder_after_all};
 ghost use Rattle.std.specs.Prelude.{flat_map};
 ghost use Rattle.std.specs.List.{AllByRecursion};
 ghost use Rattle.h3_field.specs.Instruction.{EncoderInstruction, encoder_bytes, DecoderInstruction, decoder_bytes};
@@ -15,12 +16,12 @@ ghost use Rattle.h3_field.specs.InstructionReading.{instruction, decoder_instruc
 ghost use Rattle.h3_field.specs.Reading.{Unfinished};
 ghost use Rattle.h3_qpack.specs.WholeInstructions.{whole_in, rest_in, decoder_instructions_in};
 ghost use Rattle.h3_qpack.specs.Instructions.{HasRead, AreInstructions, AreDecoderInstructions, AreAccepted};
-ghost use Rattle.h3_qpack.specs.TableHistory.{table_after_all, table_of};
+ghost use Rattle.h3_qpack.specs.TableHistory.{IsReadAs, table_after_all, table_of};
 ghost use Rattle.h3_qpack.specs.Meaning.{MeansFields, IsMissing};
 ghost use Rattle.h3_qpack.specs.DecodedSection.{DecodedSection, decode_section, IsDecodedAs};
 ghost use Rattle.h3_qpack.specs.Hearing.{Heard, heard, hear, heard_then, IsHeardAs, Listened, listened, listen, listened_then, IsListenedAs};
 ghost use Rattle.h3_qpack.specs.SectionEncoding.{draft_of, encoded_section, instructions_for, required_insert_count, sent_section};
-ghost use Rattle.h3_qpack.specs.Encodings.{decoder_of, IsDecoderAt, IsWritten, IsWrittenInstruction, tried};
+ghost use Rattle.h3_qpack.specs.Encodings.{decoder_of, HasInsertions, IsDecoderAt, IsWritten, IsWrittenInstruction, tried};
 ghost use Rattle.h3_field.specs.Prefix.{most_entries, IsRequiredCount};
 ghost use Rattle.h3_qpack.specs.Session.{Session, UndecodedSection, oldest, is_canceled, count_of, tracked_references, IsSound, DecodesTo};
 ghost use Rattle.h3_qpack.specs.Schedule.{SessionEvent, SessionRun, beginning};
@@ -92,6 +93,21 @@ pub fn every_encoding_means_its_fields()
     ensures value { (capacity limit announced : ℕ) (events : List SessionEvent) (s : Session) (b : UndecodedSection) (r : DecoderState) → SessionRun (beginning capacity limit) events s → IsDecoderAt announced s r →
         oldest b.stream s.sections ≡ Some b → is_canceled s b.stream ≡ false → IsWritten s b →
         decode_section r (encoded_section b.encoder b.fields) ≡ tried s b }
+{}
+
+/// Over every schedule, the section that a stream decodes next is what a writer took, if its fields are of bytes and its encoding is
+/// not longer than memory holds.
+pub fn every_section_is_written()
+    ensures { (capacity limit : ℕ) (events : List SessionEvent) (s : Session) (b : UndecodedSection) → SessionRun (beginning capacity limit) events s → oldest b.stream s.sections ≡ Some b →
+        AllByRecursion IsFieldOfBytes b.fields → section_size b.fields < 2 ^ 62 → length (encoded_section b.encoder b.fields) < 2 ^ 63 → IsWritten s b }
+{}
+
+/// A decoder that announced a capacity refuses no instruction of an encoder that has that capacity. After any number of them it has read
+/// as many insertions, without the instruction that sets the capacity, and holds what of them fits.
+pub fn written_instructions_are_accepted()
+    ensures { (capacity : ℕ) (instructions : List EncoderInstruction) (inserted : List Field) (k : ℕ) → IsReadAs capacity capacity instructions inserted → k ≤ length (opening capacity ++ instructions) →
+        (r : DecoderState) × (decoder_after_all (Some (announcing capacity)) (take k (opening capacity ++ instructions)) ≡ Some r)
+        × HasInsertions capacity (take (k - length (opening capacity)) inserted) r }
 {}
 
 /// A section that is withdrawn as soon as it was written leaves what one leaves that was cut off: its insertions. Of the required

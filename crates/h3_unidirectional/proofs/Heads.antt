@@ -1,13 +1,13 @@
 -- What the first bytes of a unidirectional stream tell rests on those bytes alone.
-use Rattle.std.proofs.Common.{◌≡◌, ℕ, ◌+◌, ◌-◌, ◌<◌, ◌≤◌, ◌==◌, Bool, true, false, if◌then◌else◌, List, [], ◌∷◌, ◌++◌, length, take, drop, append_assoc, length-append, zero, suc, refl, ap, ap₂, sym, ◌∙◌, subst, inl, inr, ◌⊎◌, arith, Option, Some, None}
-use Rattle.std.proofs.lemmas.List.{take_at, drop_at}
+use Rattle.std.proofs.Common.{◌≡◌, ℕ, ◌+◌, ◌-◌, ◌<◌, ◌≤◌, ◌==◌, Bool, true, false, if◌then◌else◌, List, [], ◌∷◌, ◌++◌, length, take, drop, append-nil, append_assoc, length-append, zero, suc, refl, ap, ap₂, sym, ◌∙◌, subst, inl, inr, ◌⊎◌, arith, Option, Some, None}
+use Rattle.std.proofs.lemmas.List.{take_at, drop_at, take-append-drop, append_cancel_right}
 use Rattle.std.proofs.lemmas.Bool.{cases_lt}
 use Rattle.std.proofs.Math.Seq.{take-append-add, drop-append-add}
 use Rattle.h3_coding.specs.Varint.{varint_at}
 use Rattle.h3_coding.specs.VarintLaws.{cases_number, none_at_end}
 use Rattle.h3_connection.specs.Unidirectional.{Role, with_id, of_kind, role_after}
 use Rattle.h3_connection.specs.Unidirectional.Role.{Untold, Control, Encoder, Decoder, Session, Push, Ignored}
-use Rattle.h3_unidirectional.specs.Kinds.{role_of, head_of, IsUnfinished, Tells, is_untold}
+use Rattle.h3_unidirectional.specs.Kinds.{role_of, head_of, IsUnfinished, Tells, TellsFirst, is_untold}
 use Rattle.h3_unidirectional.specs.declared.stream.Kind.{Kind}
 use Rattle.h3_unidirectional.specs.declared.stream.Kind.TheVariants as kind
 use Rattle.h3_unidirectional.proofs.FrameFronts.{number_front}
@@ -149,3 +149,29 @@ pub told_of_both : (was : Kind) (before bytes left a b : List ℕ) (limit : ℕ)
 told_of_both was before bytes left a b limit k first second fits unfinished here tells =
     let both : take limit (a ++ b) ≡ before ++ bytes = ap₂ (λ x y. take limit (x ++ y)) first second ∙ all_taken limit (before ++ bytes) (omega (arith, fits, length-append before bytes)) in
     told was before bytes left k unfinished here (subst (λ l. Tells l left (Some k)) both tells)
+
+-- The bytes that tell the role are a front of those that came.
+head_before : (before bytes rest : List ℕ) (r : Role) → (h : IsHead (before ++ bytes) rest r) → (length rest ≤ length bytes) × (drop (length bytes - length rest) bytes ≡ rest)
+    → TellsFirst (Untold before) bytes r rest
+head_before before bytes rest r h (fits, end) =
+    let n = length bytes - length rest in
+    let cut : bytes ≡ take n bytes ++ rest = sym (take-append-drop n bytes) ∙ ap (λ l. take n bytes ++ l) end in
+    let all : (before ++ take n bytes) ++ rest ≡ h.front ++ rest = append_assoc before (take n bytes) rest ∙ ap (λ l. before ++ l) (sym cut) ∙ h.split in
+    let same : before ++ take n bytes ≡ h.front = append_cancel_right (before ++ take n bytes) h.front rest all in
+    record { front = take n bytes; cut = cut; tells = ap head_of (same ∙ sym (append-nil h.front)) ∙ h.alike [] }
+
+-- a role that was told stays
+told_before : (role : Role) (bytes rest : List ℕ) (r : Role) → ((l : List ℕ) → role_after role l ≡ (role, l)) → role_after role bytes ≡ (r, rest) → TellsFirst role bytes r rest
+told_before role bytes rest r stays h =
+    let e : ◌≡◌ {A = Role × List ℕ} (role, bytes) (r, rest) = sym (stays bytes) ∙ h in
+    record { front = []; cut = ap (λ (p : Role × List ℕ). p.1) e; tells = stays [] ∙ ap (λ (p : Role × List ℕ). (p.0, [])) e }
+
+pub tells_first : (was : Kind) (before bytes : List ℕ) → IsUnfinished was before → (r : Role) (rest : List ℕ) → is_untold r ≡ false → role_after (role_of was before) bytes ≡ (r, rest)
+    → TellsFirst (role_of was before) bytes r rest
+tells_first kind.Untold before bytes unfinished r rest told h = head_before before bytes rest r (head_front (before ++ bytes) rest r h told) (told_end before bytes rest r unfinished h told)
+tells_first kind.Control before bytes unfinished r rest told h = told_before Control bytes rest r (λ l. refl) h
+tells_first kind.Encoder before bytes unfinished r rest told h = told_before Encoder bytes rest r (λ l. refl) h
+tells_first kind.Decoder before bytes unfinished r rest told h = told_before Decoder bytes rest r (λ l. refl) h
+tells_first (kind.Session id) before bytes unfinished r rest told h = told_before (Session id) bytes rest r (λ l. refl) h
+tells_first (kind.Push id) before bytes unfinished r rest told h = told_before (Push id) bytes rest r (λ l. refl) h
+tells_first kind.Ignored before bytes unfinished r rest told h = told_before Ignored bytes rest r (λ l. refl) h

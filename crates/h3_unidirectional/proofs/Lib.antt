@@ -1,6 +1,6 @@
-mod PeerLaws
-mod FrameFronts
-mod ControlFronts
+pub mod PeerLaws
+pub mod FrameFronts
+pub mod ControlFronts
 mod InstructionFronts
 mod Heard
 mod Listened

@@ -1,7 +1,7 @@
 -- A unidirectional stream's role by what is kept of it, and for whom what came is.
-use Rattle.std.specs.Prelude.{◌≡◌, ℕ, Bool, true, false, List, [], Option, Some, None}
+use Rattle.std.specs.Prelude.{◌≡◌, ℕ, Bool, true, false, List, [], ◌++◌, Option, Some, None}
 use Rattle.h3_coding.specs.Varint.{varint_at}
-use Rattle.h3_connection.specs.Unidirectional.{Role, of_kind}
+use Rattle.h3_connection.specs.Unidirectional.{Role, of_kind, role_after}
 use Rattle.h3_connection.specs.Unidirectional.Role.{Untold, Control, Encoder, Decoder, Session, Push, Ignored}
 use Rattle.h3_unidirectional.specs.declared.stream.Kind.{Kind}
 use Rattle.h3_unidirectional.specs.declared.stream.Kind.TheVariants as kind
@@ -47,3 +47,9 @@ is_told_kind _ = true
 abbrev pub is_untold : Role → Bool
 is_untold (Untold front) = true
 is_untold _ = false
+
+-- What tells a role stands in front of the bytes that are for it.
+pub record TellsFirst (before : Role) (bytes : List ℕ) (r : Role) (rest : List ℕ) : Type 0 where
+  pub front : List ℕ
+  pub cut : bytes ≡ front ++ rest
+  pub tells : role_after before front ≡ (r, [])

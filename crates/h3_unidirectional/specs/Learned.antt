@@ -1,5 +1,5 @@
 -- What the peer's settings make of the own encoder (RFC 9204, sections 3.2.3 and 5).
-use Rattle.std.specs.Prelude.{ℕ, List, [], if◌then◌else◌, unwrap_or}
+use Rattle.std.specs.Prelude.{ℕ, List, [], if◌then◌else◌, Option, Some, None, unwrap_or}
 use Rattle.h3_field.specs.Instruction.{encoder_bytes}
 use Rattle.h3_field.specs.Instruction.EncoderInstruction.{SetCapacity}
 use Rattle.h3_proto.specs.Settings.{value_of}
@@ -16,6 +16,11 @@ abbrev pub having_learned : EncoderHistory → List (ℕ × ℕ) → EncoderHist
 having_learned s pairs =
     if is_usable (capacity_of pairs) (blocked_of pairs) then record s { capacity = capacity_of pairs; limit = blocked_of pairs } else s
 
+-- the capacity of the table that they allow
+abbrev pub usable_capacity : List (ℕ × ℕ) → Option ℕ
+usable_capacity pairs = if is_usable (capacity_of pairs) (blocked_of pairs) then Some (capacity_of pairs) else None
+
 -- what is written for it
-abbrev pub capacity_bytes : List (ℕ × ℕ) → List ℕ
-capacity_bytes pairs = if is_usable (capacity_of pairs) (blocked_of pairs) then encoder_bytes (SetCapacity (capacity_of pairs)) else []
+abbrev pub capacity_bytes : Option ℕ → List ℕ
+capacity_bytes None = []
+capacity_bytes (Some capacity) = encoder_bytes (SetCapacity capacity)

@@ -9,7 +9,7 @@ ghost use Rattle.h3_connection.specs.Control.{is_usable};
 ghost use Rattle.h3_connection.specs.Listeners.{Listens};
 ghost use Rattle.h3_unidirectional.specs.Faults.{IsReplyFaultOf, UnlessMemory};
 ghost use Rattle.h3_unidirectional.specs.Fronts.{StopsListening};
-ghost use Rattle.h3_unidirectional.specs.Learned.{having_learned, capacity_bytes};
+ghost use Rattle.h3_unidirectional.specs.Learned.{having_learned, usable_capacity};
 
 use crate::decoding::drop_front;
 use crate::waiting::WaitingBytes;
@@ -64,12 +64,12 @@ impl Encoding {
     }
 
     /// The peer's settings came. Where they allow a table of 1 to 2^30 - 1 bytes and at most 65535 blocked streams (RFC 9204,
-    /// section 5) it is used from now on, and its capacity is written; else nothing changes. A refusal changes nothing.
-    pub fn learn(&mut self, settings: &Settings, out: &mut WaitingBytes) -> Result<(), AllocError>
+    /// section 5) it is used from now on, and the answer is its capacity in bytes, which the caller writes on the encoder
+    /// stream; else nothing changes. It takes no memory.
+    pub fn allow(&mut self, settings: &Settings) -> Option<u64>
         requires { self.old.encoder.table.inserted ≡ 0 }
-        ensures ok { OnOk result ((s : EncoderHistory) → self.old.encoder ≡ encoder_state s → self.new.encoder ≡ encoder_state (having_learned s settings.now)) }
-        ensures written { OnOk result (out.new ≡ out.old ++ capacity_bytes settings.now) }
-        ensures err { OnErr result ((self.new ≡ self.old) × (out.new ≡ out.old)) }
+        ensures encoder { (s : EncoderHistory) → self.old.encoder ≡ encoder_state s → self.new.encoder ≡ encoder_state (having_learned s settings.now) }
+        ensures capacity { result ≡ usable_capacity settings.now }
         ensures unread { self.new.unread ≡ self.old.unread }
     {
         let capacity = settings
@@ -79,15 +79,11 @@ impl Encoding {
             .get(SettingId::QPACK_MAX_BLOCKED_STREAMS)
             .unwrap_or(0);
         if !is_usable(capacity, blocked) {
-            return Ok(());
+            return None;
         }
-        let Ok(()) = self
-            .encoder
-            .use_table(capacity as usize, blocked as usize, out.bytes_mut())
-        else {
-            return Err(AllocError);
-        };
-        Ok(())
+        self.encoder
+            .allow_table(capacity as usize, blocked as usize);
+        Some(capacity)
     }
 
     /// Appends an encoded field section to `block`, and the instructions for it to what waits on the own encoder stream, and

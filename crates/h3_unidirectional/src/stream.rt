@@ -1,10 +1,11 @@
 //! A unidirectional stream of the peer (RFC 9114, section 6.2), and what its first bytes make of it.
-ghost use Rattle.std.specs.Prelude.{◌≡◌, ◌+◌, ◌-◌, ◌<◌, ◌≤◌, ◌^◌, ℕ, List, [], true, length, drop, Some, IfOk, IfErr, OnOk};
+ghost use Rattle.std.specs.Prelude.{◌≡◌, ◌+◌, ◌-◌, ◌<◌, ◌≤◌, ◌^◌, ℕ, List, [], true, false, length, drop, Some, IfOk, IfErr, OnOk};
 ghost use Rattle.std.specs.List.{concat};
 ghost use Rattle.h3_coding.specs.Varint.{varint_at};
-ghost use Rattle.h3_connection.specs.Unidirectional.{untold, is_closed, is_critical, role_after, with_bytes, may_be_session, untold_pull, raw, if_over, pull_unidirectional};
+ghost use Rattle.h3_connection.specs.Keeping.{is_settled_session};
+ghost use Rattle.h3_connection.specs.Unidirectional.{Role, untold, is_closed, is_critical, role_after, with_bytes, may_be_session, untold_pull, raw, if_over, pull_unidirectional};
 ghost use Rattle.h3_connection.specs.Unidirectional.Role.{Untold, Session};
-ghost use Rattle.h3_unidirectional.specs.Kinds.{role_of, is_told_kind, is_untold, Tells, received_by};
+ghost use Rattle.h3_unidirectional.specs.Kinds.{role_of, is_told_kind, is_untold, Tells, TellsFirst, received_by};
 
 use bytes::{Buf, Bytes};
 use h3_coding::coding::BufExt;
@@ -148,6 +149,22 @@ impl UnidirectionalStream {
         }
     }
 
+    /// Whether what it answers to each further pull is settled: the session's end was handed out, or it was cut off.
+    pub fn is_settled(&self) -> bool
+        ensures { result ≡ is_settled_session self.now self.now.role }
+    {
+        let kind = self.kind;
+        match kind {
+            Kind::Session(_) => self.is_over || self.reset_code.is_some(),
+            Kind::Control => false,
+            Kind::Encoder => false,
+            Kind::Decoder => false,
+            Kind::Untold => false,
+            Kind::Push(_) => false,
+            Kind::Ignored => false,
+        }
+    }
+
     /// How many bytes of a session came and were not handed out.
     pub fn unread_len(&self) -> usize
         ensures { result ≡ length (concat self.now.unread) }
@@ -252,9 +269,11 @@ impl UnidirectionalStream {
     }
 
     /// Bytes come: they tell the role, or are for it. What a session got is stored as it is, without a copy. An `Err` changes
-    /// nothing, and hands the bytes back.
+    /// nothing, and hands the bytes back. What tells a role stands in front of the bytes that are for it.
+    #[tactic(auto, using(crate::proofs::Heads::tells_first))]
     pub fn receive(&mut self, bytes: Bytes) -> Result<Received, Bytes>
         requires { length (concat self.old.unread) + length bytes < 2 ^ 64 }
+        ensures front { (r : Role) (rest : List ℕ) → is_untold r ≡ false → role_after self.old.role bytes ≡ (r, rest) → TellsFirst self.old.role bytes r rest }
         ensures ok { IfOk result (λ received. (self.new ≡ with_bytes self.old (role_after self.old.role bytes)) × (received ≡ received_by (role_after self.old.role bytes))) }
         ensures err { IfErr result (λ back. (back ≡ bytes) × (self.new ≡ self.old)) }
     {

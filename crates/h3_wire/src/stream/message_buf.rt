@@ -84,6 +84,22 @@ impl<B: Piece> MessageBuf<B> {
         }
         self.payload.bytes()
     }
+
+    /// What is left of the payload, which is sent behind the head.
+    pub fn payload(&self) -> &[u8]
+        ensures { result.now ≡ self.now.payload }
+    {
+        let payload = &self.payload;
+        payload.bytes()
+    }
+
+    /// What is left of the head.
+    pub fn head(&self) -> &[u8]
+        ensures { result.now ≡ self.now.head }
+    {
+        let position = self.position;
+        self.head.from(position)
+    }
 }
 
 /// A chunk is the rest of the head while there is some, and then bytes of the payload, as the

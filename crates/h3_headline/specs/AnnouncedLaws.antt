@@ -1,0 +1,193 @@
+-- What a side announces is what the other side keeps of it.
+use Rattle.std.proofs.Common.{◌≡◌, ℕ, ◌+◌, ◌*◌, ◌^◌, ◌<◌, ◌≤◌, ◌==◌, nat_le, nat_lt, not, Bool, true, false, if◌then◌else◌, List, [], ◌∷◌, ◌++◌, length, Result, Ok, Err, refl, sym, ap, ◌∙◌, subst, arith, length-append, append_assoc}
+use Rattle.std.specs.Prelude.{unwrap_or}
+use Rattle.std.proofs.lemmas.Bool.{ne_eqb}
+use Rattle.std.proofs.lemmas.Grind.{common_steps}
+use Rattle.std.specs.Int.{bytes_high_first}
+use Rattle.h3_coding.specs.Encodings.{encoding}
+use Rattle.h3_field.specs.Instruction.EncoderInstruction.{SetCapacity}
+use Rattle.h3_connection.specs.Control.{is_usable}
+use Rattle.h3_qpack.specs.Exchange as exchange
+use Rattle.h3_proto.specs.Config.{announced, grease_pairs, own_pairs, table_pairs}
+use Rattle.h3_proto.specs.Ids.{reserved}
+use Rattle.h3_proto.specs.Pairs.{payload_of}
+use Rattle.h3_proto.specs.ReceivedLaws.{announced_received_with_table}
+use Rattle.h3_proto.specs.Settings.{is_known, value_of, settings_of}
+use Rattle.h3_proto.specs.declared.config.Config.{Config}
+use Rattle.h3_proto.specs.declared.config.Settings.{Settings}
+use Rattle.h3_proto.specs.declared.frame.SettingsError.{SettingsError}
+use Rattle.h3_proto.specs.declared.frame.SettingsError.TheVariants.{InvalidSettingValue}
+use Rattle.h3_proto.specs.declared.stream.Side.{Side}
+use Rattle.h3_proto.specs.declared.stream.Side.TheVariants.{Client, Server}
+use Rattle.h3_connection.specs.Announcing.{with_limits}
+use Rattle.h3_connection.specs.declared.setup.Announced.{Announced}
+use Rattle.h3_connection.specs.declared.setup.Limits.{Limits}
+use Rattle.h3_connection.specs.declared.setup.NewError.{NewError}
+use Rattle.h3_connection.specs.declared.setup.NewError.TheVariants.{TableLimit, BlockedLimit}
+use Rattle.h3_world.specs.declared.setup.Setup.{Setup}
+use Rattle.h3_world.specs.Following.{opening}
+use Rattle.h3_world.specs.Setup.{IsMade, IsMadeSetup, announced_at}
+use Rattle.h3_headline.specs.Standing.{with_meaning}
+
+-- the parts of what is announced
+record Parts (a : Announced) : Type 0 where
+  pub send : Bool
+  pub grease : ℕ
+  pub own : Settings
+  pub config : Config
+  pub low : grease < 0x210842108421083
+  pub made : announced config grease ≡ Ok (grease_pairs send grease ++ own_pairs own)
+  pub own_is : config.settings ≡ own
+  pub settings : a.settings ≡ (grease_pairs send grease ++ own_pairs own) ++ table_pairs a.limits.table a.limits.blocked
+  pub table : a.limits.table < 2 ^ 30
+  pub blocked : a.limits.blocked < 2 ^ 16
+
+same_ok : {X E : Type 0} (x y : X) → ◌≡◌ {A = Result X E} (Ok x) (Ok y) → x ≡ y
+same_ok x y e = cc
+
+not_above : (a b : ℕ) → nat_le a b ≡ false → b < a
+not_above a b e = grind (arith, common_steps, e)
+
+not_below : (a b : ℕ) → nat_lt a b ≡ false → b ≤ a
+not_below a b e = grind (arith, common_steps, e)
+
+-- the pairs of a configuration
+record Configured (c : Config) (grease : ℕ) (pairs : List (ℕ × ℕ)) : Type 0 where
+  pub are : pairs ≡ grease_pairs c.send_grease grease ++ own_pairs c.settings
+
+configured : (c : Config) (grease : ℕ) (pairs : List (ℕ × ℕ)) → announced c grease ≡ Ok pairs → Configured c grease pairs
+configured c grease pairs h = by_tests (nat_le (2 ^ 62) c.settings.max_field_section_size) (nat_le (2 ^ 62) c.settings.max_webtransport_sessions) h
+  where
+    by_tests : (wide many : Bool)
+        → ◌≡◌ {A = Result (List (ℕ × ℕ)) SettingsError} (if wide then Err (InvalidSettingValue 6 c.settings.max_field_section_size)
+        else (if many then Err (InvalidSettingValue 0x2b603743 c.settings.max_webtransport_sessions)
+        else Ok (grease_pairs c.send_grease grease ++ own_pairs c.settings))) (Ok pairs)
+        → Configured c grease pairs
+    by_tests true many h = absurd (cc)
+    by_tests false true h = absurd (cc)
+    by_tests false false h = record { are = sym (same_ok (grease_pairs c.send_grease grease ++ own_pairs c.settings) pairs h) }
+
+record WithLimits (settings : Result (List (ℕ × ℕ)) SettingsError) (a : Announced) : Type 0 where
+  pub pairs : List (ℕ × ℕ)
+  pub is : settings ≡ Ok pairs
+  pub settings_are : a.settings ≡ pairs ++ table_pairs a.limits.table a.limits.blocked
+
+with_limits_of : (settings : Result (List (ℕ × ℕ)) SettingsError) (a : Announced) → with_limits settings a.limits ≡ Ok a → WithLimits settings a
+with_limits_of (Ok pairs) a h =
+    record { pairs = pairs; is = refl; settings_are = ap (λ (x : Announced). x.settings) (sym (same_ok (record { settings = pairs ++ (1, a.limits.table) ∷ (7, a.limits.blocked) ∷ []; limits = a.limits }) a h)) }
+with_limits_of (Err e) a h = absurd (cc)
+
+parts_of : (a : Announced) → IsMade a → Parts a
+parts_of a made = by_tests (nat_le (2 ^ 30) a.limits.table) refl (nat_lt 65535 a.limits.blocked) refl made.made
+  where
+    by_tests : (x : Bool) → nat_le (2 ^ 30) a.limits.table ≡ x → (y : Bool) → nat_lt 65535 a.limits.blocked ≡ y
+        → ◌≡◌ {A = Result Announced NewError} (if x then Err TableLimit else (if y then Err BlockedLimit else with_limits (announced made.config made.grease) a.limits)) (Ok a) → Parts a
+    by_tests true e y f h = absurd (cc)
+    by_tests false e true f h = absurd (cc)
+    by_tests false e false f h =
+        let l = with_limits_of (announced made.config made.grease) a h in
+        let c = configured made.config made.grease l.pairs l.is in
+        let few = not_below 65535 a.limits.blocked f in
+        record {
+          send = made.config.send_grease;
+          grease = made.grease;
+          own = made.config.settings;
+          config = made.config;
+          low = made.small;
+          made = l.is ∙ ap (λ ps. Ok ps) c.are;
+          own_is = refl;
+          settings = l.settings_are ∙ ap (λ ps. ps ++ table_pairs a.limits.table a.limits.blocked) c.are;
+          table = not_above (2 ^ 30) a.limits.table e;
+          blocked = omega (arith, few);
+        }
+
+-- a reserved setting has no meaning
+reserved_unknown : (n : ℕ) → is_known (reserved n) ≡ false
+reserved_unknown n =
+    let k = reserved n in
+    rw (
+      ne_eqb 1 k (omega arith),
+      ne_eqb 6 k (omega arith),
+      ne_eqb 7 k (omega arith),
+      ne_eqb 8 k (omega arith),
+      ne_eqb 0x33 k (omega arith),
+      ne_eqb 0x2b603742 k (omega arith),
+      ne_eqb 0x2b603743 k (omega arith),
+    ) refl
+
+grease_left_out : (send : Bool) (grease : ℕ) (pairs : List (ℕ × ℕ)) → with_meaning (grease_pairs send grease ++ pairs) ≡ with_meaning pairs
+grease_left_out false grease pairs = refl
+grease_left_out true grease pairs = ap (λ b. if b then (reserved grease, 0) ∷ with_meaning pairs else with_meaning pairs) (reserved_unknown grease)
+
+meaning_kept : (s : Settings) (capacity blocked : ℕ) → with_meaning (own_pairs s ++ table_pairs capacity blocked) ≡ own_pairs s ++ table_pairs capacity blocked
+meaning_kept s capacity blocked = refl
+
+-- no number has more than 8 bytes
+length-encoding : (v : ℕ) → length (encoding v) ≤ 8
+unfolding encoding
+length-encoding v = by_tests (nat_lt v (2 ^ 6)) (nat_lt v (2 ^ 14)) (nat_lt v (2 ^ 30))
+  where
+    by_tests : (a b c : Bool)
+        → length (if a then bytes_high_first 1 v else (if b then bytes_high_first 2 (2 ^ 14 + v) else (if c then bytes_high_first 4 (2 * 2 ^ 30 + v) else bytes_high_first 8 (3 * 2 ^ 62 + v)))) ≤ 8
+    by_tests true b c = omega arith
+    by_tests false true c = omega arith
+    by_tests false false true = omega arith
+    by_tests false false false = omega arith
+
+length-payload : (pairs : List (ℕ × ℕ)) → length (payload_of pairs) ≤ 16 * length pairs
+length-payload [] = omega arith
+length-payload (p ∷ pairs) =
+    omega (arith, length-append (encoding p.0 ++ encoding p.1) (payload_of pairs), length-append (encoding p.0) (encoding p.1), length-encoding p.0, length-encoding p.1, length-payload pairs)
+
+few_pairs : (send : Bool) (grease : ℕ) (s : Settings) (capacity blocked : ℕ) → length ((grease_pairs send grease ++ own_pairs s) ++ table_pairs capacity blocked) ≤ 8
+few_pairs true grease s capacity blocked = omega arith
+few_pairs false grease s capacity blocked = omega arith
+
+-- the capacity opens the encoder's stream where there is a table
+usable : (table blocked : ℕ) → table < 2 ^ 30 → blocked < 2 ^ 16 → is_usable table blocked ≡ not (table == 0)
+usable table blocked h k = grind (arith, common_steps, h, k)
+
+opening_same : (limits : Limits) → limits.table < 2 ^ 30 → limits.blocked < 2 ^ 16 → opening limits ≡ exchange.opening limits.table
+opening_same limits h k = ap (λ b. if b then SetCapacity limits.table ∷ [] else []) (usable limits.table limits.blocked h k) ∙ by_test (limits.table == 0)
+  where
+    by_test : (b : Bool) → (if not b then SetCapacity limits.table ∷ [] else []) ≡ (if b then [] else SetCapacity limits.table ∷ [])
+    by_test true = refl
+    by_test false = refl
+
+-- What the other side makes of the announced settings.
+pub record Announces (a : Announced) : Type 0 where
+  pub received : settings_of (payload_of a.settings) ≡ Ok (with_meaning a.settings)
+  pub small : length (payload_of a.settings) < 2 ^ 62
+  pub table : unwrap_or (value_of 1 (with_meaning a.settings)) 0 ≡ a.limits.table
+  pub blocked : unwrap_or (value_of 7 (with_meaning a.settings)) 0 ≡ a.limits.blocked
+  pub opening : opening a.limits ≡ exchange.opening a.limits.table
+  pub low : a.limits.table < 2 ^ 30
+
+pub announces : (a : Announced) → IsMade a → Announces a
+announces a made =
+    let p = parts_of a made in
+    let capacity = a.limits.table in
+    let blocked = a.limits.blocked in
+    let front = grease_pairs p.send p.grease in
+    let kept = own_pairs p.own ++ table_pairs capacity blocked in
+    let table_small : capacity < 2 ^ 62 = let h = p.table in omega (arith, h) in
+    let blocked_small : blocked < 2 ^ 62 = let h = p.blocked in omega (arith, h) in
+    let meaning : with_meaning a.settings ≡ kept =
+    ap with_meaning p.settings ∙ ap with_meaning (append_assoc front (own_pairs p.own) (table_pairs capacity blocked)) ∙ grease_left_out p.send p.grease kept ∙ meaning_kept p.own capacity blocked in
+    let received =
+    ap (λ ps. settings_of (payload_of ps)) p.settings
+    ∙ announced_received_with_table p.config p.grease capacity blocked (front ++ own_pairs p.own) p.low table_small blocked_small p.made
+    ∙ ap (λ s. Ok (own_pairs s ++ table_pairs capacity blocked)) p.own_is ∙ ap (λ ps. Ok ps) (sym meaning) in
+    let pairs : length a.settings ≤ 8 = subst (λ ps. length ps ≤ 8) (sym p.settings) (few_pairs p.send p.grease p.own capacity blocked) in
+    record {
+      received = received;
+      small = omega (arith, length-payload a.settings, pairs);
+      table = ap (λ ps. unwrap_or (value_of 1 ps) 0) meaning;
+      blocked = ap (λ ps. unwrap_or (value_of 7 ps) 0) meaning;
+      opening = opening_same a.limits p.table p.blocked;
+      low = p.table;
+    }
+
+pub announces_at : (setup : Setup) (side : Side) → IsMadeSetup setup → Announces (announced_at setup side)
+announces_at setup Client made = announces setup.client made.client
+announces_at setup Server made = announces setup.server made.server

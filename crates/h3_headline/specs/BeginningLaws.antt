@@ -1,0 +1,118 @@
+-- Two new endpoints stand in the empty world.
+use Rattle.std.proofs.Common.{◌≡◌, ℕ, ◌+◌, [], Bool, true, false, None, refl, ap, ◌∙◌, arith}
+use Rattle.std.proofs.lemmas.Grind.{common_steps}
+use Rattle.std.specs.Prelude.{◌&&◌, length, nat_le, nat_lt, if◌then◌else◌}
+use Rattle.std.specs.List.{AllByRecursion}
+use Rattle.h3_proto.specs.StreamIds.{is_request, index_of}
+use Rattle.h3_proto.specs.declared.stream.Side.{Side}
+use Rattle.h3_proto.specs.declared.stream.Side.TheVariants.{Client, Server}
+use Rattle.h3_connection.specs.Endpoint.{new_endpoint}
+use Rattle.h3_connection.specs.OwnIds.{other}
+use Rattle.h3_connection.specs.PeerReading.{nothing_read}
+use Rattle.h3_world.specs.declared.setup.Setup.{Setup}
+use Rattle.h3_world.specs.Ends.{new_ends}
+use Rattle.h3_world.specs.Setup.{announced_at}
+use Rattle.h3_world.specs.Sound.{IsSoundWorld}
+use Rattle.h3_world.specs.Streams.{flow, exchange, is_open}
+use Rattle.h3_world.specs.World.{empty_world, no_exchange}
+use Rattle.h3_headline.specs.Standing.{Stands, StandsAt, HasControl, IsReadable, are_settings_there, replies_unread}
+use Rattle.h3_headline.specs.ControlLaws.{length_settings, settings_frame_of}
+
+and_false : (b : Bool) → (b && false) ≡ false
+and_false true = refl
+and_false false = refl
+
+none_below : (n : ℕ) → nat_lt n 0 ≡ false
+none_below n = grind (arith, common_steps)
+
+-- no stream is open
+none_at_client : (id : ℕ) → is_open empty_world Client id ≡ false
+none_at_client id = ap (λ b. is_request id && b) (none_below (index_of id)) ∙ and_false (is_request id)
+
+none_open : (side : Side) (id : ℕ) → is_open empty_world side id ≡ false
+none_open Client id = none_at_client id
+none_open Server id = ap (λ b. b && (exchange empty_world id).request.seen) (none_at_client id)
+
+-- no settings are there before any byte
+above_none : (n : ℕ) → nat_le (1 + n) 0 ≡ false
+above_none n = grind (arith, common_steps)
+
+no_settings : (setup : Setup) (side : Side) → are_settings_there setup side 0 ≡ false
+no_settings setup side = ap (λ n. nat_le n 0) (length_settings (announced_at setup side)) ∙ above_none (length (settings_frame_of (announced_at setup side)))
+
+control_at : (setup : Setup) (side : Side) → HasControl setup side 0 [] None None nothing_read
+control_at setup side =
+    let none = no_settings setup (other side) in
+    record {
+      stream_is = refl;
+      is_on = refl;
+      settings = rw none refl;
+      goaways_are = refl;
+      most_pushes = refl;
+      unread = rw none refl;
+    }
+
+decoder_at : (setup : Setup) (side : Side) → [] ≡ replies_unread (are_settings_there setup (other side) 0) 0 []
+decoder_at setup side = rw (no_settings setup (other side)) refl
+
+-- One new endpoint.
+pub begins_at : (setup : Setup) (side : Side) → StandsAt setup empty_world side (new_endpoint side (announced_at setup side))
+begins_at setup Client =
+    record {
+      side_is = refl;
+      announced = refl;
+      no_fault = refl;
+      nothing_kept = refl;
+      own = refl;
+      encoder = refl;
+      control = control_at setup Client;
+      encoder_stream = record { stream_is = refl; is_on = refl; decoder = refl; unread = refl };
+      decoder_stream = record { stream_is = refl; is_on = refl; left = decoder_at setup Client };
+      no_others = λ id other. refl;
+      outgoing = λ id. rw (none_open Client id) refl;
+      incoming = λ id. rw (none_open Client id) tt;
+      distinct = tt;
+    }
+begins_at setup Server =
+    record {
+      side_is = refl;
+      announced = refl;
+      no_fault = refl;
+      nothing_kept = refl;
+      own = refl;
+      encoder = refl;
+      control = control_at setup Server;
+      encoder_stream = record { stream_is = refl; is_on = refl; decoder = refl; unread = refl };
+      decoder_stream = record { stream_is = refl; is_on = refl; left = decoder_at setup Server };
+      no_others = λ id other. refl;
+      outgoing = λ id. rw (none_open Server id) refl;
+      incoming = λ id. rw (none_open Server id) tt;
+      distinct = tt;
+    }
+
+-- nothing was sent on any stream
+nothing_sent : (side : Side) (id : ℕ) → AllByRecursion (IsReadable (other side)) (flow empty_world side id).sent
+nothing_sent Client id = by (is_request id)
+  where
+    by : (request : Bool) → AllByRecursion (IsReadable Server) (if request then no_exchange else no_exchange).request.sent
+    by true = tt
+    by false = tt
+nothing_sent Server id = by (is_request id)
+  where
+    by : (request : Bool) → AllByRecursion (IsReadable Client) (if request then no_exchange else no_exchange).response.sent
+    by true = tt
+    by false = tt
+
+-- Both of them.
+pub begins : (setup : Setup) → IsSoundWorld setup empty_world → Stands setup empty_world (new_ends setup)
+begins setup sound =
+    record {
+      at_client = begins_at setup Client;
+      at_server = begins_at setup Server;
+      next_id = refl;
+      sound = sound;
+      client_writes = record { goaways = tt; instructions = tt; replies = tt };
+      server_writes = record { goaways = tt; instructions = tt; replies = tt };
+      requests = λ id. nothing_sent Client id;
+      responses = λ id. nothing_sent Server id;
+    }

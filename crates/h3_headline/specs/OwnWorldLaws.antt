@@ -1,0 +1,165 @@
+-- The parties of a world in which an own stream of one side got further.
+use Rattle.std.proofs.Common.{◌≡◌, ℕ, ◌+◌, ◌-◌, not, Bool, true, false, ◌&&◌, if◌then◌else◌, List, [], ◌∷◌, ◌++◌, length, drop, append-nil, refl, sym, ap, ◌∙◌, arith}
+use Rattle.h3_field.specs.Instruction.{EncoderInstruction, DecoderInstruction}
+use Rattle.h3_field.specs.Instruction.EncoderInstruction.{SetCapacity}
+use Rattle.h3_qpack.specs.EncoderHistory.{encoder_after_all}
+use Rattle.h3_qpack.specs.WholeInstructions.{insertions_in, decoder_instructions_in}
+use Rattle.h3_proto.specs.declared.stream.Side.{Side}
+use Rattle.h3_proto.specs.declared.stream.Side.TheVariants.{Client, Server}
+use Rattle.h3_connection.specs.Control.{increment}
+use Rattle.h3_connection.specs.Endpoint.{EndpointHistory, Own}
+use Rattle.h3_connection.specs.OwnIds.{other, control_id, encoder_id, decoder_id}
+use Rattle.h3_connection.specs.Sending.{own_advanced}
+use Rattle.h3_connection.specs.declared.setup.Limits.{Limits}
+use Rattle.h3_world.specs.declared.setup.Setup.{Setup}
+use Rattle.h3_world.specs.Delivering.{further, having_learned, delivered_own, having_listened}
+use Rattle.h3_world.specs.Setup.{announced_at, has_table}
+use Rattle.h3_world.specs.World.{World, Party, party, with_party}
+use Rattle.h3_headline.specs.FlowLaws.{flow-with_party, is_open-with_party}
+use Rattle.h3_headline.specs.LearningLaws.{after_control, learned_encoder, learned_own}
+use Rattle.h3_headline.specs.ListeningLaws.{encoder_then}
+use Rattle.h3_headline.specs.MovesLaws.{saying}
+use Rattle.h3_headline.specs.OwnMovesLaws.{SameStreams, writing}
+use Rattle.h3_headline.specs.Standing.{are_settings_there}
+
+-- a side that listens, where the other side's settings were known and are
+abbrev pub listened : Bool → Bool → Limits → Party → ℕ → List DecoderInstruction → Party
+listened knew knows limits p more is =
+    let q = if not knew && knows then having_learned p limits else p in
+    record { own = record q.own { replies = q.own.replies ++ increment more }; encoder = encoder_after_all q.encoder is }
+
+-- the decoder instructions that are read of what a side wrote
+abbrev pub read_of : Setup → Side → Own → List DecoderInstruction
+read_of setup writer own = if are_settings_there setup writer own.control_taken then decoder_instructions_in (own.decoder_taken - 1) own.replies else []
+
+abbrev pub insertions_of : Own → ℕ
+insertions_of own = insertions_in (own.encoder_taken - 1) own.instructions
+
+-- the reader after what the writer wrote got further
+abbrev pub listened_to : Setup → Side → Party → Own → Own → Party
+listened_to setup writer p old new =
+    listened (are_settings_there setup writer old.control_taken) (are_settings_there setup writer new.control_taken) (announced_at setup writer).limits p (insertions_of new - insertions_of old)
+    (drop (length (read_of setup writer old)) (read_of setup writer new))
+
+-- what the other side of a side wrote, further delivered
+abbrev pub further_own : World → Side → ℕ → ℕ → Own
+further_own w side id count = own_advanced (party w (other side)).own (other side) id count
+
+pub writer_after : (setup : Setup) (w : World) (side : Side) (id count : ℕ) → party (delivered_own setup w (other side) id count) (other side) ≡ record (party w (other side)) { own = further_own w side id count }
+writer_after setup w Client id count = refl
+writer_after setup w Server id count = refl
+
+pub reader_after : (setup : Setup) (w : World) (side : Side) (id count : ℕ) → party (delivered_own setup w (other side) id count) side ≡ listened_to setup (other side) (party w side) (party w (other side)).own (further_own w side id count)
+reader_after setup w Client id count = refl
+reader_after setup w Server id count = refl
+
+pub streams_after : (setup : Setup) (w : World) (writer : Side) (id count : ℕ) → SameStreams w (delivered_own setup w writer id count)
+streams_after setup w writer id count =
+    let p = further (party w writer) writer id count in
+    let between = with_party w writer p in
+    let q = having_listened setup w between writer in
+    record {
+      flows = λ s i. flow-with_party between (other writer) s q i ∙ flow-with_party w writer s p i;
+      opens = λ s i. is_open-with_party between (other writer) s q i ∙ is_open-with_party w writer s p i;
+    }
+
+-- each stream by its id
+pub advanced_control : (own : Own) (side : Side) (count : ℕ) → own_advanced own side (control_id side) count ≡ record own { control_taken = own.control_taken + count }
+advanced_control own Client count = refl
+advanced_control own Server count = refl
+
+pub advanced_encoder : (own : Own) (side : Side) (count : ℕ) → own_advanced own side (encoder_id side) count ≡ record own { encoder_taken = own.encoder_taken + count }
+advanced_encoder own Client count = refl
+advanced_encoder own Server count = refl
+
+pub advanced_decoder : (own : Own) (side : Side) (count : ℕ) → own_advanced own side (decoder_id side) count ≡ record own { decoder_taken = own.decoder_taken + count }
+advanced_decoder own Client count = refl
+advanced_decoder own Server count = refl
+
+-- What a side that listens writes.
+pub record Writes (old new : Own) (more : ℕ) : Type 0 where
+  pub instructions : List EncoderInstruction
+  pub is : new ≡ writing old instructions (increment more)
+
+nothing_written : (p : Party) (more : ℕ) (is : List DecoderInstruction) → Writes p.own (listened true true (record { table = 0; blocked = 0 }) p more is).own more
+nothing_written p more is = record { instructions = []; is = ap (λ l. record p.own { instructions = l; replies = p.own.replies ++ increment more }) (sym (append-nil p.own.instructions)) }
+
+writes_by : (learns : Bool) (limits : Limits) (p : Party) (more : ℕ)
+    → Writes p.own (record (if learns then having_learned p limits else p).own { replies = (if learns then having_learned p limits else p).own.replies ++ increment more }) more
+writes_by false limits p more = nothing_written p more []
+writes_by true limits p more = by_table (has_table limits)
+  where
+    by_table : (b : Bool)
+        → Writes p.own (record (if b then record { own = record p.own { instructions = p.own.instructions ++ SetCapacity limits.table ∷ [] }; encoder = record p.encoder { capacity = limits.table; limit = limits.blocked } } else p).own {
+          replies = (if b then record { own = record p.own { instructions = p.own.instructions ++ SetCapacity limits.table ∷ [] }; encoder = record p.encoder { capacity = limits.table; limit = limits.blocked } } else p).own.replies ++ increment more;
+        }) more
+    by_table true = record { instructions = SetCapacity limits.table ∷ []; is = refl }
+    by_table false = nothing_written p more []
+
+pub listened_writes : (knew knows : Bool) (limits : Limits) (p : Party) (more : ℕ) (is : List DecoderInstruction) → Writes p.own (listened knew knows limits p more is).own more
+listened_writes knew knows limits p more is = writes_by (not knew && knows) limits p more
+
+none_after : {X : Type 0} (xs : List X) → drop (length xs) xs ≡ []
+none_after [] = refl
+none_after (x ∷ xs) = none_after xs
+
+no_increment : (n : ℕ) → increment (n - n) ≡ []
+no_increment n = let none : n - n ≡ 0 = omega arith in ap increment none
+
+-- where nothing is learned
+plain : (b : Bool) (limits : Limits) (p : Party) → (if not b && b then having_learned p limits else p) ≡ p
+plain true limits p = refl
+plain false limits p = refl
+
+abbrev party_from : Party → ℕ → List DecoderInstruction → Party
+party_from q more is = record { own = record q.own { replies = q.own.replies ++ increment more }; encoder = encoder_after_all q.encoder is }
+
+-- insertions come
+pub insertions_listened : (b : Bool) (limits : Limits) (p : Party) (more : ℕ) (is : List DecoderInstruction) → listened b b limits p more (drop (length is) is) ≡ record p { own = saying p.own (increment more) }
+insertions_listened b limits p more is = ap (λ q. party_from q more (drop (length is) is)) (plain b limits p) ∙ ap (λ l. party_from p more l) (none_after is)
+
+-- replies come
+pub replies_listened : (b : Bool) (limits : Limits) (p : Party) (n few many : ℕ) (replies : List DecoderInstruction)
+    → listened b b limits p (n - n) (drop (length (if b then decoder_instructions_in few replies else [])) (if b then decoder_instructions_in many replies else [])) ≡ record p { encoder = encoder_then b p.encoder few many replies }
+replies_listened b limits p n few many replies =
+    let is = drop (length (if b then decoder_instructions_in few replies else [])) (if b then decoder_instructions_in many replies else []) in
+    ap (λ q. party_from q (n - n) is) (plain b limits p)
+    ∙ ap (λ l. record p { own = record p.own { replies = l }; encoder = encoder_after_all p.encoder is }) (ap (λ l. p.own.replies ++ l) (no_increment n) ∙ append-nil p.own.replies)
+    ∙ ap (λ e. record p { encoder = e }) (by_known b)
+  where
+    by_known : (b : Bool) → encoder_after_all p.encoder (drop (length (if b then decoder_instructions_in few replies else [])) (if b then decoder_instructions_in many replies else [])) ≡ encoder_then b p.encoder few many replies
+    by_known true = refl
+    by_known false = refl
+
+-- settings come
+abbrev pub party_of : EndpointHistory → Party
+party_of e = record { own = e.own; encoder = e.encoder }
+
+learned_is : (limits : Limits) (p : Party) → having_learned p limits ≡ record { own = learned_own limits p.own; encoder = learned_encoder limits p.encoder }
+learned_is limits p = by_table (has_table limits)
+  where
+    by_table : (b : Bool) → (if b then record { own = record p.own { instructions = p.own.instructions ++ SetCapacity limits.table ∷ [] }; encoder = record p.encoder { capacity = limits.table; limit = limits.blocked } } else p)
+        ≡ record {
+          own = if b then record p.own { instructions = p.own.instructions ++ SetCapacity limits.table ∷ [] } else p.own;
+          encoder = if b then record p.encoder { capacity = limits.table; limit = limits.blocked } else p.encoder;
+        }
+    by_table true = refl
+    by_table false = refl
+
+abbrev read_by : Bool → ℕ → List DecoderInstruction → List DecoderInstruction
+read_by b came replies = if b then decoder_instructions_in (came - 1) replies else []
+
+nothing_more : (q : Party) (n : ℕ) (is : List DecoderInstruction) → party_from q (n - n) is ≡ record q { encoder = encoder_after_all q.encoder is }
+nothing_more q n is = ap (λ l. record q { own = record q.own { replies = l }; encoder = encoder_after_all q.encoder is }) (ap (λ l. q.own.replies ++ l) (no_increment n) ∙ append-nil q.own.replies)
+
+pub settings_listened : (b c : Bool) (limits : Limits) (p : Party) (e : EndpointHistory) (n came : ℕ) (replies : List DecoderInstruction) → (b ≡ true → c ≡ true) → p ≡ party_of e
+    → party_of (after_control b c e limits came replies) ≡ listened b c limits p (n - n) (drop (length (read_by b came replies)) (read_by c came replies))
+settings_listened true false limits p e n came replies order is = let t = order refl in absurd (cc)
+settings_listened true true limits p e n came replies order is =
+    let read = decoder_instructions_in (came - 1) replies in
+    sym is ∙ sym (nothing_more p n (drop (length read) read) ∙ ap (λ l. record p { encoder = encoder_after_all p.encoder l }) (none_after read))
+settings_listened false false limits p e n came replies order is = sym is ∙ sym (nothing_more p n [])
+settings_listened false true limits p e n came replies order is =
+    let read = decoder_instructions_in (came - 1) replies in
+    ap (λ (q : Party). record { own = learned_own limits q.own; encoder = encoder_after_all (learned_encoder limits q.encoder) read }) (sym is)
+    ∙ sym (nothing_more (having_learned p limits) n read ∙ ap (λ (q : Party). record q { encoder = encoder_after_all q.encoder read }) (learned_is limits p))

@@ -1,0 +1,42 @@
+//! Laws over two endpoints that stand in a world. These functions do nothing: their contracts are the laws.
+ghost use Rattle.std.specs.Prelude.{◌≡◌, ℕ, true, None};
+ghost use Rattle.h3_proto.specs.declared.stream.Side.{Side};
+ghost use Rattle.h3_connection.specs.Endpoint.{EndpointHistory};
+ghost use Rattle.h3_connection.specs.OwnIds.{other};
+ghost use Rattle.h3_world.specs.declared.setup.Setup.{Setup};
+ghost use Rattle.h3_world.specs.Came.{insertions_came};
+ghost use Rattle.h3_world.specs.Order.{next_part};
+ghost use Rattle.h3_world.specs.Setup.{IsMadeSetup, announced_at};
+ghost use Rattle.h3_world.specs.Sound.{IsSoundWorld};
+ghost use Rattle.h3_world.specs.Streams.{flow, is_open};
+ghost use Rattle.h3_world.specs.World.{World, party};
+ghost use Rattle.h3_headline.specs.CitedLaws.{StreamLaws};
+ghost use Rattle.h3_headline.specs.PulledPartLaws.{DecodesNext};
+ghost use Rattle.h3_headline.specs.PulledSectionLaws.{ListsAreTheirValue};
+ghost use Rattle.h3_headline.specs.Standing.{StandsAt};
+
+/// What the lemmas here cite of QPACK's sessions and streams, and of what a field list is read as, holds.
+pub fn what_is_cited_holds()
+    ensures sessions { StreamLaws }
+    ensures lists { ListsAreTheirValue }
+{
+    h3_qpack::laws::every_session_is_sound();
+    h3_qpack::laws::fronts_of_written_instructions();
+    h3_qpack::laws::fronts_of_written_decoder_instructions();
+    h3_qpack::laws::written_instructions_are_accepted();
+    h3_qpack::laws::every_section_is_written();
+    h3_qpack::laws::every_encoding_means_its_fields();
+    h3_header::laws::lists_are_their_value();
+}
+
+/// An endpoint that stands in a world has read the insertions that came. In a sound world its decoder makes of the section that is next
+/// on a stream, if it was not given up, what was sent: its fields once its insertions came, and until then how many it needs
+/// (RFC 9204, section 2.2.1).
+pub fn endpoints_decode_what_was_sent()
+    ensures insertions { (setup : Setup) (w : World) (side : Side) (e : EndpointHistory) → StandsAt setup w side e → e.decoding.decoder.table.inserted ≡ insertions_came (party w (other side)) }
+    ensures sections { (lists : ListsAreTheirValue) (setup : Setup) (w : World) (side : Side) (id : ℕ) (e : EndpointHistory) → IsMadeSetup setup → StandsAt setup w side e → IsSoundWorld setup w →
+        is_open w side id ≡ true → (flow w (other side) id).fault ≡ None →
+        DecodesNext lists side (announced_at setup side) id e.decoding.decoder (insertions_came (party w (other side))) (next_part (flow w (other side) id)) }
+{
+    what_is_cited_holds();
+}

@@ -1,0 +1,59 @@
+-- What a pull within the limit gives.
+use Rattle.std.proofs.Common.{◌≡◌, ℕ, true, List, [], ◌++◌, Some, refl, sym, ap, ◌∙◌, append-nil}
+use Rattle.std.specs.Prelude.{None, nat_lt}
+use Rattle.h3_blocked.specs.Counting.{above, Replaces}
+use Rattle.h3_blocked.specs.CountingLaws.{HasIdsInOrder}
+use Rattle.h3_connection.specs.Incoming.{Incoming}
+use Rattle.h3_connection.specs.Pulling.{Pulled, just, pull_stream}
+use Rattle.h3_connection.specs.Sending.{if_too_many}
+use Rattle.h3_connection.specs.State.{RequestState, kept_at}
+use Rattle.h3_connection.specs.StreamSets.{Streams}
+use Rattle.h3_connection.specs.declared.event.Fault.TheVariants.{Stream}
+use Rattle.h3_connection.specs.declared.event.Item.TheVariants as item
+use Rattle.h3_connection.specs.declared.event.Pull.{Pull}
+use Rattle.h3_connection.specs.declared.event.Pull.TheVariants as pull
+use Rattle.h3_connection.specs.declared.event.StreamFault.{StreamFault}
+use Rattle.h3_connection.specs.declared.setup.Announced.{Announced}
+use Rattle.h3_field.specs.Instruction.{DecoderInstruction}
+use Rattle.h3_incoming.specs.Gives.{Gives}
+use Rattle.h3_incoming.specs.Replying.{encodings}
+use Rattle.h3_proto.specs.declared.stream.Side.{Side}
+use Rattle.h3_qpack.specs.DecoderState.{DecoderState}
+use Rattle.h3_requests.specs.Counted.{AreCounted}
+use Rattle.h3_requests.specs.Limited.{AreReceivers, limited}
+use Rattle.h3_requests.proofs.Counts.{waits_then}
+
+-- a stream that was given up gives its fault,
+pub gives_fault : (side : Side) (own : Announced) (id : ℕ) (r : DecoderState) (i : Incoming) (fault : StreamFault) → i.fault ≡ Some fault → pull_stream side own id r i ≡ just (pull.Fault (Stream fault)) i
+unfolding pull_stream
+gives_fault side own id r i fault is = rw is refl
+
+-- and one whose end was handed out gives that
+pub gives_end : (side : Side) (own : Announced) (id : ℕ) (r : DecoderState) (i : Incoming) → i.fault ≡ None → i.is_over ≡ true → pull_stream side own id r i ≡ just (pull.Item item.End) i
+unfolding pull_stream
+gives_end side own id r i none over = rw (none, over) refl
+
+-- an answer that writes nothing
+pub gives_just : (p : Pulled) (answer : Pull) (i : Incoming) (replies : List ℕ) → p ≡ just answer i → Gives p answer i replies replies
+gives_just p answer i replies is =
+    let none : p.replies ≡ [] = ap (λ q. q.replies) is in
+    record { is = is ∙ ap (λ l. record { answer = answer; incoming = i; replies = l }) (sym none); replies = sym (ap (λ l. replies ++ encodings l) none ∙ append-nil replies) }
+
+-- by the answer, what is left and the replies, whatever these are
+gives_by : (p : Pulled) (answer : Pull) (i : Incoming) (said : List DecoderInstruction) (replies written : List ℕ) → p ≡ record { answer = answer; incoming = i; replies = said }
+    → written ≡ replies ++ encodings said → Gives p answer i replies written
+gives_by p answer i said replies written is writes =
+    let same : p.replies ≡ said = ap (λ q. q.replies) is in
+    record { is = is ∙ ap (λ l. record { answer = answer; incoming = i; replies = l }) (sym same); replies = writes ∙ sym (ap (λ l. replies ++ encodings l) same) }
+
+-- What was pulled, judged by the counts, is what the limit makes of it.
+pub gives_limited : (side : Side) (own : Announced) (id : ℕ) (r : DecoderState) (streams : Streams RequestState) (before : RequestState) (given answer : Pull) (i after : Incoming) (counts others : List ℕ) (inserted : ℕ) (replies written : List ℕ)
+    → AreCounted counts streams → HasIdsInOrder streams → kept_at streams id ≡ Some before → Gives (pull_stream side own id r before.incoming) given i replies written → Replaces counts others before.incoming.waits_for i.waits_for
+    → inserted ≡ r.table.inserted → ((said : List DecoderInstruction) → if_too_many (nat_lt own.limits.blocked (above inserted others)) (record { answer = given; incoming = i; replies = said }) ≡ record { answer = answer; incoming = after; replies = said })
+    → (receivers : Streams Incoming) → AreReceivers receivers streams → Gives (limited own id r receivers (pull_stream side own id r before.incoming)) answer after replies written
+gives_limited side own id r streams before given answer i after counts others inserted replies written h ordered there gives replaces is judged receivers are =
+    let p : Pulled = pull_stream side own id r before.incoming in
+    let q : Pulled = record { answer = given; incoming = i; replies = p.replies } in
+    let within : limited own id r receivers q ≡ if_too_many (nat_lt own.limits.blocked (above inserted others)) q =
+    ap (λ n. if_too_many (nat_lt own.limits.blocked n) q) (waits_then counts others streams receivers id before i h ordered are there replaces r.table.inserted ∙ ap (λ n. above n others) (sym is)) in
+    gives_by (limited own id r receivers p) answer after p.replies replies written (ap (limited own id r receivers) gives.is ∙ within ∙ judged p.replies) gives.replies

@@ -1,0 +1,13 @@
+-- The count of the stream that was there goes with it.
+use Rattle.std.proofs.Common.{ap, ◌∙◌}
+use Rattle.h3_blocked.specs.Counting.{waits_at}
+use Rattle.h3_requests.proofs.Counts.{has_count_at, inserted}
+use Rattle.h3_requests.proofs.streams.RequestStreams.open.Goals as goal
+
+pub replace-requires-clause-among : goal.replace-requires-clause-among
+replace-requires-clause-among c = has_count_at _ _ c.into_inner.result _ (c.waits_of.ensures ∙ ap waits_at c.in-Ok.ensures.old) c.self.invariant
+
+pub invariant_of-self-2 : goal.invariant_of-self-2
+invariant_of-self-2 c =
+    inserted _ _ _ _ c.into_inner.result _ _ c.in-Ok.ensures.entries c.in-Ok.ensures.was_ordered (ap (λ r. r.incoming.waits_for) c.new.ensures) (c.waits_of.ensures ∙ ap waits_at c.in-Ok.ensures.old)
+    c.replace.ensures.sorted c.replace.ensures.replaced c.self.invariant

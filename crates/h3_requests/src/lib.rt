@@ -1,0 +1,11 @@
+//! The request streams of a connection (RFC 9114, section 4.1), each both ways, by their ids. Each call changes one part of one
+//! stream, and leaves the other streams as they are.
+#![tactic(auto)]
+
+pub mod stream;
+pub mod streams;
+#[cfg(test)]
+mod tests;
+
+pub use stream::RequestStream;
+pub use streams::RequestStreams;

@@ -1,0 +1,65 @@
+//! A request stream, both ways.
+ghost use Rattle.std.specs.Prelude.{◌≡◌, IfErr, OnErr, OnOk};
+ghost use Rattle.h3_connection.specs.Calls.{fresh_request};
+ghost use Rattle.h3_connection.specs.Delivering.{kept};
+
+use bytes::Bytes;
+use h3_incoming::IncomingStream;
+use h3_outgoing::OutgoingStream;
+use std::alloc::Global;
+use std::marker::Model;
+
+/// A request stream: what came on it, and what is sent on it. A contract sees it as the definitions' `RequestState`.
+#[derive(Drop)]
+pub struct RequestStream {
+    pub(crate) incoming: IncomingStream,
+    pub(crate) outgoing: OutgoingStream,
+}
+
+impl Model for RequestStream {
+    ghost use Rattle.h3_connection.specs.State.{RequestState};
+
+    ghost Value = { RequestState };
+
+    ghost view = { λ s. record { incoming = s.incoming; outgoing = s.outgoing } };
+}
+
+impl RequestStream {
+    // A stream on which nothing has happened. It takes no memory.
+    pub(crate) fn new(alloc: Global) -> RequestStream
+        ensures { result ≡ fresh_request }
+    {
+        RequestStream {
+            incoming: IncomingStream::new(alloc),
+            outgoing: OutgoingStream::new(alloc),
+        }
+    }
+
+    /// What came on it.
+    pub fn incoming(&self) -> &IncomingStream
+        ensures { result.now ≡ self.now.incoming }
+    {
+        &self.incoming
+    }
+
+    /// What is sent on it.
+    pub fn outgoing(&self) -> &OutgoingStream
+        ensures { result.now ≡ self.now.outgoing }
+    {
+        &self.outgoing
+    }
+
+    // More bytes came. No queue of 2^62 bytes fits into memory: a longer one is refused as such. An `Err` changes nothing, and
+    // hands the bytes back.
+    pub(crate) fn deliver(&mut self, bytes: Bytes) -> Result<(), Bytes>
+        ensures ok { OnOk result (self.new ≡ record self.old { incoming = kept self.old.incoming bytes }) }
+        ensures back { IfErr result (λ b. b ≡ bytes) }
+        ensures same { OnErr result (self.new ≡ self.old) }
+        ensures waits { self.new.incoming.waits_for ≡ self.old.incoming.waits_for }
+    {
+        if self.incoming.unread() >= 1 << 61 || bytes.len() >= 1 << 61 {
+            return Err(bytes);
+        }
+        self.incoming.deliver(bytes)
+    }
+}

@@ -1,0 +1,92 @@
+//! The request streams of a connection, by their ids.
+ghost use Rattle.std.specs.Prelude.{◌≡◌, [], None, OnOk, OnErr, option_copied};
+ghost use Rattle.h3_blocked.specs.Counting.{waits_at};
+ghost use Rattle.h3_blocked.specs.Sums.{TakesOut};
+ghost use Rattle.h3_connection.specs.Calls.{fresh_request, Sets};
+ghost use Rattle.h3_connection.specs.State.{kept_at};
+
+use crate::stream::RequestStream;
+use h3_blocked::replace;
+use h3_proto::stream::StreamId;
+use std::alloc::{AllocError, Global};
+use std::collections::BTreeMap;
+use std::marker::Model;
+
+mod pulling;
+mod receiving;
+mod sending;
+
+/// The request streams of a connection, by their ids. A contract sees the list of them, and finds one by `kept_at`.
+#[derive(Drop)]
+pub struct RequestStreams {
+    streams: BTreeMap<u64, RequestStream>,
+    // what the streams wait for, in order, and no 0
+    blocked: Vec<usize>,
+}
+
+impl Model for RequestStreams {
+    ghost use Rattle.h3_connection.specs.State.{RequestState};
+    ghost use Rattle.h3_connection.specs.StreamSets.{Streams};
+
+    ghost Value = { Streams RequestState };
+
+    ghost view = { λ s. s.streams.entries };
+
+    ghost use Rattle.h3_requests.specs.Counted.{AreCounted};
+
+    ghost invariant = { λ s. AreCounted s.blocked.items s.streams.entries };
+}
+
+impl RequestStreams {
+    /// No stream. It takes no memory.
+    pub fn new(alloc: Global) -> RequestStreams
+        ensures { result ≡ [] }
+    {
+        RequestStreams {
+            streams: BTreeMap::new(alloc),
+            blocked: Vec::new(alloc),
+        }
+    }
+
+    /// The stream of that id, where it is there.
+    pub fn get(&self, id: StreamId) -> Option<&RequestStream>
+        ensures { option_copied result ≡ kept_at self.now id }
+    {
+        self.streams.get(&id.into_inner())
+    }
+
+    /// A stream on which nothing has happened is there under that id, in the place of one that was there. An `Err` changes
+    /// nothing: no stream was there, and memory was refused.
+    pub fn open(&mut self, alloc: Global, id: StreamId) -> Result<(), AllocError>
+        ensures ok { OnOk result (Sets self.old self.new id fresh_request) }
+        ensures absent { OnErr result (kept_at self.old id ≡ None) }
+        ensures err { OnErr result (self.new ≡ self.old) }
+    {
+        let Ok(before) = self
+            .streams
+            .insert(id.into_inner(), RequestStream::new(alloc))
+        else {
+            return Err(AllocError);
+        };
+        replace(&mut self.blocked, waits_of(&before), 0);
+        Ok(())
+    }
+
+    /// Takes a stream out again, where it is there. It takes no memory.
+    pub fn undo_open(&mut self, id: StreamId)
+        ensures { TakesOut self.old self.new id }
+    {
+        let stream = self.streams.remove(&id.into_inner());
+        replace(&mut self.blocked, waits_of(&stream), 0);
+    }
+}
+
+// What a stream waits for that was taken out, and 0 where there was none.
+fn waits_of(stream: &Option<RequestStream>) -> usize
+    ensures { result ≡ waits_at stream.now }
+{
+    match stream {
+        Some(stream) => stream.incoming.waits_for(),
+        None => 0,
+    }
+}

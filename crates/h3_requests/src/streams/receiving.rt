@@ -1,0 +1,166 @@
+//! What comes on a request stream.
+ghost use Rattle.std.specs.Prelude.{◌≡◌, ◌++◌, true, false, None, OnOk, OnErr, IfOk, IfErr, IfSome, is_some};
+ghost use Rattle.h3_blocked.specs.Sums.{TakesOut};
+ghost use Rattle.h3_connection.specs.Calls.{Sets, AllSame};
+ghost use Rattle.h3_connection.specs.Delivering.{kept, with_end, given_up_once, cancellation};
+ghost use Rattle.h3_connection.specs.State.{kept_at};
+ghost use Rattle.h3_connection.specs.declared.event.StreamFault.TheVariants.{Reset, Canceled};
+ghost use Rattle.h3_incoming.specs.Replying.{encodings};
+ghost use Rattle.h3_requests.specs.Changing.{opened_at, Receives};
+
+use super::RequestStreams;
+use bytes::Bytes;
+use h3_blocked::replace;
+use h3_proto::stream::StreamId;
+use std::alloc::{AllocError, Global};
+
+impl RequestStreams {
+    /// More bytes came. They are kept as they are, with no copy; those of a stream that was given up are thrown away. A stream that is
+    /// not there is opened. An `Err` changes nothing, and hands the bytes back: memory was refused.
+    pub fn deliver(&mut self, alloc: Global, id: StreamId, bytes: Bytes) -> Result<(), Bytes>
+        ensures ok { OnOk result (Receives self.old self.new id (λ i. kept i bytes)) }
+        ensures back { IfErr result (λ b. b ≡ bytes) }
+        ensures err { OnErr result (AllSame self.old self.new) }
+    {
+        let Ok(was_there) = self.open_absent(alloc, id) else {
+            return Err(bytes);
+        };
+        match self.deliver_there(id, bytes) {
+            Ok(()) => Ok(()),
+            Err(bytes) => {
+                self.close_again(id, was_there);
+                Err(bytes)
+            }
+        }
+    }
+
+    /// Its end came. A stream that is not there is opened. An `Err` changes nothing: memory was refused.
+    pub fn end(&mut self, alloc: Global, id: StreamId) -> Result<(), AllocError>
+        ensures ok { OnOk result (Receives self.old self.new id with_end) }
+        ensures err { OnErr result (AllSame self.old self.new) }
+    {
+        let Ok(_was_there) = self.open_absent(alloc, id) else {
+            return Err(AllocError);
+        };
+        self.end_there(id);
+        Ok(())
+    }
+
+    /// Its sender cut it off, with this code of an application. It is given up, unless it was before. The first time, the peer's
+    /// encoder is told (RFC 9204, section 2.2.2.2). A stream that is not there is opened. An `Err` changes nothing: memory was refused.
+    pub fn reset_incoming(
+        &mut self,
+        alloc: Global,
+        id: StreamId,
+        code: u64,
+        replies: &mut Vec<u8>,
+    ) -> Result<(), AllocError>
+        ensures ok { OnOk result (Receives self.old self.new id (λ i. given_up_once (record i { was_reset = true }) (Reset code))) }
+        ensures replies { OnOk result (replies.new.items ≡ replies.old.items ++ encodings (cancellation id (opened_at self.old id).incoming.fault)) }
+        ensures err { OnErr result (AllSame self.old self.new × (replies.new.items ≡ replies.old.items)) }
+    {
+        let Ok(was_there) = self.open_absent(alloc, id) else {
+            return Err(AllocError);
+        };
+        match self.reset_there(alloc, id, code, replies) {
+            Ok(()) => Ok(()),
+            Err(e) => {
+                self.close_again(id, was_there);
+                Err(e)
+            }
+        }
+    }
+
+    /// Nothing more of it is wanted. It is given up, unless it was before. The first time, the peer's encoder is told. Nothing happens
+    /// where the stream is not there. An `Err` changes nothing: memory was refused.
+    pub fn cancel(
+        &mut self,
+        alloc: Global,
+        id: StreamId,
+        replies: &mut Vec<u8>,
+    ) -> Result<(), AllocError>
+        ensures ok { OnOk result (IfSome (kept_at self.old id) (λ r. Sets self.old self.new id (record r { incoming = given_up_once r.incoming Canceled }))) }
+        ensures replies { OnOk result (IfSome (kept_at self.old id) (λ r. replies.new.items ≡ replies.old.items ++ encodings (cancellation id r.incoming.fault))) }
+        ensures absent { kept_at self.old id ≡ None → (self.new ≡ self.old) × (replies.new.items ≡ replies.old.items) }
+        ensures err { OnErr result (AllSame self.old self.new × (replies.new.items ≡ replies.old.items)) }
+    {
+        let Some(stream) = self.streams.get_mut(&id.into_inner()) else {
+            return Ok(());
+        };
+        let before = stream.incoming.waits_for();
+        let Ok(()) = stream.incoming.cancel(alloc, id, replies) else {
+            return Err(AllocError);
+        };
+        replace(&mut self.blocked, before, stream.incoming.waits_for());
+        Ok(())
+    }
+
+    // Opens the stream where it is not there, and answers whether it was.
+    fn open_absent(&mut self, alloc: Global, id: StreamId) -> Result<bool, AllocError>
+        ensures was_there { IfOk result (λ b. b ≡ is_some (kept_at self.old id)) }
+        ensures ok { OnOk result (Sets self.old self.new id (opened_at self.old id)) }
+        ensures err { OnErr result (self.new ≡ self.old) }
+    {
+        if self.streams.contains_key(&id.into_inner()) {
+            return Ok(true);
+        }
+        match self.open(alloc, id) {
+            Ok(()) => Ok(false),
+            Err(e) => Err(e),
+        }
+    }
+
+    // Takes a stream out that was just opened, and no other.
+    fn close_again(&mut self, id: StreamId, was_there: bool)
+        ensures opened { was_there ≡ false → TakesOut self.old self.new id }
+        ensures there { was_there ≡ true → self.new ≡ self.old }
+    {
+        if was_there {
+            return;
+        }
+        self.undo_open(id);
+    }
+
+    fn deliver_there(&mut self, id: StreamId, bytes: Bytes) -> Result<(), Bytes>
+        ensures ok { OnOk result (IfSome (kept_at self.old id) (λ r. Sets self.old self.new id (record r { incoming = kept r.incoming bytes }))) }
+        ensures back { IfErr result (λ b. b ≡ bytes) }
+        ensures err { OnErr result (AllSame self.old self.new) }
+    {
+        let Some(stream) = self.streams.get_mut(&id.into_inner()) else {
+            return Err(bytes);
+        };
+        stream.deliver(bytes)
+    }
+
+    fn end_there(&mut self, id: StreamId)
+        ensures { IfSome (kept_at self.old id) (λ r. Sets self.old self.new id (record r { incoming = with_end r.incoming })) }
+    {
+        let Some(stream) = self.streams.get_mut(&id.into_inner()) else {
+            return;
+        };
+        stream.incoming.end();
+    }
+
+    fn reset_there(
+        &mut self,
+        alloc: Global,
+        id: StreamId,
+        code: u64,
+        replies: &mut Vec<u8>,
+    ) -> Result<(), AllocError>
+        ensures ok { OnOk result (IfSome (kept_at self.old id) (λ r.
+            Sets self.old self.new id (record r { incoming = given_up_once (record r.incoming { was_reset = true }) (Reset code) }))) }
+        ensures replies { OnOk result (IfSome (kept_at self.old id) (λ r. replies.new.items ≡ replies.old.items ++ encodings (cancellation id r.incoming.fault))) }
+        ensures err { OnErr result (AllSame self.old self.new × (replies.new.items ≡ replies.old.items)) }
+    {
+        let Some(stream) = self.streams.get_mut(&id.into_inner()) else {
+            return Ok(());
+        };
+        let before = stream.incoming.waits_for();
+        let Ok(()) = stream.incoming.reset(alloc, id, code, replies) else {
+            return Err(AllocError);
+        };
+        replace(&mut self.blocked, before, stream.incoming.waits_for());
+        Ok(())
+    }
+}

@@ -1,0 +1,77 @@
+-- The setup of a script is one that `Setup::new` makes.
+use Rattle.std.proofs.Common.{◌≡◌, ℕ, Bool, true, false, List, [], ◌∷◌, codes, bytes_eq, nat_le, nat_lt, ◌^◌, Option, Some, None, Result, Ok, Err, sym, ap, subst, arith, if◌then◌else◌}
+use Rattle.std.specs.Result.{result_ok}
+use Rattle.h3_proto.specs.Config.{announced}
+use Rattle.h3_proto.specs.declared.frame.SettingsError.{SettingsError}
+use Rattle.h3_connection.specs.Announcing.{announced_by, with_limits}
+use Rattle.h3_connection.specs.declared.setup.Announced.{Announced}
+use Rattle.h3_connection.specs.declared.setup.Limits.{Limits}
+use Rattle.h3_connection.specs.declared.setup.NewError.{NewError}
+use Rattle.h3_connection.specs.declared.setup.NewError.TheVariants.{TableLimit, BlockedLimit}
+use Rattle.h3_world.specs.Setup.{both, IsMade, IsMadeSetup}
+use Rattle.h3_world.specs.declared.setup.Setup.{Setup}
+use Rattle.h3_world.specs.declared.event.Event.{Event}
+use Rattle.h3_script.specs.Words.{words_of, number_of}
+use Rattle.h3_script.specs.ScriptLine.{config_of, setup_by, setup_of}
+use Rattle.h3_script.specs.Script.{lines_of, said, SaysSoFar, IsScript}
+
+limits_of : (b d : Bool) (r : Result (List (ℕ × ℕ)) SettingsError) (limits : Limits) (a : Announced)
+    → (if b then Err TableLimit else (if d then Err BlockedLimit else with_limits r limits)) ≡ Ok a → a.limits ≡ limits
+limits_of true d r limits a h = cc
+limits_of false true r limits a h = cc
+limits_of false false (Err e) limits a h = cc
+limits_of false false (Ok pairs) limits a h = cc
+
+made_by : (section : ℕ) (limits : Limits) (a : Announced) → announced_by (announced (config_of section) 0) limits ≡ Ok a → IsMade a
+made_by section limits a h =
+    let same : a.limits ≡ limits = limits_of (nat_le (2 ^ 30) limits.table) (nat_lt 65535 limits.blocked) (announced (config_of section) 0) limits a h in
+    record {
+      config = config_of section;
+      grease = 0;
+      small = omega arith;
+      made = subst (λ l. announced_by (announced (config_of section) 0) l ≡ Ok a) (sym same) h;
+    }
+
+both_made : (x y : Result Announced NewError) (setup : Setup) → result_ok (both x y) ≡ Some setup → (x ≡ Ok setup.client) × (y ≡ Ok setup.server)
+both_made (Ok client) (Ok server) setup h =
+    let same : record { client = client; server = server } ≡ setup = cc in
+    (ap (λ (s : Setup). Ok s.client) same, ap (λ (s : Setup). Ok s.server) same)
+both_made (Err e) y setup h = cc
+both_made (Ok client) (Err e) setup h = cc
+
+setup_made : (a b c d e f : Option ℕ) (setup : Setup) → setup_by a b c d e f ≡ Some setup → IsMadeSetup setup
+setup_made None b c d e f setup h = cc
+setup_made (Some a) None c d e f setup h = cc
+setup_made (Some a) (Some b) None d e f setup h = cc
+setup_made (Some a) (Some b) (Some c) None e f setup h = cc
+setup_made (Some a) (Some b) (Some c) (Some d) None f setup h = cc
+setup_made (Some a) (Some b) (Some c) (Some d) (Some e) None setup h = cc
+setup_made (Some a) (Some b) (Some c) (Some d) (Some e) (Some f) setup h =
+    let client : Limits = record { table = b; blocked = c } in
+    let server : Limits = record { table = e; blocked = f } in
+    let sides = both_made (announced_by (announced (config_of a) 0) client) (announced_by (announced (config_of d) 0) server) setup h in
+    record { client = made_by a client setup.client sides.0; server = made_by d server setup.server sides.1 }
+
+if_setup : (b : Bool) (found : Option Setup) (setup : Setup) → (if b then found else None) ≡ Some setup → found ≡ Some setup
+if_setup true found setup h = h
+if_setup false found setup h = cc
+
+words_made : (words : List (List ℕ)) (setup : Setup) → setup_of words ≡ Some setup → IsMadeSetup setup
+words_made [] setup h = cc
+words_made (w ∷ []) setup h = cc
+words_made (w ∷ a ∷ []) setup h = cc
+words_made (w ∷ a ∷ b ∷ []) setup h = cc
+words_made (w ∷ a ∷ b ∷ c ∷ []) setup h = cc
+words_made (w ∷ a ∷ b ∷ c ∷ d ∷ []) setup h = cc
+words_made (w ∷ a ∷ b ∷ c ∷ d ∷ e ∷ []) setup h = cc
+words_made (w ∷ a ∷ b ∷ c ∷ d ∷ e ∷ f ∷ []) setup h =
+    setup_made (number_of a) (number_of b) (number_of c) (number_of d) (number_of e) (number_of f) setup
+    (if_setup (bytes_eq w (codes "config")) (setup_by (number_of a) (number_of b) (number_of c) (number_of d) (number_of e) (number_of f)) setup h)
+words_made (w ∷ a ∷ b ∷ c ∷ d ∷ e ∷ f ∷ g ∷ words) setup h = cc
+
+so_far_made : (lines : List (List ℕ)) (setup : Setup) (events : List Event) → SaysSoFar lines (Some setup) events → IsMadeSetup setup
+so_far_made [] setup events h = absurd h
+so_far_made (first ∷ rest) setup events h = words_made (words_of first) setup h.0
+
+pub script_made : (most : ℕ) (text : List ℕ) (setup : Setup) (events : List Event) → IsScript most text setup events → IsMadeSetup setup
+script_made most text setup events h = so_far_made (said (lines_of text)) setup events h.says

@@ -1,0 +1,13 @@
+//! Scripts of what a client and a server do, and the lines of what comes of it.
+#![tactic(auto)]
+
+pub mod error;
+mod head;
+pub mod laws;
+mod line;
+mod pieces;
+pub mod script;
+#[cfg(test)]
+mod tests;
+pub mod text;
+mod words;

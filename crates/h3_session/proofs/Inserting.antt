@@ -1,0 +1,65 @@
+-- An encoder of capacity 0 inserts nothing: before the peer's settings came no field goes into a table.
+use Rattle.std.proofs.Common.{arith, ◌≡◌, ◌≤◌, ℕ, ◌+◌, ◌-◌, Bool, true, false, nat_lt, nat_le, if◌then◌else◌, List, [], ◌∷◌, ◌++◌, length, fold, Option, Some, None, refl, ap, ◌∙◌}
+use Rattle.std.specs.Prelude.{◌&&◌, ◌^◌, max, option_map, unwrap_or}
+use Rattle.std.specs.List.{list_all}
+use Rattle.std.proofs.lemmas.Grind.{common_steps}
+use Rattle.h3_field.specs.Field.{Field, field_size}
+use Rattle.h3_field.specs.Line.FieldLine.{StaticField, RelativeField, StaticName, Literal}
+use Rattle.h3_field.specs.StaticTable.{static_field, static_name}
+use Rattle.h3_qpack.specs.EncoderHistory.{EncoderHistory, blocks_out, referenced_entries, was_canceled, writing_on}
+use Rattle.h3_qpack.specs.SectionEncoding.{Draft, draft_of, add_field, add_line, add_inserted, add_literal, entry_name_line, evictions_by, found, found_name, is_insertable}
+use Rattle.h3_qpack.specs.Table.{evictions}
+
+-- a choice whose ways all keep what was inserted
+either : (kept : List Field) (o : Option ℕ) (x : ℕ → Draft) (rest : Draft) → ((n : ℕ) → (x n).inserted ≡ kept) → rest.inserted ≡ kept → (unwrap_or (option_map x o) rest).inserted ≡ kept
+either kept None x rest here there = there
+either kept (Some n) x rest here there = here n
+
+literal_kept : (s : EncoderHistory) (d : Draft) (f : Field) → (add_literal s d f).inserted ≡ d.inserted
+literal_kept s d f =
+    either d.inserted (static_name f.name) (λ index. add_line d (StaticName index f.value) []) _ (λ n. refl)
+    (either d.inserted (found_name s d f) (λ number. add_line d (entry_name_line (length s.inserted) number f.value) (number ∷ [])) (add_line d (Literal f.name f.value) []) (λ n. refl) refl)
+
+too_small : (size capacity : ℕ) → capacity ≡ 0 → 32 ≤ size → nat_le size capacity ≡ false
+too_small size capacity none some = grind (arith, common_steps, none, some)
+
+third : (a b c d e : Bool) → c ≡ false → (a && b && c && d && e) ≡ false
+third a b true d e h = absurd (cc)
+third false b false d e h = refl
+third true false false d e h = refl
+third true true false d e h = refl
+
+not_insertable : (s : EncoderHistory) (d : Draft) (f : Field) → s.capacity ≡ 0 → is_insertable s d f ≡ false
+not_insertable s d f h =
+    third (nat_lt (length d.inserted + 1) (2 ^ 62)) (nat_lt (blocks_out s) s.limit) (nat_le (field_size f) s.capacity)
+    (nat_le (evictions_by s d f) (max s.known_received (evictions s.capacity d.inserted)))
+    (list_all (λ number. nat_lt (evictions_by s d f) number) (referenced_entries s ++ d.references))
+    (too_small (field_size f) s.capacity h (omega arith))
+
+field_kept : (s : EncoderHistory) (d : Draft) (f : Field) → s.capacity ≡ 0 → (add_field s d f).inserted ≡ d.inserted
+field_kept s d f h =
+    either d.inserted (static_field f) (λ index. add_line d (StaticField index) []) _ (λ n. refl)
+    (either d.inserted (found s d f) (λ number. add_line d (RelativeField (length s.inserted - number)) (number ∷ [])) (if is_insertable s d f then add_inserted s d f else add_literal s d f) (λ n. refl)
+    (ap (λ b. (if b then add_inserted s d f else add_literal s d f).inserted) (not_insertable s d f h) ∙ literal_kept s d f))
+
+fields_kept : (s : EncoderHistory) (d : Draft) (fields : List Field) → s.capacity ≡ 0 → (fold (add_field s) d fields).inserted ≡ d.inserted
+fields_kept s d [] h = refl
+fields_kept s d (f ∷ fields) h = fields_kept s (add_field s d f) fields h ∙ field_kept s d f h
+
+same_inserted : (s : EncoderHistory) (b : Bool) → (if b then record s { capacity = 0; limit = 0 } else s).inserted ≡ s.inserted
+same_inserted s true = refl
+same_inserted s false = refl
+
+no_capacity : (s : EncoderHistory) (b : Bool) → s.capacity ≡ 0 → (if b then record s { capacity = 0; limit = 0 } else s).capacity ≡ 0
+no_capacity s true h = refl
+no_capacity s false h = h
+
+-- what a section on the stream begins with
+pub begins_with : (s : EncoderHistory) (stream : ℕ) → (writing_on s stream).inserted ≡ s.inserted
+begins_with s stream = same_inserted s (was_canceled s stream)
+
+pub nothing_inserted : (s : EncoderHistory) (stream : ℕ) (fields : List Field) → s.capacity ≡ 0 → s.inserted ≡ [] → (draft_of (writing_on s stream) fields).inserted ≡ []
+nothing_inserted s stream fields none empty =
+    let by = writing_on s stream in
+    fields_kept by (record { inserted = by.inserted; instructions = []; lines = []; references = [] }) fields (no_capacity s (was_canceled s stream) none)
+    ∙ begins_with s stream ∙ empty

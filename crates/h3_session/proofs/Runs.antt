@@ -1,0 +1,41 @@
+-- A run with one event more.
+use Rattle.std.proofs.Common.{◌≡◌, List, [], ◌∷◌, ◌++◌, Bool, true, false, refl, ap, sym, subst, ◌∙◌, arith}
+use Rattle.std.specs.List.{list_any}
+use Rattle.std.specs.Prelude.{◌||◌, ◌<◌, ◌^◌, ◌≤◌, nat_le, ℕ}
+use Rattle.h3_connection.specs.State.{EndpointState, StandsFor}
+use Rattle.h3_world.specs.Ends.{Ends, answered, ends_after, answers_of_ends}
+use Rattle.h3_world.specs.Headline.{is_memory}
+use Rattle.h3_world.specs.declared.event.Answer.{Answer}
+use Rattle.h3_world.specs.declared.event.Event.{Event}
+use Rattle.h3_session.specs.Running.{AnswersEvent, RunsTo}
+
+answers_more : (ends : Ends) (events : List Event) (e : Event) → answers_of_ends ends (events ++ e ∷ []) ≡ answers_of_ends ends events ++ (answered (ends_after ends events) e).0 ∷ []
+answers_more ends [] e = refl
+answers_more ends (d ∷ events) e = ap (λ l. (answered ends d).0 ∷ l) (answers_more (answered ends d).1 events e)
+
+after_more : (ends : Ends) (events : List Event) (e : Event) → ends_after ends (events ++ e ∷ []) ≡ (answered (ends_after ends events) e).1
+after_more ends [] e = refl
+after_more ends (d ∷ events) e = after_more (answered ends d).1 events e
+
+pub run_more : (ends : Ends) (events : List Event) (e : Event) (answers : List Answer) (a : Answer) (client server client_after server_after : EndpointState)
+    → RunsTo ends events answers client server → AnswersEvent e client server a client_after server_after → is_memory a ≡ false
+    → RunsTo ends (events ++ e ∷ []) (answers ++ a ∷ []) client_after server_after
+run_more ends events e answers a client server client_after server_after h step not_memory =
+    let x = step (ends_after ends events) h.client_stands h.server_stands not_memory in
+    let after = after_more ends events e in
+    record {
+      answered_so = ap (λ l. l ++ a ∷ []) h.answered_so ∙ ap (λ b. answers_of_ends ends events ++ b ∷ []) x.0 ∙ sym (answers_more ends events e);
+      client_stands = subst (λ x. StandsFor client_after x.client) (sym after) x.1;
+      server_stands = subst (λ x. StandsFor server_after x.server) (sym after) x.2;
+    }
+
+none_behind : (first : Bool) (rest : Bool) → (first || rest) ≡ false → (first ≡ false) × (rest ≡ false)
+none_behind true rest h = absurd (cc)
+none_behind false rest h = (refl, h)
+
+pub none_of_memory : (answers : List Answer) (a : Answer) → list_any is_memory (answers ++ a ∷ []) ≡ false → (list_any is_memory answers ≡ false) × (is_memory a ≡ false)
+none_of_memory [] a h = (refl, (none_behind (is_memory a) false h).0)
+none_of_memory (b ∷ answers) a h =
+    let parts = none_behind (is_memory b) (list_any is_memory (answers ++ a ∷ [])) h in
+    let rest = none_of_memory answers a parts.1 in
+    (subst (λ x. (x || list_any is_memory answers) ≡ false) (sym parts.0) rest.0, rest.1)

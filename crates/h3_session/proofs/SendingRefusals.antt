@@ -1,0 +1,190 @@
+-- The refusals by what is stored are those of every history that it stands for.
+use Rattle.std.proofs.Common.{◌≡◌, ◌==◌, ℕ, ◌%◌, Bool, true, false, if◌then◌else◌, List, [], ◌∷◌, Option, Some, None, refl, ap, sym, ◌∙◌}
+use Rattle.std.specs.Prelude.{◌^◌, ◌≢◌, not, ◌&&◌, nat_le, option_map, is_some, unwrap_or}
+use Rattle.h3_header.specs.Head.{Head, has_pseudo, head_fields}
+use Rattle.h3_field.specs.Field.{Field, section_size}
+use Rattle.h3_proto.specs.declared.stream.Side.{Side}
+use Rattle.h3_proto.specs.declared.stream.Side.TheVariants.{Client, Server}
+use Rattle.h3_outgoing.specs.HistoryLaws.{head_taken, body_taken, end_taken, sent_off}
+use Rattle.h3_outgoing.specs.Sent as sent
+use Rattle.h3_streams.specs.PlacedLaws.{critical_stands}
+use Rattle.h3_connection.specs.Calls.{open_refused, by_side, after_goaway, unless_closed}
+use Rattle.h3_connection.specs.Endpoint.{EndpointHistory, is_critical_id}
+use Rattle.h3_connection.specs.Lasts.{last_id}
+use Rattle.h3_connection.specs.Outgoing.{Outgoing, nothing_sent, takes_head, takes_body, takes_end, is_sent_off}
+use Rattle.h3_connection.specs.OwnIds.{other}
+use Rattle.h3_connection.specs.Pulling.{is_client, is_for}
+use Rattle.h3_connection.specs.Sending.{closed_or, first_of, going_away, outgoing_at, raised, open_refusal, head_refusal, body_refusal, trailer_refusal, finish_refusal, reset_refusal, goaway_refusal, is_too_large}
+use Rattle.h3_connection.specs.State.{EndpointState, RequestState, StandsFor, IsOfOutgoing, SameAt, kept_at}
+use Rattle.h3_connection.specs.StreamSets.{stream_at}
+use Rattle.h3_connection.specs.declared.event.Refusal.{Refusal}
+use Rattle.h3_connection.specs.declared.event.Refusal.TheVariants as refusal
+use Rattle.h3_session.specs.Refused.{or_later, refused_if, size_refused, streams_of, head_refused_at, head_refused, body_refused_at, body_refused, trailer_refused, end_refused_at, end_refused, is_critical_in, reset_refused_at, reset_refused, goaway_refused}
+
+-- the sender's part of a stream, by what is stored of it
+record SameSender (o : Option Outgoing) (r : Option RequestState) : Type 0 where
+  same : SameAt IsOfOutgoing o (option_map (λ r. r.outgoing) r)
+
+sender : (s : EndpointState) (e : EndpointHistory) (id : ℕ) → StandsFor s e → SameSender (stream_at e.outgoing id) (kept_at s.requests id)
+sender s e id h = record { same = h.outgoing id }
+
+-- a refusal that comes first, and those behind it
+first : (b : Bool) (r : Refusal) (rest : Option Refusal) → or_later (refused_if b r) rest ≡ (if b then Some r else rest)
+first true r rest = refl
+first false r rest = refl
+
+head_at : (side : Side) (head : Head) (o : Option Outgoing) (r : Option RequestState) → SameSender o r
+    → head_refused_at side head r ≡ first_of ((not (is_some o), refusal.NotOpen) ∷ (not (takes_head (unwrap_or o nothing_sent)), refusal.OutOfOrder) ∷ (not (is_for (other side) head), refusal.WrongSide) ∷ [])
+head_at side head None None h = refl
+head_at side head (Some o) (Some r) h =
+    let wrong = refused_if (not (is_for (other side) head)) refusal.WrongSide in
+    ap (λ b. or_later (refused_if (not b) refusal.OutOfOrder) wrong) (head_taken o r.outgoing h.same) ∙ first (not (takes_head o)) refusal.OutOfOrder wrong
+head_at side head None (Some r) h = absurd h.same
+head_at side head (Some o) None h = absurd h.same
+
+body_at : (o : Option Outgoing) (r : Option RequestState) → SameSender o r
+    → body_refused_at r ≡ first_of ((not (is_some o), refusal.NotOpen) ∷ (not (takes_body (unwrap_or o nothing_sent)), refusal.OutOfOrder) ∷ [])
+body_at None None h = refl
+body_at (Some o) (Some r) h = ap (λ b. refused_if (not b) refusal.OutOfOrder) (body_taken o r.outgoing h.same)
+body_at None (Some r) h = absurd h.same
+body_at (Some o) None h = absurd h.same
+
+end_at : (o : Option Outgoing) (r : Option RequestState) → SameSender o r
+    → end_refused_at r ≡ first_of ((not (is_some o), refusal.NotOpen) ∷ (not (takes_end (unwrap_or o nothing_sent)), refusal.OutOfOrder) ∷ [])
+end_at None None h = refl
+end_at (Some o) (Some r) h = ap (λ b. refused_if (not b) refusal.OutOfOrder) (end_taken o r.outgoing h.same)
+end_at None (Some r) h = absurd h.same
+end_at (Some o) None h = absurd h.same
+
+reset_at : (o : Option Outgoing) (r : Option RequestState) → SameSender o r
+    → reset_refused_at r ≡ first_of ((not (is_some o), refusal.NotOpen) ∷ (is_sent_off (unwrap_or o nothing_sent), refusal.Ended) ∷ [])
+reset_at None None h = refl
+reset_at (Some o) (Some r) h = ap (λ b. refused_if b refusal.Ended) (sent_off o r.outgoing h.same)
+reset_at None (Some r) h = absurd h.same
+reset_at (Some o) None h = absurd h.same
+
+-- Opening a request stream.
+open_by : (closed : Option ℕ) (side : Side) (last : Option ℕ) (ids : Option Refusal)
+    → unless_closed closed (by_side side (after_goaway last ids)) ≡ closed_or closed (if not (is_client side) then Some refusal.NotClient else going_away last ids)
+open_by (Some code) side last ids = refl
+open_by None Server last ids = refl
+open_by None Client None ids = refl
+open_by None Client (Some id) ids = refl
+
+pub open_refusal_is : (s : EndpointState) (e : EndpointHistory) → StandsFor s e → open_refused s ≡ open_refusal e
+open_refusal_is s e h = rw (h.closed, h.side, h.peer, h.next_id) (open_by e.closed e.side (last_id e.peer.goaways) (if nat_le (2 ^ 62) e.next_id then Some refusal.IdsUsedUp else None))
+
+-- Finishing.
+pub end_refusal_is : (s : EndpointState) (e : EndpointHistory) (id : ℕ) → StandsFor s e → end_refused s id ≡ finish_refusal e id
+end_refusal_is s e id h = ap (λ c. closed_or c (end_refused_at (kept_at s.requests id))) h.closed ∙ ap (closed_or e.closed) (end_at (stream_at e.outgoing id) (kept_at s.requests id) (sender s e id h))
+
+-- Sending a body.
+pub body_refusal_is : (s : EndpointState) (e : EndpointHistory) (id : ℕ) → StandsFor s e → body_refused s id ≡ body_refusal e id
+body_refusal_is s e id h = ap (λ c. closed_or c (body_refused_at (kept_at s.requests id))) h.closed ∙ ap (closed_or e.closed) (body_at (stream_at e.outgoing id) (kept_at s.requests id) (sender s e id h))
+
+sized : (closed : Option ℕ) (a b c : Bool) (p q r : Refusal) (settings : Option (List (ℕ × ℕ))) (fields : List Field)
+    → or_later (closed_or closed (if a then Some p else (if b then Some q else (if c then Some r else None)))) (size_refused settings fields)
+    ≡ closed_or closed (if a then Some p else (if b then Some q else (if c then Some r else (if is_too_large settings fields then Some (refusal.TooLarge (section_size fields)) else None))))
+sized (Some code) a b c p q r settings fields = refl
+sized None true b c p q r settings fields = refl
+sized None false true c p q r settings fields = refl
+sized None false false true p q r settings fields = refl
+sized None false false false p q r settings fields = refl
+
+-- Sending a head.
+pub head_refusal_is : (s : EndpointState) (e : EndpointHistory) (id : ℕ) (head : Head) → StandsFor s e
+    → or_later (head_refused s id head) (size_refused s.peer.settings (head_fields head)) ≡ head_refusal e id head
+head_refusal_is s e id head h =
+    let early : head_refused s id head ≡ closed_or e.closed (first_of ((not (is_some (stream_at e.outgoing id)), refusal.NotOpen) ∷ (not (takes_head (outgoing_at e id)), refusal.OutOfOrder) ∷ (not (is_for (other e.side) head), refusal.WrongSide) ∷ []))
+    = ap (λ c. closed_or c (head_refused_at s.side head (kept_at s.requests id))) h.closed ∙ ap (λ side. closed_or e.closed (head_refused_at side head (kept_at s.requests id))) h.side
+    ∙ ap (closed_or e.closed) (head_at e.side head (stream_at e.outgoing id) (kept_at s.requests id) (sender s e id h)) in
+    ap (λ o. or_later o (size_refused s.peer.settings (head_fields head))) early
+    ∙ ap (λ p. or_later (closed_or e.closed (first_of ((not (is_some (stream_at e.outgoing id)), refusal.NotOpen) ∷ (not (takes_head (outgoing_at e id)), refusal.OutOfOrder) ∷ (not (is_for (other e.side) head), refusal.WrongSide) ∷ []))) (size_refused p.settings (head_fields head))) h.peer
+    ∙ sized e.closed (not (is_some (stream_at e.outgoing id))) (not (takes_head (outgoing_at e id))) (not (is_for (other e.side) head)) refusal.NotOpen refusal.OutOfOrder refusal.WrongSide e.peer.settings (head_fields head)
+
+-- Sending a trailer.
+with_pseudo : (closed : Option ℕ) (a b c : Bool) (p q r : Refusal)
+    → or_later (closed_or closed (if a then Some p else (if b then Some q else None))) (refused_if c r) ≡ closed_or closed (if a then Some p else (if b then Some q else (if c then Some r else None)))
+with_pseudo (Some code) a b c p q r = refl
+with_pseudo None true b c p q r = refl
+with_pseudo None false true c p q r = refl
+with_pseudo None false false c p q r = refl
+
+pub trailer_refusal_is : (s : EndpointState) (e : EndpointHistory) (id : ℕ) (head : Head) → StandsFor s e
+    → or_later (trailer_refused s id head) (size_refused s.peer.settings (head_fields head)) ≡ trailer_refusal e id head
+trailer_refusal_is s e id head h =
+    let tests = with_pseudo e.closed (not (is_some (stream_at e.outgoing id))) (not (takes_body (outgoing_at e id))) (has_pseudo head) refusal.NotOpen refusal.OutOfOrder refusal.PseudoInTrailer in
+    ap (λ o. or_later (or_later o (refused_if (has_pseudo head) refusal.PseudoInTrailer)) (size_refused s.peer.settings (head_fields head))) (body_refusal_is s e id h)
+    ∙ ap (λ o. or_later o (size_refused s.peer.settings (head_fields head))) tests
+    ∙ ap (λ p. or_later (closed_or e.closed (first_of ((not (is_some (stream_at e.outgoing id)), refusal.NotOpen) ∷ (not (takes_body (outgoing_at e id)), refusal.OutOfOrder) ∷ (has_pseudo head, refusal.PseudoInTrailer) ∷ []))) (size_refused p.settings (head_fields head))) h.peer
+    ∙ sized e.closed (not (is_some (stream_at e.outgoing id))) (not (takes_body (outgoing_at e id))) (has_pseudo head) refusal.NotOpen refusal.OutOfOrder refusal.PseudoInTrailer e.peer.settings (head_fields head)
+
+-- Resetting.
+reset_by : (closed : Option ℕ) (a b c : Bool) (p q r : Refusal)
+    → closed_or closed (or_later (refused_if a p) (if b then Some q else (if c then Some r else None))) ≡ closed_or closed (if a then Some p else (if b then Some q else (if c then Some r else None)))
+reset_by (Some code) a b c p q r = refl
+reset_by None true b c p q r = refl
+reset_by None false b c p q r = refl
+
+pub reset_refusal_is : (s : EndpointState) (e : EndpointHistory) (id : ℕ) → StandsFor s e → reset_refused s id ≡ reset_refusal e id
+reset_refusal_is s e id h =
+    let critical : is_critical_in s id ≡ is_critical_id e id = critical_stands s (streams_of s) e s.side id (is_critical_in s id) refl h (sym h.side) in
+    ap (λ c. closed_or c (or_later (refused_if (is_critical_in s id) refusal.Critical) (reset_refused_at (kept_at s.requests id)))) h.closed
+    ∙ ap (λ b. closed_or e.closed (or_later (refused_if b refusal.Critical) (reset_refused_at (kept_at s.requests id)))) critical
+    ∙ ap (λ o. closed_or e.closed (or_later (refused_if (is_critical_id e id) refusal.Critical) o)) (reset_at (stream_at e.outgoing id) (kept_at s.requests id) (sender s e id h))
+    ∙ reset_by e.closed (is_critical_id e id) (not (is_some (stream_at e.outgoing id))) (is_sent_off (outgoing_at e id)) refusal.Critical refusal.NotOpen refusal.Ended
+
+-- Going away.
+pub goaway_refusal_is : (s : EndpointState) (e : EndpointHistory) (id : ℕ) → StandsFor s e → goaway_refused s id ≡ goaway_refusal e id
+goaway_refusal_is s e id h =
+    rw (h.closed, h.side, h.last_goaway) (ap (closed_or e.closed) (first (not (is_client e.side) && not (id % 4 == 0)) refusal.NotRequestId (raised id (last_id e.own.goaways))))
+
+-- No call is refused memory by its rules.
+none_if : (b : Bool) (r : Refusal) → r ≢ refusal.OutOfMemory → refused_if b r ≢ Some refusal.OutOfMemory
+none_if true r h is = h (cc)
+none_if false r h is = absurd (cc)
+
+pub end_takes_none : (s : EndpointState) (id : ℕ) → end_refused s id ≢ Some refusal.OutOfMemory
+end_takes_none s id = by s.closed (kept_at s.requests id)
+  where
+    by : (closed : Option ℕ) (r : Option RequestState) → closed_or closed (end_refused_at r) ≢ Some refusal.OutOfMemory
+    by (Some code) r is = absurd (cc)
+    by None None is = absurd (cc)
+    by None (Some r) is = none_if (not (sent.takes_end r.outgoing)) refusal.OutOfOrder (λ same. absurd (cc)) is
+
+pub reset_takes_none : (s : EndpointState) (id : ℕ) → reset_refused s id ≢ Some refusal.OutOfMemory
+reset_takes_none s id = by s.closed (is_critical_in s id) (kept_at s.requests id)
+  where
+    by : (closed : Option ℕ) (b : Bool) (r : Option RequestState) → closed_or closed (or_later (refused_if b refusal.Critical) (reset_refused_at r)) ≢ Some refusal.OutOfMemory
+    by (Some code) b r is = absurd (cc)
+    by None true r is = absurd (cc)
+    by None false None is = absurd (cc)
+    by None false (Some r) is = none_if (sent.is_sent_off r.outgoing) refusal.Ended (λ same. absurd (cc)) is
+
+pub body_takes_none : (s : EndpointState) (id : ℕ) → body_refused s id ≢ Some refusal.OutOfMemory
+body_takes_none s id = by s.closed (kept_at s.requests id)
+  where
+    by : (closed : Option ℕ) (r : Option RequestState) → closed_or closed (body_refused_at r) ≢ Some refusal.OutOfMemory
+    by (Some code) r is = absurd (cc)
+    by None None is = absurd (cc)
+    by None (Some r) is = none_if (not (sent.takes_body r.outgoing)) refusal.OutOfOrder (λ same. absurd (cc)) is
+
+pub head_takes_none : (s : EndpointState) (id : ℕ) (head : Head) → head_refused s id head ≢ Some refusal.OutOfMemory
+head_takes_none s id head = by s.closed s.side (kept_at s.requests id)
+  where
+    tests : (a b : Bool) → or_later (refused_if a refusal.OutOfOrder) (refused_if b refusal.WrongSide) ≢ Some refusal.OutOfMemory
+    tests true b is = absurd (cc)
+    tests false true is = absurd (cc)
+    tests false false is = absurd (cc)
+
+    by : (closed : Option ℕ) (side : Side) (r : Option RequestState) → closed_or closed (head_refused_at side head r) ≢ Some refusal.OutOfMemory
+    by (Some code) side r is = absurd (cc)
+    by None side None is = absurd (cc)
+    by None side (Some r) is = tests (not (sent.takes_head r.outgoing)) (not (is_for (other side) head)) is
+
+pub trailer_takes_none : (s : EndpointState) (id : ℕ) (trailer : Head) → trailer_refused s id trailer ≢ Some refusal.OutOfMemory
+trailer_takes_none s id trailer = by (body_refused s id) (has_pseudo trailer) (body_takes_none s id)
+  where
+    by : (a : Option Refusal) (b : Bool) → a ≢ Some refusal.OutOfMemory → or_later a (refused_if b refusal.PseudoInTrailer) ≢ Some refusal.OutOfMemory
+    by (Some r) b h is = h is
+    by None b h is = none_if b refusal.PseudoInTrailer (λ same. absurd (cc)) is

@@ -1,0 +1,85 @@
+-- Why a call that sends is refused, by what is stored.
+use Rattle.std.specs.Prelude.{ℕ, ◌%◌, Bool, List, not, ◌&&◌, if◌then◌else◌, ◌==◌, Option, Some, None, option_map}
+use Rattle.h3_field.specs.Field.{Field, section_size}
+use Rattle.h3_header.specs.Head.{Head, has_pseudo}
+use Rattle.h3_proto.specs.declared.stream.Side.{Side}
+use Rattle.h3_outgoing.specs.Sent.{takes_head, takes_body, takes_end, is_sent_off}
+use Rattle.h3_connection.specs.Endpoint.{kind_of}
+use Rattle.h3_connection.specs.OwnIds.{other}
+use Rattle.h3_connection.specs.Pulling.{is_client, is_for}
+use Rattle.h3_connection.specs.Sending.{closed_or, raised, is_too_large}
+use Rattle.h3_connection.specs.State.{EndpointState, RequestState, OutgoingState, kept_at}
+use Rattle.h3_streams.specs.Placed.{StreamsState, is_critical_at}
+use Rattle.h3_connection.specs.declared.event.Refusal.{Refusal}
+use Rattle.h3_connection.specs.declared.event.Refusal.TheVariants as refusal
+
+-- the first refusal, and where there is none the later one
+abbrev pub or_later : Option Refusal → Option Refusal → Option Refusal
+or_later (Some r) later = Some r
+or_later None later = later
+
+abbrev pub refused_if : Bool → Refusal → Option Refusal
+refused_if is r = if is then Some r else None
+
+-- the sender's part of a request stream
+abbrev pub sender_in : EndpointState → ℕ → Option OutgoingState
+sender_in s id = option_map (λ r. r.outgoing) (kept_at s.requests id)
+
+-- a head, its size apart: the stream's own rule comes before that of the side
+abbrev pub head_refused_at : Side → Head → Option RequestState → Option Refusal
+head_refused_at side head None = Some refusal.NotOpen
+head_refused_at side head (Some r) =
+    or_later (refused_if (not (takes_head r.outgoing)) refusal.OutOfOrder) (refused_if (not (is_for (other side) head)) refusal.WrongSide)
+
+abbrev pub head_refused : EndpointState → ℕ → Head → Option Refusal
+head_refused s id head = closed_or s.closed (head_refused_at s.side head (kept_at s.requests id))
+
+abbrev pub body_refused_at : Option RequestState → Option Refusal
+body_refused_at None = Some refusal.NotOpen
+body_refused_at (Some r) = refused_if (not (takes_body r.outgoing)) refusal.OutOfOrder
+
+abbrev pub body_refused : EndpointState → ℕ → Option Refusal
+body_refused s id = closed_or s.closed (body_refused_at (kept_at s.requests id))
+
+-- a trailer, its size apart
+abbrev pub trailer_refused : EndpointState → ℕ → Head → Option Refusal
+trailer_refused s id head = or_later (body_refused s id) (refused_if (has_pseudo head) refusal.PseudoInTrailer)
+
+abbrev pub end_refused_at : Option RequestState → Option Refusal
+end_refused_at None = Some refusal.NotOpen
+end_refused_at (Some r) = refused_if (not (takes_end r.outgoing)) refusal.OutOfOrder
+
+abbrev pub end_refused : EndpointState → ℕ → Option Refusal
+end_refused s id = closed_or s.closed (end_refused_at (kept_at s.requests id))
+
+-- what is stored of the unidirectional streams
+abbrev pub streams_of : EndpointState → StreamsState
+streams_of s =
+    record {
+      unidirectional = s.unidirectional;
+      control_on = s.control_on;
+      encoder_on = s.encoder_on;
+      decoder_on = s.decoder_on;
+      peer = s.peer;
+      decoding = s.decoding;
+      encoding = s.encoding;
+      own = s.own;
+    }
+
+-- the connection needs the stream of this id
+abbrev pub is_critical_in : EndpointState → ℕ → Bool
+is_critical_in s id = is_critical_at s.side (streams_of s) id (kind_of s.side id)
+
+abbrev pub reset_refused_at : Option RequestState → Option Refusal
+reset_refused_at None = Some refusal.NotOpen
+reset_refused_at (Some r) = refused_if (is_sent_off r.outgoing) refusal.Ended
+
+abbrev pub reset_refused : EndpointState → ℕ → Option Refusal
+reset_refused s id = closed_or s.closed (or_later (refused_if (is_critical_in s id) refusal.Critical) (reset_refused_at (kept_at s.requests id)))
+
+abbrev pub goaway_refused : EndpointState → ℕ → Option Refusal
+goaway_refused s id = closed_or s.closed (or_later (refused_if (not (is_client s.side) && not (id % 4 == 0)) refusal.NotRequestId) (raised id s.last_goaway))
+
+-- The size of a section is judged last, and by the peer's settings.
+abbrev pub size_refused : Option (List (ℕ × ℕ)) → List Field → Option Refusal
+size_refused settings fields = refused_if (is_too_large settings fields) (refusal.TooLarge (section_size fields))

@@ -1,0 +1,40 @@
+//! A copy of what waits to be sent.
+ghost use Rattle.std.specs.Prelude.{◌≡◌, ◌++◌, take, OnOk, OnErr};
+ghost use Rattle.h3_session.specs.Running.{CopiesOutgoing};
+
+use super::Endpoint;
+use h3_proto::stream::StreamId;
+use std::alloc::AllocError;
+
+impl Endpoint {
+    /// Appends the first `count` bytes that wait on a stream, at most all, to `out`, where `outgoing` lends those of the first
+    /// frame. They keep waiting. A refusal appends nothing.
+    #[tactic(auto, using(crate::proofs::Copying::copies_own))]
+    pub fn copy_outgoing(
+        &self,
+        id: StreamId,
+        count: usize,
+        out: &mut Vec<u8>,
+    ) -> Result<(), AllocError>
+        ensures ok { OnOk result (CopiesOutgoing self.now id count out.old.items out.new.items) }
+        ensures err { OnErr result (out.new.items ≡ out.old.items) }
+    {
+        let Some(stream) = self.sender(id) else {
+            append_front(self.own_outgoing(id), count, out)?;
+            return Ok(());
+        };
+        stream.copy_front(count, out)?;
+        Ok(())
+    }
+}
+
+/// Appends the first bytes of a text, at most all. A refusal appends nothing.
+fn append_front(bytes: &[u8], count: usize, out: &mut Vec<u8>) -> Result<(), AllocError>
+    ensures ok { OnOk result (out.new.items ≡ out.old.items ++ take count bytes.now) }
+    ensures err { OnErr result (out.new.items ≡ out.old.items) }
+{
+    if count < bytes.len() {
+        return out.extend_from_slice(&bytes[..count]);
+    }
+    out.extend_from_slice(bytes)
+}

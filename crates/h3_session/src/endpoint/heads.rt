@@ -1,0 +1,261 @@
+//! The heads and trailers that an endpoint sends.
+ghost use Rattle.std.specs.Prelude.{◌≡◌, ◌≢◌, ◌<◌, ◌^◌, ℕ, List, [], Some, IfOk, IfErr, IfSome, OnOk, OnErr, if◌then◌else◌};
+ghost use Rattle.h3_field.specs.Field.{Field, section_size};
+ghost use Rattle.h3_qpack.specs.EncoderHistory.{EncoderHistory};
+ghost use Rattle.h3_qpack.specs.EncoderState.{encoder_state};
+ghost use Rattle.h3_streams.specs.Placed.{StreamsState};
+ghost use Rattle.h3_connection.specs.Answers.{call_refused};
+ghost use Rattle.h3_connection.specs.Endpoint.{EndpointHistory};
+ghost use Rattle.h3_connection.specs.OwnIds.{other};
+ghost use Rattle.h3_connection.specs.Pulling.{is_for, is_interim};
+ghost use Rattle.h3_connection.specs.Sending.{is_too_large};
+ghost use Rattle.h3_connection.specs.SendingContracts.{SendsHead, SendsTrailer, CutsOff};
+ghost use Rattle.h3_connection.specs.State.{StandsFor};
+ghost use Rattle.h3_session.specs.Refused.{head_refused, trailer_refused, size_refused};
+ghost use Rattle.h3_session.specs.SendingFields.{Encodes, StopsEncoding, Queues, SendsFields, IsJudged};
+
+use super::Endpoint;
+use bytes::Bytes;
+use h3_coding::varint::VarInt;
+use h3_connection::event::Refusal;
+use h3_connection::place::SendPlace;
+use h3_field::HeaderField;
+use h3_header::Header;
+use h3_proto::frame::SettingId;
+use h3_proto::stream::{Side, StreamId};
+use h3_qpack::laws::sections_leave_their_counts;
+use h3_streams::streams::ConnectionStreams;
+use std::alloc::{AllocError, Global};
+
+impl Endpoint {
+    /// A head goes out on a stream: an encoded field section in a HEADERS frame (RFC 9114, section 4.3), and its insertions on the
+    /// encoder stream. One with a status from 100 to 199 is not the last one. Refused are, in this order, every call after a
+    /// connection fault, a stream that is not open, one whose final head or end was sent, a head of the other side's messages, and
+    /// one whose size is above what the peer's settings allow. Where memory is refused the encoder stream may have gained whole
+    /// instructions, and the stream is as it was.
+    pub fn send_head(&mut self, id: StreamId, head: &Header) -> Result<(), Refusal>
+        ensures { SendsHead self.old self.new id head.now result }
+    {
+        if let Some(refusal) = self.head_refusal(id, head) {
+            return Err(refusal);
+        }
+        let Ok(fields) = head.fields(self.alloc) else {
+            return Err(Refusal::OutOfMemory);
+        };
+        self.send_fields(id, fields.as_slice(), place_behind(head))
+    }
+
+    fn head_refusal(&self, id: StreamId, head: &Header) -> Option<Refusal>
+        ensures { result ≡ head_refused self.now id head.now }
+    {
+        if let Some(code) = self.closed {
+            return Some(Refusal::Closed(code));
+        }
+        let Some(stream) = self.requests.get(id) else {
+            return Some(Refusal::NotOpen);
+        };
+        if !stream.outgoing().takes_head() {
+            return Some(Refusal::OutOfOrder);
+        }
+        if !is_sent_by(self.side, head) {
+            return Some(Refusal::WrongSide);
+        }
+        None
+    }
+
+    /// A trailer goes out on a stream, as a head does, and ends the message's fields. Refused are, in this order, every call after
+    /// a connection fault, a stream that is not open, one whose final head was not sent, or whose trailer or end was, a trailer
+    /// with a pseudo-header field, and one whose size is above what the peer's settings allow.
+    pub fn send_trailer(&mut self, id: StreamId, trailer: &Header) -> Result<(), Refusal>
+        ensures { SendsTrailer self.old self.new id trailer.now result }
+    {
+        if let Some(refusal) = self.trailer_refusal(id, trailer) {
+            return Err(refusal);
+        }
+        let Ok(fields) = trailer.fields(self.alloc) else {
+            return Err(Refusal::OutOfMemory);
+        };
+        self.send_fields(id, fields.as_slice(), SendPlace::TrailerSent)
+    }
+
+    fn trailer_refusal(&self, id: StreamId, trailer: &Header) -> Option<Refusal>
+        ensures { result ≡ trailer_refused self.now id trailer.now }
+    {
+        if let Some(refusal) = self.body_refusal(id) {
+            return Some(refusal);
+        }
+        if trailer.has_pseudo() {
+            return Some(Refusal::PseudoInTrailer);
+        }
+        None
+    }
+
+    // Sends fields on a stream that takes them, where their size is allowed.
+    fn send_fields(
+        &mut self,
+        id: StreamId,
+        fields: &[HeaderField],
+        place: SendPlace,
+    ) -> Result<(), Refusal>
+        ensures { SendsFields self.old self.new id fields.now place (call_refused result) }
+    {
+        let sum = match self.judge_size(fields) {
+            Ok(sum) => sum,
+            Err(refusal) => return Err(refusal),
+        };
+        let Ok(()) = self.queue_section(id, fields, place) else {
+            return Err(Refusal::OutOfMemory);
+        };
+        self.sent = sum;
+        Ok(())
+    }
+
+    // What was sent, with these fields, where the peer allows their size.
+    #[tactic(auto, using(crate::proofs::Costs::cost_is, crate::proofs::Costs::many_fields))]
+    fn judge_size(&self, fields: &[HeaderField]) -> Result<u64, Refusal>
+        ensures ok { IfOk result (λ sum. IsJudged self.now fields.now sum) }
+        ensures err { IfErr result (λ refusal. refusal ≢ Refusal.OutOfMemory → size_refused self.now.peer.settings fields.now ≡ Some refusal) }
+    {
+        let Some(size) = section_size(fields) else {
+            return Err(Refusal::OutOfMemory);
+        };
+        if self.is_too_large(size) {
+            return Err(Refusal::TooLarge(size));
+        }
+        match self.sent_with(size + 32 * fields.len() as u64) {
+            Some(sum) => Ok(sum),
+            None => Err(Refusal::OutOfMemory),
+        }
+    }
+
+    // Whether fields of this size are more than the peer's settings allow. Before these came every size is allowed.
+    fn is_too_large(&self, size: u64) -> bool
+        ensures { (fields : List Field) → size ≡ section_size fields → result ≡ is_too_large self.now.peer.settings fields }
+    {
+        match self.streams.peer.settings() {
+            Some(settings) => {
+                let most = settings
+                    .get(SettingId::MAX_HEADER_LIST_SIZE)
+                    .unwrap_or(VarInt::MAX.into_inner());
+                size > most
+            }
+            None => false,
+        }
+    }
+
+    // Encodes fields, and puts the section behind what waits on the stream.
+    fn queue_section(
+        &mut self,
+        id: StreamId,
+        fields: &[HeaderField],
+        place: SendPlace,
+    ) -> Result<(), AllocError>
+        requires { section_size fields.now < 2 ^ 62 }
+        ensures ok { OnOk result (Queues self.old self.new id fields.now place) }
+        ensures err { OnErr result ((e : EndpointHistory) → StandsFor self.old e → CutsOff e id fields.now self.new) }
+    {
+        let Ok(()) = self.requests.reserve(id) else {
+            return Err(AllocError);
+        };
+        let Ok((section, count)) = encode(&mut self.streams, self.alloc, id, fields) else {
+            return Err(AllocError);
+        };
+        let Ok(()) = self.requests.send_section(id, section, place) else {
+            withdraw(&mut self.streams, id, count);
+            return Err(AllocError);
+        };
+        Ok(())
+    }
+}
+
+/// Encodes a field section, and writes its instructions on the own encoder stream. It answers the section and its required insert
+/// count. Where memory is refused the section is cut off.
+fn encode(
+    streams: &mut ConnectionStreams,
+    alloc: Global,
+    id: StreamId,
+    fields: &[HeaderField],
+) -> Result<(Bytes, usize), AllocError>
+    requires { section_size fields.now < 2 ^ 62 }
+    ensures ok { IfOk result (λ r. (s : EncoderHistory) → streams.old.encoding.encoder ≡ encoder_state s → Encodes s id fields.now r.0 r.1 streams.old streams.new) }
+    ensures err { OnErr result ((s : EncoderHistory) → streams.old.encoding.encoder ≡ encoder_state s → StopsEncoding s id fields.now streams.old streams.new) }
+{
+    let mut block = Vec::new(alloc);
+    let Ok(count) = encode_into(&mut block, streams, id, fields) else {
+        return Err(AllocError);
+    };
+    let Ok(section) = Bytes::from_vec(block) else {
+        withdraw(streams, id, count);
+        return Err(AllocError);
+    };
+    Ok((section, count))
+}
+
+/// The same into an empty vector. It answers the required insert count.
+fn encode_into(
+    block: &mut Vec<u8>,
+    streams: &mut ConnectionStreams,
+    id: StreamId,
+    fields: &[HeaderField],
+) -> Result<usize, AllocError>
+    requires small { section_size fields.now < 2 ^ 62 }
+    requires empty { block.old.items ≡ [] }
+    ensures ok { IfOk result (λ count. (s : EncoderHistory) → streams.old.encoding.encoder ≡ encoder_state s → Encodes s id fields.now block.new.items count streams.old streams.new) }
+    ensures err { OnErr result ((s : EncoderHistory) → streams.old.encoding.encoder ≡ encoder_state s → StopsEncoding s id fields.now streams.old streams.new) }
+{
+    streams
+        .encoding
+        .encode(id, block, &mut streams.own.encoder, fields)
+}
+
+/// Takes back the newest section of a stream: it is one then that was cut off behind all its fields.
+fn withdraw(streams: &mut ConnectionStreams, id: StreamId, count: usize)
+    ensures { (s : EncoderHistory) (fields : List Field) (section : List ℕ) (before : StreamsState) → Encodes s id fields section count before streams.old → StopsEncoding s id fields before streams.new }
+{
+    sections_leave_their_counts();
+    streams.encoding.withdraw(id, count);
+}
+
+/// The size of fields (RFC 9114, section 4.2.2), in bytes. No section of 2^62 bytes fits into memory.
+fn section_size(fields: &[HeaderField]) -> Option<u64>
+    ensures { IfSome result (λ size. (size ≡ section_size fields.now) × (size < 2 ^ 62)) }
+{
+    let mut size: u64 = 0;
+    for field in fields {
+        let more = field.mem_size() as u64;
+        if more >= 1 << 62 {
+            return None;
+        }
+        size += more;
+        if size >= 1 << 62 {
+            return None;
+        }
+    }
+    Some(size)
+}
+
+/// Whether a head is one that this side sends.
+fn is_sent_by(side: Side, head: &Header) -> bool
+    ensures { result ≡ is_for (other side) head.now }
+{
+    match side {
+        Side::Client => head.is_request(),
+        Side::Server => head.is_response(),
+    }
+}
+
+/// Where the message is behind a head: a status from 100 to 199 (RFC 9110, section 15.2) is not that of the final one.
+fn place_behind(head: &Header) -> SendPlace
+    ensures { result ≡ (if is_interim head.now.status then SendPlace.NothingSent else SendPlace.HeadSent) }
+{
+    match head.status() {
+        Some(status) => {
+            if (100..=199).contains(&status.as_u16()) {
+                SendPlace::NothingSent
+            } else {
+                SendPlace::HeadSent
+            }
+        }
+        None => SendPlace::HeadSent,
+    }
+}

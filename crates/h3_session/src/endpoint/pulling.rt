@@ -1,0 +1,295 @@
+//! What comes next on a stream, and the streams of which nothing more is wanted.
+ghost use Rattle.std.specs.Prelude.{◌≡◌, ◌≢◌, true, false, [], Some, None, IsSome, IfSome, is_some, option_map, OnOk, OnErr, option_copied};
+ghost use Rattle.h3_connection.specs.Calls.{AllSame};
+ghost use Rattle.h3_connection.specs.Endpoint.{EndpointHistory, kind_of};
+ghost use Rattle.h3_connection.specs.Endpoint.Kind.{Request, PeerUnidirectional};
+ghost use Rattle.h3_connection.specs.Keeping.{settles, is_settled_request};
+ghost use Rattle.h3_connection.specs.Pulling.{is_memory};
+ghost use Rattle.h3_connection.specs.ReceivingContracts.{PullsNext};
+ghost use Rattle.h3_connection.specs.Sending.{cancel_refusal};
+ghost use Rattle.h3_connection.specs.SendingContracts.{Cancels};
+ghost use Rattle.h3_connection.specs.State.{StandsFor, kept_at};
+ghost use Rattle.h3_connection.specs.declared.event.Refusal.TheVariants.{OutOfMemory};
+ghost use Rattle.h3_session.specs.Canceling.{cancel_refused, CancelsAt};
+ghost use Rattle.h3_requests.specs.Limited.{PullsWithin, ResumesThere};
+ghost use Rattle.h3_session.specs.Pulling.{PullsItem, ReadsKept, answer_code, closed_with, settled_in, unopened_answer};
+ghost use Rattle.h3_session.specs.OpenedLaws.{ChangesRequests};
+
+use super::Endpoint;
+use h3_connection::event::{Fault, Pull, Refusal};
+use h3_connection::setup::Announced;
+use h3_proto::error::Code;
+use h3_proto::stream::{Side, StreamId};
+use h3_requests::{RequestStream, RequestStreams};
+use h3_streams::ids::StreamKind;
+use h3_streams::streams::ConnectionStreams;
+use h3_unidirectional::waiting::WaitingBytes;
+use std::alloc::{AllocError, Global};
+
+/// Why a cancellation is refused.
+fn cancel_refused(
+    closed: Option<Code>,
+    critical: bool,
+    stream: Option<&RequestStream>,
+) -> Option<Refusal>
+    ensures rule { result ≡ cancel_refused closed critical (option_copied stream.entry) }
+    ensures memory { result ≢ Some OutOfMemory }
+{
+    if let Some(code) = closed {
+        return Some(Refusal::Closed(code));
+    }
+    if critical {
+        return Some(Refusal::Critical);
+    }
+    let Some(stream) = stream else {
+        return Some(Refusal::NotOpen);
+    };
+    let incoming = stream.incoming();
+    if incoming.is_over() || incoming.fault().is_some() {
+        return Some(Refusal::Ended);
+    }
+    None
+}
+
+/// The fault of the connection that an answer tells.
+fn fault_of(answer: &Pull) -> Option<Code>
+    ensures { result ≡ answer_code answer.now }
+{
+    match answer {
+        Pull::Fault(fault) => match fault {
+            Fault::Connection(code) => Some(*code),
+            Fault::Stream(_) => None,
+            Fault::Memory => None,
+        },
+        Pull::Item(_) => None,
+        Pull::Pending => None,
+        Pull::Waiting(_) => None,
+        Pull::NoMessages => None,
+    }
+}
+
+/// What a request stream gives that is not open: a server's peer may still open it.
+fn unopened(side: Side) -> Pull
+    ensures { result ≡ unopened_answer side }
+{
+    match side {
+        Side::Client => Pull::NoMessages,
+        Side::Server => Pull::Pending,
+    }
+}
+
+/// Whether the answer to each further pull is settled: the stream was given up, or its end was handed out.
+fn is_settled(stream: Option<&RequestStream>) -> bool
+    ensures { result ≡ is_settled_request (option_map (λ r. r.incoming) (option_copied stream.entry)) }
+{
+    match stream {
+        Some(stream) => {
+            let incoming = stream.incoming();
+            incoming.fault().is_some() || incoming.is_over()
+        }
+        None => false,
+    }
+}
+
+/// The next item of a request stream.
+fn pull_stream(
+    requests: &mut RequestStreams,
+    alloc: Global,
+    side: Side,
+    announced: &Announced,
+    id: StreamId,
+    streams: &mut ConnectionStreams,
+) -> Pull
+    ensures there { is_some (kept_at requests.new id) ≡ is_some (kept_at requests.old id) }
+    ensures answer { is_memory result ≡ false → IfSome (kept_at requests.old id) (λ before. IfSome (kept_at requests.new id) (λ after.
+        PullsWithin side announced.now id streams.old.decoding.decoder requests.old requests.new before after result streams.old.own.decoder streams.new.own.decoder)) }
+    ensures memory { is_memory result ≡ true → IfSome (kept_at requests.old id) (λ before. IfSome (kept_at requests.new id) (λ after.
+        ResumesThere requests.old requests.new id before after)) × (streams.new.own.decoder ≡ streams.old.own.decoder) }
+    ensures rest { streams.new ≡ record streams.old { own = record streams.old.own { decoder = streams.new.own.decoder } } }
+    ensures settled { IfSome (kept_at requests.old id) (λ before. is_settled_request (Some before.incoming) ≡ true → is_memory result ≡ false) }
+{
+    let replies = &mut streams.own.decoder;
+    let decoding = &streams.decoding;
+    requests.pull(
+        alloc,
+        side,
+        announced,
+        id,
+        decoding.decoder(),
+        replies.bytes_mut(),
+    )
+}
+
+// Gives up what comes on a stream, and tells the peer's encoder.
+fn cancel_stream(
+    requests: &mut RequestStreams,
+    alloc: Global,
+    id: StreamId,
+    replies: &mut WaitingBytes,
+) -> Result<(), AllocError>
+    ensures ok { OnOk result (CancelsAt requests.old requests.new replies.old replies.new id (kept_at requests.old id)) }
+    ensures err { OnErr result (AllSame requests.old requests.new × (replies.new ≡ replies.old)) }
+{
+    requests.cancel(alloc, id, replies.bytes_mut())
+}
+
+impl Endpoint {
+    /// What comes next on a stream: the fault of the connection, the fault for which the stream was given up, its end again, or its
+    /// next item. All that came before is read first. A fault of the connection closes it. `Fault::Memory` loses nothing: what came
+    /// is read on by the next delivery or pull, and the stream goes on as if it had not been asked.
+    #[tactic(auto, using(crate::proofs::PullingKept::pull_closed, crate::proofs::PullingKept::pull_alone, crate::proofs::PullingKept::pull_settled, crate::proofs::PullingKept::pull_behind, crate::proofs::PullingKept::pull_faulty, crate::proofs::PullingKept::pull_lacked))]
+    pub fn pull(&mut self, id: StreamId) -> Pull
+        ensures { PullsNext self.old self.new id result }
+    {
+        if let Some(code) = self.closed {
+            return Pull::Fault(Fault::Connection(code));
+        }
+        if self.kept.is_empty() {
+            return self.pull_next(id);
+        }
+        if self.is_settled(id) {
+            return self.pull_next(id);
+        }
+        match self.read_kept() {
+            Ok(None) => self.pull_next(id),
+            Ok(Some(code)) => {
+                self.closed = Some(code);
+                Pull::Fault(Fault::Connection(code))
+            }
+            Err(_) => Pull::Fault(Fault::Memory),
+        }
+    }
+
+    // Whether the answer to each further pull is settled.
+    #[tactic(auto, using(crate::proofs::PullingStreams::settled_is))]
+    fn is_settled(&self, id: StreamId) -> bool
+        ensures { (e : EndpointHistory) → StandsFor self.now e → result ≡ settles e id }
+    {
+        self.is_settled_here(id)
+    }
+
+    fn is_settled_here(&self, id: StreamId) -> bool
+        ensures { result ≡ settled_in self.now id (kind_of self.now.side id) }
+    {
+        match StreamKind::of(self.side, id) {
+            StreamKind::Request => is_settled(self.requests.get(id)),
+            StreamKind::PeerUnidirectional => match self
+                .streams
+                .unidirectional
+                .get(&id.into_inner())
+            {
+                Some(stream) => stream.is_settled(),
+                None => false,
+            },
+            StreamKind::ServerOpened => false,
+            StreamKind::OwnUnidirectional => false,
+        }
+    }
+
+    // Reads all that is kept, up to the first fault, which it answers.
+    #[tactic(auto, using(crate::proofs::PullingKept::kept_same))]
+    fn read_kept(&mut self) -> Result<Option<Code>, AllocError>
+        ensures reads { (e : EndpointHistory) → StandsFor self.old e → ReadsKept e result self.new }
+        ensures none_kept { OnOk result (self.new.kept ≡ []) }
+    {
+        let Ok(arrivals) = self.take_kept(0) else {
+            return Err(AllocError);
+        };
+        self.read_all(arrivals)
+    }
+
+    // The stream's next item, whatever is kept.
+    #[tactic(auto, using(crate::proofs::PullingStreams::pulls_server_opened, crate::proofs::PullingStreams::pulls_own))]
+    fn pull_next(&mut self, id: StreamId) -> Pull
+        ensures { PullsItem self.old self.new id result }
+    {
+        match StreamKind::of(self.side, id) {
+            StreamKind::Request => self.pull_request(id),
+            StreamKind::PeerUnidirectional => self.pull_peer(id),
+            StreamKind::ServerOpened => Pull::NoMessages,
+            StreamKind::OwnUnidirectional => Pull::NoMessages,
+        }
+    }
+
+    #[tactic(auto, using(crate::proofs::PullingStreams::pulls_peer))]
+    fn pull_peer(&mut self, id: StreamId) -> Pull
+        requires { kind_of self.old.side id ≡ PeerUnidirectional }
+        ensures { PullsItem self.old self.new id result }
+    {
+        self.streams.pull(id)
+    }
+
+    // A fault of the connection closes it.
+    #[tactic(auto, using(crate::proofs::PullingStreams::pulls_unopened, crate::proofs::PullingStreams::pulls_open))]
+    fn pull_request(&mut self, id: StreamId) -> Pull
+        requires { kind_of self.old.side id ≡ Request }
+        ensures { PullsItem self.old self.new id result }
+    {
+        if self.requests.get(id).is_none() {
+            return unopened(self.side);
+        }
+        let answer = self.pull_open(id);
+        self.close_with(&answer);
+        answer
+    }
+
+    fn close_with(&mut self, answer: &Pull)
+        ensures { self.new ≡ closed_with (answer_code answer.now) self.old }
+    {
+        if let Some(code) = fault_of(answer) {
+            self.closed = Some(code);
+        }
+    }
+
+    fn pull_open(&mut self, id: StreamId) -> Pull
+        ensures rest { ChangesRequests self.old self.new }
+        ensures there { is_some (kept_at self.new.requests id) ≡ is_some (kept_at self.old.requests id) }
+        ensures answer { is_memory result ≡ false → IfSome (kept_at self.old.requests id) (λ before. IfSome (kept_at self.new.requests id) (λ after.
+            PullsWithin self.old.side self.old.announced id self.old.decoding.decoder self.old.requests self.new.requests before after result self.old.own.decoder self.new.own.decoder)) }
+        ensures memory { is_memory result ≡ true → IfSome (kept_at self.old.requests id) (λ before. IfSome (kept_at self.new.requests id) (λ after.
+            ResumesThere self.old.requests self.new.requests id before after)) × (self.new.own.decoder ≡ self.old.own.decoder) }
+        ensures settled { IfSome (kept_at self.old.requests id) (λ before. is_settled_request (Some before.incoming) ≡ true → is_memory result ≡ false) }
+    {
+        let alloc = self.alloc;
+        let side = self.side;
+        let announced = &self.announced;
+        let streams = &mut self.streams;
+        let requests = &mut self.requests;
+        pull_stream(requests, alloc, side, announced, id, streams)
+    }
+
+    /// Nothing more is wanted of a request stream: what came on it is thrown away, and the peer's encoder is told (RFC 9204,
+    /// section 2.2.2.2). Refused are, in this order, calls after a connection fault, streams that the connection needs, those
+    /// that are not open, and those whose end was handed out or that were given up. Want of memory changes nothing.
+    #[tactic(auto, using(crate::proofs::ReceivingCancel::cancel_was_refused, crate::proofs::ReceivingCancel::cancel_lacked, crate::proofs::ReceivingCancel::canceled))]
+    pub fn cancel(&mut self, id: StreamId) -> Result<(), Refusal>
+        ensures { Cancels self.old self.new id result }
+    {
+        if let Some(refusal) = self.cancel_refusal(id) {
+            return Err(refusal);
+        }
+        let Ok(()) = self.cancel_open(id) else {
+            return Err(Refusal::OutOfMemory);
+        };
+        Ok(())
+    }
+
+    fn cancel_open(&mut self, id: StreamId) -> Result<(), AllocError>
+        ensures rest { ChangesRequests self.old self.new }
+        ensures ok { OnOk result (CancelsAt self.old.requests self.new.requests self.old.own.decoder self.new.own.decoder id (kept_at self.old.requests id)) }
+        ensures err { OnErr result (AllSame self.old.requests self.new.requests × (self.new.own.decoder ≡ self.old.own.decoder)) }
+    {
+        let replies = &mut self.streams.own.decoder;
+        cancel_stream(&mut self.requests, self.alloc, id, replies)
+    }
+
+    #[tactic(auto, using(crate::proofs::ReceivingCancel::cancel_refusal_is, crate::proofs::ReceivingCancel::there_by))]
+    fn cancel_refusal(&self, id: StreamId) -> Option<Refusal>
+        ensures rule { (e : EndpointHistory) → StandsFor self.now e → result ≡ cancel_refusal e id }
+        ensures there { result ≡ None → IsSome (kept_at self.now.requests id) }
+        ensures memory { result ≢ Some OutOfMemory }
+    {
+        let critical = self.streams.is_critical(self.side, id);
+        cancel_refused(self.closed, critical, self.requests.get(id))
+    }
+}

@@ -1,0 +1,269 @@
+//! What an endpoint sends.
+ghost use Rattle.std.specs.Prelude.{◌≡◌, ◌≤◌, ◌+◌, ◌++◌, length, not, IfSome, OnOk, OnErr, option_copied};
+ghost use Rattle.h3_connection.specs.Calls.{open_refused};
+ghost use Rattle.h3_connection.specs.Endpoint.{goaway_encoding};
+ghost use Rattle.h3_connection.specs.Pulling.{is_client};
+ghost use Rattle.h3_connection.specs.ReadingContracts.{LendsOutgoing, ShowsWaiting};
+ghost use Rattle.h3_connection.specs.SendingContracts.{Opens, SendsBody, Finishes, Resets, GoesAway, Advances};
+ghost use Rattle.h3_unidirectional.specs.Owned.{waiting_on, having_taken};
+ghost use Rattle.h3_session.specs.Refused.{sender_in, body_refused, end_refused, reset_refused, goaway_refused};
+
+use super::Endpoint;
+use bytes::Bytes;
+use h3_coding::varint::VarInt;
+use h3_connection::event::Refusal;
+use h3_outgoing::OutgoingStream;
+use h3_proto::stream::{Side, StreamId};
+use h3_streams::streams::ConnectionStreams;
+use std::alloc::{AllocError, Global};
+
+impl Endpoint {
+    /// Opens the next request stream. Refused are, in this order, every call after a connection fault, a server's, one after the
+    /// peer's GOAWAY, and one beyond the last stream id.
+    pub fn open_request(&mut self) -> Result<StreamId, Refusal>
+        ensures { Opens self.old self.new result }
+    {
+        if let Some(refusal) = self.open_refusal() {
+            return Err(refusal);
+        }
+        let Ok(id) = StreamId::try_from(self.next_id) else {
+            return Err(Refusal::IdsUsedUp);
+        };
+        let Ok(()) = self.requests.open(self.alloc, id) else {
+            return Err(Refusal::OutOfMemory);
+        };
+        self.next_id += 4;
+        Ok(id)
+    }
+
+    fn open_refusal(&self) -> Option<Refusal>
+        ensures { result ≡ open_refused self.now }
+    {
+        if let Some(code) = self.closed {
+            return Some(Refusal::Closed(code));
+        }
+        if let Side::Server = self.side {
+            return Some(Refusal::NotClient);
+        }
+        if let Some(id) = self.streams.peer.last_goaway() {
+            return Some(Refusal::GoingAway(StreamId::from(id)));
+        }
+        if self.next_id >= 1 << 62 {
+            return Some(Refusal::IdsUsedUp);
+        }
+        None
+    }
+
+    /// A body goes out on a stream, as the payload of a DATA frame (RFC 9114, section 7.2.1); an empty one writes nothing. Refused
+    /// are, in this order, every call after a connection fault, a stream that is not open, one whose final head was not sent, or
+    /// whose trailer or end was, and want of memory. A refused body comes back.
+    pub fn send_body(&mut self, id: StreamId, body: Bytes) -> Result<(), (Refusal, Bytes)>
+        ensures { SendsBody self.old self.new id body result }
+    {
+        if let Some(refusal) = self.body_refusal(id) {
+            return Err((refusal, body));
+        }
+        let Some(sent) = self.sent_with(body.len() as u64) else {
+            return Err((Refusal::OutOfMemory, body));
+        };
+        if let Err(body) = self.requests.send_body(id, body) {
+            return Err((Refusal::OutOfMemory, body));
+        }
+        self.sent = sent;
+        Ok(())
+    }
+
+    pub(super) fn body_refusal(&self, id: StreamId) -> Option<Refusal>
+        ensures { result ≡ body_refused self.now id }
+    {
+        if let Some(code) = self.closed {
+            return Some(Refusal::Closed(code));
+        }
+        let Some(stream) = self.requests.get(id) else {
+            return Some(Refusal::NotOpen);
+        };
+        if !stream.outgoing().takes_body() {
+            return Some(Refusal::OutOfOrder);
+        }
+        None
+    }
+
+    // What was sent, in bytes and 64 for each field and call, with a call of this cost. No endpoint sends 2^56 bytes: such a sum
+    // is refused as want of memory.
+    pub(super) fn sent_with(&self, cost: u64) -> Option<u64>
+        ensures { IfSome result (λ sum. sum ≡ self.now.sent + cost + 64) }
+    {
+        let sum = self.sent.checked_add(cost)?.checked_add(64)?;
+        if sum < 1 << 56 { Some(sum) } else { None }
+    }
+
+    /// The message on a stream is whole (RFC 9114, section 4.1). It takes no memory. Refused are, in this order, every call after a
+    /// connection fault, a stream that is not open, and one whose final head was not sent, or whose sending has ended.
+    pub fn finish(&mut self, id: StreamId) -> Result<(), Refusal>
+        ensures { Finishes self.old self.new id result }
+    {
+        if let Some(refusal) = self.finish_refusal(id) {
+            return Err(refusal);
+        }
+        self.requests.finish(id);
+        Ok(())
+    }
+
+    fn finish_refusal(&self, id: StreamId) -> Option<Refusal>
+        ensures { result ≡ end_refused self.now id }
+    {
+        if let Some(code) = self.closed {
+            return Some(Refusal::Closed(code));
+        }
+        let Some(stream) = self.requests.get(id) else {
+            return Some(Refusal::NotOpen);
+        };
+        if !stream.outgoing().takes_end() {
+            return Some(Refusal::OutOfOrder);
+        }
+        None
+    }
+
+    /// Sending on a stream ends here, and what waits is dropped. It takes no memory. Refused are, in this order, every call after a
+    /// connection fault, a stream that the connection needs, one that is not open, and one of which nothing is left to be sent.
+    pub fn reset(&mut self, id: StreamId) -> Result<(), Refusal>
+        ensures { Resets self.old self.new id result }
+    {
+        if let Some(refusal) = self.reset_refusal(id) {
+            return Err(refusal);
+        }
+        self.requests.reset(id);
+        Ok(())
+    }
+
+    fn reset_refusal(&self, id: StreamId) -> Option<Refusal>
+        ensures { result ≡ reset_refused self.now id }
+    {
+        if let Some(code) = self.closed {
+            return Some(Refusal::Closed(code));
+        }
+        if self.streams.is_critical(self.side, id) {
+            return Some(Refusal::Critical);
+        }
+        let Some(stream) = self.requests.get(id) else {
+            return Some(Refusal::NotOpen);
+        };
+        if stream.outgoing().is_sent_off() {
+            return Some(Refusal::Ended);
+        }
+        None
+    }
+
+    /// Takes no request from this id on, or, of a client, no push (RFC 9114, section 5.2). Refused are, in this order, every call
+    /// after a connection fault, of a server the id of no request stream, and an id above that of an earlier call.
+    pub fn goaway(&mut self, id: VarInt) -> Result<(), Refusal>
+        ensures { GoesAway self.old self.new id result }
+    {
+        if let Some(refusal) = self.goaway_refusal(id) {
+            return Err(refusal);
+        }
+        let Ok(()) = write_goaway(&mut self.streams, self.alloc, id) else {
+            return Err(Refusal::OutOfMemory);
+        };
+        self.last_goaway = Some(id);
+        Ok(())
+    }
+
+    fn goaway_refusal(&self, id: VarInt) -> Option<Refusal>
+        ensures { result ≡ goaway_refused self.now id }
+    {
+        if let Some(code) = self.closed {
+            return Some(Refusal::Closed(code));
+        }
+        let number = id.into_inner();
+        if is_server(self.side) && number % 4 != 0 {
+            return Some(Refusal::NotRequestId);
+        }
+        if let Some(earlier) = self.last_goaway {
+            if number > earlier.into_inner() {
+                return Some(Refusal::Raised(earlier.into_inner()));
+            }
+        }
+        None
+    }
+
+    /// Takes the first bytes that wait on a stream, at most all. It takes no memory.
+    pub fn advance(&mut self, id: StreamId, count: usize)
+        ensures { Advances self.old self.new id count }
+    {
+        let Some(_) = self.sender(id) else {
+            let waiting = self.own_outgoing(id).len();
+            take_own(&mut self.streams, self.side, id, count.min(waiting));
+            return;
+        };
+        self.requests.advance(id, count);
+    }
+
+    /// Some of the bytes that wait on a stream, from the first on. Empty exactly where nothing waits.
+    #[tactic(auto, using(crate::proofs::Taking::lends_request, crate::proofs::Taking::lends_own))]
+    pub fn outgoing(&self, id: StreamId) -> &[u8]
+        ensures { LendsOutgoing self.now id result.now }
+    {
+        match self.sender(id) {
+            Some(stream) => stream.outgoing(),
+            None => self.own_outgoing(id),
+        }
+    }
+
+    /// How many bytes wait on a stream.
+    #[tactic(auto, using(crate::proofs::Taking::shows_request, crate::proofs::Taking::shows_own))]
+    pub fn waiting(&self, id: StreamId) -> usize
+        ensures { ShowsWaiting self.now id result }
+    {
+        match self.sender(id) {
+            Some(stream) => stream.waiting(),
+            None => self.own_outgoing(id).len(),
+        }
+    }
+
+    // What is sent on a request stream, where it is there.
+    pub(super) fn sender(&self, id: StreamId) -> Option<&OutgoingStream>
+        ensures { option_copied result ≡ sender_in self.now id }
+    {
+        match self.requests.get(id) {
+            Some(stream) => Some(stream.outgoing()),
+            None => None,
+        }
+    }
+
+    // What waits on an own stream, and nothing on a stream that is none.
+    pub(super) fn own_outgoing(&self, id: StreamId) -> &[u8]
+        ensures { result.now ≡ waiting_on self.now.own self.now.side id }
+    {
+        self.streams.own.outgoing(self.side, id)
+    }
+}
+
+fn is_server(side: Side) -> bool
+    ensures { result ≡ not (is_client side) }
+{
+    match side {
+        Side::Client => false,
+        Side::Server => true,
+    }
+}
+
+/// Writes a GOAWAY frame on the own control stream. A refusal changes nothing.
+fn write_goaway(
+    streams: &mut ConnectionStreams,
+    alloc: Global,
+    id: VarInt,
+) -> Result<(), AllocError>
+    ensures ok { OnOk result (streams.new ≡ record streams.old { own = record streams.old.own { control = streams.old.own.control ++ goaway_encoding id } }) }
+    ensures err { OnErr result (streams.new ≡ streams.old) }
+{
+    streams.own.goaway(alloc, id)
+}
+
+/// Takes the first `count` bytes that wait on an own stream.
+fn take_own(streams: &mut ConnectionStreams, side: Side, id: StreamId, count: usize)
+    requires { count ≤ length (waiting_on streams.old.own side id) }
+    ensures { streams.new ≡ record streams.old { own = having_taken streams.old.own side id count } }
+{
+    streams.own.advance(side, id, count);
+}

@@ -1,0 +1,61 @@
+//! A client and a server over a schedule: two endpoints, and the bytes carried between them.
+ghost use Rattle.std.specs.Prelude.{◌≡◌, ◌<◌, ◌^◌, false, IfOk};
+ghost use Rattle.std.specs.List.{list_any};
+ghost use Rattle.h3_connection.specs.State.{StandsFor};
+ghost use Rattle.h3_world.specs.Ends.{Ends, new_ends};
+ghost use Rattle.h3_world.specs.Headline.{is_memory};
+ghost use Rattle.h3_world.specs.Setup.{IsMadeSetup};
+ghost use Rattle.h3_session.specs.Running.{RunsTo};
+
+mod acting;
+mod carrying;
+
+use self::acting::act;
+use crate::endpoint::Endpoint;
+use h3_proto::stream::Side;
+use h3_world::event::{Answer, Event};
+use h3_world::setup::Setup;
+use std::alloc::{AllocError, Global};
+
+/// What a run gives: an answer for each event, and both endpoints as the schedule left them.
+#[derive(Drop)]
+pub struct Outcome {
+    pub answers: Vec<Answer>,
+    pub client: Endpoint,
+    pub server: Endpoint,
+}
+
+/// Answers the events in order.
+fn run_between(
+    alloc: Global,
+    client: &mut Endpoint,
+    server: &mut Endpoint,
+    events: &[Event],
+) -> Result<Vec<Answer>, AllocError>
+    ensures { IfOk result (λ answers. (ends : Ends) → StandsFor client.old ends.client → StandsFor server.old ends.server →
+        list_any is_memory answers.items ≡ false → RunsTo ends events.now answers.items client.new server.new) }
+{
+    let mut answers = Vec::with_capacity(alloc, events.len())?;
+    for event in events {
+        let answer = act(alloc, client, server, event);
+        answers.push(answer)?;
+    }
+    Ok(answers)
+}
+
+/// Drives a client and a server by the events, in order, and answers each. `Err` arises only where there is no room for the
+/// endpoints and the answers, before the first event.
+pub fn run(alloc: Global, setup: Setup, events: &[Event]) -> Result<Outcome, AllocError>
+    requires { IsMadeSetup setup }
+    ensures { IfOk result (λ out. list_any is_memory out.answers.items ≡ false →
+        RunsTo (new_ends setup) events.now out.answers.items out.client out.server) }
+{
+    let mut client = Endpoint::announcing(alloc, Side::Client, setup.client)?;
+    let mut server = Endpoint::announcing(alloc, Side::Server, setup.server)?;
+    let answers = run_between(alloc, &mut client, &mut server, events)?;
+    Ok(Outcome {
+        answers,
+        client,
+        server,
+    })
+}

@@ -1,0 +1,17 @@
+use Rattle.std.proofs.Common.{◌+◌, ◌-◌, ◌^◌, ◌<◌, ◌≤◌, ℕ, List}
+use Rattle.std.specs.Prelude.{vec_len}
+use Rattle.std.specs.Vec.{vec_capacity}
+use Rattle.h3_field.proofs.Integers.{Left}
+use Rattle.h3_streams.proofs.learning.put_capacity.Given as goal
+
+pub record Invariant (start items : List ℕ) (all left len capacity room : ℕ) : Type 0 where
+  pub written : Left start items 63 (all - 31) left
+  pub room_is : len + room ≤ capacity
+  pub above : 0 < room
+  pub enough : left < 128 ^ room
+
+abbrev pub invariant-loop-left : goal.invariant-loop-left
+invariant-loop-left l = (room : ℕ) × Invariant l.fn.out.items l.out.items l.capacity l.left (vec_len l.out) (vec_capacity l.out) room
+
+abbrev pub decreases-loop-left : goal.decreases-loop-left
+decreases-loop-left l = l.left

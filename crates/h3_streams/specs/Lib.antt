@@ -1,0 +1,5 @@
+pub mod Ids
+pub mod Placed
+pub mod PlacedLaws
+pub mod ReadingOn
+pub mod Stopping

@@ -1,0 +1,158 @@
+//! What comes on the peer's unidirectional streams (RFC 9114, section 6.2).
+ghost use Rattle.std.specs.Prelude.{◌≡◌, ◌||◌, true, [], ◌∷◌, length, IfOk, IfErr, IfSome, OnErr};
+ghost use Rattle.std.specs.List.{concat};
+ghost use Rattle.h3_connection.specs.declared.arrival.Arrival.TheVariants.{BytesCame};
+ghost use Rattle.h3_connection.specs.Delivering.{bytes_at, end_at, reset_at, push_code};
+ghost use Rattle.h3_connection.specs.Endpoint.{EndpointHistory, kind_of, is_read_as};
+ghost use Rattle.h3_connection.specs.Endpoint.Kind.{PeerUnidirectional};
+ghost use Rattle.h3_connection.specs.State.{EndpointState, StandsFor};
+ghost use Rattle.h3_connection.specs.Unidirectional.{is_critical};
+ghost use Rattle.h3_streams.specs.Placed.{placed, stream_of_peer, Reads, KeepsAll, closing_code};
+ghost use Rattle.h3_streams.specs.ReadingOn.{MayRead, IsDue, StopsAt, left_arrivals};
+
+use crate::ids::StreamKind;
+use crate::left::Left;
+use crate::map;
+use crate::readers::MOST_HELD;
+use crate::streams::{ConnectionStreams, is_read_as};
+use bytes::Bytes;
+use h3_proto::error::Code;
+use h3_proto::stream::{Side, StreamId};
+use h3_unidirectional::stream::Received;
+use std::alloc::{AllocError, Global};
+
+/// The fault of an end or a reset.
+fn closing_fault(is_critical: bool) -> Option<Code>
+    ensures { result ≡ closing_code is_critical }
+{
+    if is_critical {
+        return Some(Code::H3_CLOSED_CRITICAL_STREAM);
+    }
+    None
+}
+
+/// The fault of a push stream: a client has allowed none, and to a server none may come.
+fn push_fault(side: Side) -> Code
+    ensures { result ≡ push_code side }
+{
+    match side {
+        Side::Client => Code::H3_ID_ERROR,
+        Side::Server => Code::H3_STREAM_CREATION_ERROR,
+    }
+}
+
+/// Whether this is none, or a unidirectional stream of the peer.
+fn is_peers(side: Side, id: Option<StreamId>) -> bool
+    ensures { result ≡ true → IfSome id (λ d. kind_of side d ≡ PeerUnidirectional) }
+{
+    let Some(id) = id else {
+        return true;
+    };
+    match StreamKind::of(side, id) {
+        StreamKind::PeerUnidirectional => true,
+        StreamKind::Request => false,
+        StreamKind::ServerOpened => false,
+        StreamKind::OwnUnidirectional => false,
+    }
+}
+
+impl ConnectionStreams {
+    /// Whether a stream of the peer was told to be its control, encoder or decoder stream.
+    fn is_told(&self, id: StreamId) -> bool
+        ensures { result ≡ is_critical (stream_of_peer self.now id).role }
+    {
+        match self.unidirectional.get(&id.into_inner()) {
+            Some(stream) => stream.is_critical(),
+            None => false,
+        }
+    }
+
+    /// How many bytes of a session came on it and were not handed out.
+    fn session_len(&self, id: StreamId) -> usize
+        ensures { result ≡ length (concat (stream_of_peer self.now id).unread) }
+    {
+        match self.unidirectional.get(&id.into_inner()) {
+            Some(stream) => stream.unread_len(),
+            None => 0,
+        }
+    }
+
+    /// Whether it is read as the control, encoder or decoder stream.
+    fn is_read(&self, id: StreamId) -> bool
+        ensures { result ≡ (is_read_as self.now.control_on id || is_read_as self.now.encoder_on id || is_read_as self.now.decoder_on id) }
+    {
+        is_read_as(self.control_on, id)
+            || is_read_as(self.encoder_on, id)
+            || is_read_as(self.decoder_on, id)
+    }
+
+    /// Whether bytes can be read here. It is so after any calls, unless more is held than any memory has room for: a stream is
+    /// read as one of the connection's once that is told, and those are unidirectional streams of the peer.
+    fn may_read(&self, side: Side, id: StreamId, told: bool, len: usize) -> bool
+        ensures { result ≡ true → MayRead self.now side id told len }
+    {
+        if self.session_len(id) >= MOST_HELD || len >= MOST_HELD {
+            return false;
+        }
+        if !told && self.is_read(id) {
+            return false;
+        }
+        is_peers(side, self.decoder_on)
+    }
+
+    /// Bytes came on a unidirectional stream of the peer, which is not closed. They tell its role, or are for it: what is for the
+    /// control, encoder and decoder stream is read, up to the first fault, and that is answered. Where memory is refused, what was
+    /// read stands, and the answer is what is still to be read.
+    pub fn bytes(
+        &mut self,
+        alloc: Global,
+        side: Side,
+        id: StreamId,
+        bytes: Bytes,
+    ) -> Result<Option<Code>, Left>
+        ensures ok { IfOk result (λ fault. (s : EndpointState) (e : EndpointHistory) → IsDue s self.old e side id → Reads s fault self.new (bytes_at e id bytes PeerUnidirectional)) }
+        ensures err { IfErr result (λ left. (s : EndpointState) (e : EndpointHistory) → IsDue s self.old e side id → StopsAt s self.new e (BytesCame id bytes ∷ []) (left_arrivals left)) }
+    {
+        let told = self.is_told(id);
+        if !self.may_read(side, id, told, bytes.len()) {
+            return Err(Left::of(id, bytes));
+        }
+        match map::receive(&mut self.unidirectional, alloc, id, bytes) {
+            Ok(Received::Nothing) => Ok(None),
+            Ok(Received::Push) => Ok(Some(push_fault(side))),
+            Ok(Received::Control(rest)) => self.control_bytes(alloc, side, id, told, rest),
+            Ok(Received::Encoder(rest)) => self.encoder_bytes(id, told, rest),
+            Ok(Received::Decoder(rest)) => self.decoder_bytes(id, told, rest),
+            Err(back) => Err(Left::of(id, back)),
+        }
+    }
+
+    /// The end of a stream of the peer came. It answers the fault that this is, where the connection needs the stream. Where memory
+    /// is refused nothing has changed.
+    pub fn end(&mut self, alloc: Global, id: StreamId) -> Result<Option<Code>, AllocError>
+        ensures ok { IfOk result (λ fault. (s : EndpointState) (e : EndpointHistory) → StandsFor (placed s self.old) e → Reads s fault self.new (end_at e id PeerUnidirectional)) }
+        ensures err { OnErr result (KeepsAll self.old self.new) }
+    {
+        let Ok(is_critical) = map::close(&mut self.unidirectional, alloc, id, None) else {
+            return Err(AllocError);
+        };
+        Ok(closing_fault(is_critical))
+    }
+
+    /// A stream of the peer was cut off, with this code. It answers the fault that this is, where the connection needs the stream.
+    /// Where memory is refused nothing has changed.
+    pub fn reset(
+        &mut self,
+        alloc: Global,
+        id: StreamId,
+        code: u64,
+    ) -> Result<Option<Code>, AllocError>
+        ensures ok { IfOk result (λ fault. (s : EndpointState) (e : EndpointHistory) → StandsFor (placed s self.old) e → Reads s fault self.new (reset_at e id code PeerUnidirectional)) }
+        ensures err { OnErr result (KeepsAll self.old self.new) }
+    {
+        let Ok(is_critical) = map::close(&mut self.unidirectional, alloc, id, Some(code)) else {
+            return Err(AllocError);
+        };
+        Ok(closing_fault(is_critical))
+    }
+}

@@ -1,0 +1,107 @@
+//! The peer's unidirectional streams by their ids.
+ghost use Rattle.std.specs.Prelude.{◌≡◌, ◌+◌, ◌<◌, ◌^◌, length, IsSome, is_none, IfOk, IfErr, OnOk, OnErr};
+ghost use Rattle.std.specs.List.{concat};
+ghost use Rattle.h3_connection.specs.Calls.{Sets, AllSame};
+ghost use Rattle.h3_connection.specs.State.{kept_at};
+ghost use Rattle.h3_streams.specs.Placed.{peer_stream, Pulls, Receives, Closes};
+
+use bytes::Bytes;
+use h3_connection::event::Pull;
+use h3_proto::stream::StreamId;
+use h3_unidirectional::stream::{Received, UnidirectionalStream};
+use std::alloc::{AllocError, Global};
+use std::collections::BTreeMap;
+
+/// The next item of the stream of this id.
+pub(crate) fn pull(streams: &mut BTreeMap<u64, UnidirectionalStream>, id: StreamId) -> Pull
+    ensures { Pulls (kept_at streams.old.entries id) result streams.old.entries streams.new.entries id }
+{
+    match streams.get_mut(&id.into_inner()) {
+        Some(stream) => stream.pull(),
+        None => Pull::Pending,
+    }
+}
+
+/// Puts a stream there of which nothing came, where there is none, and answers whether there was none. A refusal changes nothing.
+fn open(
+    streams: &mut BTreeMap<u64, UnidirectionalStream>,
+    alloc: Global,
+    id: StreamId,
+) -> Result<bool, AllocError>
+    ensures ok { OnOk result (Sets streams.old.entries streams.new.entries id (peer_stream streams.old.entries id)) }
+    ensures absent { IfOk result (λ is_new. is_new ≡ is_none (kept_at streams.old.entries id)) }
+    ensures err { OnErr result (AllSame streams.old.entries streams.new.entries) }
+{
+    if streams.contains_key(&id.into_inner()) {
+        return Ok(false);
+    }
+    let Ok(_) = streams.insert(id.into_inner(), UnidirectionalStream::new(alloc)) else {
+        return Err(AllocError);
+    };
+    Ok(true)
+}
+
+/// Its end came, or its reset with this code. It answers whether the connection needs the stream. A refusal changes nothing.
+pub(crate) fn close(
+    streams: &mut BTreeMap<u64, UnidirectionalStream>,
+    alloc: Global,
+    id: StreamId,
+    code: Option<u64>,
+) -> Result<bool, AllocError>
+    ensures ok { IfOk result (λ is_critical. Closes streams.old.entries streams.new.entries id code is_critical) }
+    ensures err { OnErr result (AllSame streams.old.entries streams.new.entries) }
+{
+    let Ok(_) = open(streams, alloc, id) else {
+        return Err(AllocError);
+    };
+    let Some(stream) = streams.get_mut(&id.into_inner()) else {
+        unreachable!()
+    };
+    match code {
+        Some(code) => stream.reset(code),
+        None => stream.end(),
+    }
+    Ok(stream.is_critical())
+}
+
+/// Bytes come on a stream that is there.
+fn receive_there(
+    streams: &mut BTreeMap<u64, UnidirectionalStream>,
+    id: StreamId,
+    bytes: Bytes,
+) -> Result<Received, Bytes>
+    requires there { IsSome (kept_at streams.old.entries id) }
+    requires fits { length (concat (peer_stream streams.old.entries id).unread) + length bytes < 2 ^ 64 }
+    ensures ok { IfOk result (λ received. Receives streams.old.entries streams.new.entries id bytes received) }
+    ensures err { IfErr result (λ back. (back ≡ bytes) × AllSame streams.old.entries streams.new.entries) }
+{
+    let Some(stream) = streams.get_mut(&id.into_inner()) else {
+        unreachable!()
+    };
+    stream.receive(bytes)
+}
+
+/// Bytes come, and open the stream where it is not there. A refusal changes nothing, and hands the bytes back.
+pub(crate) fn receive(
+    streams: &mut BTreeMap<u64, UnidirectionalStream>,
+    alloc: Global,
+    id: StreamId,
+    bytes: Bytes,
+) -> Result<Received, Bytes>
+    requires { length (concat (peer_stream streams.old.entries id).unread) + length bytes < 2 ^ 64 }
+    ensures ok { IfOk result (λ received. Receives streams.old.entries streams.new.entries id bytes received) }
+    ensures err { IfErr result (λ back. (back ≡ bytes) × AllSame streams.old.entries streams.new.entries) }
+{
+    let Ok(is_new) = open(streams, alloc, id) else {
+        return Err(bytes);
+    };
+    match receive_there(streams, id, bytes) {
+        Ok(received) => Ok(received),
+        Err(back) => {
+            if is_new {
+                streams.remove(&id.into_inner());
+            }
+            Err(back)
+        }
+    }
+}

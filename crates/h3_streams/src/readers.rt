@@ -1,0 +1,92 @@
+//! What the readers of the peer's control, encoder and decoder streams make of further bytes, each by itself.
+ghost use Rattle.std.specs.Prelude.{◌≡◌, ◌+◌, ◌<◌, ◌^◌, ◌++◌, [], length, IfOk, IfErr, OnOk, OnErr};
+ghost use Rattle.h3_connection.specs.Listeners.{Hears};
+ghost use Rattle.h3_connection.specs.PeerReading.{with_unread};
+ghost use Rattle.h3_streams.specs.Stopping.{HeardPart, ListensIf, ListenedPart, left_by};
+
+use crate::left::Left;
+use bytes::Bytes;
+use h3_proto::error::Code;
+use h3_proto::stream::StreamId;
+use h3_unidirectional::control::PeerControl;
+use h3_unidirectional::decoding::Decoding;
+use h3_unidirectional::encoding::Encoding;
+use h3_unidirectional::waiting::WaitingBytes;
+
+/// The bytes of a stream that are held stay below twice this, which no memory has room for.
+pub(crate) const MOST_HELD: usize = 1 << 61;
+
+/// How far a reading came that was refused memory.
+#[derive(Drop)]
+pub(crate) enum Stop {
+    /// The reader took none of the bytes.
+    Unheld(Bytes),
+    /// It holds all of them, and has read a front of what it holds.
+    Held,
+}
+
+impl Stop {
+    /// What is still to be read of the stream of this id.
+    pub(crate) fn left(self, id: StreamId) -> Left
+        ensures { result ≡ left_by self id }
+    {
+        match self {
+            Stop::Unheld(bytes) => Left::of(id, bytes),
+            Stop::Held => Left::held(id),
+        }
+    }
+}
+
+/// The peer's control stream holds these bytes as well. An `Err` changes nothing, and hands the bytes back.
+pub(crate) fn hold(peer: &mut PeerControl, bytes: Bytes) -> Result<(), Bytes>
+    ensures ok { OnOk result (peer.new ≡ with_unread peer.old (peer.old.unread ++ bytes)) }
+    ensures err { IfErr result (λ back. (back ≡ bytes) × (peer.new ≡ peer.old)) }
+{
+    if peer.unread_len() >= MOST_HELD || bytes.len() >= MOST_HELD {
+        return Err(bytes);
+    }
+    match peer.push(bytes) {
+        Ok(()) => Ok(()),
+        Err(back) => Err(back),
+    }
+}
+
+/// Bytes of the peer's encoder stream (RFC 9204, section 4.3). Where something was inserted, the increment is written on `out`.
+#[tactic(auto, using(crate::proofs::Heard::heard_all))]
+pub(crate) fn hear(
+    decoding: &mut Decoding,
+    out: &mut WaitingBytes,
+    bytes: Bytes,
+) -> Result<Option<Code>, Stop>
+    ensures ok { IfOk result (λ fault. Hears decoding.old decoding.new bytes fault out.old out.new) }
+    ensures err { IfErr result (λ stop. HeardPart stop bytes decoding.old decoding.new out.old out.new) }
+{
+    let Ok(()) = decoding.push(bytes.as_slice()) else {
+        return Err(Stop::Unheld(bytes));
+    };
+    match decoding.read(out) {
+        Ok(fault) => Ok(fault),
+        Err(_) => Err(Stop::Held),
+    }
+}
+
+/// Bytes of the peer's decoder stream (RFC 9204, section 4.4), which are held until its settings are known.
+pub(crate) fn listen(
+    encoding: &mut Encoding,
+    is_known: bool,
+    bytes: Bytes,
+) -> Result<Option<Code>, Stop>
+    ensures ok { IfOk result (λ fault. ListensIf is_known bytes encoding.old encoding.new fault) }
+    ensures err { IfErr result (λ stop. ListenedPart stop is_known bytes encoding.old encoding.new) }
+{
+    let Ok(()) = encoding.push(bytes.as_slice()) else {
+        return Err(Stop::Unheld(bytes));
+    };
+    if !is_known {
+        return Ok(None);
+    }
+    match encoding.read() {
+        Ok(fault) => Ok(fault),
+        Err(_) => Err(Stop::Held),
+    }
+}

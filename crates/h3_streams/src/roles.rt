@@ -1,0 +1,174 @@
+//! Bytes for the connection's own streams of the peer: its control, encoder and decoder stream.
+ghost use Rattle.std.specs.Prelude.{◌≡◌, ◌&&◌, is_none, Some, IfOk, IfErr};
+ghost use Rattle.h3_proto.specs.declared.stream.Side.{Side};
+ghost use Rattle.h3_connection.specs.Delivering.{heard_as};
+ghost use Rattle.h3_connection.specs.Endpoint.{EndpointHistory};
+ghost use Rattle.h3_connection.specs.State.{EndpointState};
+ghost use Rattle.h3_connection.specs.Unidirectional.Role.{Control, Encoder, Decoder};
+ghost use Rattle.h3_streams.specs.Placed.{Reads};
+ghost use Rattle.h3_streams.specs.ReadingOn.{IsRead, Stops, ReadsHeld, StopsHeld, left_arrivals};
+ghost use Rattle.h3_streams.specs.Stopping.{early_of, ReadsEarly, StopsEarly};
+
+use crate::learning::read_first;
+use crate::left::Left;
+use crate::readers::{hear, hold, listen};
+use crate::streams::ConnectionStreams;
+use bytes::Bytes;
+use h3_proto::error::Code;
+use h3_proto::stream::{Side, StreamId};
+use std::alloc::Global;
+
+/// Whether some other stream is read as such already.
+fn is_second(first: Option<StreamId>, id: StreamId) -> bool
+    ensures { result ≡ Rattle.h3_connection.specs.Endpoint.is_second first id }
+{
+    match first {
+        Some(first) => first.into_inner() != id.into_inner(),
+        None => false,
+    }
+}
+
+/// Whether a stream was told to be of a role, and none is read as such: no calls lead to that.
+fn is_unread(first: Option<StreamId>, told: bool) -> bool
+    ensures { result ≡ (told && is_none first) }
+{
+    told && first.is_none()
+}
+
+impl ConnectionStreams {
+    /// Bytes for the encoder stream: of the first such stream, whose role was told before or is told now. A second one is a fault.
+    pub(crate) fn encoder_bytes(
+        &mut self,
+        id: StreamId,
+        told: bool,
+        bytes: Bytes,
+    ) -> Result<Option<Code>, Left>
+        ensures ok { IfOk result (λ fault. (s : EndpointState) (e : EndpointHistory) (side : Side) → IsRead s self.old e side id Encoder → Reads s fault self.new (heard_as e id Encoder bytes)) }
+        ensures err { IfErr result (λ left. (s : EndpointState) (e : EndpointHistory) (side : Side) → IsRead s self.old e side id Encoder → Stops Encoder told s self.old self.new e id bytes (left_arrivals left)) }
+    {
+        if is_second(self.encoder_on, id) {
+            return Ok(Some(Code::H3_STREAM_CREATION_ERROR));
+        }
+        if is_unread(self.encoder_on, told) {
+            return Err(Left::of(id, bytes));
+        }
+        self.encoder_on = Some(id);
+        let stop = match hear(&mut self.decoding, &mut self.own.decoder, bytes) {
+            Ok(fault) => return Ok(fault),
+            Err(stop) => stop,
+        };
+        Err(stop.left(id))
+    }
+
+    /// Bytes for the decoder stream: of the first such stream, whose role was told before or is told now. A second one is a fault.
+    pub(crate) fn decoder_bytes(
+        &mut self,
+        id: StreamId,
+        told: bool,
+        bytes: Bytes,
+    ) -> Result<Option<Code>, Left>
+        ensures ok { IfOk result (λ fault. (s : EndpointState) (e : EndpointHistory) (side : Side) → IsRead s self.old e side id Decoder → Reads s fault self.new (heard_as e id Decoder bytes)) }
+        ensures err { IfErr result (λ left. (s : EndpointState) (e : EndpointHistory) (side : Side) → IsRead s self.old e side id Decoder → Stops Decoder told s self.old self.new e id bytes (left_arrivals left)) }
+    {
+        if is_second(self.decoder_on, id) {
+            return Ok(Some(Code::H3_STREAM_CREATION_ERROR));
+        }
+        if is_unread(self.decoder_on, told) {
+            return Err(Left::of(id, bytes));
+        }
+        self.decoder_on = Some(id);
+        let stop = match listen(&mut self.encoding, self.peer.has_settings(), bytes) {
+            Ok(fault) => return Ok(fault),
+            Err(stop) => stop,
+        };
+        Err(stop.left(id))
+    }
+
+    /// Bytes for the control stream: of the first such stream, whose role was told before or is told now. A second one is a fault.
+    pub(crate) fn control_bytes(
+        &mut self,
+        alloc: Global,
+        side: Side,
+        id: StreamId,
+        told: bool,
+        bytes: Bytes,
+    ) -> Result<Option<Code>, Left>
+        ensures ok { IfOk result (λ fault. (s : EndpointState) (e : EndpointHistory) → IsRead s self.old e side id Control → Reads s fault self.new (heard_as e id Control bytes)) }
+        ensures err { IfErr result (λ left. (s : EndpointState) (e : EndpointHistory) → IsRead s self.old e side id Control → Stops Control told s self.old self.new e id bytes (left_arrivals left)) }
+    {
+        if is_second(self.control_on, id) {
+            return Ok(Some(Code::H3_STREAM_CREATION_ERROR));
+        }
+        if is_unread(self.control_on, told) {
+            return Err(Left::of(id, bytes));
+        }
+        self.control_on = Some(id);
+        match hold(&mut self.peer, bytes) {
+            Ok(()) => {}
+            Err(back) => return Err(Left::of(id, back)),
+        }
+        self.frames(alloc, side, id)
+    }
+
+    /// Reads what is held of the control stream.
+    fn frames(&mut self, alloc: Global, side: Side, id: StreamId) -> Result<Option<Code>, Left>
+        ensures ok { IfOk result (λ fault. ReadsHeld self.old self.new side id fault) }
+        ensures err { IfErr result (λ left. StopsHeld self.old self.new side id (left_arrivals left)) }
+    {
+        if !self.peer.has_settings() {
+            return self.first_frames(alloc, side, id);
+        }
+        let Ok(fault) = self.peer.read(alloc, side) else {
+            return Err(Left::held(id));
+        };
+        Ok(fault)
+    }
+
+    /// The same while the settings have not come. Where they come, the table that they allow is used at once, and what the peer's
+    /// decoder said before is read behind them.
+    fn first_frames(
+        &mut self,
+        alloc: Global,
+        side: Side,
+        id: StreamId,
+    ) -> Result<Option<Code>, Left>
+        requires { self.old.peer.settings ≡ None }
+        ensures ok { IfOk result (λ fault. ReadsHeld self.old self.new side id fault) }
+        ensures err { IfErr result (λ left. StopsHeld self.old self.new side id (left_arrivals left)) }
+    {
+        let out = self.own.encoder.bytes_mut();
+        match read_first(&mut self.peer, &mut self.encoding, out, alloc, side) {
+            Ok(Some(code)) => Ok(Some(code)),
+            Ok(None) => self.early_replies(),
+            Err(_) => Err(Left {
+                id,
+                bytes: Bytes::new(),
+                early: self.early_stream(),
+            }),
+        }
+    }
+
+    /// The peer's decoder stream, where the settings came.
+    fn early_stream(&self) -> Option<StreamId>
+        ensures { result ≡ early_of self.now.peer.settings self.now.decoder_on }
+    {
+        if self.peer.has_settings() {
+            return self.decoder_on;
+        }
+        None
+    }
+
+    /// Reads what the peer's decoder said before the settings came, where they came now.
+    fn early_replies(&mut self) -> Result<Option<Code>, Left>
+        ensures ok { IfOk result (λ fault. ReadsEarly self.old self.new fault) }
+        ensures err { IfErr result (λ left. (side : Side) → StopsEarly self.old self.new side (left_arrivals left)) }
+    {
+        let Some(decoder) = self.early_stream() else {
+            return Ok(None);
+        };
+        let Ok(fault) = self.encoding.read() else {
+            return Err(Left::held(decoder));
+        };
+        Ok(fault)
+    }
+}

@@ -1,0 +1,157 @@
+-- An encoded field section is no longer than thirty times its fields.
+use Rattle.std.proofs.Common.{◌≡◌, ℕ, zero, suc, ◌+◌, ◌*◌, ◌-◌, ◌/◌, ◌%◌, ◌^◌, ◌<◌, ◌≤◌, Bool, true, false, List, [], ◌∷◌, ◌++◌, length, refl, ap, arith, length-append, fold, nat_lt, nat_le, if◌then◌else◌}
+use Rattle.std.specs.Prelude.{flat_map, position, nat_eq, ◌==◌}
+use Rattle.std.specs.List.{AllByRecursion}
+use Rattle.std.proofs.lemmas.Grind.{flat_map-append}
+use Rattle.std.proofs.lemmas.List.Sums.{sum_by-cons}
+use Rattle.h3_huffman.specs.Huffman.{huffman, octets, code_word, bits, word_from, symbols_by_length}
+use Rattle.h3_field.specs.Field.{Field, field_size, section_size}
+use Rattle.h3_field.specs.Integer.{groups, ones, prefixed}
+use Rattle.h3_field.specs.Line.{FieldLine, line_bytes}
+use Rattle.h3_field.specs.Line.FieldLine.{StaticField, RelativeField, PostBaseField, StaticName, RelativeName, PostBaseName, Literal}
+use Rattle.h3_field.specs.Prefix.{most_entries, prefix_bytes}
+use Rattle.h3_field.specs.StaticTable.{static_field, static_name}
+use Rattle.h3_field.specs.StringLiteral.{string_literal}
+use Rattle.h3_qpack.specs.EncoderHistory.{EncoderHistory, writing_on}
+use Rattle.h3_qpack.specs.SectionEncoding.{Draft, add_field, add_literal, draft_of, entry_name_line, found, found_name, is_insertable, required_insert_count}
+use Rattle.h3_connection.specs.Sections.{encoded_section}
+use Rattle.h3_world.proofs.Inserted.{chosen, either_way}
+
+groups_few : (most n : ℕ) → length (groups most n) ≤ most
+groups_few zero n = omega arith
+groups_few (suc most) n = by_test (nat_lt n 128) (groups_few most (n / 128))
+  where
+    by_test : (b : Bool) → length (groups most (n / 128)) ≤ most → length (if b then n ∷ [] else (128 + n % 128) ∷ groups most (n / 128)) ≤ suc most
+    by_test true rest = omega arith
+    by_test false rest = omega (arith, rest)
+
+prefixed_short : (size flags n : ℕ) → length (prefixed size flags n) ≤ 10
+prefixed_short size flags n = by_test (nat_lt n (ones size))
+  where
+    by_test : (b : Bool) → length (if b then (flags * 2 ^ size + n) ∷ [] else (flags * 2 ^ size + ones size) ∷ groups 9 (n - ones size)) ≤ 10
+    by_test true = omega arith
+    by_test false = omega (arith, groups_few 9 (n - ones size))
+
+bits_count : (count n : ℕ) → length (bits count n) ≡ count
+unfolding bits
+bits_count zero n = refl
+bits_count (suc count) n = omega (arith, length-append (bits count (n / 2)) ((n % 2) ∷ []), bits_count count (n / 2))
+
+-- no row is of longer words
+abbrev pub RowsWithin : ℕ → List (ℕ × List ℕ) → Type 0
+RowsWithin most rows = AllByRecursion (λ row. row.0 ≤ most) rows
+
+word_within : (most next before : ℕ) (rows : List (ℕ × List ℕ)) (symbol : ℕ) → RowsWithin most rows → length (word_from next before rows symbol) ≤ most
+word_within most next before [] symbol within = omega arith
+word_within most next before ((len, symbols) ∷ rows) symbol within =
+    chosen (λ word. length word ≤ most) (position (nat_eq symbol) symbols) _ _ (λ place e. omega (arith, bits_count len (next * 2 ^ (len - before) + place), within.0))
+    (λ none. word_within most (next * 2 ^ (len - before) + length symbols) len rows symbol within.1)
+
+rows_are : RowsWithin 30 symbols_by_length
+rows_are =
+    (omega arith, (omega arith, (omega arith, (omega arith, (omega arith, (omega arith, (omega arith, (omega arith, (omega arith, (omega arith, (omega arith, (omega arith, (omega arith, (omega arith, (omega arith, (omega arith, (omega arith, (omega arith, (omega arith, (omega arith, (omega arith, tt)))))))))))))))))))))
+
+word_short : (symbol : ℕ) → length (code_word symbol) ≤ 30
+unfolding code_word
+word_short symbol = word_within 30 0 0 symbols_by_length symbol rows_are
+
+words_short : (plain : List ℕ) → length (flat_map code_word plain) ≤ 30 * length plain
+words_short [] = omega arith
+words_short (c ∷ cs) = omega (arith, words_short cs, word_short c, length-append (code_word c) (flat_map code_word cs))
+
+octets_few : (r : List ℕ) → length (octets r) ≤ length r
+unfolding octets
+octets_few [] = omega arith
+octets_few (a ∷ []) = omega arith
+octets_few (a ∷ b ∷ []) = omega arith
+octets_few (a ∷ b ∷ c ∷ []) = omega arith
+octets_few (a ∷ b ∷ c ∷ d ∷ []) = omega arith
+octets_few (a ∷ b ∷ c ∷ d ∷ e ∷ []) = omega arith
+octets_few (a ∷ b ∷ c ∷ d ∷ e ∷ f ∷ []) = omega arith
+octets_few (a ∷ b ∷ c ∷ d ∷ e ∷ f ∷ g ∷ []) = omega arith
+octets_few (a ∷ b ∷ c ∷ d ∷ e ∷ f ∷ g ∷ h ∷ rest) = omega (arith, octets_few rest)
+
+huffman_short : (plain : List ℕ) → length (huffman plain) ≤ 30 * length plain
+unfolding huffman
+huffman_short plain = omega (arith, octets_few (flat_map code_word plain), words_short plain)
+
+string_short : (size flags : ℕ) (plain : List ℕ) → length (string_literal size flags plain) ≤ 10 + 30 * length plain
+string_short size flags plain =
+    let p = prefixed (size - 1) (2 * flags + 1) (length (huffman plain)) in
+    omega (arith, huffman_short plain, prefixed_short (size - 1) (2 * flags + 1) (length (huffman plain)), length-append p (huffman plain))
+
+-- the lines so far take no more than that
+abbrev pub LinesWithin : ℕ → Draft → Type 0
+LinesWithin most d = length (flat_map line_bytes d.lines) ≤ most
+
+line_added : (most more : ℕ) (d : Draft) (line : FieldLine) → LinesWithin most d → length (line_bytes line) ≤ more → length (flat_map line_bytes (d.lines ++ line ∷ [])) ≤ most + more
+line_added most more d line h k =
+    omega (
+      arith,
+      h,
+      k,
+      ap length (flat_map-append line_bytes d.lines (line ∷ [])),
+      length-append (flat_map line_bytes d.lines) (flat_map line_bytes (line ∷ [])),
+      length-append (line_bytes line) [],
+    )
+
+index_and_string : (size flags index : ℕ) (f : Field) → length (prefixed size flags index ++ string_literal 8 0 f.value) ≤ 30 * field_size f
+index_and_string size flags index f =
+    omega (arith, length-append (prefixed size flags index) (string_literal 8 0 f.value), prefixed_short size flags index, string_short 8 0 f.value)
+
+short_index : (size flags index : ℕ) (f : Field) → length (prefixed size flags index) ≤ 30 * field_size f
+short_index size flags index f = omega (arith, prefixed_short size flags index)
+
+entry_name_short : (base number : ℕ) (f : Field) → length (line_bytes (entry_name_line base number f.value)) ≤ 30 * field_size f
+entry_name_short base number f =
+    either_way (λ line. length (line_bytes line) ≤ 30 * field_size f) (nat_le number base) (RelativeName (base - number) f.value) (PostBaseName (number - base - 1) f.value) (index_and_string 4 4 (base - number) f) (index_and_string 3 0 (number - base - 1) f)
+
+literal_short : (most : ℕ) (s : EncoderHistory) (d : Draft) (f : Field) → LinesWithin most d → LinesWithin (most + 30 * field_size f) (add_literal s d f)
+literal_short most s d f h =
+    chosen (LinesWithin (most + 30 * field_size f)) (static_name f.name) _ _
+    (λ index e. line_added most (30 * field_size f) d (StaticName index f.value) h (index_and_string 4 5 index f)) (λ none.
+    chosen (LinesWithin (most + 30 * field_size f)) (found_name s d f) _ _
+    (λ number e. line_added most (30 * field_size f) d (entry_name_line (length s.inserted) number f.value) h (entry_name_short (length s.inserted) number f))
+    (λ none. line_added most (30 * field_size f) d (Literal f.name f.value) h
+    (omega (arith, length-append (string_literal 4 2 f.name) (string_literal 8 0 f.value), string_short 4 2 f.name, string_short 8 0 f.value))))
+
+field_short : (most : ℕ) (s : EncoderHistory) (d : Draft) (f : Field) → LinesWithin most d → LinesWithin (most + 30 * field_size f) (add_field s d f)
+field_short most s d f h =
+    chosen (LinesWithin (most + 30 * field_size f)) (static_field f) _ _ (λ index e. line_added most (30 * field_size f) d (StaticField index) h (short_index 6 3 index f)) (λ none.
+    chosen (LinesWithin (most + 30 * field_size f)) (found s d f) _ _
+    (λ number e. line_added most (30 * field_size f) d (RelativeField (length s.inserted - number)) h (short_index 6 2 (length s.inserted - number) f)) (λ none.
+    either_way (LinesWithin (most + 30 * field_size f)) (is_insertable s d f) _ _
+    (line_added most (30 * field_size f) d (PostBaseField (length d.inserted - length s.inserted)) h (short_index 4 1 (length d.inserted - length s.inserted) f)) (literal_short most s d f h)))
+
+fields_short : (most : ℕ) (s : EncoderHistory) (d : Draft) (fields : List Field) → LinesWithin most d → LinesWithin (most + 30 * section_size fields) (fold (add_field s) d fields)
+fields_short most s d [] h = omega (arith, h)
+fields_short most s d (f ∷ fields) h =
+    omega (arith, fields_short (most + 30 * field_size f) s (add_field s d f) fields (field_short most s d f h), sum_by-cons field_size f fields)
+
+prefix_short : (capacity count base : ℕ) → length (prefix_bytes capacity count base) ≤ 20
+prefix_short capacity count base = by_test (count == 0) (nat_lt base count)
+  where
+    first : List ℕ
+    first = prefixed 8 0 (count % (2 * most_entries capacity) + 1)
+
+    by_test : (a b : Bool) → length (if a then 0 ∷ 0 ∷ [] else first ++ (if b then prefixed 7 1 (count - base - 1) else prefixed 7 0 (base - count))) ≤ 20
+    by_test true b = omega arith
+    by_test false true = omega (arith, length-append first (prefixed 7 1 (count - base - 1)), prefixed_short 8 0 (count % (2 * most_entries capacity) + 1), prefixed_short 7 1 (count - base - 1))
+    by_test false false = omega (arith, length-append first (prefixed 7 0 (base - count)), prefixed_short 8 0 (count % (2 * most_entries capacity) + 1), prefixed_short 7 0 (base - count))
+
+-- each encoded section is short where its fields are
+pub section_short : (s : EncoderHistory) (id : ℕ) (fields : List Field) → length (encoded_section s id fields) ≤ 20 + 30 * section_size fields
+section_short s id fields =
+    let e = writing_on s id in
+    let d = draft_of e fields in
+    let start : Draft = record { inserted = e.inserted; instructions = []; lines = []; references = [] } in
+    let front = prefix_bytes e.capacity (required_insert_count d) (length e.inserted) in
+    omega (
+      arith,
+      length-append front (flat_map line_bytes d.lines),
+      prefix_short e.capacity (required_insert_count d) (length e.inserted),
+      fields_short 0 e start fields (omega arith),
+    )
+
+pub sections_are_short : (s : EncoderHistory) (id : ℕ) (fields : List Field) → section_size fields < 2 ^ 56 → length (encoded_section s id fields) < 2 ^ 62
+sections_are_short s id fields small = omega (arith, section_short s id fields, small)

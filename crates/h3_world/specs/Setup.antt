@@ -1,0 +1,38 @@
+-- What a client and a server announce (RFC 9114, section 7.2.4, and RFC 9204, section 5).
+use Rattle.std.specs.Prelude.{◌≡◌, ℕ, ◌<◌, Bool, Result, Ok, Err}
+use Rattle.h3_proto.specs.declared.config.Config.{Config}
+use Rattle.h3_proto.specs.Config.{announced}
+use Rattle.h3_proto.specs.declared.stream.Side.{Side}
+use Rattle.h3_proto.specs.declared.stream.Side.TheVariants.{Client, Server}
+use Rattle.h3_connection.specs.Announcing.{announced_by}
+use Rattle.h3_connection.specs.Control.{is_usable}
+use Rattle.h3_connection.specs.declared.setup.Announced.{Announced}
+use Rattle.h3_connection.specs.declared.setup.Limits.{Limits}
+use Rattle.h3_connection.specs.declared.setup.NewError.{NewError}
+use Rattle.h3_world.specs.declared.setup.Setup.{Setup}
+
+-- both sides, or the first refusal
+abbrev pub both : Result Announced NewError → Result Announced NewError → Result Setup NewError
+both (Ok client) (Ok server) = Ok (record { client = client; server = server })
+both (Err e) server = Err e
+both (Ok client) (Err e) = Err e
+
+abbrev pub announced_at : Setup → Side → Announced
+announced_at setup Client = setup.client
+announced_at setup Server = setup.server
+
+-- An encoder uses the table of a peer that announces such limits (RFC 9204, section 3.2.3).
+abbrev pub has_table : Limits → Bool
+has_table limits = is_usable limits.table limits.blocked
+
+-- some configuration announces it
+pub record IsMade (a : Announced) : Type 0 where
+  pub config : Config
+  pub grease : ℕ
+  pub small : grease < 0x210842108421083
+  pub made : announced_by (announced config grease) a.limits ≡ Ok a
+
+-- what `Setup::new` makes
+pub record IsMadeSetup (setup : Setup) : Type 0 where
+  pub client : IsMade setup.client
+  pub server : IsMade setup.server

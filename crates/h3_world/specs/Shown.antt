@@ -1,0 +1,38 @@
+-- What an end shows: the other side's limits, the sizes of both tables, and how many streams wait.
+use Rattle.std.specs.Prelude.{ℕ, ◌&&◌, count_by, nat_lt, is_none, Option, Some, None, option_map}
+use Rattle.h3_field.specs.Field.{section_size}
+use Rattle.h3_qpack.specs.DecoderState.{DecoderState}
+use Rattle.h3_qpack.specs.Table.{table}
+use Rattle.h3_proto.specs.declared.stream.Side.{Side}
+use Rattle.h3_proto.specs.declared.stream.Side.TheVariants.{Client, Server}
+use Rattle.h3_connection.specs.OwnIds.{other}
+use Rattle.h3_connection.specs.Shown.{limits_of}
+use Rattle.h3_connection.specs.declared.event.PeerLimits.{PeerLimits}
+use Rattle.h3_connection.specs.declared.event.TableSizes.{TableSizes}
+use Rattle.h3_world.specs.declared.setup.Setup.{Setup}
+use Rattle.h3_world.specs.Flow.{Flow}
+use Rattle.h3_world.specs.World.{World, Exchange, party}
+use Rattle.h3_world.specs.Came.{settings_known, insertions_came, decoder_at}
+
+abbrev pub limits_shown : Setup → World → Side → Option PeerLimits
+limits_shown setup w side = option_map limits_of (settings_known setup w side)
+
+abbrev pub receiving_size : Option DecoderState → ℕ
+receiving_size None = 0
+receiving_size (Some d) = section_size d.table.entries
+
+-- the sizes of the entries that the side's encoder holds, and of those that its decoder holds (RFC 9204, section 3.2.1)
+abbrev pub sizes_shown : Setup → World → Side → TableSizes
+sizes_shown setup w side =
+    let encoder = (party w side).encoder in
+    record { sending = section_size (table encoder.capacity encoder.inserted); receiving = receiving_size (decoder_at setup w side) }
+
+-- what the side receives of an exchange
+abbrev pub incoming : Side → Exchange → Flow
+incoming Client e = e.response
+incoming Server e = e.request
+
+-- how many streams wait at the side for insertions (RFC 9204, section 2.1.2)
+abbrev pub streams_waiting : World → Side → ℕ
+streams_waiting w side =
+    count_by (λ e. nat_lt (insertions_came (party w (other side))) (incoming side e).waits_for && is_none (incoming side e).fault) w.exchanges

@@ -1,0 +1,73 @@
+//! Laws over the definitions. These functions do nothing: their contracts are the laws.
+ghost use Rattle.h3_world.specs.World.{World};
+ghost use Rattle.h3_world.specs.Step.{Step, IsExact};
+ghost use Rattle.h3_world.specs.Machine.{served};
+ghost use Rattle.h3_world.specs.Sound.{IsSoundWorld};
+ghost use Rattle.h3_world.specs.declared.setup.Setup.{Setup};
+ghost use Rattle.h3_world.specs.declared.event.Event.{Event};
+
+/// What the machine answers to any event, in a sound world, is a step that is allowed, and its pause is exact. So the steps can be
+/// met.
+pub fn the_machine_answers_as_allowed()
+    ensures { (setup : Setup) (w : World) (e : Event) → IsSoundWorld setup w → Step setup w e (served setup w e).0 (served setup w e).1 × IsExact w e (served setup w e).0 }
+{}
+
+ghost use Rattle.h3_world.specs.World.{empty_world};
+ghost use Rattle.h3_world.specs.Headline.{Happens};
+ghost use Rattle.h3_world.specs.Sendable.{IsSendable};
+ghost use Rattle.h3_world.specs.declared.event.Answer.{Answer};
+
+/// The world before anything is sound, and every step that is exact, of an event that may be sent, keeps a world sound. All that is
+/// said of a step holds of it: with everything delivered everything comes out, there is no connection fault, and no more streams
+/// wait than were announced.
+pub fn every_exact_step_happens()
+    ensures begins { (setup : Setup) → IsSoundWorld setup empty_world }
+    ensures kept { (setup : Setup) (w new : World) (e : Event) (a : Answer) → IsSendable e → Step setup w e a new → IsExact w e a → IsSoundWorld setup w → IsSoundWorld setup new }
+    ensures both { (setup : Setup) (w new : World) (e : Event) (a : Answer) → IsSendable e → Step setup w e a new → IsExact w e a → IsSoundWorld setup w → Happens setup w e a new × IsSoundWorld setup new }
+    ensures happens { (setup : Setup) (w new : World) (e : Event) (a : Answer) → Step setup w e a new → IsExact w e a → IsSoundWorld setup w → IsSoundWorld setup new → Happens setup w e a new }
+{
+    h3_qpack::laws::every_session_is_sound();
+    h3_qpack::laws::encoders_without_insertions_use_no_table();
+}
+
+ghost use Rattle.std.specs.Prelude.{List};
+ghost use Rattle.std.specs.List.{AllByRecursion};
+ghost use Rattle.h3_world.specs.Run.{Run};
+ghost use Rattle.h3_world.specs.Machine.{answers_from, world_after};
+
+/// Over every schedule of events that may be sent there is a run of which all that is said holds: the machine's. And it holds of every
+/// run of exact steps.
+pub fn every_schedule_runs()
+    ensures machine { (setup : Setup) (events : List Event) → AllByRecursion IsSendable events →
+        Run (Happens setup) empty_world events (answers_from setup empty_world events) (world_after setup empty_world events) }
+    ensures exact { (setup : Setup) (events : List Event) (answers : List Answer) (new : World) → AllByRecursion IsSendable events →
+        Run (λ w e a v. Step setup w e a v × IsExact w e a) empty_world events answers new → Run (Happens setup) empty_world events answers new × IsSoundWorld setup new }
+{
+    h3_qpack::laws::every_session_is_sound();
+    h3_qpack::laws::encoders_without_insertions_use_no_table();
+}
+
+ghost use Rattle.std.specs.Prelude.{◌≡◌, ℕ, ◌<◌, Ok};
+ghost use Rattle.h3_proto.specs.Config.{announced};
+ghost use Rattle.h3_proto.specs.declared.config.Config.{Config};
+ghost use Rattle.h3_connection.specs.Announcing.{announced_by};
+ghost use Rattle.h3_connection.specs.declared.setup.Limits.{Limits};
+ghost use Rattle.h3_world.specs.Setup.{both, IsMadeSetup};
+
+/// What `Setup::new` answers was made by configurations and limits that are allowed.
+pub fn setups_are_made()
+    ensures { (client server : Config) (client_limits server_limits : Limits) (client_grease server_grease : ℕ) (setup : Setup) → client_grease < 0x210842108421083 → server_grease < 0x210842108421083 →
+        both (announced_by (announced client client_grease) client_limits) (announced_by (announced server server_grease) server_limits) ≡ Ok setup → IsMadeSetup setup }
+{}
+
+ghost use Rattle.h3_qpack.specs.Schedule.{SessionEvent, SessionRun, beginning};
+ghost use Rattle.h3_qpack.specs.Session.{Session, count_of};
+
+/// Over every schedule of one encoder, whose peer's limits come at any time, a section that names entries was written with the capacity
+/// that the encoder has.
+pub fn sections_have_the_capacity()
+    ensures { (events : List SessionEvent) (s : Session) → SessionRun (beginning 0 0) events s → AllByRecursion (λ b. 0 < count_of b → b.encoder.capacity ≡ s.encoder.capacity) s.sections }
+{
+    h3_qpack::laws::every_session_is_sound();
+    h3_qpack::laws::canceled_streams_use_no_table();
+}
