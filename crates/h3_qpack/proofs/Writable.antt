@@ -18,17 +18,17 @@ use Rattle.h3_qpack.specs.Encodings.{IsWrittenLine, IsWrittenInstruction}
 use Rattle.h3_qpack.proofs.Newest.{chosen, newest_from-passes}
 use Rattle.h3_qpack.proofs.Drafts.{All-join, either_way, may_insert}
 
-abbrev IsSmallLine : FieldLine → Type 0
+abbrev pub IsSmallLine : FieldLine → Type 0
 IsSmallLine l = IsWritable l × IsLineOfBytes l
 
-abbrev IsSmallInstruction : EncoderInstruction → Type 0
+abbrev pub IsSmallInstruction : EncoderInstruction → Type 0
 IsSmallInstruction i = IsSendable i × IsInstructionOfBytes i
 
-record IsSmallDraft (s : EncoderHistory) (d : Draft) : Type 0 where
-  few : length d.inserted < 2 ^ 62
-  base : length s.inserted < 2 ^ 62
-  lines : AllByRecursion IsSmallLine d.lines
-  instructions : AllByRecursion IsSmallInstruction d.instructions
+pub record IsSmallDraft (s : EncoderHistory) (d : Draft) : Type 0 where
+  pub few : length d.inserted < 2 ^ 62
+  pub base : length s.inserted < 2 ^ 62
+  pub lines : AllByRecursion IsSmallLine d.lines
+  pub instructions : AllByRecursion IsSmallInstruction d.instructions
 
 -- a field that is small, and of bytes
 record IsSmallField (f : Field) : Type 0 where
@@ -90,7 +90,7 @@ fields_small s d (f ∷ fields) h bytes size =
     let sum = sum_by-cons field_size f fields in
     fields_small s (add_field s d f) fields (field_small s d f h (record { bytes = bytes.0; size = omega (arith, size, sum) })) bytes.1 (omega (arith, size, sum))
 
-draft_small : (s : EncoderHistory) (fields : List Field) → length s.inserted < 2 ^ 62 → AllByRecursion IsFieldOfBytes fields → section_size fields < 2 ^ 62 → IsSmallDraft s (draft_of s fields)
+pub draft_small : (s : EncoderHistory) (fields : List Field) → length s.inserted < 2 ^ 62 → AllByRecursion IsFieldOfBytes fields → section_size fields < 2 ^ 62 → IsSmallDraft s (draft_of s fields)
 draft_small s fields few bytes size = fields_small s (record { inserted = s.inserted; instructions = []; lines = []; references = [] }) fields (record { few = few; base = few; lines = tt; instructions = tt }) bytes size
 
 lines_held : (ls : List FieldLine) → AllByRecursion IsSmallLine ls → length (flat_map line_bytes ls) < 2 ^ 63 → AllByRecursion IsWrittenLine ls
@@ -104,6 +104,11 @@ instructions_held [] h few = tt
 instructions_held (i ∷ is) h few =
     let sum = length-append (encoder_bytes i) (flat_map encoder_bytes is) in
     ((h.0.0, h.0.1, omega (arith, few, sum)), instructions_held is h.1 (omega (arith, few, sum)))
+
+-- the same where each of them is short
+pub instructions_fit : (is : List EncoderInstruction) → AllByRecursion IsSmallInstruction is → AllByRecursion (λ i. length (encoder_bytes i) < 2 ^ 63) is → AllByRecursion IsWrittenInstruction is
+instructions_fit [] h short = tt
+instructions_fit (i ∷ is) h short = ((h.0.0, h.0.1, short.0), instructions_fit is h.1 short.1)
 
 -- the lines of a section
 pub lines_written : (s : EncoderHistory) (fields : List Field) → length s.inserted < 2 ^ 62 → AllByRecursion IsFieldOfBytes fields → section_size fields < 2 ^ 62

@@ -36,3 +36,4 @@ pub mod DecodedSection
 pub mod LineFields
 pub mod Sizes
 pub mod Hearing
+pub mod ShortLaws

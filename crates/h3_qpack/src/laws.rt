@@ -182,6 +182,13 @@ pub fn decoder_bytes_are_their_value()
     ensures cuts { (s : EncoderHistory) (bytes more : List ℕ) → listen s (bytes ++ more) ≡ listened_then (listen s bytes) more }
 {}
 
+/// The instructions that an encoder writes for a section of bytes can be written: their indexes and strings are small enough for
+/// integers of 62 bits (RFC 9204, section 4.1.1), and each is shorter than memory.
+pub fn instructions_can_be_written()
+    ensures { (s : EncoderHistory) (stream : ℕ) (fields : List Field) → length s.inserted < 2 ^ 62 → AllByRecursion IsFieldOfBytes fields → section_size fields < 2 ^ 56 →
+        AllByRecursion IsWrittenInstruction (instructions_for (writing_on s stream) fields) }
+{}
+
 /// Of the first bytes of written encoder instructions a decoder that refuses none reads the whole ones, and what came of the
 /// next one is left, and is not whole.
 pub fn fronts_of_written_instructions()

@@ -1,0 +1,77 @@
+-- How long strings and integers are as they are written.
+use Rattle.std.proofs.Common.{ℕ, zero, suc, ◌+◌, ◌*◌, ◌-◌, ◌/◌, ◌%◌, ◌^◌, ◌≤◌, Bool, true, false, List, [], ◌∷◌, length, refl, arith, length-append, nat_lt, if◌then◌else◌, Option, Some, None, option_map, unwrap_or, ◌≡◌}
+use Rattle.std.specs.Prelude.{flat_map, position, nat_eq}
+use Rattle.std.specs.List.{AllByRecursion}
+use Rattle.h3_huffman.specs.Huffman.{huffman, octets, code_word, bits, word_from, symbols_by_length}
+use Rattle.h3_field.specs.Integer.{groups, ones, prefixed}
+use Rattle.h3_field.specs.StringLiteral.{string_literal}
+
+groups_few : (most n : ℕ) → length (groups most n) ≤ most
+groups_few zero n = omega arith
+groups_few (suc most) n = by_test (nat_lt n 128) (groups_few most (n / 128))
+  where
+    by_test : (b : Bool) → length (groups most (n / 128)) ≤ most → length (if b then n ∷ [] else (128 + n % 128) ∷ groups most (n / 128)) ≤ suc most
+    by_test true rest = omega arith
+    by_test false rest = omega (arith, rest)
+
+-- at most ten bytes (RFC 9204, section 4.1.1)
+pub prefixed_short : (size flags n : ℕ) → length (prefixed size flags n) ≤ 10
+prefixed_short size flags n = by_test (nat_lt n (ones size))
+  where
+    by_test : (b : Bool) → length (if b then (flags * 2 ^ size + n) ∷ [] else (flags * 2 ^ size + ones size) ∷ groups 9 (n - ones size)) ≤ 10
+    by_test true = omega arith
+    by_test false = omega (arith, groups_few 9 (n - ones size))
+
+-- a property of what is chosen, by whether there is a choice
+chosen : {X Y : Type 0} (P : Y → Type 0) (o : Option X) (g : X → Y) (y : Y) → ((x : X) → P (g x)) → P y → P (unwrap_or (option_map g o) y)
+chosen P None g y some none = none
+chosen P (Some x) g y some none = some x
+
+bits_count : (count n : ℕ) → length (bits count n) ≡ count
+unfolding bits
+bits_count zero n = refl
+bits_count (suc count) n = omega (arith, length-append (bits count (n / 2)) ((n % 2) ∷ []), bits_count count (n / 2))
+
+-- no row is of longer words
+abbrev RowsWithin : ℕ → List (ℕ × List ℕ) → Type 0
+RowsWithin most rows = AllByRecursion (λ row. row.0 ≤ most) rows
+
+word_within : (most next before : ℕ) (rows : List (ℕ × List ℕ)) (symbol : ℕ) → RowsWithin most rows → length (word_from next before rows symbol) ≤ most
+word_within most next before [] symbol within = omega arith
+word_within most next before ((len, symbols) ∷ rows) symbol within =
+    chosen (λ word. length word ≤ most) (position (nat_eq symbol) symbols) _ _ (λ place. omega (arith, bits_count len (next * 2 ^ (len - before) + place), within.0))
+    (word_within most (next * 2 ^ (len - before) + length symbols) len rows symbol within.1)
+
+rows_are : RowsWithin 30 symbols_by_length
+rows_are =
+    (omega arith, (omega arith, (omega arith, (omega arith, (omega arith, (omega arith, (omega arith, (omega arith, (omega arith, (omega arith, (omega arith, (omega arith, (omega arith, (omega arith, (omega arith, (omega arith, (omega arith, (omega arith, (omega arith, (omega arith, (omega arith, tt)))))))))))))))))))))
+
+word_short : (symbol : ℕ) → length (code_word symbol) ≤ 30
+unfolding code_word
+word_short symbol = word_within 30 0 0 symbols_by_length symbol rows_are
+
+words_short : (plain : List ℕ) → length (flat_map code_word plain) ≤ 30 * length plain
+words_short [] = omega arith
+words_short (c ∷ cs) = omega (arith, words_short cs, word_short c, length-append (code_word c) (flat_map code_word cs))
+
+octets_few : (r : List ℕ) → length (octets r) ≤ length r
+unfolding octets
+octets_few [] = omega arith
+octets_few (a ∷ []) = omega arith
+octets_few (a ∷ b ∷ []) = omega arith
+octets_few (a ∷ b ∷ c ∷ []) = omega arith
+octets_few (a ∷ b ∷ c ∷ d ∷ []) = omega arith
+octets_few (a ∷ b ∷ c ∷ d ∷ e ∷ []) = omega arith
+octets_few (a ∷ b ∷ c ∷ d ∷ e ∷ f ∷ []) = omega arith
+octets_few (a ∷ b ∷ c ∷ d ∷ e ∷ f ∷ g ∷ []) = omega arith
+octets_few (a ∷ b ∷ c ∷ d ∷ e ∷ f ∷ g ∷ h ∷ rest) = omega (arith, octets_few rest)
+
+huffman_short : (plain : List ℕ) → length (huffman plain) ≤ 30 * length plain
+unfolding huffman
+huffman_short plain = omega (arith, octets_few (flat_map code_word plain), words_short plain)
+
+-- a code word has at most thirty bits (RFC 7541, appendix B)
+pub string_short : (size flags : ℕ) (plain : List ℕ) → length (string_literal size flags plain) ≤ 10 + 30 * length plain
+string_short size flags plain =
+    let p = prefixed (size - 1) (2 * flags + 1) (length (huffman plain)) in
+    omega (arith, huffman_short plain, prefixed_short (size - 1) (2 * flags + 1) (length (huffman plain)), length-append p (huffman plain))
