@@ -1,7 +1,7 @@
 -- Worked rows of what is kept when memory was refused, and of what was handed over to send.
 use Rattle.std.specs.Prelude.{ℕ, List, [], ◌∷◌, codes, Bool, take}
 use Rattle.h3_proto.specs.declared.stream.Side.TheVariants.{Client, Server}
-use Rattle.h3_connection.specs.Arrivals.{Arrival, BytesCame, EndCame, ResetCame}
+use Rattle.h3_connection.specs.declared.arrival.Arrival.TheVariants.{BytesCame, EndCame, ResetCame}
 use Rattle.h3_connection.specs.CallLists.{Call, endpoint_after}
 use Rattle.h3_connection.specs.CallLists.Call.{OpenRequest, SendHead, SendBody, SendTrailer, Finish, Deliver, Cancel}
 use Rattle.h3_connection.specs.Endpoint.{EndpointHistory, new_endpoint}

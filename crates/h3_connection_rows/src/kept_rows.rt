@@ -6,7 +6,7 @@ ghost use Rattle.h3_connection.specs.declared.event.Fault.TheVariants as fault;
 ghost use Rattle.h3_connection.specs.declared.event.StreamFault.TheVariants as stream_fault;
 ghost use Rattle.h3_connection.specs.declared.event.Malformation.TheVariants as malformation;
 ghost use Rattle.h3_connection.specs.declared.event.Refusal.TheVariants as refusal;
-ghost use Rattle.h3_connection.specs.Arrivals.{BytesCame, EndCame, ResetCame};
+ghost use Rattle.h3_connection.specs.declared.arrival.Arrival.TheVariants.{BytesCame, EndCame, ResetCame};
 ghost use Rattle.h3_connection.specs.Endpoint.{own_waiting};
 ghost use Rattle.h3_connection.specs.Keeping.{arrives, pulls, read_arrival};
 ghost use Rattle.h3_connection.specs.PartReading.{held};
