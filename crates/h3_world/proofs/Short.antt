@@ -1,12 +1,10 @@
 -- An encoded field section is no longer than thirty times its fields.
-use Rattle.std.proofs.Common.{◌≡◌, ℕ, zero, suc, ◌+◌, ◌*◌, ◌-◌, ◌/◌, ◌%◌, ◌^◌, ◌<◌, ◌≤◌, Bool, true, false, List, [], ◌∷◌, ◌++◌, length, refl, ap, arith, length-append, fold, nat_lt, nat_le, if◌then◌else◌}
-use Rattle.std.specs.Prelude.{flat_map, position, nat_eq, ◌==◌}
-use Rattle.std.specs.List.{AllByRecursion}
+use Rattle.std.proofs.Common.{ℕ, ◌+◌, ◌*◌, ◌-◌, ◌%◌, ◌^◌, ◌<◌, ◌≤◌, Bool, true, false, List, [], ◌∷◌, ◌++◌, length, ap, arith, length-append, fold, nat_lt, nat_le, if◌then◌else◌}
+use Rattle.std.specs.Prelude.{flat_map, ◌==◌}
 use Rattle.std.proofs.lemmas.Grind.{flat_map-append}
 use Rattle.std.proofs.lemmas.List.Sums.{sum_by-cons}
-use Rattle.h3_huffman.specs.Huffman.{huffman, octets, code_word, bits, word_from, symbols_by_length}
 use Rattle.h3_field.specs.Field.{Field, field_size, section_size}
-use Rattle.h3_field.specs.Integer.{groups, ones, prefixed}
+use Rattle.h3_field.specs.Integer.{prefixed}
 use Rattle.h3_field.specs.Line.{FieldLine, line_bytes}
 use Rattle.h3_field.specs.Line.FieldLine.{StaticField, RelativeField, PostBaseField, StaticName, RelativeName, PostBaseName, Literal}
 use Rattle.h3_field.specs.Prefix.{most_entries, prefix_bytes}
@@ -14,71 +12,9 @@ use Rattle.h3_field.specs.StaticTable.{static_field, static_name}
 use Rattle.h3_field.specs.StringLiteral.{string_literal}
 use Rattle.h3_qpack.specs.EncoderHistory.{EncoderHistory, writing_on}
 use Rattle.h3_qpack.specs.SectionEncoding.{Draft, add_field, add_literal, draft_of, entry_name_line, found, found_name, is_insertable, required_insert_count}
+use Rattle.h3_qpack.specs.ShortLaws.{prefixed_short, string_short}
 use Rattle.h3_connection.specs.Sections.{encoded_section}
 use Rattle.h3_world.proofs.Inserted.{chosen, either_way}
-
-groups_few : (most n : ℕ) → length (groups most n) ≤ most
-groups_few zero n = omega arith
-groups_few (suc most) n = by_test (nat_lt n 128) (groups_few most (n / 128))
-  where
-    by_test : (b : Bool) → length (groups most (n / 128)) ≤ most → length (if b then n ∷ [] else (128 + n % 128) ∷ groups most (n / 128)) ≤ suc most
-    by_test true rest = omega arith
-    by_test false rest = omega (arith, rest)
-
-prefixed_short : (size flags n : ℕ) → length (prefixed size flags n) ≤ 10
-prefixed_short size flags n = by_test (nat_lt n (ones size))
-  where
-    by_test : (b : Bool) → length (if b then (flags * 2 ^ size + n) ∷ [] else (flags * 2 ^ size + ones size) ∷ groups 9 (n - ones size)) ≤ 10
-    by_test true = omega arith
-    by_test false = omega (arith, groups_few 9 (n - ones size))
-
-bits_count : (count n : ℕ) → length (bits count n) ≡ count
-unfolding bits
-bits_count zero n = refl
-bits_count (suc count) n = omega (arith, length-append (bits count (n / 2)) ((n % 2) ∷ []), bits_count count (n / 2))
-
--- no row is of longer words
-abbrev pub RowsWithin : ℕ → List (ℕ × List ℕ) → Type 0
-RowsWithin most rows = AllByRecursion (λ row. row.0 ≤ most) rows
-
-word_within : (most next before : ℕ) (rows : List (ℕ × List ℕ)) (symbol : ℕ) → RowsWithin most rows → length (word_from next before rows symbol) ≤ most
-word_within most next before [] symbol within = omega arith
-word_within most next before ((len, symbols) ∷ rows) symbol within =
-    chosen (λ word. length word ≤ most) (position (nat_eq symbol) symbols) _ _ (λ place e. omega (arith, bits_count len (next * 2 ^ (len - before) + place), within.0))
-    (λ none. word_within most (next * 2 ^ (len - before) + length symbols) len rows symbol within.1)
-
-rows_are : RowsWithin 30 symbols_by_length
-rows_are =
-    (omega arith, (omega arith, (omega arith, (omega arith, (omega arith, (omega arith, (omega arith, (omega arith, (omega arith, (omega arith, (omega arith, (omega arith, (omega arith, (omega arith, (omega arith, (omega arith, (omega arith, (omega arith, (omega arith, (omega arith, (omega arith, tt)))))))))))))))))))))
-
-word_short : (symbol : ℕ) → length (code_word symbol) ≤ 30
-unfolding code_word
-word_short symbol = word_within 30 0 0 symbols_by_length symbol rows_are
-
-words_short : (plain : List ℕ) → length (flat_map code_word plain) ≤ 30 * length plain
-words_short [] = omega arith
-words_short (c ∷ cs) = omega (arith, words_short cs, word_short c, length-append (code_word c) (flat_map code_word cs))
-
-octets_few : (r : List ℕ) → length (octets r) ≤ length r
-unfolding octets
-octets_few [] = omega arith
-octets_few (a ∷ []) = omega arith
-octets_few (a ∷ b ∷ []) = omega arith
-octets_few (a ∷ b ∷ c ∷ []) = omega arith
-octets_few (a ∷ b ∷ c ∷ d ∷ []) = omega arith
-octets_few (a ∷ b ∷ c ∷ d ∷ e ∷ []) = omega arith
-octets_few (a ∷ b ∷ c ∷ d ∷ e ∷ f ∷ []) = omega arith
-octets_few (a ∷ b ∷ c ∷ d ∷ e ∷ f ∷ g ∷ []) = omega arith
-octets_few (a ∷ b ∷ c ∷ d ∷ e ∷ f ∷ g ∷ h ∷ rest) = omega (arith, octets_few rest)
-
-huffman_short : (plain : List ℕ) → length (huffman plain) ≤ 30 * length plain
-unfolding huffman
-huffman_short plain = omega (arith, octets_few (flat_map code_word plain), words_short plain)
-
-string_short : (size flags : ℕ) (plain : List ℕ) → length (string_literal size flags plain) ≤ 10 + 30 * length plain
-string_short size flags plain =
-    let p = prefixed (size - 1) (2 * flags + 1) (length (huffman plain)) in
-    omega (arith, huffman_short plain, prefixed_short (size - 1) (2 * flags + 1) (length (huffman plain)), length-append p (huffman plain))
 
 -- the lines so far take no more than that
 abbrev pub LinesWithin : ℕ → Draft → Type 0
