@@ -1,7 +1,9 @@
 //! Headers and trailers: the pseudo-header fields and the regular fields of a message
 //! (RFC 9114, 4.3).
 ghost use Rattle.std.specs.Prelude.{◌≡◌, ◌-◌, ◌^◌, [], length, min, IfOk, IfErr, OnOk, option_copied, codes, Some, None};
+ghost use Rattle.std.specs.List.{AllByRecursion};
 ghost use Rattle.http_uri.specs.Uri.{uri_authority};
+ghost use Rattle.h3_field.specs.ReadBack.{IsFieldOfBytes};
 ghost use Rattle.h3_header.specs.Head.{trailer_head, response_head, head_fields, is_request, is_response, has_pseudo};
 ghost use Rattle.h3_header.specs.Request.{host_of, authority_refusal, request_head, RefusesRequest, IsRequestOf};
 ghost use Rattle.h3_header.specs.Reads.{RefusesOne, IsHeadOf, head_of_fields};
@@ -238,6 +240,7 @@ impl Header {
     pub(crate) fn visit_parts(&self)
         ensures reads_back { ReadsBack (head_fields self.now) }
         ensures read_as { head_of_fields (head_fields self.now) ≡ as_read self.now }
+        ensures of_bytes { AllByRecursion IsFieldOfBytes (head_fields self.now) }
     {
         self.pseudo.visit();
         write::visit_regular(&self.fields);

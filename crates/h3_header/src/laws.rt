@@ -1,6 +1,8 @@
 //! Laws on headers and their field lists, each the contract of a function.
 ghost use Rattle.std.specs.Prelude.{◌≡◌, IfOk, IfErr, List, [], Some};
+ghost use Rattle.std.specs.List.{AllByRecursion};
 ghost use Rattle.h3_field.specs.Field.{Field};
+ghost use Rattle.h3_field.specs.ReadBack.{IsFieldOfBytes};
 ghost use Rattle.h3_header.specs.Head.{Head, head_fields, trailer_head};
 ghost use Rattle.h3_header.specs.HeadRead.{HeadRefusal, IsHead, IsNone, head_of, told};
 ghost use Rattle.h3_header.specs.Reads.{IsHeadOf, RefusesOne, head_of_fields};
@@ -12,10 +14,11 @@ use std::alloc::Global;
 
 /// The field list of every header, however it was made, is accepted, and it makes a header with
 /// this very list: the same one but for an empty path, which is `/`, and for the marks of sensitive
-/// values.
+/// values. Each item of its names and values is below 256.
 pub fn every_header_reads_back(header: &Header)
     ensures reads_back { ReadsBack (head_fields header.now) }
     ensures read_as { head_of_fields (head_fields header.now) ≡ as_read header.now }
+    ensures of_bytes { AllByRecursion IsFieldOfBytes (head_fields header.now) }
 {
     header.visit_parts();
 }

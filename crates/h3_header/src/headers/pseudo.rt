@@ -1,13 +1,15 @@
 //! The pseudo-header fields of a message (RFC 9114, 4.3).
 ghost use Rattle.std.specs.Prelude.{◌≡◌, ◌++◌, OnOk, length, None, Some, option_map, option_copied, IfSome};
+ghost use Rattle.std.specs.List.{AllByRecursion};
 ghost use Rattle.http_header.specs.Token.{IsToken};
 ghost use Rattle.http.specs.StatusCode.{IsStatusCode, code_digits};
 ghost use Rattle.http_uri.specs.Grammar.{IsScheme, IsAuthority, IsPathAndQuery, or_slash};
+ghost use Rattle.h3_field.specs.ReadBack.{IsFieldOfBytes};
 ghost use Rattle.h3_header.specs.ProtocolText.{IsProtocolText};
 ghost use Rattle.h3_header.specs.Parts.{no_pseudo, fields_of_pseudo};
 ghost use Rattle.h3_header.specs.ReadsBack.{IsValidPseudo};
 
-use super::write::{append_pseudo, append_static};
+use super::write::{append_pseudo, append_static, visit_text};
 use crate::ext::Protocol;
 use h3_field::HeaderField;
 use http::{Method, StatusCode};
@@ -120,14 +122,15 @@ impl Pseudo {
 
     /// Reads each part.
     pub(crate) fn visit(&self)
-        ensures { IsValidPseudo self.now }
+        ensures valid { IsValidPseudo self.now }
+        ensures of_bytes { AllByRecursion IsFieldOfBytes (fields_of_pseudo self.now) }
     {
-        let _method = self.method_text();
-        let _scheme = self.scheme_text();
-        let _authority = self.authority_text();
-        let _path = self.path_text();
-        let _status = self.status_text();
-        let _protocol = self.protocol_text();
+        visit_text(self.method_text());
+        visit_text(self.scheme_text());
+        visit_text(self.authority_text());
+        visit_text(self.path_text());
+        visit_text(self.status_text());
+        visit_text(self.protocol_text());
     }
 
     /// How many there are.

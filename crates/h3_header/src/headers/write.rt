@@ -1,5 +1,7 @@
 //! The fields of a header, made one by one or appended to a list.
 ghost use Rattle.std.specs.Prelude.{◌≡◌, ◌∷◌, [], ◌++◌, IfOk, IfSome, OnOk, option_copied};
+ghost use Rattle.std.specs.List.{AllByRecursion};
+ghost use Rattle.h3_field.specs.ReadBack.{AreBytes, IsFieldOfBytes};
 ghost use Rattle.h3_header.specs.Head.{optional_field, regular_fields};
 ghost use Rattle.h3_header.specs.ReadsBack.{IsValidMap};
 
@@ -129,13 +131,30 @@ pub(crate) fn append_regular(
     Ok(())
 }
 
+// Each item of a slice of bytes is below 256: its type says so.
+fn are_bytes(bytes: &[u8])
+    ensures { AreBytes bytes.now }
+{
+    let _ = bytes;
+}
+
+/// Reads the bytes of a part that may be missing.
+pub(crate) fn visit_text(text: Option<&str>)
+    ensures { IfSome (option_copied text.entry) AreBytes }
+{
+    if let Some(text) = text {
+        are_bytes(text.as_bytes());
+    }
+}
+
 /// Reads each name and value of a map.
 pub(crate) fn visit_regular(map: &HeaderMap)
-    ensures { IsValidMap map.now }
+    ensures valid { IsValidMap map.now }
+    ensures of_bytes { AllByRecursion IsFieldOfBytes (regular_fields map.now) }
 {
     let _count = map.len();
     for (name, value) in map.iter() {
-        let _name = name.as_bytes();
-        let _value = value.as_bytes();
+        are_bytes(name.as_bytes());
+        are_bytes(value.as_bytes());
     }
 }
