@@ -1,5 +1,5 @@
 -- Where two endpoints answer an event as the machine of the world does, the event happens in the world, and they stand in it after that.
-use Rattle.std.proofs.Common.{◌≡◌, refl, sym, subst}
+use Rattle.std.proofs.Common.{sym, subst}
 use Rattle.h3_world.specs.declared.setup.Setup.{Setup}
 use Rattle.h3_world.specs.declared.event.Event.{Event}
 use Rattle.h3_world.specs.declared.event.Answer.{Answer}
@@ -10,6 +10,7 @@ use Rattle.h3_world.specs.Sendable.{IsSendable}
 use Rattle.h3_world.specs.Sound.{IsSoundWorld}
 use Rattle.h3_world.specs.Step.{Step, IsExact}
 use Rattle.h3_world.specs.World.{World, empty_world}
+use Rattle.h3_headline.specs.FewLaws.{few_after}
 use Rattle.h3_headline.specs.OwnEventLaws.{AnswersAlike}
 use Rattle.h3_headline.specs.OwnWritesLaws.{KeepsWriting}
 use Rattle.h3_headline.specs.RunLaws.{StandsOn}
@@ -34,6 +35,7 @@ alike_stands laws setup w ends e sendable h alike written =
         at_client = alike.at_client;
         at_server = alike.at_server;
         next_id = alike.next_id;
+        few = few_after setup w e h.few;
         sound = both.1;
         client_writes = written.client_writes;
         server_writes = written.server_writes;

@@ -110,6 +110,7 @@ begins setup sound =
       at_client = begins_at setup Client;
       at_server = begins_at setup Server;
       next_id = refl;
+      few = omega arith;
       sound = sound;
       client_writes = record { goaways = tt; instructions = tt; replies = tt };
       server_writes = record { goaways = tt; instructions = tt; replies = tt };

@@ -1,14 +1,13 @@
 -- A cancellation: what the ends answer, and where they stand.
-use Rattle.std.proofs.Common.{◌≡◌, ℕ, ◌^◌, ◌<◌, ◌≤◌, Bool, true, false, List, [], ◌∷◌, ◌++◌, length, refl, sym, ap, ◌∙◌, subst, if◌then◌else◌, Option, Some, None}
-use Rattle.std.specs.Prelude.{not, ◌||◌, ◌==◌, flat_map, is_some, unwrap_or}
+use Rattle.std.proofs.Common.{◌≡◌, ℕ, ◌^◌, ◌<◌, Bool, true, false, List, [], ◌∷◌, ◌++◌, refl, sym, ap, ◌∙◌, subst, if◌then◌else◌, Option, Some, None}
+use Rattle.std.specs.Prelude.{not, ◌||◌, ◌==◌, is_some, unwrap_or}
 use Rattle.std.specs.List.{AllByRecursion}
-use Rattle.h3_coding.specs.Encodings.{encoding}
-use Rattle.h3_field.specs.Instruction.{DecoderInstruction, decoder_bytes}
+use Rattle.h3_field.specs.Instruction.{DecoderInstruction}
 use Rattle.h3_field.specs.Instruction.DecoderInstruction.{CancelStream}
 use Rattle.h3_field.specs.InstructionAnswer.{IsReply}
 use Rattle.h3_proto.specs.declared.stream.Side.{Side}
 use Rattle.h3_connection.specs.Delivering.{incoming_at, give_up, given_up_by, cancellation, with_incoming}
-use Rattle.h3_connection.specs.Endpoint.{EndpointHistory, Own, replied}
+use Rattle.h3_connection.specs.Endpoint.{EndpointHistory, replied}
 use Rattle.h3_connection.specs.Incoming.{Incoming, nothing_came}
 use Rattle.h3_connection.specs.Incoming as incoming
 use Rattle.h3_connection.specs.OwnIds.{other, decoder_id}
@@ -22,21 +21,20 @@ use Rattle.h3_connection.specs.declared.event.StreamFault.TheVariants.{Canceled}
 use Rattle.h3_world.specs.declared.setup.Setup.{Setup}
 use Rattle.h3_world.specs.declared.event.Event.TheVariants as event
 use Rattle.h3_world.specs.declared.event.Answer.TheVariants as answer
-use Rattle.h3_world.specs.Came.{settings_came}
 use Rattle.h3_world.specs.Ends.{Ends, end_at, answered}
 use Rattle.h3_world.specs.Flow.{Flow}
 use Rattle.h3_world.specs.Machine.{served}
-use Rattle.h3_world.specs.Order.{outgoing_of, is_over}
+use Rattle.h3_world.specs.Order.{is_over}
 use Rattle.h3_world.specs.Refusals.{is_critical, cancel_refusal}
 use Rattle.h3_world.specs.Sending.{given_up}
 use Rattle.h3_world.specs.Streams.{flow, with_flow, is_open}
 use Rattle.h3_world.specs.World.{World, Party, party, with_party}
 use Rattle.h3_headline.specs.ComingLaws.{incoming_there, incoming_none}
 use Rattle.h3_headline.specs.DeliverLaws.{sends_same}
-use Rattle.h3_headline.specs.FlowLaws.{IsThere, same_number, same_both, open_there, there-with_party, flow-with_flow, flow-with_peer, flow-with_party, party-with_flow, party-with_party, party-with_other, is_open-own, is_open-peer_kept, is_open-with_party}
+use Rattle.h3_headline.specs.FlowLaws.{same_number, same_both, open_there, there-with_party, flow-with_flow, flow-with_peer, flow-with_party, party-with_flow, party-with_party, party-with_other, is_open-own, is_open-peer_kept, is_open-with_party}
 use Rattle.h3_headline.specs.MovesLaws.{saying, Receives, receiver_stands, sender_stands}
 use Rattle.h3_headline.specs.ReceivingLaws.{is_given_up}
-use Rattle.h3_headline.specs.SendingLaws.{Both, both_of, Serves, does_on, call_agrees, goes_unclosed, not_refused, not_refused_open, flow_count}
+use Rattle.h3_headline.specs.SendingLaws.{both_of, Serves, does_on, call_agrees, goes_unclosed, not_refused, not_refused_open, flow_count}
 use Rattle.h3_headline.specs.SentLaws.{critical_agrees}
 use Rattle.h3_headline.specs.Standing.{HasDecoderStreamOf, ReceivesFlow, StandsAt, IsWritable, IsReadable, Stands, are_settings_there}
 use Rattle.h3_headline.specs.WritingLaws.{sound_party, hears, party_count}

@@ -1,11 +1,9 @@
 -- A head and a trailer: what the ends answer, and where they stand.
-use Rattle.std.proofs.Common.{◌≡◌, ℕ, ◌^◌, ◌<◌, ◌≤◌, Bool, true, false, List, [], ◌∷◌, ◌++◌, length, refl, sym, ap, ◌∙◌, subst, if◌then◌else◌, Option, Some, None}
-use Rattle.std.specs.Prelude.{not, ◌&&◌, ◌||◌, is_some, option_map, unwrap_or, flat_map}
+use Rattle.std.proofs.Common.{◌≡◌, ℕ, Bool, true, false, List, [], ◌∷◌, ◌++◌, refl, sym, ap, ◌∙◌, subst, if◌then◌else◌, Option, Some, None}
+use Rattle.std.specs.Prelude.{not, ◌&&◌, ◌||◌, is_some, option_map, unwrap_or}
 use Rattle.std.specs.List.{AllByRecursion}
-use Rattle.h3_coding.specs.Encodings.{encoding}
 use Rattle.http_uri.specs.Grammar.{or_slash}
 use Rattle.h3_field.specs.Field.{Field, section_size}
-use Rattle.h3_field.specs.Instruction.{EncoderInstruction, encoder_bytes}
 use Rattle.h3_header.specs.Head.{Head as Fields, head_fields, has_pseudo}
 use Rattle.h3_header.specs.Reads.{head_of_fields}
 use Rattle.h3_header.specs.ReadsBack.{as_read}
@@ -23,7 +21,6 @@ use Rattle.h3_connection.specs.Sections.{encoded_section, instructions_for}
 use Rattle.h3_connection.specs.Sending.{first_of, is_too_large, outgoing_at, appended as part_appended, counted, encoded, head_part, fields_cost}
 use Rattle.h3_connection.specs.Sending as sender
 use Rattle.h3_connection.specs.StreamSets.{stream_at, set_stream}
-use Rattle.h3_connection.specs.declared.event.Refusal.{Refusal}
 use Rattle.h3_connection.specs.declared.event.Refusal.TheVariants as refusal
 use Rattle.h3_world.specs.declared.setup.Setup.{Setup}
 use Rattle.h3_world.specs.declared.event.Event.TheVariants as event
@@ -37,7 +34,7 @@ use Rattle.h3_world.specs.Order.{outgoing_of, is_end}
 use Rattle.h3_world.specs.Refusals.{head_refusal, trailer_refusal}
 use Rattle.h3_world.specs.Sending.{appended, having_encoded, section_sent, sent_section, sent_head, sent_trailer}
 use Rattle.h3_world.specs.Setup.{announced_at}
-use Rattle.h3_world.specs.Streams.{flow, with_flow, is_open}
+use Rattle.h3_world.specs.Streams.{flow, is_open}
 use Rattle.h3_world.specs.World.{World, Party, party, with_party}
 use Rattle.h3_headline.specs.ComingLaws.{sound_flow}
 use Rattle.h3_headline.specs.DeliverLaws.{sends_at}
@@ -46,7 +43,7 @@ use Rattle.h3_headline.specs.SendingLaws.{Both, both_of, Serves, Does, does_on, 
 use Rattle.h3_headline.specs.SentLaws.{open_parts, with_body}
 use Rattle.h3_headline.specs.SentPartLaws.{part_extends, sends_part}
 use Rattle.h3_headline.specs.SettingsLaws.{too_large_with_meaning}
-use Rattle.h3_headline.specs.Standing.{HasEncoderStreamOf, StandsAt, IsWritable, IsReadable, Stands, are_settings_there, with_meaning}
+use Rattle.h3_headline.specs.Standing.{StandsAt, IsWritable, IsReadable, Stands, are_settings_there, with_meaning}
 use Rattle.h3_headline.specs.WritesMoreLaws.{encoder_stream_more}
 use Rattle.h3_headline.specs.WritingLaws.{Hears, hears, party_writes, party_count, sound_party}
 

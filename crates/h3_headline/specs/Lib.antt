@@ -11,9 +11,11 @@ pub mod DecoderStreamLaws
 pub mod DecodesLaws
 pub mod DeliverLaws
 pub mod EncoderStreamLaws
+pub mod FewLaws
 pub mod FlowLaws
 pub mod FrontLaws
 pub mod HeadLaws
+pub mod JoiningLaws
 pub mod LearningLaws
 pub mod ListeningLaws
 pub mod MovesLaws

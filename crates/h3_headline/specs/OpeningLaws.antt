@@ -12,7 +12,6 @@ use Rattle.h3_connection.specs.Endpoint.{EndpointHistory}
 use Rattle.h3_connection.specs.Incoming.{nothing_came}
 use Rattle.h3_connection.specs.Lasts.{last_id}
 use Rattle.h3_connection.specs.Outgoing.{nothing_sent}
-use Rattle.h3_connection.specs.OwnIds.{other}
 use Rattle.h3_connection.specs.Pulling.{is_client}
 use Rattle.h3_connection.specs.Sending.{going_away}
 use Rattle.h3_connection.specs.Sending as sender
@@ -31,10 +30,10 @@ use Rattle.h3_world.specs.Order.{outgoing_of}
 use Rattle.h3_world.specs.Refusals.{next_id, open_refusal}
 use Rattle.h3_world.specs.Sending.{opened}
 use Rattle.h3_world.specs.Streams.{exchange, flow, is_open}
-use Rattle.h3_world.specs.World.{World, Exchange, no_exchange, party}
+use Rattle.h3_world.specs.World.{World, Exchange, no_exchange}
 use Rattle.h3_headline.specs.FlowLaws.{same_number}
 use Rattle.h3_headline.specs.MovesLaws.{set_at, stands_moved}
-use Rattle.h3_headline.specs.SendingLaws.{both_of, Serves, call_agrees, goes_unclosed}
+use Rattle.h3_headline.specs.SendingLaws.{Serves, call_agrees, goes_unclosed}
 use Rattle.h3_headline.specs.Standing.{ReceivesFlow, ReceivesAt, IsReadable, StandsAt, Stands}
 
 get_default : (es : List Exchange) (n : ℕ) → unwrap_or (slice_get (es ++ no_exchange ∷ []) n) no_exchange ≡ unwrap_or (slice_get es n) no_exchange
@@ -67,7 +66,7 @@ new_unused w =
     ap (λ b. if b then unwrap_or (slice_get w.exchanges (index_of (next_id w))) no_exchange else no_exchange) (request_of (length w.exchanges))
     ∙ beyond w.exchanges (index_of (next_id w)) (omega (arith, four_of (length w.exchanges)))
 
-one_more : (w : World) → length (opened w).exchanges ≡ length w.exchanges + 1
+pub one_more : (w : World) → length (opened w).exchanges ≡ length w.exchanges + 1
 one_more w = length-append w.exchanges (no_exchange ∷ [])
 
 within_more : (i n : ℕ) → is_request i ≡ true → (4 * n == i) ≡ false → nat_lt (index_of i) (n + 1) ≡ nat_lt (index_of i) n

@@ -148,7 +148,7 @@ pub record KeepsWriting (w : World) : Type 0 where
   pub requests : AreReadable w Client
   pub responses : AreReadable w Server
 
-still_writing : (setup : Setup) (w : World) (ends : Ends) → Stands setup w ends → KeepsWriting w
+pub still_writing : (setup : Setup) (w : World) (ends : Ends) → Stands setup w ends → KeepsWriting w
 still_writing setup w ends h = record { client_writes = h.client_writes; server_writes = h.server_writes; requests = h.requests; responses = h.responses }
 
 writing_after : (laws : StreamLaws) (setup : Setup) (w : World) (ends : Ends) (writer : Side) (id count : ℕ) → IsMadeSetup setup → Stands setup w ends → KeepsWriting (delivered_own setup w writer id count)

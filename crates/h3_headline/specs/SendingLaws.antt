@@ -1,5 +1,5 @@
 -- A call of one end: where its refusal is the world's, both ends stand in the world after it.
-use Rattle.std.proofs.Common.{◌≡◌, ℕ, ◌*◌, Bool, true, false, List, [], ◌∷◌, ◌++◌, length, refl, sym, ap, ◌∙◌, subst, if◌then◌else◌, Option, Some, None}
+use Rattle.std.proofs.Common.{◌≡◌, ℕ, ◌*◌, ◌^◌, ◌≤◌, Bool, true, false, List, ◌∷◌, length, refl, sym, ap, ◌∙◌, subst, if◌then◌else◌, Option, Some, None}
 use Rattle.std.specs.Prelude.{not, is_some, unwrap_or, ◌==◌}
 use Rattle.std.specs.List.{AllByRecursion}
 use Rattle.h3_proto.specs.declared.stream.Side.{Side}
@@ -49,12 +49,14 @@ pub record Serves (setup : Setup) (given : Answer × Ends) (to : Answer × World
   pub both : Both setup to.1 Client given.1.client given.1.server
   pub next_id : given.1.client.next_id ≡ 4 * length to.1.exchanges
 
-pub stands_served : (setup : Setup) (given : Answer × Ends) (to : Answer × World) → Serves setup given to → IsSoundWorld setup to.1 → Stands setup to.1 given.1
-stands_served setup given to h sound =
+pub stands_served : (setup : Setup) (given : Answer × Ends) (to : Answer × World) → Serves setup given to → 4 * length to.1.exchanges ≤ 2 ^ 62 → IsSoundWorld setup to.1
+    → Stands setup to.1 given.1
+stands_served setup given to h few sound =
     record {
       at_client = h.both.here;
       at_server = h.both.there;
       next_id = h.next_id;
+      few = few;
       sound = sound;
       client_writes = h.both.writes_here;
       server_writes = h.both.writes_there;

@@ -1,43 +1,38 @@
 -- A piece of a body, the end of a message, and a reset: what the ends answer, and where they stand.
 use Rattle.std.proofs.Common.{◌≡◌, ℕ, ◌+◌, Bool, true, false, List, [], ◌∷◌, ◌++◌, length, refl, sym, ap, ◌∙◌, subst, arith, if◌then◌else◌, Option, Some, None}
 use Rattle.std.specs.Prelude.{not, ◌&&◌, ◌||◌, ◌==◌, drop, unwrap_or}
-use Rattle.std.proofs.lemmas.Bool.{eqb-true}
 use Rattle.std.proofs.lemmas.Grind.{common_steps}
 use Rattle.h3_wire.specs.Encoded.{frame_encoding}
 use Rattle.h3_proto.specs.declared.stream.Side.{Side}
 use Rattle.h3_proto.specs.declared.stream.Side.TheVariants.{Client, Server}
 use Rattle.h3_connection.specs.Endpoint.{EndpointHistory, Kind, kind_of, is_read_as, is_critical_id, is_critical_of}
 use Rattle.h3_connection.specs.Endpoint.Kind.{Request, ServerOpened, OwnUnidirectional, PeerUnidirectional}
-use Rattle.h3_connection.specs.Outgoing.{Outgoing, OwnPart, nothing_sent, takes_body, takes_end, is_sent_off, is_unsent, last_is_trailer}
+use Rattle.h3_connection.specs.Outgoing.{Outgoing, nothing_sent, takes_body, takes_end, is_sent_off, is_unsent, last_is_trailer}
 use Rattle.h3_connection.specs.Outgoing.OwnPart.{OwnBody}
 use Rattle.h3_connection.specs.OwnIds.{other, control_id, encoder_id, decoder_id, is_own}
 use Rattle.h3_connection.specs.Sending.{first_of, outgoing_at, with_outgoing, counted}
 use Rattle.h3_connection.specs.Sending as sender
 use Rattle.h3_connection.specs.StreamSets.{set_stream}
-use Rattle.h3_connection.specs.declared.event.Refusal.{Refusal}
 use Rattle.h3_connection.specs.declared.event.Refusal.TheVariants as refusal
 use Rattle.h3_world.specs.declared.setup.Setup.{Setup}
-use Rattle.h3_world.specs.declared.event.Event.{Event}
 use Rattle.h3_world.specs.declared.event.Event.TheVariants as event
-use Rattle.h3_world.specs.declared.event.Answer.{Answer}
 use Rattle.h3_world.specs.declared.event.Answer.TheVariants as answer
 use Rattle.h3_world.specs.Ends.{Ends, end_at, answered}
-use Rattle.h3_world.specs.Flow.{Flow, Part, flow_bytes}
+use Rattle.h3_world.specs.Flow.{Flow, flow_bytes}
 use Rattle.h3_world.specs.Flow.Part.{Body, End}
-use Rattle.h3_world.specs.Flow as flows
 use Rattle.h3_world.specs.Machine.{served}
 use Rattle.h3_world.specs.Order.{outgoing_of}
 use Rattle.h3_world.specs.Order as order
 use Rattle.h3_world.specs.Refusals.{is_critical, body_refusal, finish_refusal, reset_refusal}
 use Rattle.h3_world.specs.Sending.{appended, sent_body, finished, cut_off}
-use Rattle.h3_world.specs.Streams.{flow, with_flow, is_open}
+use Rattle.h3_world.specs.Streams.{flow, is_open}
 use Rattle.h3_world.specs.World.{World, party}
 use Rattle.h3_headline.specs.ComingLaws.{sound_flow}
-use Rattle.h3_headline.specs.DeliverLaws.{sent_bytes, left_to_send, left_length, sends_at}
+use Rattle.h3_headline.specs.DeliverLaws.{sent_bytes, left_length, sends_at}
 use Rattle.h3_headline.specs.FlowLaws.{open_there, same_number}
 use Rattle.h3_headline.specs.SendingLaws.{Both, both_of, Serves, Does, does_on, call_agrees, rules_agree, goes_unclosed, refusal_agrees, not_refused, not_refused_open, flow_extended, flow_count}
 use Rattle.h3_headline.specs.SentPartLaws.{part_extends, cut, cut_extends, sends_part, sends_end}
-use Rattle.h3_headline.specs.Standing.{Stands, StandsAt, HasControlOf, came_on}
+use Rattle.h3_headline.specs.Standing.{Stands, StandsAt, came_on}
 
 -- what a part that is not refused tells
 pub open_parts : (a b c : Bool) → not ((not a && not b) && c) ≡ false → (a ≡ false) × (b ≡ false)

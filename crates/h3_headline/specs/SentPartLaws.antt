@@ -2,19 +2,19 @@
 use Rattle.std.proofs.Common.{◌≡◌, ℕ, zero, suc, ◌+◌, ◌-◌, ◌<◌, ◌≤◌, Bool, true, false, List, [], ◌∷◌, ◌++◌, length, take, drop, refl, sym, ap, ◌∙◌, subst, arith, Option, Some, None, append_assoc, append-nil}
 use Rattle.std.specs.Prelude.{not, ◌&&◌, slice_get, nat_lt}
 use Rattle.std.specs.List.{AllByRecursion, concat, flat_map}
-use Rattle.std.proofs.lemmas.Grind.{common_steps, flat_map-append}
+use Rattle.std.proofs.lemmas.Grind.{flat_map-append}
 use Rattle.h3_proto.specs.declared.stream.Side.{Side}
 use Rattle.h3_connection.specs.Incoming.{Incoming}
 use Rattle.h3_connection.specs.Outgoing.{Outgoing, OwnPart}
 use Rattle.h3_connection.specs.OwnIds.{other}
 use Rattle.h3_world.specs.Flow.{Flow, Part, Section, own_part, part_bytes, flow_bytes}
 use Rattle.h3_world.specs.Flow.Part.{Interim, Head, Body, Trailer, End}
-use Rattle.h3_world.specs.Order.{next_part, is_end, is_over, last_part, outgoing_of}
+use Rattle.h3_world.specs.Order.{next_part, is_end, last_part, outgoing_of}
 use Rattle.h3_world.specs.Sending.{appended}
 use Rattle.h3_world.specs.Sound.{IsSoundFlow}
 use Rattle.h3_world.specs.World.{Party}
 use Rattle.h3_headline.specs.SendingLaws.{Extends}
-use Rattle.h3_headline.specs.Standing.{place_after, section_frame, section_of_part, StandsBefore, WaitsIn, HasBytes, IsReadable, ReadsFlow, ReceivesFlow}
+use Rattle.h3_headline.specs.Standing.{place_after, section_frame, section_of_part, StandsBefore, WaitsIn, IsReadable, ReceivesFlow}
 
 get_front : (parts more : List Part) (n : ℕ) → n < length parts → slice_get (parts ++ more) n ≡ slice_get parts n
 get_front [] more n h = absurd (omega (arith, h))

@@ -1,6 +1,6 @@
 -- How many streams wait at an end is how many exchanges do; and all that an end shows.
-use Rattle.std.proofs.Common.{arith, ◌≡◌, ℕ, zero, suc, ◌+◌, ◌-◌, ◌*◌, ◌<◌, ◌≤◌, Bool, true, false, List, [], ◌∷◌, refl, sym, ap, ◌∙◌, subst, nat_lt, if◌then◌else◌, Option, Some, None}
-use Rattle.std.specs.Prelude.{◌==◌, ◌&&◌, ◌%◌, ◌/◌, count_by, length, take, slice_get, is_none, unwrap_or}
+use Rattle.std.proofs.Common.{arith, ◌≡◌, ℕ, zero, suc, ◌+◌, ◌-◌, ◌*◌, ◌<◌, ◌≤◌, Bool, true, false, List, [], ◌∷◌, refl, sym, ap, ◌∙◌, subst, nat_lt, if◌then◌else◌, Some}
+use Rattle.std.specs.Prelude.{◌==◌, ◌&&◌, ◌%◌, count_by, length, take, slice_get, is_none, unwrap_or}
 use Rattle.std.proofs.Math.Nat.{div-add-mod}
 use Rattle.std.proofs.lemmas.Grind.{common_steps}
 use Rattle.std.proofs.lemmas.List.Sums.{sum_by-cons}
@@ -13,7 +13,7 @@ use Rattle.h3_qpack.specs.WholeInstructions.{whole_in}
 use Rattle.h3_connection.specs.Endpoint.{EndpointHistory}
 use Rattle.h3_connection.specs.Incoming.{Incoming}
 use Rattle.h3_connection.specs.OwnIds.{other}
-use Rattle.h3_connection.specs.Shown.{waiting_heads, peer_limits, table_sizes}
+use Rattle.h3_connection.specs.Shown.{waiting_heads, table_sizes}
 use Rattle.h3_connection.specs.StreamSets.{Streams, stream_at}
 use Rattle.h3_world.specs.declared.setup.Setup.{Setup}
 use Rattle.h3_world.specs.declared.event.Event.TheVariants as event
@@ -24,7 +24,7 @@ use Rattle.h3_world.specs.Ends.{Ends, end_at, answered}
 use Rattle.h3_world.specs.Flow.{Flow}
 use Rattle.h3_world.specs.Machine.{served}
 use Rattle.h3_world.specs.Shown.{incoming, limits_shown, sizes_shown, streams_waiting}
-use Rattle.h3_world.specs.Streams.{exchange, flow, is_open}
+use Rattle.h3_world.specs.Streams.{flow, is_open}
 use Rattle.h3_world.specs.Sound.{IsSoundWorld}
 use Rattle.h3_world.specs.World.{World, Exchange, no_exchange, party}
 use Rattle.h3_headline.specs.AcceptedLaws.{counts_all}

@@ -1,5 +1,5 @@
 -- An endpoint stands in a world: what it keeps is what was sent, delivered and handed out there.
-use Rattle.std.specs.Prelude.{◌≡◌, ℕ, zero, suc, ◌+◌, ◌-◌, ◌*◌, ◌^◌, ◌<◌, ◌&&◌, Bool, true, false, List, [], ◌∷◌, ◌++◌, length, take, drop, fold, filter, flat_map, ◌==◌, if◌then◌else◌, Option, Some, None, is_some, nat_le}
+use Rattle.std.specs.Prelude.{◌≡◌, ℕ, zero, suc, ◌+◌, ◌-◌, ◌*◌, ◌^◌, ◌<◌, ◌≤◌, ◌&&◌, Bool, true, false, List, [], ◌∷◌, ◌++◌, length, take, drop, fold, filter, flat_map, ◌==◌, if◌then◌else◌, Option, Some, None, is_some, nat_le}
 use Rattle.std.specs.List.{AllByRecursion, concat}
 use Rattle.h3_header.specs.Head.{has_pseudo}
 use Rattle.h3_header.specs.Reads.{head_of_fields}
@@ -209,11 +209,13 @@ IsReadable reader End = Unit {0}
 abbrev pub AreReadable : World → Side → Type 0
 AreReadable w side = (id : ℕ) → AllByRecursion (IsReadable (other side)) (flow w side id).sent
 
--- Both do, the client's next request is the world's, and the world is sound.
+-- Both do, the client's next request is the world's, the ids of request streams are below 2^62 (RFC 9000, section 2.1), and the
+-- world is sound.
 pub record Stands (setup : Setup) (w : World) (ends : Ends) : Type 0 where
   pub at_client : StandsAt setup w Client ends.client
   pub at_server : StandsAt setup w Server ends.server
   pub next_id : ends.client.next_id ≡ 4 * length w.exchanges
+  pub few : 4 * length w.exchanges ≤ 2 ^ 62
   pub sound : IsSoundWorld setup w
   pub client_writes : IsWritable Client w.client.own
   pub server_writes : IsWritable Server w.server.own

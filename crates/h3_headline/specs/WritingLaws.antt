@@ -1,12 +1,12 @@
 -- A side writes on its own streams: both ends stand in the world after it.
 use Rattle.std.proofs.Common.{◌≡◌, ℕ, ◌^◌, ◌<◌, ◌≤◌, Bool, true, false, List, [], ◌∷◌, ◌++◌, length, refl, sym, ap, ◌∙◌, subst, if◌then◌else◌, Option, Some, None, nat_lt}
-use Rattle.std.specs.Prelude.{not, ◌&&◌, ◌%◌, ◌==◌, flat_map}
+use Rattle.std.specs.Prelude.{not, ◌&&◌, flat_map}
 use Rattle.h3_proto.specs.StreamIds.{is_request}
 use Rattle.h3_proto.specs.declared.stream.Side.{Side}
 use Rattle.h3_proto.specs.declared.stream.Side.TheVariants.{Client, Server}
 use Rattle.h3_connection.specs.Endpoint.{EndpointHistory, Own, goaway_encoding}
 use Rattle.h3_connection.specs.Lasts.{last_id}
-use Rattle.h3_connection.specs.OwnIds.{other, control_id, encoder_id, decoder_id}
+use Rattle.h3_connection.specs.OwnIds.{other, control_id}
 use Rattle.h3_connection.specs.PeerReading.{is_above, is_no_goaway}
 use Rattle.h3_connection.specs.Pulling.{is_client}
 use Rattle.h3_connection.specs.Sending.{raised}
@@ -23,7 +23,6 @@ use Rattle.h3_world.specs.OwnStreams.{settings_bytes}
 use Rattle.h3_world.specs.Refusals.{goaway_refusal}
 use Rattle.h3_world.specs.Sending.{with_goaway}
 use Rattle.h3_world.specs.Setup.{announced_at}
-use Rattle.h3_world.specs.Came.{settings_came}
 use Rattle.h3_world.specs.Sound.{IsSoundParty, IsSoundWorld}
 use Rattle.h3_world.specs.World.{World, Party, party, with_party}
 use Rattle.h3_headline.specs.ControlStreamLaws.{last_of_none, goaways_then}
