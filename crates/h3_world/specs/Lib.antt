@@ -19,6 +19,7 @@ pub mod Machine
 pub mod Following
 pub mod Sound
 pub mod Sendable
+pub mod Few
 pub mod Ends
 pub mod WorkedHeads
 pub mod WorkedResponses
