@@ -1,5 +1,5 @@
 -- A cancellation: what the ends answer, and where they stand.
-use Rattle.std.proofs.Common.{◌≡◌, ℕ, ◌^◌, ◌<◌, Bool, true, false, List, [], ◌∷◌, ◌++◌, refl, sym, ap, ◌∙◌, subst, if◌then◌else◌, Option, Some, None}
+use Rattle.std.proofs.Common.{◌≡◌, ℕ, Bool, true, false, List, [], ◌∷◌, ◌++◌, refl, sym, ap, ◌∙◌, subst, if◌then◌else◌, Option, Some, None}
 use Rattle.std.specs.Prelude.{not, ◌||◌, ◌==◌, is_some, unwrap_or}
 use Rattle.std.specs.List.{AllByRecursion}
 use Rattle.h3_field.specs.Instruction.{DecoderInstruction}
@@ -31,6 +31,7 @@ use Rattle.h3_world.specs.Streams.{flow, with_flow, is_open}
 use Rattle.h3_world.specs.World.{World, Party, party, with_party}
 use Rattle.h3_headline.specs.ComingLaws.{incoming_there, incoming_none}
 use Rattle.h3_headline.specs.DeliverLaws.{sends_same}
+use Rattle.h3_headline.specs.FewLaws.{open_is_small}
 use Rattle.h3_headline.specs.FlowLaws.{same_number, same_both, open_there, there-with_party, flow-with_flow, flow-with_peer, flow-with_party, party-with_flow, party-with_party, party-with_other, is_open-own, is_open-peer_kept, is_open-with_party}
 use Rattle.h3_headline.specs.MovesLaws.{saying, Receives, receiver_stands, sender_stands}
 use Rattle.h3_headline.specs.ReceivingLaws.{is_given_up}
@@ -87,9 +88,9 @@ no_fault_of true o e = cc
 no_fault_of false None e = refl
 no_fault_of false (Some x) e = cc
 
-pub cancel_served : (setup : Setup) (w : World) (ends : Ends) (side : Side) (id : ℕ) → Stands setup w ends → id < 2 ^ 62
+pub cancel_served : (setup : Setup) (w : World) (ends : Ends) (side : Side) (id : ℕ) → Stands setup w ends
     → Serves setup (answered ends (event.Cancel side id)) (served setup w (event.Cancel side id))
-cancel_served setup w ends side id h small =
+cancel_served setup w ends side id h =
     let e = end_at ends side in
     let f = end_at ends (other side) in
     let b = both_of setup w side ends h in
@@ -119,7 +120,7 @@ cancel_served setup w ends side id h small =
     decoder_stream_more (other side) (are_settings_there setup (other (other side)) own.control_taken) own.decoder_taken own.replies more (stream_at f.unidirectional (decoder_id (other (other side)))) f.decoder_on f.decoder_unread
     (sound_party setup w side h.sound).writer.decoder (hears setup w side f b.there).decoder_stream in
     let writes : IsWritable side (saying own more) =
-    record { goaways = b.writes_here.goaways; instructions = b.writes_here.instructions; replies = all_then IsReply own.replies (CancelStream id) b.writes_here.replies small } in
+    record { goaways = b.writes_here.goaways; instructions = b.writes_here.instructions; replies = all_then IsReply own.replies (CancelStream id) b.writes_here.replies (open_is_small setup w ends side id h o.0) } in
     does_on setup w v ends side answer.Done new h (ap (λ x. x.next_id) is)
     (flow_count (with_party w side (saying_more (party w side) more)) (other side) id g ∙ party_count w side (saying_more (party w side) more))
     (record {

@@ -24,6 +24,7 @@ pub mod OwnDeliveredLaws
 pub mod OwnEventLaws
 pub mod OwnMovesLaws
 pub mod OwnOverLaws
+pub mod OwnStandsLaws
 pub mod OwnWorldLaws
 pub mod OwnWritesLaws
 pub mod PartLaws
@@ -40,6 +41,7 @@ pub mod RoleLaws
 pub mod RunLaws
 pub mod SenderEventLaws
 pub mod SendingLaws
+pub mod SentEventLaws
 pub mod SentLaws
 pub mod SentPartLaws
 pub mod SessionDecoderLaws

@@ -1,0 +1,67 @@
+-- A call of a sender, and what an end shows: it happens in the world, and both ends stand in it after that.
+use Rattle.std.proofs.Common.{ℕ, ◌<◌, ◌^◌, List, length, subst}
+use Rattle.h3_header.specs.Head.{Head as Fields, head_fields}
+use Rattle.h3_proto.specs.declared.stream.Side.{Side}
+use Rattle.h3_qpack.specs.EncoderHistory.{EncoderHistory}
+use Rattle.h3_world.specs.declared.setup.Setup.{Setup}
+use Rattle.h3_world.specs.declared.event.Event.TheVariants as event
+use Rattle.h3_world.specs.Ends.{Ends}
+use Rattle.h3_world.specs.Sendable.{IsSendable, IsSendableHead}
+use Rattle.h3_world.specs.Sound.{IsSoundWorld}
+use Rattle.h3_world.specs.World.{World, party}
+use Rattle.h3_headline.specs.CancelLaws.{cancel_served}
+use Rattle.h3_headline.specs.CitedLaws.{StreamLaws}
+use Rattle.h3_headline.specs.HeadLaws.{IsWritableHead, head_served, trailer_served}
+use Rattle.h3_headline.specs.JoiningLaws.{Laws}
+use Rattle.h3_headline.specs.OpeningLaws.{open_served}
+use Rattle.h3_headline.specs.RunLaws.{StandsOn}
+use Rattle.h3_headline.specs.SenderEventLaws.{served_stands}
+use Rattle.h3_headline.specs.SentLaws.{finish_served, body_served, reset_served}
+use Rattle.h3_headline.specs.ShowingLaws.{show_served}
+use Rattle.h3_headline.specs.Standing.{Stands}
+use Rattle.h3_headline.specs.WritingLaws.{sound_party, goaway_served}
+
+-- numbers of entries stay below 2^62
+few_inserted : (laws : StreamLaws) (setup : Setup) (w : World) (side : Side) → IsSoundWorld setup w → length (party w side).encoder.inserted < 2 ^ 62
+few_inserted laws setup w side sound =
+    let h = (sound_party setup w side sound).session in
+    subst (λ (s : EncoderHistory). length s.inserted < 2 ^ 62) h.follows.encoder (laws.sound 0 0 h.events h.session h.run).small
+
+writable_head : (laws : Laws) (setup : Setup) (w : World) (side : Side) (id : ℕ) (head : Fields) → IsSoundWorld setup w → IsSendableHead head → IsWritableHead w side id head
+writable_head laws setup w side id head sound sendable =
+    record {
+      read_as = sendable.read_as;
+      instructions = laws.written (party w side).encoder id (head_fields head) (few_inserted laws.streams setup w side sound) sendable.section.of_bytes sendable.section.small;
+    }
+
+pub opened_on : (laws : Laws) (setup : Setup) (w : World) (ends : Ends) (side : Side) → IsSendable (event.OpenRequest side) → Stands setup w ends → StandsOn setup w ends (event.OpenRequest side)
+opened_on laws setup w ends side sendable h = served_stands laws.worlds setup w ends (event.OpenRequest side) sendable h (open_served setup w ends side h)
+
+pub head_on : (laws : Laws) (setup : Setup) (w : World) (ends : Ends) (side : Side) (id : ℕ) (head : Fields) → IsSendable (event.Head side id head) → Stands setup w ends
+    → StandsOn setup w ends (event.Head side id head)
+head_on laws setup w ends side id head sendable h =
+    served_stands laws.worlds setup w ends (event.Head side id head) sendable h (head_served setup w ends side id head h (writable_head laws setup w side id head h.sound sendable))
+
+pub trailer_on : (laws : Laws) (setup : Setup) (w : World) (ends : Ends) (side : Side) (id : ℕ) (trailer : Fields) → IsSendable (event.Trailer side id trailer) → Stands setup w ends
+    → StandsOn setup w ends (event.Trailer side id trailer)
+trailer_on laws setup w ends side id trailer sendable h =
+    served_stands laws.worlds setup w ends (event.Trailer side id trailer) sendable h (trailer_served setup w ends side id trailer h (writable_head laws setup w side id trailer h.sound sendable))
+
+pub body_on : (laws : Laws) (setup : Setup) (w : World) (ends : Ends) (side : Side) (id : ℕ) (bytes : List ℕ) → IsSendable (event.Body side id bytes) → Stands setup w ends
+    → StandsOn setup w ends (event.Body side id bytes)
+body_on laws setup w ends side id bytes sendable h = served_stands laws.worlds setup w ends (event.Body side id bytes) sendable h (body_served setup w ends side id bytes h)
+
+pub finish_on : (laws : Laws) (setup : Setup) (w : World) (ends : Ends) (side : Side) (id : ℕ) → IsSendable (event.Finish side id) → Stands setup w ends → StandsOn setup w ends (event.Finish side id)
+finish_on laws setup w ends side id sendable h = served_stands laws.worlds setup w ends (event.Finish side id) sendable h (finish_served setup w ends side id h)
+
+pub reset_on : (laws : Laws) (setup : Setup) (w : World) (ends : Ends) (side : Side) (id : ℕ) → IsSendable (event.Reset side id) → Stands setup w ends → StandsOn setup w ends (event.Reset side id)
+reset_on laws setup w ends side id sendable h = served_stands laws.worlds setup w ends (event.Reset side id) sendable h (reset_served setup w ends side id h)
+
+pub cancel_on : (laws : Laws) (setup : Setup) (w : World) (ends : Ends) (side : Side) (id : ℕ) → IsSendable (event.Cancel side id) → Stands setup w ends → StandsOn setup w ends (event.Cancel side id)
+cancel_on laws setup w ends side id sendable h = served_stands laws.worlds setup w ends (event.Cancel side id) sendable h (cancel_served setup w ends side id h)
+
+pub goaway_on : (laws : Laws) (setup : Setup) (w : World) (ends : Ends) (side : Side) (id : ℕ) → IsSendable (event.Goaway side id) → Stands setup w ends → StandsOn setup w ends (event.Goaway side id)
+goaway_on laws setup w ends side id sendable h = served_stands laws.worlds setup w ends (event.Goaway side id) sendable h (goaway_served setup w ends side id h sendable)
+
+pub show_on : (laws : Laws) (setup : Setup) (w : World) (ends : Ends) (side : Side) → IsSendable (event.Show side) → Stands setup w ends → StandsOn setup w ends (event.Show side)
+show_on laws setup w ends side sendable h = served_stands laws.worlds setup w ends (event.Show side) sendable h (show_served setup w ends side h)
