@@ -28,6 +28,8 @@ pub mod OwnStandsLaws
 pub mod OwnWorldLaws
 pub mod OwnWritesLaws
 pub mod PartLaws
+pub mod PeerPullLaws
+pub mod PullEventLaws
 pub mod PullLaws
 pub mod PulledBodyLaws
 pub mod PulledFlowLaws

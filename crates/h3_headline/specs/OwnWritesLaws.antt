@@ -98,7 +98,7 @@ increment_is_reply n h = by_test (n == 0)
     by_test true = tt
     by_test false = (h, tt)
 
-saying_writable : (side : Side) (own : Own) (more : List DecoderInstruction) → IsWritable side own → AllByRecursion IsReply more → IsWritable side (record own { replies = own.replies ++ more })
+pub saying_writable : (side : Side) (own : Own) (more : List DecoderInstruction) → IsWritable side own → AllByRecursion IsReply more → IsWritable side (record own { replies = own.replies ++ more })
 saying_writable side own more h k = record { goaways = h.goaways; instructions = h.instructions; replies = all_join IsReply own.replies more h.replies k }
 
 learned_writable : (side : Side) (limits : Limits) (p : Party) (learns : Bool) → limits.table < 2 ^ 30 → IsWritable side p.own → IsWritable side (if learns then having_learned p limits else p).own

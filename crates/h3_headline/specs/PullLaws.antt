@@ -104,7 +104,7 @@ same_party w Client = refl
 same_party w Server = refl
 
 -- a pause says nothing
-paused_receives : (w : World) (side : Side) (id count : ℕ) → is_open w side id ≡ true
+pub paused_receives : (w : World) (side : Side) (id count : ℕ) → is_open w side id ≡ true
     → Receives w (paused w side id count) side id [] (record (flow w (other side) id) { waits_for = count })
 paused_receives w side id count there =
     let g : Flow = record (flow w (other side) id) { waits_for = count } in
@@ -126,7 +126,7 @@ not_own : (side : Side) (id : ℕ) → is_request id ≡ true → (id % 4 == con
 not_own Client id e = grind (arith, common_steps, e)
 not_own Server id e = grind (arith, common_steps, e)
 
-none_settled : (w : World) (side : Side) (id : ℕ) → is_open w side id ≡ true → (flow w (other side) id).fault ≡ None → is_over (flow w (other side) id) ≡ false → settled w side id ≡ None
+pub none_settled : (w : World) (side : Side) (id : ℕ) → is_open w side id ≡ true → (flow w (other side) id).fault ≡ None → is_over (flow w (other side) id) ≡ false → settled w side id ≡ None
 none_settled w side id there alive more =
     let f = flow w (other side) id in
     let request = (open_there w side id there).request in
@@ -136,20 +136,21 @@ none_settled w side id there alive more =
     ∙ ap (λ o. fault_or o (if is_over f then Some (pull.Item item.End) else None)) alive
     ∙ ap (λ b. if b then Some (pull.Item item.End) else None) more
 
--- the changes of a flow by an item leave what its sender has of it
-item_leaves : (f : Flow) (part : Option Part) (i : Item) → (outgoing_of (after_item f part i) ≡ outgoing_of f) × ((after_item f part i).seen ≡ f.seen)
-item_leaves f None i = (refl, refl)
-item_leaves f (Some (Interim s)) i = (refl, refl)
-item_leaves f (Some (Head s)) i = (refl, refl)
-item_leaves f (Some (Trailer s)) i = (refl, refl)
-item_leaves f (Some End) i = (refl, refl)
+-- the changes of a flow by an item leave what its sender has of it, what its receiver has seen and what was sent
+pub item_leaves : (f : Flow) (part : Option Part) (i : Item) → (outgoing_of (after_item f part i) ≡ outgoing_of f) × ((after_item f part i).seen ≡ f.seen) × ((after_item f part i).sent ≡ f.sent)
+item_leaves f None i = (refl, refl, refl)
+item_leaves f (Some (Interim s)) i = (refl, refl, refl)
+item_leaves f (Some (Head s)) i = (refl, refl, refl)
+item_leaves f (Some (Trailer s)) i = (refl, refl, refl)
+item_leaves f (Some End) i = (refl, refl, refl)
 item_leaves f (Some (Body bytes own)) (item.Body piece) = by_size (f.body_out + length piece == length bytes)
   where
     by_size : (b : Bool) → (outgoing_of (if b then record f { parts_out = f.parts_out + 1; body_out = 0; waits_for = 0 } else record f { body_out = f.body_out + length piece; waits_for = 0 }) ≡ outgoing_of f)
         × ((if b then record f { parts_out = f.parts_out + 1; body_out = 0; waits_for = 0 } else record f { body_out = f.body_out + length piece; waits_for = 0 }).seen ≡ f.seen)
-    by_size true = (refl, refl)
-    by_size false = (refl, refl)
-item_leaves f (Some (Body bytes own)) _ = (refl, refl)
+        × ((if b then record f { parts_out = f.parts_out + 1; body_out = 0; waits_for = 0 } else record f { body_out = f.body_out + length piece; waits_for = 0 }).sent ≡ f.sent)
+    by_size true = (refl, refl, refl)
+    by_size false = (refl, refl, refl)
+item_leaves f (Some (Body bytes own)) _ = (refl, refl, refl)
 
 -- **The pull of an open stream that was not given up and is not over.** The premises from the session of QPACK: what the decoder makes
 -- of the next section, how many insertions it read, and that no more streams wait than allowed.
