@@ -10,15 +10,14 @@ ghost use Rattle.h3_world.specs.Setup.{IsMadeSetup, announced_at};
 ghost use Rattle.h3_world.specs.Sound.{IsSoundWorld};
 ghost use Rattle.h3_world.specs.Streams.{flow, is_open};
 ghost use Rattle.h3_world.specs.World.{World, party};
-ghost use Rattle.h3_headline.specs.CitedLaws.{StreamLaws};
+ghost use Rattle.h3_headline.specs.JoiningLaws.{Laws};
 ghost use Rattle.h3_headline.specs.PulledPartLaws.{DecodesNext};
 ghost use Rattle.h3_headline.specs.PulledSectionLaws.{ListsAreTheirValue};
 ghost use Rattle.h3_headline.specs.Standing.{StandsAt};
 
-/// What the lemmas here cite of QPACK's sessions and streams, and of what a field list is read as, holds.
+/// What the lemmas here cite holds: of QPACK's sessions and streams, of what a field list is read as, and of the steps of a world.
 pub fn what_is_cited_holds()
-    ensures sessions { StreamLaws }
-    ensures lists { ListsAreTheirValue }
+    ensures { Laws }
 {
     h3_qpack::laws::every_session_is_sound();
     h3_qpack::laws::fronts_of_written_instructions();
@@ -26,7 +25,10 @@ pub fn what_is_cited_holds()
     h3_qpack::laws::written_instructions_are_accepted();
     h3_qpack::laws::every_section_is_written();
     h3_qpack::laws::every_encoding_means_its_fields();
+    h3_qpack::laws::instructions_can_be_written();
     h3_header::laws::lists_are_their_value();
+    h3_world::laws::the_machine_answers_as_allowed();
+    h3_world::laws::every_exact_step_happens();
 }
 
 /// An endpoint that stands in a world has read the insertions that came. In a sound world its decoder makes of the section that is next

@@ -5,4 +5,4 @@ pub returns-clause-insertions : goal.returns-clause-insertions
 returns-clause-insertions c = insertions_read
 
 pub returns-clause-sections : goal.returns-clause-sections
-returns-clause-sections c = endpoint_decodes c.what_is_cited_holds.ensures.sessions
+returns-clause-sections c = endpoint_decodes c.what_is_cited_holds.ensures.streams
