@@ -149,7 +149,7 @@ after_end setup w side id e a h sound there of closed =
     ∙ ap (λ r. taken None r e (read_arrival e a)) (ap (delivery_refusal e) of ∙ coming_refusal setup w side id e h sound there ∙ ap closed_refusal closed)
 
 -- else it is taken
-goes_on : (setup : Setup) (w : World) (side : Side) (id : ℕ) (e : EndpointHistory) (a : Arrival) → StandsAt setup w side e → IsSoundWorld setup w → IsThere w id → stream_of a ≡ id
+pub goes_on : (setup : Setup) (w : World) (side : Side) (id : ℕ) (e : EndpointHistory) (a : Arrival) → StandsAt setup w side e → IsSoundWorld setup w → IsThere w id → stream_of a ≡ id
     → ((flow w (other side) id).ended || (flow w (other side) id).reset_came) ≡ false → arrives e a ≡ taken None None e (read_arrival e a)
 goes_on setup w side id e a h sound there of open_still =
     taken_none setup w side e a h

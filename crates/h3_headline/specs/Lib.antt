@@ -4,6 +4,7 @@ pub mod AnnouncedLaws
 pub mod BeginningLaws
 pub mod CancelLaws
 pub mod CitedLaws
+pub mod ComesLaws
 pub mod ComingLaws
 pub mod ControlLaws
 pub mod ControlStreamLaws
