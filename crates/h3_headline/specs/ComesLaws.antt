@@ -1,8 +1,7 @@
 -- What comes on a request stream is taken by its reader, and both ends stand in the world after it.
-use Rattle.std.proofs.Common.{◌≡◌, ℕ, ◌<◌, ◌≤◌, ◌^◌, Bool, true, false, List, [], ◌∷◌, ◌++◌, length, take, refl, sym, ap, ◌∙◌, subst, arith, if◌then◌else◌, Option, Some, None}
+use Rattle.std.proofs.Common.{◌≡◌, ℕ, ◌<◌, ◌≤◌, ◌^◌, Bool, true, false, List, [], ◌∷◌, length, take, refl, sym, ap, ◌∙◌, subst, if◌then◌else◌, Option, Some, None}
 use Rattle.std.specs.Prelude.{◌==◌, ◌||◌, is_some, unwrap_or}
 use Rattle.std.specs.List.{AllByRecursion}
-use Rattle.std.proofs.lemmas.Grind.{common_steps}
 use Rattle.h3_field.specs.Instruction.{DecoderInstruction}
 use Rattle.h3_field.specs.Instruction.DecoderInstruction.{CancelStream}
 use Rattle.h3_field.specs.InstructionAnswer.{IsReply}
@@ -32,14 +31,15 @@ use Rattle.h3_world.specs.Streams.{flow, with_flow, is_open}
 use Rattle.h3_world.specs.World.{World, Party, party, with_party}
 use Rattle.h3_headline.specs.CancelLaws.{flow_answered}
 use Rattle.h3_headline.specs.ComingLaws.{incoming_there, incoming_none, is_unseen, kind_is, saying_nothing}
-use Rattle.h3_headline.specs.DeliverLaws.{bytes_over, end_over, flow_received, goes_on}
-use Rattle.h3_headline.specs.FlowLaws.{IsThere, same_number, open_there, other-other}
+use Rattle.h3_headline.specs.DeliverLaws.{owning, bytes_over, end_over, flow_received, goes_on}
+use Rattle.h3_headline.specs.FlowLaws.{IsThere, open_there, other-other}
 use Rattle.h3_headline.specs.MovesLaws.{saying, Receives}
 use Rattle.h3_headline.specs.OwnWritesLaws.{saying_writable}
 use Rattle.h3_headline.specs.ReceivingLaws.{come, ended_flow, reset_flow, flow_given_up}
 use Rattle.h3_headline.specs.ResetLaws.{reset_stands}
 use Rattle.h3_headline.specs.SendingLaws.{Both, flow_count}
 use Rattle.h3_headline.specs.Standing.{HasDecoderStreamOf, StandsAt, IsWritable, IsReadable, are_settings_there}
+use Rattle.h3_headline.specs.WaitingLaws.{self}
 use Rattle.h3_headline.specs.WritesMoreLaws.{decoder_stream_more}
 use Rattle.h3_headline.specs.WritingLaws.{sound_party, hears, party_count}
 
@@ -96,12 +96,6 @@ end_comes_over setup w side id er ew h sound sending goes =
     }
 
 -- The reset comes: first the flow is marked, and then given up where it was not.
-same_id : (id : ℕ) → (id == id) ≡ true
-same_id id = grind (arith, common_steps)
-
-abbrev owning : Party → Own → Party
-owning p own = record p { own = own }
-
 receives_then : (w u v : World) (side : Side) (id : ℕ) (more : List DecoderInstruction) (f g : Flow) → Receives w u side id [] f → Receives u v side id more g → Receives w v side id more g
 receives_then w u v side id more f g r s =
     let kept : party u side ≡ party w side = r.here ∙ ap (λ (o : Own). owning (party w side) o) (saying_nothing (party w side).own) in
@@ -142,8 +136,8 @@ reset_receives w side id sending = subst (λ s. Receives w (reset_to s) side id 
 
     given : Receives w (given_up u side id fault) side id (CancelStream id ∷ []) (losing (reset_flow f) fault)
     given =
-        let at_id : flow u (other side) id ≡ reset_flow f = marked.to_it id ∙ ap (λ b. if b then reset_flow f else f) (same_id id) in
-        let opened_to : is_open u side id ≡ true = marked.open_here id ∙ ap (λ b. if b then true else is_open w side id) (same_id id) in
+        let at_id : flow u (other side) id ≡ reset_flow f = marked.to_it id ∙ ap (λ b. if b then reset_flow f else f) (self id) in
+        let opened_to : is_open u side id ≡ true = marked.open_here id ∙ ap (λ b. if b then true else is_open w side id) (self id) in
         subst (Receives w (given_up u side id fault) side id (CancelStream id ∷ [])) (ap (λ (o : Flow). losing o fault) at_id)
         (receives_then w u (given_up u side id fault) side id (CancelStream id ∷ []) (reset_flow f) (losing (flow u (other side) id) fault) marked
         (flow_answered u side id (CancelStream id ∷ []) (losing (flow u (other side) id) fault) opened_to refl))

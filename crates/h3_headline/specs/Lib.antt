@@ -10,6 +10,7 @@ pub mod ControlLaws
 pub mod ControlStreamLaws
 pub mod DecoderStreamLaws
 pub mod DecodesLaws
+pub mod DeliverEventLaws
 pub mod DeliverLaws
 pub mod EncoderStreamLaws
 pub mod FewLaws

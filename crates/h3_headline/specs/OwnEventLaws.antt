@@ -117,7 +117,7 @@ pub record AnswersAlike (setup : Setup) (given : Answer × Ends) (expected : Ans
   pub at_server : StandsAt setup expected.1 Server given.1.server
   pub next_id : given.1.client.next_id ≡ 4 * length expected.1.exchanges
 
-abbrev given_as : Answer → Ends → Answer × Ends
+abbrev pub given_as : Answer → Ends → Answer × Ends
 given_as a ends = (a, ends)
 
 abbrev pub served_as : Answer → World → Answer × World

@@ -65,7 +65,7 @@ not_first streams q id j none at = by_id (q == id) refl
 later_at : (streams : Streams Incoming) (q id : ℕ) (i j : Incoming) → stream_at streams q ≡ None → stream_at streams id ≡ Some j → stream_at ((q, i) ∷ streams) id ≡ Some j
 later_at streams q id i j none at = ap (λ b. if b then Some i else stream_at streams id) (not_first streams q id j none at) ∙ at
 
-self : (q : ℕ) → (q == q) ≡ true
+pub self : (q : ℕ) → (q == q) ≡ true
 self q = grind (arith, common_steps)
 
 -- **No more streams wait than exchanges do.**
