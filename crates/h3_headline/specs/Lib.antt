@@ -13,6 +13,7 @@ pub mod DecodesLaws
 pub mod DeliverEventLaws
 pub mod DeliverLaws
 pub mod EncoderStreamLaws
+pub mod EventLaws
 pub mod FewLaws
 pub mod FlowLaws
 pub mod FrontLaws

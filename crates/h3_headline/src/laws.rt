@@ -1,19 +1,25 @@
 //! Laws over two endpoints that stand in a world. These functions do nothing: their contracts are the laws.
-ghost use Rattle.std.specs.Prelude.{◌≡◌, ℕ, true, None};
+ghost use Rattle.std.specs.Prelude.{◌≡◌, ℕ, true, None, List};
+ghost use Rattle.std.specs.List.{AllByRecursion};
 ghost use Rattle.h3_proto.specs.declared.stream.Side.{Side};
 ghost use Rattle.h3_connection.specs.Endpoint.{EndpointHistory};
 ghost use Rattle.h3_connection.specs.OwnIds.{other};
+ghost use Rattle.h3_world.specs.declared.event.Event.{Event};
 ghost use Rattle.h3_world.specs.declared.setup.Setup.{Setup};
 ghost use Rattle.h3_world.specs.Came.{insertions_came};
+ghost use Rattle.h3_world.specs.Ends.{answers_of_ends, ends_after, new_ends};
+ghost use Rattle.h3_world.specs.Headline.{Happens};
 ghost use Rattle.h3_world.specs.Order.{next_part};
+ghost use Rattle.h3_world.specs.Run.{Run};
+ghost use Rattle.h3_world.specs.Sendable.{IsSendable};
 ghost use Rattle.h3_world.specs.Setup.{IsMadeSetup, announced_at};
 ghost use Rattle.h3_world.specs.Sound.{IsSoundWorld};
 ghost use Rattle.h3_world.specs.Streams.{flow, is_open};
-ghost use Rattle.h3_world.specs.World.{World, party};
+ghost use Rattle.h3_world.specs.World.{World, empty_world, party};
 ghost use Rattle.h3_headline.specs.JoiningLaws.{Laws};
 ghost use Rattle.h3_headline.specs.PulledPartLaws.{DecodesNext};
 ghost use Rattle.h3_headline.specs.PulledSectionLaws.{ListsAreTheirValue};
-ghost use Rattle.h3_headline.specs.Standing.{StandsAt};
+ghost use Rattle.h3_headline.specs.Standing.{Stands, StandsAt};
 
 /// What the lemmas here cite holds: of QPACK's sessions and streams, of what a field list is read as, and of the steps of a world.
 pub fn what_is_cited_holds()
@@ -39,6 +45,15 @@ pub fn endpoints_decode_what_was_sent()
     ensures sections { (lists : ListsAreTheirValue) (setup : Setup) (w : World) (side : Side) (id : ℕ) (e : EndpointHistory) → IsMadeSetup setup → StandsAt setup w side e → IsSoundWorld setup w →
         is_open w side id ≡ true → (flow w (other side) id).fault ≡ None →
         DecodesNext lists side (announced_at setup side) id e.decoding.decoder (insertions_came (party w (other side))) (next_part (flow w (other side) id)) }
+{
+    what_is_cited_holds();
+}
+
+/// Two endpoints with the bytes carried between them run in a world: over every schedule of events that may be sent, the answers of both
+/// are those of a run of the world, of which all holds that is said of each step, and both stand in the world that it leads to.
+pub fn two_endpoints_run_in_a_world()
+    ensures { (setup : Setup) (events : List Event) → IsMadeSetup setup → AllByRecursion IsSendable events →
+        (w : World) × Run (Happens setup) empty_world events (answers_of_ends (new_ends setup) events) w × Stands setup w (ends_after (new_ends setup) events) }
 {
     what_is_cited_holds();
 }
