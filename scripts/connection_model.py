@@ -400,10 +400,13 @@ class Sender:
         return sum(c > self.known for c in self.counts)
 
     def gone(self, inserted, capacity):
-        kept = list(inserted)
-        while sum(map(size_of, kept)) > capacity:
-            kept.pop(0)
-        return len(inserted) - len(kept)
+        """how many of the oldest do not fit"""
+        size = 0
+        for k in range(len(inserted), 0, -1):
+            size += size_of(inserted[k - 1])
+            if size > capacity:
+                return k
+        return 0
 
     def encode(self, stream, fields):
         capacity, limit = (0, 0) if stream in self.canceled else (self.capacity, self.limit)

@@ -1,6 +1,7 @@
 #!/usr/bin/env bash
-# The gate: the checks of this repository (scripts/check-*.sh), which take seconds and each print one line 'ok NAME' or
-# 'failed NAME' for each thing that they check, and then `rt ci`. Where a check fails the gate ends there. The last line is the sum.
+# The gate: the checks of this repository (scripts/check-*.sh), which take about a minute and each print one line 'ok NAME' or
+# 'failed NAME' for each thing that they check, then `rt ci`, and then a large exchange by the program that it built. Where one of
+# these fails the gate ends there. The last line is the sum.
 set -uo pipefail
 cd "$(dirname "$0")/.."
 
@@ -9,8 +10,9 @@ trap 'rm -f "$log"' EXIT
 passed=0
 failed=0
 
-for script in scripts/check-*.sh; do
-  bash "$script" 2>&1 | tee "$log"
+# runs a check, and counts its lines
+count() {
+  "$@" 2>&1 | tee "$log"
   status=${PIPESTATUS[0]}
   good=$(grep -cE '^ok ' "$log")
   bad=$(grep -cE '^failed ' "$log")
@@ -19,6 +21,10 @@ for script in scripts/check-*.sh; do
   if [ "$good" -eq 0 ] && [ "$bad" -eq 0 ]; then bad=1; fi
   passed=$((passed + good))
   failed=$((failed + bad))
+}
+
+for script in scripts/check-*.sh; do
+  count bash "$script"
 done
 
 if [ "$failed" -eq 0 ]; then
@@ -29,6 +35,10 @@ if [ "$failed" -eq 0 ]; then
   # no closing line: the gate itself did not finish
   passed=$((passed + ${good:-0}))
   failed=$((failed + ${bad:-1}))
+fi
+
+if [ "$failed" -eq 0 ]; then
+  count python3 scripts/exchange.py crates/h3_talk/out/h3_talk
 fi
 
 echo "$passed passed, $failed failed"

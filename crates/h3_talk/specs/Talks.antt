@@ -2,14 +2,13 @@
 use Rattle.std.specs.Prelude.{◌≡◌, ℕ, ◌^◌, ◌≤◌, false, List, length, Option}
 use Rattle.std.specs.List.{list_any}
 use Rattle.std.specs.Io.KnownBytes.{Consumes, IsAtEnd, Appends}
-use Rattle.h3_talk.specs.World.{World, empty_world}
-use Rattle.h3_talk.specs.Run.{Run}
-use Rattle.h3_talk.specs.Headline.{Happens, is_memory}
-use Rattle.h3_talk.specs.Lines.{printed, refused_line}
-use Rattle.h3_talk.specs.Script.{IsScript, RefusesLine}
-use Rattle.h3_talk.specs.declared.session.setup.Setup.{Setup}
-use Rattle.h3_talk.specs.declared.session.event.Event.{Event}
-use Rattle.h3_talk.specs.declared.session.event.Answer.{Answer}
+use Rattle.h3_script.specs.Lines.{printed, refused_line}
+use Rattle.h3_script.specs.Script.{IsScript, RefusesLine}
+use Rattle.h3_world.specs.Ends.{new_ends, answers_of_ends}
+use Rattle.h3_world.specs.Headline.{is_memory}
+use Rattle.h3_world.specs.declared.setup.Setup.{Setup}
+use Rattle.h3_world.specs.declared.event.Event.{Event}
+use Rattle.h3_world.specs.declared.event.Answer.{Answer}
 use Rattle.h3_talk.specs.declared.talk.Failure.{Failure}
 use Rattle.h3_talk.specs.declared.talk.Failure.TheVariants.{Lost, Line}
 
@@ -18,10 +17,15 @@ pub record HasRead (old new : Option (List ℕ)) (text : List ℕ) : Type 0 wher
   pub taken : Consumes old new text
   pub all : length text ≤ 2 ^ 48 → IsAtEnd new
 
--- The lines of the answers to some events were written, and where none of them tells of refused memory, they are those of a run.
+-- What is said of the answers to some events where none of them tells of refused memory: they are those of two endpoints with the
+-- bytes carried between them.
+pub record AreAnswers (setup : Setup) (events : List Event) (answers : List Answer) : Type 0 where
+  pub of_ends : answers ≡ answers_of_ends (new_ends setup) events
+
+-- The lines of the answers to some events were written.
 pub record Prints (setup : Setup) (events : List Event) (old new : Option (List ℕ)) : Type 0 where
   pub answers : List Answer
-  pub is_run : list_any is_memory answers ≡ false → (w : World) × Run (Happens setup) empty_world events answers w
+  pub answered : list_any is_memory answers ≡ false → AreAnswers setup events answers
   pub written : Appends old new (printed answers)
 
 -- What was read is a script, and its answers were written.

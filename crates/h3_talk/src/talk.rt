@@ -1,15 +1,16 @@
 //! The program: a script in, the answers out.
-ghost use Rattle.std.specs.Prelude.{◌≡◌, ◌⊎◌, ◌^◌, ◌<◌, ◌≤◌, true, length, sum_by, IfOk, IfErr, string_bytes};
+ghost use Rattle.std.specs.Prelude.{◌≡◌, ◌⊎◌, ◌≤◌, true, string_bytes, IfOk, IfErr};
 ghost use Rattle.std.specs.Io.KnownBytes.{Appends};
-ghost use Rattle.h3_talk.specs.Lines.{printed, refused_line};
-ghost use Rattle.h3_talk.specs.Sums.{sent_by};
+ghost use Rattle.h3_script.specs.Few.{AreFew};
+ghost use Rattle.h3_script.specs.Lines.{printed, refused_line};
 ghost use Rattle.h3_talk.specs.Talks.{HasRead, Prints, AnswersScript, RefusesInput, ReadsScript, Fails};
-ghost use Rattle.h3_proto.specs.declared.stream.Side.TheVariants.{Client, Server};
+ghost use Rattle.h3_world.specs.Setup.{IsMadeSetup};
 
-use crate::script::{Script, ScriptError, parse};
-use crate::session::event::Answer;
-use crate::session::run::run;
-use crate::text::answer_text;
+use h3_script::error::ScriptError;
+use h3_script::script::{Script, parse};
+use h3_script::text::answer_text;
+use h3_session::run::run;
+use h3_world::event::Answer;
 use std::alloc::{AllocError, Global};
 use std::io::{Read, Write};
 
@@ -36,6 +37,8 @@ pub fn talk<R: Read, W: Write>(alloc: Global, reader: &mut R, writer: &mut W) ->
         (W.contents writer.old) (W.contents writer.new) }
     ensures statuses { result ≤ 2 }
 {
+    h3_script::laws::a_script_has_a_made_setup();
+    h3_script::laws::a_script_has_few_events();
     match read_script(alloc, reader) {
         Ok(script) => answer(alloc, script, writer),
         Err(Failure::Line(number)) => refuse(alloc, number, writer),
@@ -94,17 +97,16 @@ fn refuse<W: Write>(alloc: Global, number: u64, writer: &mut W) -> u8
 
 /// Writes the answers to the events of a script.
 fn answer<W: Write>(alloc: Global, script: Script, writer: &mut W) -> u8
-    requires few { length script.events.items < 2 ^ 48 }
-    requires client_sends { sum_by (sent_by Client) script.events.items < 2 ^ 56 }
-    requires server_sends { sum_by (sent_by Server) script.events.items < 2 ^ 56 }
+    requires made { IsMadeSetup script.setup }
+    requires few { AreFew script.events.items }
     ensures answered { result ≡ 0 → Prints script.setup script.events.items (W.contents writer.old) (W.contents writer.new) }
     ensures statuses { (result ≡ 0) ⊎ (result ≡ 2) }
 {
     let Script { setup, events } = script;
-    let Ok(answers) = run(alloc, setup, &events) else {
+    let Ok(outcome) = run(alloc, setup, &events) else {
         return 2;
     };
-    let Ok(text) = print(alloc, &answers) else {
+    let Ok(text) = print(alloc, &outcome.answers) else {
         return 2;
     };
     if put(writer, text.as_bytes()) { 0 } else { 2 }

@@ -1,5 +1,5 @@
 use Rattle.std.proofs.Common.{◌≡◌, string_bytes, take}
-use Rattle.h3_talk.specs.Lines.{printed}
+use Rattle.h3_script.specs.Lines.{printed}
 use Rattle.h3_talk.proofs.talk.print.Given as goal
 
 abbrev pub invariant-loop-answer : goal.invariant-loop-answer

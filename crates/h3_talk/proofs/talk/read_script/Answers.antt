@@ -1,5 +1,5 @@
 use Rattle.std.proofs.Common.{subst}
-use Rattle.h3_talk.specs.Script.{RefusesScript}
+use Rattle.h3_script.specs.Script.{RefusesScript}
 use Rattle.h3_talk.proofs.talk.read_script.Goals as goal
 
 pub returns-in-Err-Line-clause-err : goal.returns-in-Err-Line-clause-err

@@ -1,17 +1,12 @@
 use Rattle.std.proofs.Common.{subst}
-use Rattle.h3_proto.specs.declared.stream.Side.TheVariants.{Client, Server}
 use Rattle.h3_talk.specs.Talks.{Fails}
-use Rattle.h3_talk.proofs.ScriptSums.{script_few}
 use Rattle.h3_talk.proofs.talk.talk.Goals as goal
 
+pub answer-requires-clause-made : goal.answer-requires-clause-made
+answer-requires-clause-made g c = c.a_script_has_a_made_setup.ensures _ _ _ _ c.in-Ok.ensures.ok.script
+
 pub answer-requires-clause-few : goal.answer-requires-clause-few
-answer-requires-clause-few g c = (script_few _ Client _ _ c.in-Ok.ensures.ok.script).count
-
-pub answer-requires-clause-client_sends : goal.answer-requires-clause-client_sends
-answer-requires-clause-client_sends g c = (script_few _ Client _ _ c.in-Ok.ensures.ok.script).sums
-
-pub answer-requires-clause-server_sends : goal.answer-requires-clause-server_sends
-answer-requires-clause-server_sends g c = (script_few _ Server _ _ c.in-Ok.ensures.ok.script).sums
+answer-requires-clause-few g c = c.a_script_has_few_events.ensures _ _ _ c.in-Ok.ensures.ok.script
 
 pub returns-in-Err-Line-clause-refused : goal.returns-in-Err-Line-clause-refused
 returns-in-Err-Line-clause-refused g c = λ one.

@@ -1,0 +1,32 @@
+#!/usr/bin/env bash
+# Builds the program without proof, which takes most of a minute, and runs it on each script examples/NAME.talk: does it write what
+# examples/NAME.stdout has, and end with status 1 where that is a refused line, else with 0? One line 'ok NAME' or 'failed NAME' a
+# script, and of those that failed what they wrote.
+set -uo pipefail
+cd "$(dirname "$0")/.."
+
+cases=$(mktemp -d)
+log=$(mktemp)
+trap 'rm -rf "$cases" "$log"' EXIT
+for script in examples/*.talk; do
+  name=$(basename "$script" .talk)
+  cp "$script" "$cases/$name"
+  cp "examples/$name.stdout" "$cases/$name.stdout"
+done
+# one step: the interpreter is not asked, the compiled program is
+(cd crates/h3_talk && rt try --steps 1 --cases "$cases") > "$log" 2>&1
+
+bad=0
+for script in examples/*.talk; do
+  name=$(basename "$script" .talk)
+  status=0
+  if grep -q '^line ' "examples/$name.stdout"; then status=1; fi
+  if grep -q "^case=$name run=ended status=$status .* output=expected " "$log"; then
+    echo "ok $name"
+  else
+    echo "failed $name"
+    bad=1
+  fi
+done
+if [ "$bad" -ne 0 ]; then grep -v ' output=expected ' "$log" | tail -n 40; fi
+exit "$bad"
