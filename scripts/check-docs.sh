@@ -15,7 +15,7 @@ find crates -path '*/out' -prune -o \( -name '*.antt' -o -name '*.rt' \) -print0
 
 # the names between the backticks of a page: an identifier, or several that '::', '/', '.' or a space join
 names() {
-  grep -oE '`[A-Za-z_][A-Za-z0-9_]*((::|/| |\.)[A-Za-z_][A-Za-z0-9_]*)*`' "$1" | tr -d '`' | grep -vE '\.(md|sh|rt|txt|talk)$' |
+  grep -oE '`[A-Za-z_][A-Za-z0-9_]*((::|/| |\.)[A-Za-z_][A-Za-z0-9_]*)*`' "$1" | tr -d '`' | grep -vE '\.(md|sh|py|rt|txt|talk)$' |
     sed -E 's/\.antt$//' |
     grep -oE '[A-Za-z_][A-Za-z0-9_]*' | sort -u
 }

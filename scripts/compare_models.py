@@ -1,0 +1,279 @@
+#!/usr/bin/env python3
+"""Asks two models of one endpoint the same questions: scripts/connection_model.py, whose author knew the definitions, and
+scripts/independent_model.py, whose author did not.
+
+    python3 scripts/compare_models.py [LISTS A SIDE] [FIRST SEED] [HOW MANY DIFFERENCES TO PRINT]
+
+Half of the lists of calls are those of scripts/connection_cases.py, half are made here: bytes that a peer may have written, with whole
+pieces that it must not write, cut anywhere, a few of them changed. Ends with 1 where the models differ.
+"""
+import collections
+import os
+import random
+import sys
+
+sys.path.insert(0, os.path.dirname(os.path.abspath(__file__)))
+import connection_cases  # noqa: E402
+import connection_model  # noqa: E402
+import independent_model  # noqa: E402
+from independent_model import CLIENT, SERVER  # noqa: E402
+from independent_qpack import Sender, integer, string, varint  # noqa: E402
+
+FIELDS = [(b"x-a", b"1"), (b"x-a", b"2"), (b"x-b", b"2"), (b"accept", b"*/*"), (b"server", b"s"), (b"x-longer-name", b"and a value"), (b"x-longer-name", b"1"), (b"age", b"7"), (b"cookie", b"")]
+ODD_FIELDS = [(b"X-A", b"1"), (b"", b""), (b"x a", b"1"), (b"x-a", b"a\n"), (b"x-a", b"\x7f"), (b"x-a", b"\t \xff"), (b":path", b""), (b":other", b""), (b":", b""), (b":status", b"20"), (b":status", b"099"),
+              (b":status", b"2000"), (b":status", b"200"), (b":status", b"100"), (b":status", b"999"), (b":method", b"GET"), (b":method", b""), (b":method", b"A B"), (b":protocol", b"webtransport"),
+              (b":protocol", b"connect-udp"), (b":protocol", b"websocket"), (b":authority", b""), (b":authority", b"a.b"), (b":scheme", b"http"), (b":path", b"/x")]
+STATUSES = [b"200", b"200", b"200", b"404", b"103", b"103", b"199", b"299"]
+
+
+def number(rng, value):
+    """RFC 9000, 16: one of the forms in which a number may be written"""
+    if rng.random() < 0.9:
+        return varint(value)
+    forms = [(size, power) for power, size in enumerate((1, 2, 4, 8)) if value < 2 ** (8 * size - 2)]
+    size, power = rng.choice(forms)
+    return (value + (power << (8 * size - 2))).to_bytes(size, "big")
+
+
+def written(rng, bits, flags, data):
+    """a string, Huffman coded or plain"""
+    return string(bits, flags, data) if rng.random() < 0.5 else integer(bits - 1, flags * 2, len(data)) + data
+
+
+def head(rng, side, odd):
+    first = [(b":method", rng.choice([b"GET", b"POST"])), (b":scheme", b"https"), (b":authority", rng.choice([b"a.b", b"www.example.com"])), (b":path", b"/")]
+    fields = (first if side == CLIENT else [(b":status", rng.choice(STATUSES))]) + [rng.choice(FIELDS) for _ in range(rng.randrange(5))]
+    if odd:
+        fields.insert(rng.randrange(len(fields) + 1), rng.choice(ODD_FIELDS))
+        if rng.random() < 0.3:
+            fields.pop(rng.randrange(len(fields)))
+    return fields
+
+
+def in_order(fields):
+    """as a `Header` gives them: those of one name together"""
+    return [f for name in dict.fromkeys(n for n, _ in fields) for f in fields if f[0] == name]
+
+
+class Peer:
+    """what the other side writes: `encoder` is its encoder stream so far"""
+
+    def __init__(self, rng, side, capacity, blocked):
+        self.rng, self.side, self.capacity = rng, side, capacity
+        self.sender, self.encoder = Sender(), b"\2"
+        if rng.random() < 0.85 and capacity:
+            self.sender.table.capacity = rng.choice([capacity, capacity, capacity, capacity // 2])
+            self.sender.limit = rng.choice([blocked, blocked, blocked + 1, 9])
+            self.encoder += integer(5, 1, self.sender.table.capacity)
+        self.modulus = 2 * (capacity // 32)
+
+    def section(self, stream, fields):
+        rng, sender = self.rng, self.sender
+        if rng.random() < 0.25:
+            return self.odd_section()
+        if rng.random() < 0.5:  # as if all had been read and acknowledged
+            sender.known, sender.tracked = sender.table.inserted, {}
+        used, sender.table.capacity = sender.table.capacity, max(sender.table.capacity, 1)
+        section, instructions = sender.encode(stream, fields)
+        sender.table.capacity = used
+        if section[0] and used // 32 * 2 != self.modulus:  # the count goes modulo the announced capacity (RFC 9204, 4.5.1.1)
+            return self.odd_section()
+        self.encoder += instructions
+        return section
+
+    def odd_section(self):
+        """counts, bases and indexes near the right ones"""
+        rng, inserted = self.rng, self.sender.table.inserted
+        count = rng.choice([0, inserted, inserted, inserted + 1, max(inserted - 1, 0), rng.randrange(9)])
+        encoded = count % self.modulus + 1 if count and self.modulus else rng.choice([count, count, 0])
+        delta = rng.choice([0, 0, 0, 1, 2, inserted])
+        text = integer(8, 0, encoded) + integer(7, rng.choice([0, 0, 1]), delta)
+        return text + b"".join(self.line() for _ in range(rng.randrange(4)))
+
+    def line(self):
+        rng = self.rng
+        index, value = rng.choice([0, 0, 1, 1, 2, 3, 7]), written(rng, 8, 0, rng.choice([b"", b"1", b"200"]))
+        return rng.choice([
+            integer(6, 3, rng.choice([0, 17, 24, 25, 23, 98, 99, 63])), integer(6, 2, index), integer(4, 1, index), integer(4, rng.choice([5, 7]), rng.choice([24, 2, 95, 99])) + value,
+            integer(4, 4, index) + value, integer(3, rng.choice([0, 1]), index) + value, written(rng, 4, rng.choice([2, 3]), rng.choice([b"x-a", b":status", b":method", b"A"])) + value])
+
+    def instruction(self):
+        """RFC 9204, 4.3: any one, right or not; what it inserts is not followed, so later sections may miss it"""
+        rng = self.rng
+        value = written(rng, 8, 0, rng.choice([b"", b"1", b"and a value", b"z" * 40]))
+        return rng.choice([
+            integer(5, 1, rng.choice([0, 31, 64, self.capacity, self.capacity, self.capacity + 1])), integer(6, 3, rng.choice([0, 24, 92, 98, 99])) + value,
+            integer(6, 2, rng.choice([0, 0, 1, 2, 5])) + value, written(rng, 6, 1, rng.choice([b"", b"x-a", b"x-longer-name"])) + value, integer(5, 0, rng.choice([0, 0, 1, 2, 5]))])
+
+    def frame(self, kind, payload):
+        rng = self.rng
+        return number(rng, kind) + number(rng, len(payload)) + payload
+
+    def odd_frame(self):
+        """frames that may be out of place, malformed or unknown"""
+        rng = self.rng
+        one = number(rng, rng.choice([0, 3, 4, 8, 400]))
+        return rng.choice([
+            self.frame(rng.choice([3, 7, 13]), rng.choice([one, one, one, b"", one + b"\0", b"\x40"])), self.frame(5, rng.choice([b"\0", b"\1abc", b"", b"\x40"])), self.frame(4, self.settings()),
+            self.frame(rng.choice([2, 6, 8, 9]), b"ab"), self.frame(rng.choice([33, 64, 95, 0x21 + 0x1F * 5]), rng.choice([b"", b"xyz"])), number(rng, 0x41) + one, self.frame(0, b""), self.frame(0, b"hi"), self.frame(1, b"\0\0\xd9")])
+
+    def settings(self):
+        rng = self.rng
+        pairs = [(1, rng.choice([0, 31, 64, 64, 100, 220, 400, 2**30])), (7, rng.choice([0, 1, 2, 10, 65535, 65536])), (6, rng.choice([41, 80, 120, 1000]))]
+        pairs = [pair for pair in pairs if rng.random() < 0.75]
+        if rng.random() < 0.12:
+            pairs.append((rng.choice([0, 1, 2, 3, 4, 5, 6, 7, 8, 33, 0x33, 0xFFD277, 0x2B603742]), rng.choice([0, 1, 500])))
+        rng.shuffle(pairs)
+        text = b"".join(number(rng, id) + number(rng, value) for id, value in pairs)
+        return text + rng.choice([b"\0", b"\x40", b"\6\x40"]) if rng.random() < 0.02 else text
+
+    def message(self, stream):
+        """RFC 9114, 4.1, with frames that don't belong"""
+        rng, text = self.rng, b""
+        if rng.random() < 0.08:
+            return self.odd_frame() * rng.randrange(2) + number(rng, 0x41) + number(rng, rng.choice([0, 4, 2**40])) + b"some raw bytes"
+        for _ in range(rng.choice([1, 1, 1, 2, 3])):
+            fields = head(rng, self.side, rng.random() < 0.12)
+            text += self.frame(1, self.section(stream, fields))
+            if self.side == CLIENT or fields and fields[0][1][:1] != b"1":
+                break
+        for _ in range(rng.randrange(3)):
+            text += self.frame(0, bytes(rng.choice(b"abc") for _ in range(rng.randrange(6))))
+        if rng.random() < 0.35:
+            text += self.frame(1, self.section(stream, [rng.choice(FIELDS if rng.random() < 0.8 else ODD_FIELDS)]))
+        if rng.random() < 0.15:
+            text += self.odd_frame()
+        return text if rng.random() < 0.95 else self.odd_frame() + text
+
+    def control(self):
+        rng = self.rng
+        text = self.frame(4, self.settings()) if rng.random() < 0.96 else b""
+        for _ in range(rng.randrange(4)):
+            text += self.frame(7, number(rng, rng.choice([0, 4, 8, 12]))) if rng.random() < 0.7 else rng.choice([self.odd_frame(), self.frame(13, b"\5"), self.frame(33, b"x")])
+        return b"\0" + text
+
+    def decoder(self):
+        """RFC 9204, 4.4"""
+        rng, text = self.rng, b"\3"
+        for _ in range(rng.randrange(7)):
+            text += rng.choice([integer(7, 1, rng.choice([0, 4, 8, 12])), integer(6, 1, rng.choice([0, 4, 8, 400])), integer(6, 0, rng.choice([0, 1, 1, 1, 2, 3, 300]))])
+        return text + (b"\xff" + b"\xff" * rng.choice([3, 8, 9]) + b"\x7f" if rng.random() < 0.03 else b"")
+
+
+def streams(rng, peer, ids, bit):
+    """the peer's streams and all that it writes on each"""
+    out = [(id, peer.message(id)) for id in ids]
+    instructions = peer.encoder
+    while rng.random() < 0.3:
+        instructions += peer.instruction()
+    out += [(2 + bit, peer.control())] * (rng.random() < 0.85) + [(6 + bit, instructions)] * (rng.random() < 0.9) + [(10 + bit, peer.decoder())] * (rng.random() < 0.6)
+    while rng.random() < 0.2:
+        text = rng.choice([b"\x21ab", b"\x40\x54\4hi there", number(rng, 0x54) + number(rng, 2**40) + b"x", b"\1\0", b"\1", b"\0", b"\2", b"\3", b"\x40", b"\x40\x54", b""])
+        out.append((rng.choice([14, 18, 22]) + bit, text))
+    return out
+
+
+def own_call(rng, side, ids):
+    id = rng.choice(ids)
+    return rng.choice([
+        ("send_head", id, in_order(head(rng, side, rng.random() < 0.05))), ("send_head", id, in_order(head(rng, side, False))), ("send_head", id, in_order(head(rng, side, False))), ("send_body", id, rng.choice([b"xy", b""])),
+        ("send_trailer", id, [rng.choice(FIELDS)]), ("finish", id), ("outgoing", id), ("open_request",), ("show",)])
+
+
+def rare_call(rng, ids):
+    id = rng.choice(ids + [2, 3, 6, 7, 10, 11, 14, 15, 1, 16])
+    return rng.choice([
+        ("cancel", id), ("cancel", rng.choice(ids)), ("reset", id), ("reset", rng.choice(ids)), ("goaway", rng.choice([0, 4, 8, 3])), ("deliver", id, b""), ("deliver_end", id), ("deliver_reset", id, 7), ("pull", id),
+        ("outgoing", id), ("send_trailer", rng.choice(ids), [(b":path", b"/")])])
+
+
+def queues(rng, peer, ids, bit):
+    """each stream's deliveries, in their order"""
+    out = []
+    for id, text in streams(rng, peer, ids, bit):
+        if rng.random() < 0.08:
+            text = connection_cases.mutated(rng, text)
+        calls, step = [], rng.choice([1, 5, 20, 20, 1000])
+        while text:
+            n = rng.randrange(1, step + 1)
+            calls, text = calls + [("deliver", id, text[:n])], text[n:]
+        if rng.random() < (0.6 if id in ids else 0.1 if id > 12 else 0.01):
+            calls.append(rng.choice([("deliver_end", id), ("deliver_end", id), ("deliver_reset", id, 268)]))
+        out.append(calls)
+    return out
+
+
+def calls_of(seed, side):
+    """what an endpoint announces, and what it is asked"""
+    rng = random.Random(seed * 2 + (side == CLIENT))
+    bit, ids = (1, [0, 4, 8]) if side == CLIENT else (0, [0, 4, 8, 12])
+    limits = rng.choice([41, 90, 130, 1000, 1000, 1000]), rng.choice([0, 31, 64, 64, 100, 220, 400]), rng.randrange(4)
+    peer = Peer(rng, SERVER if side == CLIENT else CLIENT, limits[1], limits[2])
+    waiting = queues(rng, peer, ids[:rng.randrange(1, len(ids) + 1)], bit)
+    if rng.random() < 0.4:  # the one-way streams first, so that more of the rest is reached
+        waiting.sort(key=lambda calls: bool(calls) and calls[0][1] in ids)
+    todo = [("open_request",)] * rng.choice([1, 2, 3, 3, 3]) if side == CLIENT else []
+    late, waiting = rng.random() < 0.4, [calls for calls in waiting if calls]
+    while waiting and len(todo) < 90:
+        queue = waiting[0] if late else rng.choice(waiting)
+        while queue and rng.random() < 0.85:
+            todo.append(queue.pop(0))
+            if rng.random() < 0.2:
+                todo.append(("pull", rng.choice(ids + [todo[-1][1]])))
+        if rng.random() < 0.35:
+            todo.append(own_call(rng, side, ids))
+        if rng.random() < 0.05:
+            todo.append(rare_call(rng, ids))
+        waiting = [calls for calls in waiting if calls]
+    for _ in range(rng.randrange(14)):
+        todo.append(rng.choice([("pull", rng.choice(ids)), ("pull", rng.choice(ids)), own_call(rng, side, ids)]))
+    own = 1 - bit
+    return limits, todo + [("pull", id) for id in ids + [14 + bit]] + [("outgoing", 2 + own), ("outgoing", 6 + own), ("outgoing", 10 + own), ("show",)]
+
+
+def answered(seed, side):
+    """limits, and pairs of a call and the first model's answer"""
+    if seed % 2 == 0:
+        return connection_cases.case(seed, side)
+    limits, todo = calls_of(seed, side)
+    end = connection_model.Endpoint(side, *limits, connection_cases.FINAL)
+    return limits, [(call, getattr(end, call[0])(*call[1:])) for call in todo]
+
+
+def difference(side, limits, done, seen):
+    """the place of the first call that the second model answers otherwise, and its answer; `seen` counts the answers"""
+    end = independent_model.Endpoint(side, *limits)
+    for place, (call, answer) in enumerate(done):
+        own = end.pull(call[1], answer) if call[0] == "pull" else getattr(end, call[0])(*call[1:])
+        if tuple(own) != tuple(answer):
+            return place, own
+        seen[" ".join([call[0]] + [str(a) for a in own[:1]] + [f"{a:#x}" if isinstance(a, int) else a for a in own[1:4] if own[0] in ("Fault", "Connection", "Closed")])] += 1
+    return None
+
+
+def main():
+    count, first, most = (int(a) for a in (sys.argv[1:] + ["2000", "1", "3"][len(sys.argv) - 1:])[:3])
+    asked, left_out, differing, seen = 0, 0, 0, collections.Counter()
+    for side in (CLIENT, SERVER):
+        for seed in range(first, first + count):
+            try:
+                limits, done = answered(seed, side)
+                found = difference(side, limits, done, seen)
+            except (connection_model.Unsure, independent_model.Unsure):
+                left_out += 1
+                continue
+            asked += 1
+            if found:
+                differing += 1
+                if differing <= most:
+                    print(f"{side}, list {seed}, section size, capacity and limit {limits}:")
+                    print("".join(f"    {call} -> {answer}\n" for call, answer in done[:found[0] + 1]) + f"    the second model: {found[1]}")
+    if os.environ.get("ANSWERS"):
+        print("\n".join(f"{n:8} {text}" for text, n in sorted(seen.items())))
+    told = f"({asked} lists of calls, {sum(seen.values())} answers; {left_out} left out, which a model is not sure of)"
+    print(f"failed two models answer alike: {differing} lists differ {told}" if differing else f"ok two models answer alike {told}")
+    return 1 if differing or asked < count else 0
+
+
+if __name__ == "__main__":
+    sys.exit(main())
