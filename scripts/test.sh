@@ -6,7 +6,8 @@ set -uo pipefail
 cd "$(dirname "$0")/.."
 
 log=$(mktemp)
-trap 'rm -f "$log"' EXIT
+times=$(mktemp)
+trap 'rm -f "$log" "$times"' EXIT
 passed=0
 failed=0
 
@@ -23,12 +24,24 @@ count() {
   failed=$((failed + bad))
 }
 
+# Passes the lines of rt ci on, and keeps those that say what has ended or begun, with the seconds so far.
+clock() {
+  local line began=$SECONDS
+  while IFS= read -r line; do
+    printf '%s\n' "$line"
+    case $line in
+      "rt: "*" proved" | "rt: "*" NOT PROVED" | "rt: "*": trying its must-fail edits"* | "rt: "*": its tests "*)
+        printf '%7d s  %s\n' $((SECONDS - began)) "${line#rt: }" >> "$times" ;;
+    esac
+  done
+}
+
 for script in scripts/check-*.sh; do
   count bash "$script"
 done
 
 if [ "$failed" -eq 0 ]; then
-  rt ci 2>&1 | tee "$log"
+  rt ci 2>&1 | clock | tee "$log"
   last=$(grep -E '^[0-9]+ passed, [0-9]+ failed' "$log" | tail -n 1)
   good=$(sed -nE 's/^([0-9]+) passed, .*/\1/p' <<<"$last")
   bad=$(sed -nE 's/^[0-9]+ passed, ([0-9]+) failed.*/\1/p' <<<"$last")
@@ -41,5 +54,9 @@ if [ "$failed" -eq 0 ]; then
   count python3 scripts/exchange.py crates/h3_talk/out/h3_talk
 fi
 
+if [ -s "$times" ]; then
+  echo "when each crate and its tests were proved, and its edits begun (several at a time, edits last; each edit's answer comes at the end):"
+  cat "$times"
+fi
 echo "$passed passed, $failed failed"
 [ "$failed" -eq 0 ] && [ "$passed" -gt 0 ]
