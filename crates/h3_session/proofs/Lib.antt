@@ -23,3 +23,5 @@ pub mod RunningCalls
 pub mod Copying
 pub mod Runs
 pub mod Carrying
+pub mod Sendables
+pub mod Headlines

@@ -6,3 +6,5 @@ pub mod Arriving
 pub mod SendingFields
 pub mod Pulling
 pub mod Running
+pub mod Typed
+pub mod Headlines

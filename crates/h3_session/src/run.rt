@@ -3,15 +3,20 @@ ghost use Rattle.std.specs.Prelude.{◌≡◌, ◌<◌, ◌^◌, false, IfOk};
 ghost use Rattle.std.specs.List.{list_any};
 ghost use Rattle.h3_connection.specs.State.{StandsFor};
 ghost use Rattle.h3_world.specs.Ends.{Ends, new_ends};
+ghost use Rattle.h3_world.specs.Few.{AreFew};
 ghost use Rattle.h3_world.specs.Headline.{is_memory};
 ghost use Rattle.h3_world.specs.Setup.{IsMadeSetup};
+ghost use Rattle.h3_session.specs.Headlines.{RunsInWorld};
 ghost use Rattle.h3_session.specs.Running.{RunsTo};
 
 mod acting;
 mod carrying;
+mod typed;
 
 use self::acting::act;
+use self::typed::events_are_typed;
 use crate::endpoint::Endpoint;
+use h3_headline::laws::two_endpoints_run_in_a_world;
 use h3_proto::stream::Side;
 use h3_world::event::{Answer, Event};
 use h3_world::setup::Setup;
@@ -45,11 +50,25 @@ fn run_between(
 
 /// Drives a client and a server by the events, in order, and answers each. `Err` arises only where there is no room for the
 /// endpoints and the answers, before the first event.
+///
+/// Where no answer tells of refused memory:
+/// - `runs`: the answers are those of two endpoints of the definitions with the bytes carried between them, and the endpoints
+///   handed back stand for these.
+/// - `headline`: with fewer than 2^48 events, of which each side is handed less than 2^56 bytes to send, the answers are a run of
+///   the world of a connection, and the endpoints handed back stand in its last world. In each of its steps no connection fault
+///   arises, a send that is in order and within the known limit is accepted, a pull hands out what was sent or pauses just where
+///   that isn't there, with everything delivered everything comes out, and no more heads wait than were announced.
+///
+/// What `Setup::new` answers is a made setup: `h3_world::laws::setups_are_made`.
 pub fn run(alloc: Global, setup: Setup, events: &[Event]) -> Result<Outcome, AllocError>
     requires { IsMadeSetup setup }
-    ensures { IfOk result (λ out. list_any is_memory out.answers.items ≡ false →
+    ensures runs { IfOk result (λ out. list_any is_memory out.answers.items ≡ false →
         RunsTo (new_ends setup) events.now out.answers.items out.client out.server) }
+    ensures headline { IfOk result (λ out. list_any is_memory out.answers.items ≡ false → AreFew events.now →
+        RunsInWorld setup events.now out.answers.items out.client out.server) }
 {
+    two_endpoints_run_in_a_world();
+    events_are_typed(events);
     let mut client = Endpoint::announcing(alloc, Side::Client, setup.client)?;
     let mut server = Endpoint::announcing(alloc, Side::Server, setup.server)?;
     let answers = run_between(alloc, &mut client, &mut server, events)?;

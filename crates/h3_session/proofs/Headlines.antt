@@ -1,0 +1,36 @@
+-- What two endpoints answer is a run of the world in which they stand.
+use Rattle.std.proofs.Common.{List, sym, subst}
+use Rattle.std.specs.List.{AllByRecursion}
+use Rattle.h3_connection.specs.State.{EndpointState}
+use Rattle.h3_world.specs.declared.event.Answer.{Answer}
+use Rattle.h3_world.specs.declared.event.Event.{Event}
+use Rattle.h3_world.specs.declared.setup.Setup.{Setup}
+use Rattle.h3_world.specs.Ends.{new_ends, ends_after, answers_of_ends}
+use Rattle.h3_world.specs.Few.{AreFew}
+use Rattle.h3_world.specs.Headline.{Happens}
+use Rattle.h3_world.specs.Run.{Run}
+use Rattle.h3_world.specs.Sendable.{IsSendable}
+use Rattle.h3_world.specs.World.{World, empty_world}
+use Rattle.h3_headline.specs.Standing.{Stands}
+use Rattle.h3_session.specs.Headlines.{RunsInWorld}
+use Rattle.h3_session.specs.Running.{RunsTo}
+use Rattle.h3_session.specs.Typed.{IsTyped}
+use Rattle.h3_session.proofs.Sendables.{few_are_sendable}
+
+-- what is cited of two endpoints, over some events
+abbrev pub RunOfEnds : Setup → List Event → Type 0
+RunOfEnds setup events =
+    (w : World) × Run (Happens setup) empty_world events (answers_of_ends (new_ends setup) events) w × Stands setup w (ends_after (new_ends setup) events)
+
+pub runs_in_world : (setup : Setup) (events : List Event) (answers : List Answer) (client server : EndpointState) → (AllByRecursion IsSendable events → RunOfEnds setup events)
+    → AllByRecursion IsTyped events → RunsTo (new_ends setup) events answers client server → AreFew events → RunsInWorld setup events answers client server
+runs_in_world setup events answers client server law typed h few =
+    let on = law (few_are_sendable events typed few) in
+    record {
+      world = on.0;
+      run = subst (λ given. Run (Happens setup) empty_world events given on.0) (sym h.answered_so) on.1;
+      ends = ends_after (new_ends setup) events;
+      stands = on.2;
+      client_stands = h.client_stands;
+      server_stands = h.server_stands;
+    }
