@@ -21,7 +21,8 @@ use Rattle.h3_connection.specs.Outgoing.{Outgoing as Out}
 use Rattle.h3_connection.specs.Endpoint.{EndpointHistory, Kind, kind_of, heads_waiting, replied, is_critical_of}
 use Rattle.h3_connection.specs.Endpoint.Kind.{Request, ServerOpened, OwnUnidirectional, PeerUnidirectional}
 use Rattle.h3_connection.specs.Control.{Found}
-use Rattle.h3_connection.specs.StreamSets.{Streams, stream_at, set_stream}
+use Rattle.h3_connection.specs.StreamSets.{stream_at, set_stream}
+use Rattle.h3_connection.specs.StreamSetLaws.{set-same}
 use Rattle.h3_connection.specs.Pulling.{Pulled, pull_stream, just, is_client}
 use Rattle.h3_connection.specs.Delivering.{deliver, deliver_end, deliver_reset, delivery_refusal, refusal_at, request_refusal, closed_refusal, opened_at, opened, incoming_at, unidirectional_at, with_incoming, with_unidirectional, taken, closed_by, closing, read_unidirectional, bytes_at, end_at, reset_at, give_up, given_up_once, kept, with_end}
 use Rattle.h3_connection.specs.Sending.{does, first_of, open_refusal, closed_or, going_away, pull, pull_at, pull_unless, pull_request, pull_peer, pulled, within_limit, if_too_many, after_answer, advance_at, pulled_unidirectional, sent_bytes, counted, cancel_refusal, open_request, send_head, head_refusal, encoded, appended, head_part, fields_cost, body_refusal, send_trailer, trailer_refusal, finish, finish_refusal, reset, reset_refusal, with_outgoing, outgoing_at, goaway, goaway_refusal}
@@ -45,24 +46,17 @@ over_pulled : (side : _) (own : _) (id : ℕ) (r : _) (i : Incoming) → IsOver 
 unfolding pull_stream
 over_pulled side own id r i h = rw (h.no_fault, h.over) refl
 
--- It stays where it is.
-same_stream : (streams : Streams Incoming) (id : ℕ) (i : Incoming) → stream_at streams id ≡ Some i → set_stream streams id i ≡ streams
-same_stream [] id i h = cc
-same_stream ((q, y) ∷ streams) id i h = by_eq q id (λ b. (if b then Some y else stream_at streams id) ≡ Some i → (if b then (id, i) ∷ streams else (q, y) ∷ set_stream streams id i) ≡ (q, y) ∷ streams)
-    (λ same is. ap (λ n. (n, i) ∷ streams) (sym same) ∙ ap (λ o. (q, unwrap_or o i) ∷ streams) (sym is))
-    (λ differs is. ap (λ s. (q, y) ∷ s) (same_stream streams id i is)) h
-
 unless_open : (closed : Option ℕ) (e : EndpointHistory) (later : Pull × EndpointHistory) → closed ≡ None → pull_unless closed e later ≡ later
 unless_open closed e later is = ap (λ o. pull_unless o e later) is
 
 -- what a pull of an open request stream does
-pull_is : (e : EndpointHistory) (id : ℕ) (i : Incoming) → e.closed ≡ None → kind_of e.side id ≡ Request → stream_at e.incoming id ≡ Some i
+pub pull_is : (e : EndpointHistory) (id : ℕ) (i : Incoming) → e.closed ≡ None → kind_of e.side id ≡ Request → stream_at e.incoming id ≡ Some i
     → pull e id ≡ pulled e id (within_limit e id (pull_stream e.side e.announced id e.decoding.decoder i))
 pull_is e id i open_still request here =
     unless_open e.closed e (pull_at e id (kind_of e.side id)) open_still ∙ ap (λ k. pull_at e id k) request ∙ ap (λ at. pull_request e id at) here
 
 few : (e : EndpointHistory) (id : ℕ) → IsBounded e → (h : RequestIsOver e id) → nat_lt e.announced.limits.blocked (heads_waiting e.decoding.decoder (set_stream e.incoming id h.stream)) ≡ false
-few e id b h = le-ltb e.announced.limits.blocked (heads_waiting e.decoding.decoder (set_stream e.incoming id h.stream)) (rw (same_stream e.incoming id h.stream h.here) b.waiting)
+few e id b h = le-ltb e.announced.limits.blocked (heads_waiting e.decoding.decoder (set_stream e.incoming id h.stream)) (rw (set-same e.incoming id h.stream h.here) b.waiting)
 
 pub pulls_end : (e : EndpointHistory) (id : ℕ) → IsBounded e → RequestIsOver e id → e.closed ≡ None → (pull e id).0 ≡ answer.Item item.End
 pulls_end e id b h open_still =

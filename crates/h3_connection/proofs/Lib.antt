@@ -13,3 +13,5 @@ pub mod Bounded
 pub mod Closed
 pub mod PullEnds
 pub mod EndStays
+pub mod UnknownFrames
+pub mod UnknownDelivered

@@ -10,6 +10,8 @@ pub mod StreamSets
 pub mod StreamSetLaws
 pub mod Arrivals
 pub mod Skipping
+pub mod SkippingLaws
+pub mod PeerReadingLaws
 pub mod Incoming
 pub mod Pulling
 pub mod Unidirectional
@@ -19,6 +21,7 @@ pub mod WaitingPieceLaws
 pub mod Endpoint
 pub mod Control
 pub mod Delivering
+pub mod UnknownFrames
 pub mod Sections
 pub mod Sending
 pub mod State

@@ -81,3 +81,24 @@ pub fn unknown_streams_change_nothing_else()
         role_after (unidirectional_at e id).role bytes ≡ (Ignored, rest) →
         deliver e id bytes ≡ (None, with_unidirectional e id (record (unidirectional_at e id) { role = Ignored })) }
 {}
+
+ghost use Rattle.std.specs.List.{concat};
+ghost use Rattle.h3_qpack.specs.DecoderState.{DecoderState};
+ghost use Rattle.h3_connection.specs.Delivering.{with_incoming};
+ghost use Rattle.h3_connection.specs.Incoming.{Incoming};
+ghost use Rattle.h3_connection.specs.PeerReading.{Peer, with_unread, read_peer};
+ghost use Rattle.h3_connection.specs.Pulling.{left_with, pull_stream};
+ghost use Rattle.h3_connection.specs.StreamSets.{stream_at};
+ghost use Rattle.h3_connection.specs.UnknownFrames.{BeginsUnknown, MayBeginFrame, ReadsControl};
+
+/// Whole frames of unknown types (RFC 9114, section 9) give nothing, wherever a frame may begin: a pull of a request stream answers what it
+/// answers without them and leaves the same, and so does a delivery on the peer's control stream, also one of nothing else.
+pub fn unknown_frames_give_nothing()
+    ensures stream { (side : Side) (own : Announced) (id : ℕ) (r : DecoderState) (i : Incoming) (rest : List ℕ) → MayBeginFrame i → BeginsUnknown (concat i.unread) rest →
+        pull_stream side own id r i ≡ pull_stream side own id r (left_with i rest) }
+    ensures pulled { (e : EndpointHistory) (id : ℕ) (i : Incoming) (rest : List ℕ) → e.closed ≡ None → kind_of e.side id ≡ Request → stream_at e.incoming id ≡ Some i →
+        MayBeginFrame i → BeginsUnknown (concat i.unread) rest → pull e id ≡ pull (with_incoming e id (left_with i rest)) id }
+    ensures peer { (side : Side) (p : Peer) (rest : List ℕ) → BeginsUnknown p.unread rest → read_peer side p ≡ read_peer side (with_unread p rest) }
+    ensures delivered { (e : EndpointHistory) (id : ℕ) (bytes rest : List ℕ) → ReadsControl e id → e.peer.unread ≡ [] → BeginsUnknown bytes rest → deliver e id bytes ≡ deliver e id rest }
+    ensures alone { (e : EndpointHistory) (id : ℕ) (bytes : List ℕ) → ReadsControl e id → e.peer.unread ≡ [] → BeginsUnknown bytes [] → deliver e id bytes ≡ (None, e) }
+{}
