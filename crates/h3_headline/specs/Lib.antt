@@ -18,6 +18,7 @@ pub mod FewLaws
 pub mod FlowLaws
 pub mod FrontLaws
 pub mod HeadLaws
+pub mod InOrder
 pub mod JoiningLaws
 pub mod LearningLaws
 pub mod ListeningLaws
@@ -43,6 +44,7 @@ pub mod PulledStreamLaws
 pub mod ReceivingLaws
 pub mod ResetLaws
 pub mod RoleLaws
+pub mod RunCut
 pub mod RunLaws
 pub mod SenderEventLaws
 pub mod SendingLaws
