@@ -4,8 +4,9 @@ scripts/independent_model.py, whose author did not.
 
     python3 scripts/compare_models.py [LISTS A SIDE] [FIRST SEED] [HOW MANY DIFFERENCES TO PRINT]
 
-Half of the lists of calls are those of scripts/connection_cases.py, half are made here: bytes that a peer may have written, with whole
-pieces that it must not write, cut anywhere, a few of them changed. Ends with 1 where the models differ.
+A quarter of the lists of calls are those of scripts/connection_cases.py. Half are bytes that a peer may have written, more or less with
+pieces that it must not write, cut anywhere, some of them changed. A quarter are sends, with a decoder stream that mostly follows. Ends with 1
+where the models differ.
 """
 import collections
 import os
@@ -35,6 +36,12 @@ def number(rng, value):
     return (value + (power << (8 * size - 2))).to_bytes(size, "big")
 
 
+def wide(rng, bits, flags):
+    """RFC 7541, 5.1: an integer about the greatest that is read, or a long form of a small one"""
+    top = 2**bits - 1
+    return rng.choice([integer(bits, flags, 2**63 + top - 1), integer(bits, flags, 2**63 + top), integer(bits, flags, 2**64), integer(bits, flags, top)[:-1] + b"\x80" * rng.choice([1, 9, 12]) + b"\0"])
+
+
 def written(rng, bits, flags, data):
     """a string, Huffman coded or plain"""
     return string(bits, flags, data) if rng.random() < 0.5 else integer(bits - 1, flags * 2, len(data)) + data
@@ -60,6 +67,7 @@ class Peer:
 
     def __init__(self, rng, side, capacity, blocked):
         self.rng, self.side, self.capacity = rng, side, capacity
+        self.wild = rng.choice([0, 0.02, 0.1, 0.25])  # how often something is written that should not be
         self.sender, self.encoder = Sender(), b"\2"
         if rng.random() < 0.85 and capacity:
             self.sender.table.capacity = rng.choice([capacity, capacity, capacity, capacity // 2])
@@ -69,7 +77,7 @@ class Peer:
 
     def section(self, stream, fields):
         rng, sender = self.rng, self.sender
-        if rng.random() < 0.25:
+        if rng.random() < self.wild:
             return self.odd_section()
         if rng.random() < 0.5:  # as if all had been read and acknowledged
             sender.known, sender.tracked = sender.table.inserted, {}
@@ -93,6 +101,8 @@ class Peer:
     def line(self):
         rng = self.rng
         index, value = rng.choice([0, 0, 1, 1, 2, 3, 7]), written(rng, 8, 0, rng.choice([b"", b"1", b"200"]))
+        if rng.random() < 0.05:
+            return wide(rng, *rng.choice([(6, 3), (6, 2), (4, 1), (3, 0)]))
         return rng.choice([
             integer(6, 3, rng.choice([0, 17, 24, 25, 23, 98, 99, 63])), integer(6, 2, index), integer(4, 1, index), integer(4, rng.choice([5, 7]), rng.choice([24, 2, 95, 99])) + value,
             integer(4, 4, index) + value, integer(3, rng.choice([0, 1]), index) + value, written(rng, 4, rng.choice([2, 3]), rng.choice([b"x-a", b":status", b":method", b"A"])) + value])
@@ -101,6 +111,8 @@ class Peer:
         """RFC 9204, 4.3: any one, right or not; what it inserts is not followed, so later sections may miss it"""
         rng = self.rng
         value = written(rng, 8, 0, rng.choice([b"", b"1", b"and a value", b"z" * 40]))
+        if rng.random() < 0.05:
+            return wide(rng, *rng.choice([(5, 1), (6, 3), (6, 2), (5, 0)]))
         return rng.choice([
             integer(5, 1, rng.choice([0, 31, 64, self.capacity, self.capacity, self.capacity + 1])), integer(6, 3, rng.choice([0, 24, 92, 98, 99])) + value,
             integer(6, 2, rng.choice([0, 0, 1, 2, 5])) + value, written(rng, 6, 1, rng.choice([b"", b"x-a", b"x-longer-name"])) + value, integer(5, 0, rng.choice([0, 0, 1, 2, 5]))])
@@ -115,17 +127,17 @@ class Peer:
         one = number(rng, rng.choice([0, 3, 4, 8, 400]))
         return rng.choice([
             self.frame(rng.choice([3, 7, 13]), rng.choice([one, one, one, b"", one + b"\0", b"\x40"])), self.frame(5, rng.choice([b"\0", b"\1abc", b"", b"\x40"])), self.frame(4, self.settings()),
-            self.frame(rng.choice([2, 6, 8, 9]), b"ab"), self.frame(rng.choice([33, 64, 95, 0x21 + 0x1F * 5]), rng.choice([b"", b"xyz"])), number(rng, 0x41) + one, self.frame(0, b""), self.frame(0, b"hi"), self.frame(1, b"\0\0\xd9")])
+            self.frame(4, rng.choice([b"\6\x40", b"\2\0", b"\7", b"\1\0\1\0"])), self.frame(rng.choice([2, 6, 8, 9]), b"ab"), self.frame(rng.choice([33, 64, 95, 0x21 + 0x1F * 5]), rng.choice([b"", b"xyz"])), number(rng, 0x41) + one, self.frame(0, b""), self.frame(0, b"hi"), self.frame(1, b"\0\0\xd9")])
 
     def settings(self):
         rng = self.rng
         pairs = [(1, rng.choice([0, 31, 64, 64, 100, 220, 400, 2**30])), (7, rng.choice([0, 1, 2, 10, 65535, 65536])), (6, rng.choice([41, 80, 120, 1000]))]
         pairs = [pair for pair in pairs if rng.random() < 0.75]
-        if rng.random() < 0.12:
-            pairs.append((rng.choice([0, 1, 2, 3, 4, 5, 6, 7, 8, 33, 0x33, 0xFFD277, 0x2B603742]), rng.choice([0, 1, 500])))
+        if rng.random() < self.wild:
+            pairs += [(rng.choice([0, 1, 2, 3, 4, 5, 6, 7, 8, 33, 0x33, 0xFFD277, 0x2B603742]), rng.choice([0, 1, 500]))] * rng.choice([1, 2])
         rng.shuffle(pairs)
         text = b"".join(number(rng, id) + number(rng, value) for id, value in pairs)
-        return text + rng.choice([b"\0", b"\x40", b"\6\x40"]) if rng.random() < 0.02 else text
+        return text + rng.choice([b"\0", b"\x40", b"\6\x40"]) if rng.random() < self.wild / 3 else text
 
     def message(self, stream):
         """RFC 9114, 4.1, with frames that don't belong"""
@@ -133,41 +145,47 @@ class Peer:
         if rng.random() < 0.08:
             return self.odd_frame() * rng.randrange(2) + number(rng, 0x41) + number(rng, rng.choice([0, 4, 2**40])) + b"some raw bytes"
         for _ in range(rng.choice([1, 1, 1, 2, 3])):
-            fields = head(rng, self.side, rng.random() < 0.12)
+            fields = head(rng, self.side, rng.random() < self.wild)
+            if self.side == SERVER and rng.random() < 0.1:  # the last one counts
+                fields.append((b":status", rng.choice(STATUSES)))
             text += self.frame(1, self.section(stream, fields))
-            if self.side == CLIENT or fields and fields[0][1][:1] != b"1":
+            if self.side == CLIENT or fields and fields[-1][1][:1] != b"1":
                 break
         for _ in range(rng.randrange(3)):
             text += self.frame(0, bytes(rng.choice(b"abc") for _ in range(rng.randrange(6))))
         if rng.random() < 0.35:
-            text += self.frame(1, self.section(stream, [rng.choice(FIELDS if rng.random() < 0.8 else ODD_FIELDS)]))
-        if rng.random() < 0.15:
+            text += self.frame(1, self.section(stream, [rng.choice(ODD_FIELDS if rng.random() < self.wild else FIELDS)]))
+        if rng.random() < self.wild:
             text += self.odd_frame()
-        return text if rng.random() < 0.95 else self.odd_frame() + text
+        return self.odd_frame() + text if rng.random() < self.wild / 3 else text
 
     def control(self):
         rng = self.rng
-        text = self.frame(4, self.settings()) if rng.random() < 0.96 else b""
-        for _ in range(rng.randrange(4)):
-            text += self.frame(7, number(rng, rng.choice([0, 4, 8, 12]))) if rng.random() < 0.7 else rng.choice([self.odd_frame(), self.frame(13, b"\5"), self.frame(33, b"x")])
+        text = b"" if rng.random() < self.wild / 3 else self.frame(4, self.settings())
+        going = [12, 8, 8, 4, 0] if self.wild < 0.1 else [0, 4, 8, 12, 3]
+        for _ in range(rng.randrange(3)):
+            going = going[rng.randrange(len(going)):] if self.wild < 0.1 else going
+            known = [self.frame(7, number(rng, rng.choice(going[:1] if self.wild < 0.1 else going)))] + [self.frame(13, b"\5")] * (self.side == CLIENT)
+            text += self.odd_frame() if rng.random() < self.wild else rng.choice(known + [self.frame(33, b"x")])
         return b"\0" + text
 
     def decoder(self):
         """RFC 9204, 4.4"""
         rng, text = self.rng, b"\3"
         for _ in range(rng.randrange(7)):
-            text += rng.choice([integer(7, 1, rng.choice([0, 4, 8, 12])), integer(6, 1, rng.choice([0, 4, 8, 400])), integer(6, 0, rng.choice([0, 1, 1, 1, 2, 3, 300]))])
-        return text + (b"\xff" + b"\xff" * rng.choice([3, 8, 9]) + b"\x7f" if rng.random() < 0.03 else b"")
+            increment = integer(6, 0, rng.choice([0, 1, 1, 1, 2, 3, 300]))
+            text += rng.choice([increment, integer(7, 1, rng.choice([0, 4, 8, 12])), integer(6, 1, rng.choice([0, 4, 8, 400]))]) if rng.random() < self.wild else increment
+        return text + (wide(rng, *rng.choice([(7, 1), (6, 1), (6, 0), (6, 0)])) * 2 if rng.random() < self.wild else b"")
 
 
 def streams(rng, peer, ids, bit):
     """the peer's streams and all that it writes on each"""
     out = [(id, peer.message(id)) for id in ids]
-    instructions = peer.encoder
-    while rng.random() < 0.3:
+    instructions, first = peer.encoder, 2 if rng.random() < 0.8 else 26
+    while rng.random() < 2 * peer.wild:
         instructions += peer.instruction()
-    out += [(2 + bit, peer.control())] * (rng.random() < 0.85) + [(6 + bit, instructions)] * (rng.random() < 0.9) + [(10 + bit, peer.decoder())] * (rng.random() < 0.6)
-    while rng.random() < 0.2:
+    out += [(first + bit, peer.control())] * (rng.random() < 0.85) + [(first + 4 + bit, instructions)] * (rng.random() < 0.9) + [(first + 8 + bit, peer.decoder())] * (rng.random() < 0.6)
+    while rng.random() < peer.wild * 2:
         text = rng.choice([b"\x21ab", b"\x40\x54\4hi there", number(rng, 0x54) + number(rng, 2**40) + b"x", b"\1\0", b"\1", b"\0", b"\2", b"\3", b"\x40", b"\x40\x54", b""])
         out.append((rng.choice([14, 18, 22]) + bit, text))
     return out
@@ -181,23 +199,23 @@ def own_call(rng, side, ids):
 
 
 def rare_call(rng, ids):
-    id = rng.choice(ids + [2, 3, 6, 7, 10, 11, 14, 15, 1, 16])
+    id = rng.choice(ids + [2, 3, 6, 7, 10, 11, 14, 15, 1, 16, 26, 27, 30, 31, 34, 35])
     return rng.choice([
         ("cancel", id), ("cancel", rng.choice(ids)), ("reset", id), ("reset", rng.choice(ids)), ("goaway", rng.choice([0, 4, 8, 3])), ("deliver", id, b""), ("deliver_end", id), ("deliver_reset", id, 7), ("pull", id),
-        ("outgoing", id), ("send_trailer", rng.choice(ids), [(b":path", b"/")])])
+        ("outgoing", id), ("send_trailer", rng.choice(ids), [(b":path", rng.choice([b"/", b"/" + b"x" * 900]))])])
 
 
 def queues(rng, peer, ids, bit):
     """each stream's deliveries, in their order"""
     out = []
     for id, text in streams(rng, peer, ids, bit):
-        if rng.random() < 0.08:
+        if rng.random() < peer.wild / 2:
             text = connection_cases.mutated(rng, text)
         calls, step = [], rng.choice([1, 5, 20, 20, 1000])
         while text:
             n = rng.randrange(1, step + 1)
             calls, text = calls + [("deliver", id, text[:n])], text[n:]
-        if rng.random() < (0.6 if id in ids else 0.1 if id > 12 else 0.01):
+        if rng.random() < (0.6 if id in ids else 0.2 if id in (14, 15, 18, 19, 22, 23) else peer.wild / 5):
             calls.append(rng.choice([("deliver_end", id), ("deliver_end", id), ("deliver_reset", id, 268)]))
         out.append(calls)
     return out
@@ -231,11 +249,53 @@ def calls_of(seed, side):
     return limits, todo + [("pull", id) for id in ids + [14 + bit]] + [("outgoing", 2 + own), ("outgoing", 6 + own), ("outgoing", 10 + own), ("show",)]
 
 
+def from_decoder(rng, sender, ids):
+    """RFC 9204, 4.4: mostly what a decoder may say of what was sent"""
+    waiting = [id for id, sections in sender.tracked.items() if sections]
+    more = sender.table.inserted - sender.known
+    says = [integer(6, 0, rng.randrange(1, more + 1))] * 2 if more > 0 else []
+    says += [integer(7, 1, rng.choice(waiting)), integer(7, 1, rng.choice(waiting)), integer(6, 1, rng.choice(waiting))] if waiting else []
+    rare = [integer(6, 1, rng.choice(ids)), integer(6, 0, rng.choice([0, 1, 2, 2**63 + 62])), integer(7, 1, rng.choice(waiting or ids[:1] if rng.random() < 0.9 else ids))]
+    return rng.choice(rare if rng.random() < 0.06 else says or [b""])
+
+
+def sends_of(seed, side):
+    """What the encoder chooses: many heads of few fields, a small table, and a decoder stream that mostly follows. The second model is asked
+    along, so that the decoder stream may follow."""
+    rng = random.Random(seed * 2 + (side == CLIENT))
+    bit, ids, limits = 1 if side == CLIENT else 0, list(range(0, 4 * rng.choice([3, 10]), 4)), (1000, 220, 2)
+    guide = independent_model.Endpoint(side, *limits)
+    pool = rng.sample(FIELDS, rng.randrange(2, 6)) + ([(b"x-a", b"z" * rng.randrange(40))] if rng.random() < 0.3 else [])
+    first = [(b":method", b"GET"), (b":path", b"/x")] if side == CLIENT else [(b":status", rng.choice(STATUSES))]
+    most = rng.choice([None, None, independent_model.total(first + pool[:2]) - rng.randrange(2)])
+    pairs = [(1, rng.choice([0, 31, 64, 64, 70, 75, 80, 100, 110, 150, 220, 400])), (7, rng.choice([0, 1, 1, 2, 3, 10, 100]))] + [(6, most)] * (most is not None)
+    payload = b"".join(varint(id) + varint(value) for id, value in pairs)
+    todo = [("open_request",) if side == CLIENT else ("deliver", id, b"") for id in ids]
+    todo += [("deliver", 2 + bit, b"\0\4" + varint(len(payload)) + payload), ("deliver", 10 + bit, b"\3")]
+    if rng.random() < 0.1:
+        todo.reverse()
+    for call in todo:
+        getattr(guide, call[0])(*call[1:])
+    for _ in range(rng.randrange(10, 40)):
+        id = rng.choice(ids)
+        fields = in_order([rng.choice(pool) for _ in range(rng.choice([0, 1, 1, 2, 3, 5]))])
+        call = rng.choice([("send_head", id, first + fields), ("send_head", id, first + fields), ("send_trailer", id, fields)])
+        if rng.random() < 0.45:
+            call = ("deliver", 10 + bit, from_decoder(rng, guide.sender, ids))
+        elif rng.random() < 0.15:
+            trailer = [(b":path", b"/")] + [(b"x-a", b"z" * 900)] * rng.randrange(2)
+            call = rng.choice([("finish", id), ("reset", id), ("reset", rng.choice(ids[:2])), ("send_trailer", rng.choice(ids[:2]), trailer)])
+        todo.append(call)
+        getattr(guide, call[0])(*call[1:])
+    own = 1 - bit
+    return limits, todo + [("outgoing", id) for id in ids + [6 + own, 10 + own]] + [("show",)]
+
+
 def answered(seed, side):
     """limits, and pairs of a call and the first model's answer"""
-    if seed % 2 == 0:
+    if seed % 4 == 0:
         return connection_cases.case(seed, side)
-    limits, todo = calls_of(seed, side)
+    limits, todo = sends_of(seed, side) if seed % 4 == 2 else calls_of(seed, side)
     end = connection_model.Endpoint(side, *limits, connection_cases.FINAL)
     return limits, [(call, getattr(end, call[0])(*call[1:])) for call in todo]
 
