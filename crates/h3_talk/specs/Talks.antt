@@ -5,7 +5,9 @@ use Rattle.std.specs.Io.KnownBytes.{Consumes, IsAtEnd, Appends}
 use Rattle.h3_script.specs.Lines.{printed, refused_line}
 use Rattle.h3_script.specs.Script.{IsScript, RefusesLine}
 use Rattle.h3_world.specs.Ends.{new_ends, answers_of_ends}
-use Rattle.h3_world.specs.Headline.{is_memory}
+use Rattle.h3_world.specs.Headline.{Happens, is_memory}
+use Rattle.h3_world.specs.Run.{Run}
+use Rattle.h3_world.specs.World.{World, empty_world}
 use Rattle.h3_world.specs.declared.setup.Setup.{Setup}
 use Rattle.h3_world.specs.declared.event.Event.{Event}
 use Rattle.h3_world.specs.declared.event.Answer.{Answer}
@@ -17,9 +19,11 @@ pub record HasRead (old new : Option (List ℕ)) (text : List ℕ) : Type 0 wher
   pub taken : Consumes old new text
   pub all : length text ≤ 2 ^ 48 → IsAtEnd new
 
--- What is said of the answers to some events where none of them tells of refused memory: they are those of two endpoints with the
--- bytes carried between them.
+-- What is said of the answers to some events where none of them tells of refused memory: they are those of a run from the empty
+-- world, each step of which happens, and those of two endpoints with the bytes carried between them.
 pub record AreAnswers (setup : Setup) (events : List Event) (answers : List Answer) : Type 0 where
+  pub world : World
+  pub run : Run (Happens setup) empty_world events answers world
   pub of_ends : answers ≡ answers_of_ends (new_ends setup) events
 
 -- The lines of the answers to some events were written.
