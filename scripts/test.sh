@@ -1,7 +1,7 @@
 #!/usr/bin/env bash
 # The gate: the checks of this repository (scripts/check-*.sh), which take about a minute and each print one line 'ok NAME' or
-# 'failed NAME' for each thing that they check, then `rt ci`, and then the program that it built: a large exchange, and scripts with memory refused. Where one of
-# these fails the gate ends there. The last line is the sum.
+# 'failed NAME' for each thing that they check, then `rt ci`, and then the program that it built: a large exchange, and scripts with
+# memory refused. Where one of these fails the gate ends there. The last line is the sum.
 set -uo pipefail
 cd "$(dirname "$0")/.."
 
