@@ -1,2 +1,9 @@
 mod Accepted
+mod Contents
 mod Cuts
+mod Handing
+mod KeepsParts
+mod Moved
+mod PulledAndSent
+mod Settled
+mod Tables

@@ -22,6 +22,7 @@ pub mod InOrder
 pub mod JoiningLaws
 pub mod LearningLaws
 pub mod ListeningLaws
+pub mod Messages
 pub mod MovesLaws
 pub mod OpeningLaws
 pub mod OwnDeliveredLaws
@@ -58,6 +59,7 @@ pub mod ShowLaws
 pub mod ShowingLaws
 pub mod Standing
 pub mod StatusLaws
+pub mod TableReading
 pub mod UnitLaws
 pub mod WaitingAtLaws
 pub mod WaitingLaws

@@ -51,7 +51,7 @@ beyond (e ∷ es) (suc n) h = beyond es n (omega (arith, h))
 exchange_opened : (w : World) (i : ℕ) → exchange (opened w) i ≡ exchange w i
 exchange_opened w i = ap (λ e. if is_request i then e else no_exchange) (get_default w.exchanges (index_of i))
 
-flow_opened : (w : World) (side : Side) (i : ℕ) → flow (opened w) side i ≡ flow w side i
+pub flow_opened : (w : World) (side : Side) (i : ℕ) → flow (opened w) side i ≡ flow w side i
 flow_opened w Client i = ap (λ e. e.request) (exchange_opened w i)
 flow_opened w Server i = ap (λ e. e.response) (exchange_opened w i)
 

@@ -66,7 +66,7 @@ none_follows (Trailer s) h = differ h
 none_follows End (inl h) = differ h
 none_follows End (inr h) = differ h
 
-end_last : (p : Party) (start : ℕ) (parts : List Part) (q : Part) → AreSent p (Some q) start parts → q ≡ End → parts ≡ []
+pub end_last : (p : Party) (start : ℕ) (parts : List Part) (q : Part) → AreSent p (Some q) start parts → q ≡ End → parts ≡ []
 end_last p start [] q h e = refl
 end_last p start (r ∷ rs) q h e = absurd (none_follows r (subst (λ x. MayFollow (Some x) r) e h.0))
 
