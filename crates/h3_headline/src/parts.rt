@@ -13,6 +13,7 @@ ghost use Rattle.h3_world.specs.declared.event.Event.TheVariants.{Pull};
 ghost use Rattle.h3_world.specs.declared.event.Answer.{Answer};
 ghost use Rattle.h3_world.specs.declared.event.Answer.TheVariants.{Done, Pulled};
 ghost use Rattle.h3_world.specs.Came.{decoder_at};
+ghost use Rattle.h3_world.specs.Ends.{answers_of_ends, new_ends};
 ghost use Rattle.h3_world.specs.Following.{replies_left};
 ghost use Rattle.h3_world.specs.Headline.{Happens, IsDelivered, is_connection_fault};
 ghost use Rattle.h3_world.specs.Order.{next_part};
@@ -28,7 +29,7 @@ ghost use Rattle.h3_headline.specs.Messages.{IsFrontOf, IsTakenWhole, at_reader,
 ghost use Rattle.h3_headline.specs.RunCut.{IsCutAt};
 ghost use Rattle.h3_headline.specs.TableReading.{HasReadTable};
 
-use crate::laws::what_is_cited_holds;
+use crate::laws::{two_endpoints_run_in_a_world, what_is_cited_holds};
 
 /// A run, cut anywhere, is a run of the events before and one of the others, from the world that those lead to.
 pub fn runs_can_be_cut()
@@ -102,4 +103,20 @@ pub fn no_instruction_is_refused()
         is_some (decoder_at setup w side) ≡ true }
 {
     what_is_cited_holds();
+}
+
+/// The same of two endpoints with the bytes carried between them, by their own answers: over every schedule of events that may be sent no
+/// answer tells of a connection fault, what a side is handed out of a stream is a front of what the other side sent on it, and all of that
+/// with the end.
+pub fn endpoints_hand_out_what_was_sent()
+    ensures fault { (setup : Setup) (events : List Event) → IsMadeSetup setup → AllByRecursion IsSendable events → list_any is_connection_fault (answers_of_ends (new_ends setup) events) ≡ false }
+    ensures front { (setup : Setup) (events : List Event) (side : Side) (id : ℕ) → IsMadeSetup setup → AllByRecursion IsSendable events →
+        IsFrontOf (pulled side id events (answers_of_ends (new_ends setup) events)) (map (at_reader (section_of (announced_at setup side))) (sent (other side) id events (answers_of_ends (new_ends setup) events))) }
+    ensures end { (setup : Setup) (events : List Event) (side : Side) (id : ℕ) → IsMadeSetup setup → AllByRecursion IsSendable events →
+        has_pulled_end side id events (answers_of_ends (new_ends setup) events) ≡ true →
+        (pulled side id events (answers_of_ends (new_ends setup) events) ≡ map (at_reader (section_of (announced_at setup side))) (sent (other side) id events (answers_of_ends (new_ends setup) events)))
+        × (has_finished (other side) id events (answers_of_ends (new_ends setup) events) ≡ true) }
+{
+    what_is_cited_holds();
+    two_endpoints_run_in_a_world();
 }
