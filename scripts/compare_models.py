@@ -300,8 +300,9 @@ def answered(seed, side):
     return limits, [(call, getattr(end, call[0])(*call[1:])) for call in todo]
 
 
-def difference(side, limits, done, seen):
+def difference(side, limits, done, seen=None):
     """the place of the first call that the second model answers otherwise, and its answer; `seen` counts the answers"""
+    seen = collections.Counter() if seen is None else seen
     end = independent_model.Endpoint(side, *limits)
     for place, (call, answer) in enumerate(done):
         own = end.pull(call[1], answer) if call[0] == "pull" else getattr(end, call[0])(*call[1:])

@@ -335,6 +335,23 @@ class Endpoint:
             return ("waits", self.own[id])
         return ("waits", self.outgoing_streams[id].waits if self.is_open(id) else b"")
 
+    def has_outgoing(self, id):
+        return id in self.own or self.is_open(id)
+
+    def advance(self, id, count):
+        """takes so many bytes of what waits"""
+        if id in self.own:
+            self.own[id] = self.own[id][count:]
+        else:
+            self.outgoing_streams[id].waits = self.outgoing_streams[id].waits[count:]
+
+    def is_finished(self, id):
+        """a stream that was reset is not"""
+        return self.is_open(id) and self.outgoing_streams[id].finished and not self.is_reset(id)
+
+    def is_reset(self, id):
+        return self.is_open(id) and self.outgoing_streams[id].was_reset
+
     def show(self):
         limits = None if self.settings is None else (self.settings.get(CAPACITY, 0), self.settings.get(BLOCKED, 0), self.settings.get(SECTION_SIZE, GREATEST))
         return ("shown", limits, self.sender.table.used(), self.receiver.table.used(), self.waiting())
