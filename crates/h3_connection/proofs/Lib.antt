@@ -15,3 +15,8 @@ pub mod PullEnds
 pub mod EndStays
 pub mod UnknownFrames
 pub mod UnknownDelivered
+pub mod RoleCuts
+pub mod ReadingCuts
+pub mod DeliveryCuts
+pub mod PullCuts
+pub mod JoinedPulls

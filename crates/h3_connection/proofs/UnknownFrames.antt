@@ -112,13 +112,13 @@ module _ (side : Side) (own : Announced) (id : ℕ) (r : DecoderState) where
       ∙ ap (λ j. next_frame side own id r j bytes) (sym (left_left i rest bytes (skipped-length (is_body i.place) rest) few))
       ∙ ap (λ l. next_frame side own id r (left_with (left_with i rest) l) l) (sym (ap (skipped (is_body i.place)) there))
 
-  by_place : (i : Incoming) (place : Place) → place ≢ InSession → next_item side own id r i place ≡ in_message side own id r i i.section
+  pub by_place : (i : Incoming) (place : Place) → place ≢ InSession → next_item side own id r i place ≡ in_message side own id r i i.section
   by_place i BeforeHead h = refl
   by_place i InBody h = refl
   by_place i AfterTrailer h = refl
   by_place i InSession h = absurd (h refl)
 
-  pull_next : (i : Incoming) → i.fault ≡ None → i.is_over ≡ false → pull_stream side own id r i ≡ next_item side own id r i i.place
+  pub pull_next : (i : Incoming) → i.fault ≡ None → i.is_over ≡ false → pull_stream side own id r i ≡ next_item side own id r i i.place
   unfolding pull_stream
   pull_next i e over = rw e (rw over refl)
 

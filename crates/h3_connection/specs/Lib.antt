@@ -22,6 +22,9 @@ pub mod Endpoint
 pub mod Control
 pub mod Delivering
 pub mod UnknownFrames
+pub mod DeliveryCuts
+pub mod PullCuts
+pub mod JoinedPulls
 pub mod Sections
 pub mod Sending
 pub mod State

@@ -71,3 +71,35 @@ skipped_short (suc most) in_body bytes = front_short (skipped_within in_body mos
 pub skipped-length : (in_body : Bool) (bytes : List ℕ) → length (skipped in_body bytes) ≤ length bytes
 unfolding skipped
 skipped-length in_body bytes = skipped_short (length bytes) in_body bytes
+
+-- What stands behind the frames that give nothing gives something.
+abbrev IsNotEmpty : Bool → Frame PayloadLen → Type 0
+IsNotEmpty in_body f = (in_body && is_empty_data f) ≡ false
+
+step_by : (in_body : Bool) (bytes : List ℕ) (x : Front) → frame_at (known bytes) ≡ x → skipped in_body bytes ≡ skip_front (skipped in_body) in_body (known bytes) x
+step_by in_body bytes x e = skipped_step in_body bytes ∙ ap (λ y. skip_front (skipped in_body) in_body (known bytes) y) e
+
+whole_is : (in_body : Bool) (f g : Frame PayloadLen) (left rest : List ℕ) → Whole g left ≡ Whole f rest → IsNotEmpty in_body g → IsNotEmpty in_body f
+whole_is in_body f g left rest same some = let e : g ≡ f = cc in subst (λ x. IsNotEmpty in_body x) e some
+
+by_test : (in_body : Bool) (bytes rest left : List ℕ) (f g : Frame PayloadLen) (b : Bool) → (in_body && is_empty_data g) ≡ b → frame_at (known bytes) ≡ Whole g left
+    → frame_at (skipped in_body bytes) ≡ Whole f rest → (frame_at (skipped in_body left) ≡ Whole f rest → IsNotEmpty in_body f) → IsNotEmpty in_body f
+by_test in_body bytes rest left f g true t here e again =
+    again (ap frame_at (sym (step_by in_body bytes (Whole g left) here ∙ ap (λ b. if b then skipped in_body left else known bytes) t)) ∙ e)
+by_test in_body bytes rest left f g false t here e again =
+    whole_is in_body f g left rest (sym here ∙ ap frame_at (sym (step_by in_body bytes (Whole g left) here ∙ ap (λ b. if b then skipped in_body left else known bytes) t)) ∙ e) t
+
+by_front : (in_body : Bool) (bytes rest : List ℕ) (f : Frame PayloadLen) (x : Front) → frame_at (known bytes) ≡ x → frame_at (skipped in_body bytes) ≡ Whole f rest
+    → ((left : List ℕ) → length left < length bytes → frame_at (skipped in_body left) ≡ Whole f rest → IsNotEmpty in_body f) → IsNotEmpty in_body f
+by_front in_body bytes rest f (Whole g left) here e again = by_test in_body bytes rest left f g (in_body && is_empty_data g) refl here e (again left (rest_shorter bytes left g here))
+by_front in_body bytes rest f (Unknown kind left) here e again = let wrong : Unknown kind left ≡ Whole f rest = sym here ∙ ap frame_at (sym (step_by in_body bytes (Unknown kind left) here)) ∙ e in absurd (cc)
+by_front in_body bytes rest f (Unfinished least) here e again = let wrong : Unfinished least ≡ Whole f rest = sym here ∙ ap frame_at (sym (step_by in_body bytes (Unfinished least) here)) ∙ e in absurd (cc)
+by_front in_body bytes rest f (Refused why) here e again = let wrong : Refused why ≡ Whole f rest = sym here ∙ ap frame_at (sym (step_by in_body bytes (Refused why) here)) ∙ e in absurd (cc)
+
+not_empty_within : (most : ℕ) (in_body : Bool) (bytes rest : List ℕ) (f : Frame PayloadLen) → length bytes ≤ most → frame_at (skipped in_body bytes) ≡ Whole f rest → IsNotEmpty in_body f
+not_empty_within zero in_body bytes rest f few e = by_front in_body bytes rest f (frame_at (known bytes)) refl e (λ left less there. absurd (omega (arith, few, less)))
+not_empty_within (suc most) in_body bytes rest f few e =
+    by_front in_body bytes rest f (frame_at (known bytes)) refl e (λ left less there. not_empty_within most in_body left rest f (omega (arith, few, less)) there)
+
+pub found_not_empty : (in_body : Bool) (bytes rest : List ℕ) (f : Frame PayloadLen) → frame_at (skipped in_body bytes) ≡ Whole f rest → (in_body && is_empty_data f) ≡ false
+found_not_empty in_body bytes rest f e = not_empty_within (length bytes) in_body bytes rest f (omega arith) e

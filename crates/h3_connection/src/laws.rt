@@ -102,3 +102,31 @@ pub fn unknown_frames_give_nothing()
     ensures delivered { (e : EndpointHistory) (id : ℕ) (bytes rest : List ℕ) → ReadsControl e id → e.peer.unread ≡ [] → BeginsUnknown bytes rest → deliver e id bytes ≡ deliver e id rest }
     ensures alone { (e : EndpointHistory) (id : ℕ) (bytes : List ℕ) → ReadsControl e id → e.peer.unread ≡ [] → BeginsUnknown bytes [] → deliver e id bytes ≡ (None, e) }
 {}
+
+ghost use Rattle.std.specs.Prelude.{◌++◌, None};
+ghost use Rattle.h3_connection.specs.declared.event.Refusal.{Refusal};
+ghost use Rattle.h3_connection.specs.DeliveryCuts.{SameAnswers, LeftAs, role_with, IsNoSession, deliver_cut};
+
+/// However the bytes of a unidirectional stream of the peer are cut, they are answered alike and leave the same, but that an increment
+/// may be written in two, whose sum it is. A fault that is found in the first bytes is found in all of them; on the control stream where
+/// the settings came before, or no bytes of the decoder stream wait for them. Sessions are left out: they wait in pieces.
+pub fn cut_deliveries_are_answered_alike()
+    ensures taken { (e : EndpointHistory) (id : ℕ) (first second : List ℕ) → kind_of e.side id ≡ PeerUnidirectional → (deliver e id first).0 ≡ None → IsNoSession (role_with e id (first ++ second)) →
+        SameAnswers (LeftAs (role_with e id (first ++ second)) e.own.replies) (deliver e id (first ++ second)) (deliver_cut e id first second) }
+    ensures refused { (e : EndpointHistory) (id : ℕ) (first second : List ℕ) (why : Refusal) → (e.peer.settings ≡ None → e.decoder_unread ≡ []) → (deliver e id first).0 ≡ Some why →
+        ((deliver e id (first ++ second)).0 ≡ Some why) × ((deliver_cut e id first second).0 ≡ Some why) }
+{
+    h3_qpack::laws::encoder_bytes_are_their_value();
+    h3_qpack::laws::decoder_bytes_are_their_value();
+}
+
+ghost use Rattle.h3_connection.specs.PullCuts.{DifferInCuts, PullsAlike};
+ghost use Rattle.h3_connection.specs.JoinedPulls.{joined_pulls, JoinedAlike};
+
+/// However what waits on a request stream was cut into pieces, a pull answers the same and leaves what differs only in cuts, but for a
+/// piece of a body or of a session, which is a front of the other or begins with it. Pulled until something else comes, these have the
+/// same bytes in all, and the same comes behind them.
+pub fn cut_pulls_are_answered_alike()
+    ensures one { (side : Side) (own : Announced) (id : ℕ) (r : DecoderState) (i j : Incoming) → DifferInCuts i j → PullsAlike (pull_stream side own id r i) (pull_stream side own id r j) }
+    ensures joined { (side : Side) (own : Announced) (id : ℕ) (r : DecoderState) (i j : Incoming) → DifferInCuts i j → JoinedAlike (joined_pulls side own id r i) (joined_pulls side own id r j) }
+{}

@@ -1,0 +1,261 @@
+-- However the bytes of the control, encoder and decoder streams are cut, they are read alike.
+use Rattle.std.proofs.Common.{◌≡◌, ℕ, ◌+◌, ◌-◌, Bool, true, false, if◌then◌else◌, List, [], ◌++◌, refl, ap, sym, ◌∙◌, subst, arith, append_assoc, Option, Some, None}
+use Rattle.std.specs.Prelude.{is_some}
+use Rattle.h3_qpack.specs.DecoderState.{DecoderState}
+use Rattle.h3_qpack.specs.EncoderHistory.{EncoderHistory}
+use Rattle.h3_qpack.specs.Hearing.{Heard, hear, heard_with, heard_then, Listened, listen, listened_with, listened_then}
+use Rattle.h3_connection.specs.Codes.{encoder_stream_error, decoder_stream_error}
+use Rattle.h3_connection.specs.Endpoint.{EndpointHistory, replied}
+use Rattle.h3_connection.specs.PeerReading.{Peer, PeerFound, with_unread, read_peer}
+use Rattle.h3_connection.specs.PeerReadingLaws.{then_peer, peer_more, settings_stay}
+use Rattle.h3_connection.specs.Listeners.{fault_if, heard_more, after_hearing, insertions_heard}
+use Rattle.h3_connection.specs.Control.{Found, increment, read_encoder, listened_to, read_decoder, with_table, learned, if_learned, then_decoder, after_peer, read_control}
+use Rattle.h3_connection.specs.DeliveryCuts.{IsSame, with_replies, DiffersInIncrements}
+use Rattle.h3_connection.proofs.Quiet.{quiet_control}
+use Rattle.h3_connection.proofs.Bounded.{hears_more}
+
+-- the same fault or none, and where there is none this holds of what is left
+pub record Alike (Left : EndpointHistory → EndpointHistory → Type 0) (one two : Found) : Type 0 where
+  pub answer : one.1 ≡ two.1
+  pub left : one.1 ≡ None → Left one.0 two.0
+
+pub alike_same : (one two : Found) → one ≡ two → Alike IsSame one two
+alike_same one two e = record { answer = ap (λ x. x.1) e; left = λ none. ap (λ x. x.0) e }
+
+pub alike_as : (Left : EndpointHistory → EndpointHistory → Type 0) (one two other both : Found) → one ≡ other → two ≡ both → Alike Left other both → Alike Left one two
+alike_as Left one two other both e f h = subst (λ x. Alike Left x two) (sym e) (subst (λ x. Alike Left other x) (sym f) h)
+
+-- the laws of the two listeners that are cited
+abbrev pub EncoderCuts : Type 0
+EncoderCuts = (r : DecoderState) (bytes more : List ℕ) → hear r (bytes ++ more) ≡ heard_then (hear r bytes) more
+
+abbrev pub DecoderCuts : Type 0
+DecoderCuts = (s : EncoderHistory) (bytes more : List ℕ) → listen s (bytes ++ more) ≡ listened_then (listen s bytes) more
+
+-- no fault is none that was found
+no_fault : (b : Bool) (code : ℕ) → fault_if b code ≡ None → b ≡ false
+no_fault true code e = absurd (cc)
+no_fault false code e = refl
+
+-- the encoder stream
+hear_cut : EncoderCuts → (g : EndpointHistory) (a b : List ℕ) → (heard_more g.decoding a).is_bad ≡ false
+    → heard_more g.decoding (a ++ b) ≡ hear (heard_more g.decoding a).decoder ((heard_more g.decoding a).left ++ b)
+hear_cut cuts g a b good =
+    ap (hear g.decoding.decoder) (sym (append_assoc g.decoding.unread a b)) ∙ cuts g.decoding.decoder (g.decoding.unread ++ a) b
+    ∙ ap (heard_with (heard_more g.decoding a) b) good
+
+pub encoder_cut : EncoderCuts → (g : EndpointHistory) (a b : List ℕ) → (read_encoder g a).1 ≡ None → Alike (DiffersInIncrements g.own.replies) (read_encoder g (a ++ b)) (read_encoder (read_encoder g a).0 b)
+encoder_cut cuts g a b none =
+    let h = heard_more g.decoding a in
+    let k = hear h.decoder (h.left ++ b) in
+    let is : heard_more g.decoding (a ++ b) ≡ k = hear_cut cuts g a b (no_fault h.is_bad encoder_stream_error none) in
+    let before = g.decoding.decoder.table.inserted in
+    let sum : k.decoder.table.inserted - before ≡ (h.decoder.table.inserted - before) + (k.decoder.table.inserted - h.decoder.table.inserted) =
+    omega (arith, hears_more g.decoding.decoder (g.decoding.unread ++ a), hears_more h.decoder (h.left ++ b)) in
+    let at_once : read_encoder g (a ++ b) ≡ (replied (record g { decoding = after_hearing k }) (increment (k.decoder.table.inserted - before)), fault_if k.is_bad encoder_stream_error) =
+    ap (λ x. (replied (record g { decoding = after_hearing x }) (increment (insertions_heard g.decoding x)), fault_if x.is_bad encoder_stream_error)) is in
+    record {
+      answer = ap (λ x. x.1) at_once;
+      left = λ good. record {
+        first = h.decoder.table.inserted - before;
+        second = k.decoder.table.inserted - h.decoder.table.inserted;
+        same =
+            ap (λ x. x.0) at_once
+            ∙ sym (ap (λ x. with_replies (read_encoder (read_encoder g a).0 b).0 x.0.own.replies) at_once);
+        at_once = ap (λ x. x.0.own.replies) at_once ∙ ap (λ n. g.own.replies ++ increment n) sum;
+        apart = refl;
+      };
+    }
+
+-- the decoder stream
+listen_cut : DecoderCuts → (s : EncoderHistory) (unread a b : List ℕ) → (listen s (unread ++ a)).is_bad ≡ false → listen s (unread ++ (a ++ b)) ≡ listen (listen s (unread ++ a)).encoder ((listen s (unread ++ a)).left ++ b)
+listen_cut cuts s unread a b good =
+    ap (listen s) (sym (append_assoc unread a b)) ∙ cuts s (unread ++ a) b ∙ ap (listened_with (listen s (unread ++ a)) b) good
+
+-- what is read of the decoder stream, where it is told whether the settings came
+abbrev read_if : Bool → EndpointHistory → List ℕ → Found
+read_if came e bytes =
+    if came then listened_to e (listen e.encoder (e.decoder_unread ++ bytes)) else (record e { decoder_unread = e.decoder_unread ++ bytes }, None)
+
+read_twice : DecoderCuts → (came : Bool) (g : EndpointHistory) (a b : List ℕ) → (read_if came g a).1 ≡ None → read_if came g (a ++ b) ≡ read_if came (read_if came g a).0 b
+read_twice cuts true g a b none = ap (listened_to g) (listen_cut cuts g.encoder g.decoder_unread a b (no_fault (listen g.encoder (g.decoder_unread ++ a)).is_bad decoder_stream_error none))
+read_twice cuts false g a b none = ap (λ l. (record g { decoder_unread = l }, None)) (sym (append_assoc g.decoder_unread a b))
+
+found_if : (b : Bool) (P : Found → Type 0) (x y : Found) → P x → P y → P (if b then x else y)
+found_if true P x y p q = p
+found_if false P x y p q = q
+
+pub decoder_peer : (e : EndpointHistory) (bytes : List ℕ) → (read_decoder e bytes).0.peer ≡ e.peer
+decoder_peer e bytes = found_if (is_some e.peer.settings) (λ x. x.0.peer ≡ e.peer) _ _ refl refl
+
+pub decoder_cut : DecoderCuts → (g : EndpointHistory) (a b : List ℕ) → (read_decoder g a).1 ≡ None → read_decoder g (a ++ b) ≡ read_decoder (read_decoder g a).0 b
+decoder_cut cuts g a b none =
+    read_twice cuts (is_some g.peer.settings) g a b none ∙ sym (ap (λ p. read_if (is_some p.settings) (read_decoder g a).0 b) (decoder_peer g a))
+
+-- the control stream: what was found is done alike by endpoints that differ in what their peer's reader has
+abbrev after_by : Option (List (ℕ × ℕ)) → EndpointHistory → PeerFound → Found
+after_by known e x = then_decoder known x.0.settings (if_learned known x.0.settings (record e { peer = x.0 })) x.1
+
+pub nothing_learned : (o : Option (List (ℕ × ℕ))) (e : EndpointHistory) (fault : Option ℕ) → then_decoder o o (if_learned o o e) fault ≡ (e, fault)
+nothing_learned None e None = refl
+nothing_learned None e (Some code) = refl
+nothing_learned (Some pairs) e None = refl
+nothing_learned (Some pairs) e (Some code) = refl
+
+-- where no settings come now
+after_same : (e : EndpointHistory) (x : PeerFound) → x.0.settings ≡ e.peer.settings → after_peer e x ≡ (record e { peer = x.0 }, x.1)
+after_same e x is = ap (λ o. then_decoder e.peer.settings o (if_learned e.peer.settings o (record e { peer = x.0 })) x.1) is ∙ nothing_learned e.peer.settings (record e { peer = x.0 }) x.1
+
+learned_if : (b : Bool) (e : EndpointHistory) (p : Peer) (capacity blocked : ℕ)
+    → (if b then with_table (record e { peer = p }) capacity blocked else record e { peer = p }) ≡ record (if b then with_table e capacity blocked else e) { peer = p }
+learned_if true e p capacity blocked = refl
+learned_if false e p capacity blocked = refl
+
+learned_with : (e : EndpointHistory) (p : Peer) (pairs : List (ℕ × ℕ)) → learned (record e { peer = p }) pairs ≡ record (learned e pairs) { peer = p }
+learned_with e p pairs = learned_if _ e p _ _
+
+read_with : (came : Bool) (e : EndpointHistory) (p : Peer) (bytes : List ℕ) → read_if came (record e { peer = p }) bytes ≡ (record (read_if came e bytes).0 { peer = p }, (read_if came e bytes).1)
+read_with true e p bytes = refl
+read_with false e p bytes = refl
+
+decoder_with : (e : EndpointHistory) (p : Peer) (bytes : List ℕ) → p.settings ≡ e.peer.settings → read_decoder (record e { peer = p }) bytes ≡ (record (read_decoder e bytes).0 { peer = p }, (read_decoder e bytes).1)
+decoder_with e p bytes is = ap (λ o. read_if (is_some o) (record e { peer = p }) bytes) is ∙ read_with (is_some e.peer.settings) e p bytes
+
+endpoint_if : (b : Bool) (P : EndpointHistory → Type 0) (x y : EndpointHistory) → P x → P y → P (if b then x else y)
+endpoint_if true P x y p q = p
+endpoint_if false P x y p q = q
+
+learned_peer : (e : EndpointHistory) (pairs : List (ℕ × ℕ)) → (learned e pairs).peer ≡ e.peer
+learned_peer e pairs = endpoint_if _ (λ x. x.peer ≡ e.peer) _ _ refl refl
+
+came_fault : (g f : EndpointHistory) (q p : Peer) (pairs : List (ℕ × ℕ)) (fault : Option ℕ) → p.settings ≡ q.settings → read_decoder (learned (record g { peer = q }) pairs) [] ≡ (f, None)
+    → Alike IsSame (then_decoder None (Some pairs) (learned (record g { peer = p }) pairs) fault) (record f { peer = p }, fault)
+came_fault g f q p pairs (Some code) same is = record { answer = refl; left = λ none. absurd (cc) }
+came_fault g f q p pairs None same is =
+    let h : EndpointHistory = record g { peer = q } in
+    let settings : p.settings ≡ (learned h pairs).peer.settings = same ∙ sym (ap (λ x. x.settings) (learned_peer h pairs)) in
+    alike_same _ _ (ap (λ e. read_decoder e []) (learned_with h p pairs) ∙ decoder_with (learned h pairs) p [] settings ∙ ap (λ x. (record x.0 { peer = p }, x.1)) is)
+
+-- the settings came in the first bytes
+came_first : (g f : EndpointHistory) (q : Peer) (pairs : List (ℕ × ℕ)) (b : List ℕ) → g.peer.settings ≡ None → q.settings ≡ Some pairs → f.side ≡ g.side → after_peer g (q, None) ≡ (f, None)
+    → Alike IsSame (after_peer g (read_peer g.side (with_unread q (q.unread ++ b)))) (read_control f b)
+came_first g f q pairs b none came side is =
+    let h : EndpointHistory = record g { peer = q } in
+    let y = read_peer g.side (with_unread q (q.unread ++ b)) in
+    let read : read_decoder (learned h pairs) [] ≡ (f, None) =
+    sym (ap (λ o. after_by o g (q, None)) none ∙ ap (λ o. then_decoder None o (if_learned None o h) None) came) ∙ is in
+    let peer : f.peer ≡ q = ap (λ x. x.0.peer) (sym read) ∙ decoder_peer (learned h pairs) [] ∙ learned_peer h pairs in
+    let still : y.0.settings ≡ Some pairs = settings_stay g.side (with_unread q (q.unread ++ b)) pairs came in
+    let one : after_peer g y ≡ then_decoder None (Some pairs) (learned (record g { peer = y.0 }) pairs) y.1 =
+    ap (λ o. after_by o g y) none ∙ ap (λ o. then_decoder None o (if_learned None o (record g { peer = y.0 })) y.1) still in
+    let there : read_control f b ≡ after_peer f y =
+    ap (λ s. after_peer f (read_peer s (with_unread f.peer (f.peer.unread ++ b)))) side
+    ∙ ap (λ (p : Peer). after_peer f (read_peer g.side (with_unread p (p.unread ++ b)))) peer in
+    let two : read_control f b ≡ (record f { peer = y.0 }, y.1) = there ∙ after_same f y (still ∙ sym (ap (λ (p : Peer). p.settings) peer ∙ came)) in
+    alike_as IsSame _ _ _ _ one two (came_fault g f q y.0 pairs y.1 (still ∙ sym came) read)
+
+-- they came before, or did not come
+came_else : (g f : EndpointHistory) (q : Peer) (b : List ℕ) → q.settings ≡ g.peer.settings → after_peer g (q, None) ≡ (f, None)
+    → Alike IsSame (after_peer g (read_peer g.side (with_unread q (q.unread ++ b)))) (read_control f b)
+came_else g f q b same is =
+    let y = read_peer g.side (with_unread q (q.unread ++ b)) in
+    let h : EndpointHistory = record g { peer = q } in
+    let at : f ≡ h = ap (λ x. x.0) (sym is ∙ after_same g (q, None) same) in
+    alike_same _ _ (ap (λ o. after_by o g y) (sym same) ∙ ap (λ e. read_control e b) (sym at))
+
+control_found : (g f : EndpointHistory) (b : List ℕ) (x : PeerFound) → f.side ≡ g.side → ((pairs : List (ℕ × ℕ)) → g.peer.settings ≡ Some pairs → x.0.settings ≡ Some pairs) → after_peer g x ≡ (f, None)
+    → Alike IsSame (after_peer g (then_peer g.side b x)) (read_control f b)
+control_found g f b (q, Some code) side keep is = let wrong : Some code ≡ None = ap (λ x. x.1) is in absurd (cc)
+control_found g f b (q, None) side keep is = by_settings g.peer.settings q.settings refl refl
+  where
+    by_settings : (o p : Option (List (ℕ × ℕ))) → g.peer.settings ≡ o → q.settings ≡ p → Alike IsSame (after_peer g (read_peer g.side (with_unread q (q.unread ++ b)))) (read_control f b)
+    by_settings (Some pairs) p before after = came_else g f q b (keep pairs before ∙ sym before) is
+    by_settings None None before after = came_else g f q b (after ∙ sym before) is
+    by_settings None (Some pairs) before after = came_first g f q pairs b before after side is
+
+read_behind : (g : EndpointHistory) (a b : List ℕ)
+    → read_peer g.side (with_unread g.peer (g.peer.unread ++ (a ++ b))) ≡ then_peer g.side b (read_peer g.side (with_unread g.peer (g.peer.unread ++ a)))
+read_behind g a b = ap (λ l. read_peer g.side (with_unread g.peer l)) (sym (append_assoc g.peer.unread a b)) ∙ peer_more g.side g.peer (g.peer.unread ++ a) b
+
+pub control_cut : (g : EndpointHistory) (a b : List ℕ) → (read_control g a).1 ≡ None → Alike IsSame (read_control g (a ++ b)) (read_control (read_control g a).0 b)
+control_cut g a b none =
+    let x = read_peer g.side (with_unread g.peer (g.peer.unread ++ a)) in
+    let found : read_control g a ≡ ((read_control g a).0, None) = ap (λ c. ((read_control g a).0, c)) none in
+    subst (λ z. Alike IsSame (after_peer g z) (read_control (read_control g a).0 b)) (sym (read_behind g a b))
+    (control_found g (read_control g a).0 b x (quiet_control g a).side (λ pairs e. settings_stay g.side (with_unread g.peer (g.peer.unread ++ a)) pairs e) found)
+
+-- the stream that is read as the control stream stays
+then_on : (before after : Option (List (ℕ × ℕ))) (e : EndpointHistory) (fault : Option ℕ) → (then_decoder before after e fault).0.control_on ≡ e.control_on
+then_on before after e (Some code) = refl
+then_on None (Some pairs) e None = found_if (is_some e.peer.settings) (λ x. x.0.control_on ≡ e.control_on) _ _ refl refl
+then_on None None e None = refl
+then_on (Some pairs) after e None = refl
+
+learned_on : (before after : Option (List (ℕ × ℕ))) (e : EndpointHistory) → (if_learned before after e).control_on ≡ e.control_on
+learned_on None (Some pairs) e = endpoint_if _ (λ x. x.control_on ≡ e.control_on) _ _ refl refl
+learned_on None None e = refl
+learned_on (Some pairs) after e = refl
+
+pub control_on_stays : (e : EndpointHistory) (bytes : List ℕ) → (read_control e bytes).0.control_on ≡ e.control_on
+control_on_stays e bytes =
+    let x = read_peer e.side (with_unread e.peer (e.peer.unread ++ bytes)) in
+    then_on e.peer.settings x.0.settings (if_learned e.peer.settings x.0.settings (record e { peer = x.0 })) x.1 ∙ learned_on e.peer.settings x.0.settings (record e { peer = x.0 })
+
+pub decoder_on_stays : (e : EndpointHistory) (bytes : List ℕ) → (read_decoder e bytes).0.decoder_on ≡ e.decoder_on
+decoder_on_stays e bytes = found_if (is_some e.peer.settings) (λ x. x.0.decoder_on ≡ e.decoder_on) _ _ refl refl
+
+-- a fault that was found in the first bytes is found in all
+bad_heard : (h : Heard) (b : List ℕ) (bad : Bool) (code : ℕ) → fault_if bad encoder_stream_error ≡ Some code → fault_if (heard_with h b bad).is_bad encoder_stream_error ≡ Some code
+bad_heard h b true code e = e
+bad_heard h b false code e = absurd (cc)
+
+pub encoder_fault : EncoderCuts → (g : EndpointHistory) (a b : List ℕ) (code : ℕ) → (read_encoder g a).1 ≡ Some code → (read_encoder g (a ++ b)).1 ≡ Some code
+encoder_fault cuts g a b code e =
+    let h = heard_more g.decoding a in
+    ap (λ x. fault_if x.is_bad encoder_stream_error) (ap (hear g.decoding.decoder) (sym (append_assoc g.decoding.unread a b)) ∙ cuts g.decoding.decoder (g.decoding.unread ++ a) b)
+    ∙ bad_heard h b h.is_bad code e
+
+bad_listened : (l : Listened) (b : List ℕ) (bad : Bool) (code : ℕ) → fault_if bad decoder_stream_error ≡ Some code → fault_if (listened_with l b bad).is_bad decoder_stream_error ≡ Some code
+bad_listened l b true code e = e
+bad_listened l b false code e = absurd (cc)
+
+bad_read : DecoderCuts → (came : Bool) (g : EndpointHistory) (a b : List ℕ) (code : ℕ) → (read_if came g a).1 ≡ Some code → (read_if came g (a ++ b)).1 ≡ Some code
+bad_read cuts true g a b code e =
+    let l = listen g.encoder (g.decoder_unread ++ a) in
+    ap (λ x. fault_if x.is_bad decoder_stream_error) (ap (listen g.encoder) (sym (append_assoc g.decoder_unread a b)) ∙ cuts g.encoder (g.decoder_unread ++ a) b) ∙ bad_listened l b l.is_bad code e
+bad_read cuts false g a b code e = absurd (cc)
+
+pub decoder_fault : DecoderCuts → (g : EndpointHistory) (a b : List ℕ) (code : ℕ) → (read_decoder g a).1 ≡ Some code → (read_decoder g (a ++ b)).1 ≡ Some code
+decoder_fault cuts g a b code e = bad_read cuts (is_some g.peer.settings) g a b code e
+
+-- with no bytes of the decoder stream none are bad
+listens_none : (s : EncoderHistory) → (listen s []).is_bad ≡ false
+unfolding listen
+listens_none s = refl
+
+reads_none : (came : Bool) (e : EndpointHistory) → e.decoder_unread ≡ [] → (read_if came e []).1 ≡ None
+reads_none true e empty = ap (λ l. fault_if (listen e.encoder (l ++ [])).is_bad decoder_stream_error) empty ∙ ap (λ b. fault_if b decoder_stream_error) (listens_none e.encoder)
+reads_none false e empty = refl
+
+fault_found : (g : EndpointHistory) (b : List ℕ) (x : PeerFound) (code : ℕ) → (g.peer.settings ≡ None → g.decoder_unread ≡ []) → ((pairs : List (ℕ × ℕ)) → g.peer.settings ≡ Some pairs → x.0.settings ≡ Some pairs)
+    → (after_peer g x).1 ≡ Some code → (after_peer g (then_peer g.side b x)).1 ≡ Some code
+fault_found g b (q, Some found) code early keep is = is
+fault_found g b (q, None) code early keep is = absurd (by_settings g.peer.settings q.settings refl refl)
+  where
+    differ : {A : Type 0} (x : Option A) (y : A) → x ≡ None → x ≡ Some y → ⊥
+    differ x y none some = let wrong : None ≡ Some y = sym none ∙ some in cc
+
+    by_settings : (o p : Option (List (ℕ × ℕ))) → g.peer.settings ≡ o → q.settings ≡ p → ⊥
+    by_settings (Some pairs) p before after = differ (after_peer g (q, None)).1 code (ap (λ x. x.1) (after_same g (q, None) (keep pairs before ∙ sym before))) is
+    by_settings None None before after = differ (after_peer g (q, None)).1 code (ap (λ x. x.1) (after_same g (q, None) (after ∙ sym before))) is
+    by_settings None (Some pairs) before after =
+        let h : EndpointHistory = record g { peer = q } in
+        let read : after_peer g (q, None) ≡ read_decoder (learned h pairs) [] = ap (λ o. after_by o g (q, None)) before ∙ ap (λ o. then_decoder None o (if_learned None o h) None) after in
+        let empty : (learned h pairs).decoder_unread ≡ [] = endpoint_if _ (λ x. x.decoder_unread ≡ g.decoder_unread) _ _ refl refl ∙ early before in
+        differ (after_peer g (q, None)).1 code (ap (λ x. x.1) read ∙ reads_none (is_some (learned h pairs).peer.settings) (learned h pairs) empty) is
+
+pub control_fault : (g : EndpointHistory) (a b : List ℕ) (code : ℕ) → (g.peer.settings ≡ None → g.decoder_unread ≡ []) → (read_control g a).1 ≡ Some code → (read_control g (a ++ b)).1 ≡ Some code
+control_fault g a b code early is =
+    let x = read_peer g.side (with_unread g.peer (g.peer.unread ++ a)) in
+    ap (λ z. (after_peer g z).1) (read_behind g a b)
+    ∙ fault_found g b x code early (λ pairs e. settings_stay g.side (with_unread g.peer (g.peer.unread ++ a)) pairs e) is
