@@ -1,8 +1,8 @@
 -- Once the end of a stream was handed out, every later pull of it answers the end.
-use Rattle.std.proofs.Common.{arith, ◌≡◌, ◌<◌, ◌≤◌, ℕ, ◌+◌, Bool, true, false, List, [], ◌∷◌, ◌++◌, length, refl, sym, ◌∙◌, ap, subst, inl, inr}
-use Rattle.std.specs.Prelude.{Option, Some, None, if◌then◌else◌, ◌==◌, nat_lt, unwrap_or, ◌||◌, not, is_some}
+use Rattle.std.proofs.Common.{arith, ◌≡◌, ◌≤◌, ℕ, ◌+◌, Bool, true, false, List, [], ◌∷◌, ◌++◌, length, refl, sym, ◌∙◌, ap, subst}
+use Rattle.std.specs.Prelude.{Option, Some, None, if◌then◌else◌, ◌==◌, nat_lt, not}
 use Rattle.std.proofs.lemmas.Grind.{common_steps}
-use Rattle.std.proofs.lemmas.Bool.{cases_lt, lt-ltb, le-ltb}
+use Rattle.std.proofs.lemmas.Bool.{le-ltb}
 use Rattle.h3_proto.specs.declared.stream.Side.{Side}
 use Rattle.h3_proto.specs.declared.stream.Side.TheVariants.{Client, Server}
 use Rattle.h3_connection.specs.declared.event.Pull.{Pull}
@@ -15,17 +15,16 @@ use Rattle.h3_connection.specs.declared.event.StreamFault.TheVariants as stream_
 use Rattle.h3_connection.specs.Bounds.{IsBounded}
 use Rattle.h3_connection.specs.HandedOut.{IsOver, IsOverSession, RequestIsOver, SessionIsOver, EndsSoundly}
 use Rattle.h3_connection.specs.Incoming.{Incoming, nothing_came}
-use Rattle.h3_connection.specs.Unidirectional.{Unidirectional, Role, untold, is_closed, pull_unidirectional, if_over, role_after, with_bytes}
-use Rattle.h3_connection.specs.Unidirectional.Role.{Session}
+use Rattle.h3_connection.specs.Unidirectional.{Unidirectional, pull_unidirectional, if_over, role_after}
 use Rattle.h3_connection.specs.Outgoing.{Outgoing as Out}
-use Rattle.h3_connection.specs.Endpoint.{EndpointHistory, Kind, kind_of, heads_waiting, replied, is_critical_of}
+use Rattle.h3_connection.specs.Endpoint.{EndpointHistory, Kind, kind_of, heads_waiting, replied}
 use Rattle.h3_connection.specs.Endpoint.Kind.{Request, ServerOpened, OwnUnidirectional, PeerUnidirectional}
 use Rattle.h3_connection.specs.Control.{Found}
 use Rattle.h3_connection.specs.StreamSets.{stream_at, set_stream}
 use Rattle.h3_connection.specs.StreamSetLaws.{set-same}
 use Rattle.h3_connection.specs.Pulling.{Pulled, pull_stream, just, is_client}
-use Rattle.h3_connection.specs.Delivering.{deliver, deliver_end, deliver_reset, delivery_refusal, refusal_at, request_refusal, closed_refusal, opened_at, opened, incoming_at, unidirectional_at, with_incoming, with_unidirectional, taken, closed_by, closing, read_unidirectional, bytes_at, end_at, reset_at, give_up, given_up_once, kept, with_end}
-use Rattle.h3_connection.specs.Sending.{does, first_of, open_refusal, closed_or, going_away, pull, pull_at, pull_unless, pull_request, pull_peer, pulled, within_limit, if_too_many, after_answer, advance_at, pulled_unidirectional, sent_bytes, counted, cancel_refusal, open_request, send_head, head_refusal, encoded, appended, head_part, fields_cost, body_refusal, send_trailer, trailer_refusal, finish, finish_refusal, reset, reset_refusal, with_outgoing, outgoing_at, goaway, goaway_refusal}
+use Rattle.h3_connection.specs.Delivering.{delivery_refusal, refusal_at, request_refusal, opened_at, opened, incoming_at, unidirectional_at, with_incoming, taken, bytes_at, end_at, reset_at, give_up, given_up_once, kept, with_end}
+use Rattle.h3_connection.specs.Sending.{does, open_refusal, closed_or, pull, pull_at, pull_unless, pull_request, pull_peer, pulled, within_limit, if_too_many, after_answer, advance_at, pulled_unidirectional, sent_bytes, counted, cancel_refusal, open_request, send_head, head_refusal, encoded, appended, head_part, fields_cost, body_refusal, send_trailer, trailer_refusal, finish, finish_refusal, reset, reset_refusal, with_outgoing, outgoing_at, goaway, goaway_refusal}
 use Rattle.h3_connection.specs.Sections.{encoded_section}
 use Rattle.h3_connection.specs.Outgoing.OwnPart.{OwnTrailer}
 use Rattle.h3_header.specs.Head.{Head, head_fields}
@@ -33,8 +32,8 @@ use Rattle.h3_connection.specs.CallLists.{Call, Result, called, done, was_pulled
 use Rattle.h3_connection.specs.CallLists.Result.{Done, Opened}
 use Rattle.h3_connection.specs.CallLists.Call.{OpenRequest, SendHead, SendBody, SendTrailer, Finish, Reset, Goaway, Advance, Outgoing, Deliver, DeliverEnd, DeliverReset, PullStream, Cancel, Show}
 use Rattle.h3_connection.specs.Isolation.{FindsNoFault}
-use Rattle.h3_connection.proofs.Seen.{at_same, at_other, eq_refl, opened_other, opens_at}
-use Rattle.h3_connection.proofs.SeenEncoder.{to_eq, by_eq, heard_bytes}
+use Rattle.h3_connection.proofs.Seen.{at_same, at_other, opened_other}
+use Rattle.h3_connection.proofs.SeenEncoder.{by_eq, heard_bytes}
 use Rattle.h3_connection.proofs.SameSetups.{same_setup}
 use Rattle.h3_connection.proofs.PullEnds.{pull_ends}
 use Rattle.h3_connection.proofs.Bounded.{call_on}

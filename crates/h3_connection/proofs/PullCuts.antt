@@ -1,9 +1,9 @@
 -- How what waits on a request stream was cut into pieces changes nothing but how a body or a session is cut.
-use Rattle.std.proofs.Common.{◌≡◌, ◌⊎◌, ℕ, zero, suc, ◌+◌, ◌-◌, ◌<◌, ◌≤◌, Bool, true, false, List, [], ◌∷◌, ◌++◌, length, take, drop, refl, ap, sym, ◌∙◌, subst, arith, inl, inr, append_assoc, length-append}
-use Rattle.std.specs.Prelude.{Option, Some, None, if◌then◌else◌, ◌==◌, ◌≢◌, nat_lt, not, ◌&&◌}
+use Rattle.std.proofs.Common.{◌≡◌, ◌⊎◌, ℕ, zero, suc, ◌+◌, ◌-◌, ◌<◌, ◌≤◌, Bool, true, false, List, [], ◌∷◌, ◌++◌, length, take, drop, refl, ap, sym, ◌∙◌, subst, arith, inl, inr, append_assoc, append-nil, length-append}
+use Rattle.std.specs.Prelude.{Option, Some, None, is_some, if◌then◌else◌, ◌==◌, ◌≢◌, nat_lt, not, ◌&&◌}
 use Rattle.std.specs.List.{concat}
 use Rattle.std.proofs.lemmas.Bool.{cases_lt, lt-ltb, le-ltb, lt-leb, le-leb}
-use Rattle.std.proofs.lemmas.List.{length-drop, length-take, take-append-drop, nil_from_length}
+use Rattle.std.proofs.lemmas.List.{length-drop, length-take, take-append-drop}
 use Rattle.h3_field.specs.Field.{Field}
 use Rattle.h3_field.specs.Instruction.{DecoderInstruction}
 use Rattle.h3_qpack.specs.DecoderState.{DecoderState}
@@ -13,14 +13,16 @@ use Rattle.h3_header.specs.HeadRead.{HeadRead, IsHead, IsNone, head_of}
 use Rattle.h3_proto.specs.declared.stream.Side.{Side}
 use Rattle.h3_proto.specs.declared.stream.Side.TheVariants.{Client, Server}
 use Rattle.h3_wire.specs.Frames.{Front, Whole, Unknown, Refused, Unfinished, frame_at}
-use Rattle.h3_wire.specs.Pieces.{chunk_of, first_of, without, ending}
+use Rattle.h3_wire.specs.Pieces.{chunk_of, first_of, with_piece, without, ending}
+use Rattle.std.proofs.lemmas.List.Folds.{concat-append}
 use Rattle.h3_wire.specs.PieceLaws.{concat-without}
 use Rattle.h3_wire.specs.declared.proto.frame.PayloadLen.{PayloadLen}
 use Rattle.h3_wire.specs.declared.proto.frame.Frame.{Frame}
 use Rattle.h3_wire.specs.declared.proto.frame.Frame.TheVariants as frame
 use Rattle.h3_connection.specs.Announcing.{section_of}
 use Rattle.h3_connection.specs.Codes.{frame_error}
-use Rattle.h3_connection.specs.Incoming.{Incoming, given_up, is_body}
+use Rattle.h3_connection.specs.Delivering.{kept}
+use Rattle.h3_connection.specs.Incoming.{Incoming, is_body}
 use Rattle.h3_connection.specs.Skipping.{is_empty_data, skipped}
 use Rattle.h3_connection.specs.SkippingLaws.{found_not_empty}
 use Rattle.h3_connection.specs.Pulling.{Pulled, just, connection_fault, malformed, whole_head, whole_trailer, head_or_trailer, judged, read_section, decoded, at_section, new_section, at_end, at_frame, framed, next_frame, between_frames, in_message, next_item, pull_stream, in_payload, body_of, raw_of, raw, past_section, begun_section, begun_payload, left_with, is_for, is_client, is_interim, told_size}
@@ -33,7 +35,7 @@ use Rattle.h3_connection.specs.declared.event.Fault.TheVariants as fault
 use Rattle.h3_connection.specs.declared.event.Item.TheVariants as item
 use Rattle.h3_connection.specs.declared.place.Place.{Place}
 use Rattle.h3_connection.specs.declared.place.Place.TheVariants.{BeforeHead, InBody, AfterTrailer, InSession}
-use Rattle.h3_connection.specs.PullCuts.{piece_in, HaveBytes, DifferInCuts, IsFront, HandOut, PullsAlike, Same, Bodies, Raws}
+use Rattle.h3_connection.specs.PullCuts.{piece_in, HaveBytes, DifferInCuts, IsFront, PullsAlike, Same, Bodies, Raws}
 
 -- the same bytes in other pieces
 pub record Cuts (t u : List (List ℕ)) : Type 0 where
@@ -390,3 +392,31 @@ shown size p q (OfSession i j h d few e f) =
 
 pub cut_pulled : (side : Side) (own : Announced) (id : ℕ) (r : DecoderState) (i j : Incoming) → DifferInCuts i j → PullsAlike (pull_stream side own id r i) (pull_stream side own id r j)
 cut_pulled side own id r i j d = shown _ _ _ (cut_pulls side own id r i j d)
+
+-- what a delivery adds
+piece_bytes : (t : List (List ℕ)) (bytes : List ℕ) → concat (with_piece t bytes) ≡ concat t ++ bytes
+piece_bytes t [] = sym (append-nil (concat t))
+piece_bytes t (byte ∷ bytes) = concat-append t ((byte ∷ bytes) ∷ []) ∙ ap (λ l. concat t ++ l) (append-nil (byte ∷ bytes))
+
+one_more : (t : List (List ℕ)) (byte : ℕ) (bytes : List ℕ) → HaveBytes t → HaveBytes (t ++ (byte ∷ bytes) ∷ [])
+one_more [] byte bytes h = (omega arith, tt)
+one_more (p ∷ t) byte bytes h = (h.0, one_more t byte bytes h.1)
+
+have_piece : (t : List (List ℕ)) (bytes : List ℕ) → HaveBytes t → HaveBytes (with_piece t bytes)
+have_piece t [] h = h
+have_piece t (byte ∷ bytes) h = one_more t byte bytes h
+
+-- bytes that come in one delivery or in two
+pub delivered_differ : (i : Incoming) (a b : List ℕ) → HaveBytes i.unread → DifferInCuts (kept i (a ++ b)) (kept (kept i a) b)
+delivered_differ i a b h = by_fault (is_some i.fault)
+  where
+    by_fault : (given : Bool) → DifferInCuts (record i { unread = if given then [] else with_piece i.unread (a ++ b) }) (record i { unread = if given then [] else with_piece (if given then [] else with_piece i.unread a) b })
+    by_fault true = record { bytes = refl; same = refl; first = tt; second = tt }
+    by_fault false = record {
+      bytes =
+          piece_bytes (with_piece i.unread a) b ∙ ap (λ l. l ++ b) (piece_bytes i.unread a) ∙ append_assoc (concat i.unread) a b
+          ∙ sym (piece_bytes i.unread (a ++ b));
+      same = refl;
+      first = have_piece i.unread (a ++ b) h;
+      second = have_piece (with_piece i.unread a) b (have_piece i.unread a h);
+    }

@@ -1,5 +1,5 @@
 -- However the first bytes of a unidirectional stream are cut, they give the same role and leave the same bytes for it.
-use Rattle.std.proofs.Common.{◌≡◌, ℕ, Bool, true, false, if◌then◌else◌, List, [], ◌++◌, refl, ap, sym, ◌∙◌, inl, inr, append_assoc, Option, Some, None}
+use Rattle.std.proofs.Common.{◌≡◌, ℕ, Bool, true, false, if◌then◌else◌, List, [], ◌++◌, refl, ap, sym, ◌∙◌, inl, inr, append_assoc, Some}
 use Rattle.std.specs.Prelude.{◌==◌}
 use Rattle.h3_coding.specs.Varint.{varint_at}
 use Rattle.h3_coding.specs.VarintLaws.{cases_number, reads_more}

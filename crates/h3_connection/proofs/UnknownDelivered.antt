@@ -1,5 +1,5 @@
 -- Frames of unknown types at an endpoint: on a request stream, and on the peer's control stream.
-use Rattle.std.proofs.Common.{◌≡◌, ℕ, List, [], ◌∷◌, ◌++◌, length, refl, ap, sym, ◌∙◌, Option, Some, None}
+use Rattle.std.proofs.Common.{◌≡◌, ℕ, List, [], ◌++◌, refl, ap, sym, ◌∙◌, Option, Some, None}
 use Rattle.std.specs.Prelude.{nat_lt, not}
 use Rattle.std.specs.List.{concat}
 use Rattle.h3_wire.specs.Known.{known}
@@ -7,12 +7,12 @@ use Rattle.h3_proto.specs.declared.stream.Side.{Side}
 use Rattle.h3_connection.specs.Incoming.{Incoming}
 use Rattle.h3_connection.specs.StreamSets.{stream_at, set_stream}
 use Rattle.h3_connection.specs.StreamSetLaws.{set-set, set-same}
-use Rattle.h3_connection.specs.Endpoint.{EndpointHistory, Kind, kind_of, replied, heads_waiting}
-use Rattle.h3_connection.specs.Endpoint.Kind.{Request, PeerUnidirectional}
+use Rattle.h3_connection.specs.Endpoint.{EndpointHistory, kind_of, replied, heads_waiting}
+use Rattle.h3_connection.specs.Endpoint.Kind.{Request}
 use Rattle.h3_connection.specs.PeerReading.{Peer, with_unread, read_peer}
 use Rattle.h3_connection.specs.PeerReadingLaws.{peer_known, nothing_read_on}
-use Rattle.h3_connection.specs.Control.{Found, if_learned, then_decoder, after_peer, read_control}
-use Rattle.h3_connection.specs.Unidirectional.{Unidirectional, role_after}
+use Rattle.h3_connection.specs.Control.{if_learned, then_decoder, after_peer, read_control}
+use Rattle.h3_connection.specs.Unidirectional.{role_after}
 use Rattle.h3_connection.specs.Unidirectional.Role.{Control}
 use Rattle.h3_connection.specs.Delivering.{delivery_refusal, unidirectional_at, with_incoming, with_unidirectional, taken, closed_by, only_one, unless_second, read_unidirectional, bytes_at, deliver}
 use Rattle.h3_connection.specs.Pulling.{Pulled, left_with, pull_stream}

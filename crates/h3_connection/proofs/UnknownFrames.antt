@@ -1,10 +1,9 @@
 -- Whole frames of unknown types give nothing, wherever a frame may begin.
-use Rattle.std.proofs.Common.{◌≡◌, ℕ, ◌≤◌, ◌+◌, ◌-◌, Bool, true, false, if◌then◌else◌, List, [], ◌∷◌, ◌++◌, length, take, drop, nat_lt, refl, ap, sym, ◌∙◌, subst, arith, append_assoc, length-append, Option, Some, None}
+use Rattle.std.proofs.Common.{◌≡◌, ℕ, ◌≤◌, ◌+◌, ◌-◌, Bool, true, false, if◌then◌else◌, List, [], ◌∷◌, ◌++◌, length, take, drop, nat_lt, refl, ap, sym, ◌∙◌, arith, append_assoc, length-append, None}
 use Rattle.std.specs.Prelude.{◌||◌, ◌==◌, ◌≢◌}
-use Rattle.std.specs.List.{concat, AllByRecursion, list_any}
+use Rattle.std.specs.List.{concat, AllByRecursion}
 use Rattle.std.proofs.lemmas.Bool.{le-ltb}
 use Rattle.std.proofs.lemmas.List.{drop_at, length-drop}
-use Rattle.std.proofs.Math.Seq.{drop-append-add}
 use Rattle.h3_coding.specs.VarintLaws.{reads_encoding}
 use Rattle.h3_wire.specs.Frames.{Unknown, is_http2, frame_of, with_head, frame_at}
 use Rattle.h3_wire.specs.FrameLaws.{at_head}
