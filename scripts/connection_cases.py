@@ -117,8 +117,8 @@ def pieces(rng, data):
     return out or [b""]
 
 
-def case(seed, side):
-    """the limits, and pairs of a call and its answer"""
+def calls(seed, side, spoiled=0.17):
+    """the limits, and a list of calls; this share of the streams has bytes that were changed"""
     rng = random.Random(seed * 2 + (side == CLIENT))
     other = SERVER if side == CLIENT else CLIENT
     section, capacity, blocked = rng.choice([41, 60, 200, 1000, 1000]), rng.choice([0, 31, 64, 64, 100, 220, 400]), rng.randrange(4)
@@ -147,7 +147,7 @@ def case(seed, side):
         streams.append((16 + control % 4, rng.choice([b"\x21abc", b"\x40\x54\4hi", b"\1\0", b"\0", b"\2", b"\x40", b"\x40\x54"])))
     queues = []
     for id, data in streams:
-        if rng.random() < 0.17:
+        if rng.random() < spoiled:
             data = mutated(rng, data)
         parts = [("deliver", id, p) for p in pieces(rng, data)]
         if id in ids and rng.random() < 0.6:
@@ -174,10 +174,14 @@ def case(seed, side):
     for id in ids:
         todo += [("pull", id)] * rng.choice([1, 2, 3])
     todo += [("outgoing", end.ids[1]), ("outgoing", end.ids[2]), ("show",)]
-    done = []
-    for call in todo:
-        done.append((call, getattr(end, call[0])(*call[1:])))
-    return (section, capacity, blocked), done
+    return (section, capacity, blocked), todo
+
+
+def case(seed, side):
+    """the limits, and pairs of a call and its answer"""
+    limits, todo = calls(seed, side)
+    end = Endpoint(side, *limits, FINAL)
+    return limits, [(call, getattr(end, call[0])(*call[1:])) for call in todo]
 
 
 # ---- as text

@@ -1,0 +1,217 @@
+//! Calls of an endpoint, and what they answer.
+use crate::call::Call;
+use crate::reading::call;
+use crate::text::{bytes_text, pull_text};
+use bytes::Bytes;
+use h3_connection::event::{DeliverError, Fault, Pull, Refusal};
+use h3_connection::setup::{Limits, NewError};
+use h3_proto::config::Config;
+use h3_proto::stream::{Side, StreamId};
+use h3_script::text::answer_text;
+use h3_session::endpoint::Endpoint;
+use h3_world::event::Answer;
+use std::alloc::{AllocError, Global};
+
+/// The line that a line gets. An empty line and one that begins with `#` come back as they are.
+pub fn answer(
+    alloc: Global,
+    endpoint: &mut Option<Endpoint>,
+    line: &str,
+) -> Result<String, AllocError> {
+    if line.is_empty() || line.starts_with('#') {
+        return String::from_str(alloc, line);
+    }
+    match call(alloc, line)? {
+        Some(Call::New(side, section, table, blocked)) => {
+            let limits = Limits { table, blocked };
+            let config = Config::default()
+                .with_grease(false)
+                .with_max_field_section_size(section);
+            begin(
+                alloc,
+                endpoint,
+                Endpoint::new(alloc, side, config, limits, 0),
+            )
+        }
+        Some(call) => match endpoint {
+            Some(endpoint) => act(alloc, endpoint, call),
+            None => String::from_str(alloc, "no endpoint"),
+        },
+        None => String::from_str(alloc, "no such call"),
+    }
+}
+
+/// The endpoint that was made takes the place of the one before.
+fn begin(
+    alloc: Global,
+    endpoint: &mut Option<Endpoint>,
+    made: Result<Endpoint, NewError>,
+) -> Result<String, AllocError> {
+    match made {
+        Ok(made) => {
+            *endpoint = Some(made);
+            String::from_str(alloc, "ok")
+        }
+        Err(NewError::TableLimit) => String::from_str(alloc, "refused TableLimit"),
+        Err(NewError::BlockedLimit) => String::from_str(alloc, "refused BlockedLimit"),
+        Err(NewError::Settings(_)) => String::from_str(alloc, "refused Settings"),
+        Err(NewError::OutOfMemory) => String::from_str(alloc, "refused OutOfMemory"),
+    }
+}
+
+/// What a call answers.
+fn act(alloc: Global, endpoint: &mut Endpoint, call: Call) -> Result<String, AllocError> {
+    match call {
+        Call::New(_, _, _, _) => String::from_str(alloc, "no such call"),
+        Call::Open => opened(alloc, endpoint.open_request()),
+        Call::Head(id, head) => done(alloc, endpoint.send_head(id, &head)),
+        Call::Body(id, body) => sent(alloc, endpoint.send_body(id, body)),
+        Call::Trailer(id, trailer) => done(alloc, endpoint.send_trailer(id, &trailer)),
+        Call::Finish(id) => done(alloc, endpoint.finish(id)),
+        Call::Reset(id) => done(alloc, endpoint.reset(id)),
+        Call::Cancel(id) => done(alloc, cancel(endpoint, id)),
+        Call::Goaway(id) => done(alloc, endpoint.goaway(id)),
+        Call::Deliver(id, bytes) => delivered(alloc, deliver(endpoint, id, bytes)),
+        Call::End(id) => delivered(alloc, deliver_end(endpoint, id)),
+        Call::Gone(id, code) => delivered(alloc, deliver_reset(endpoint, id, code)),
+        Call::Pull(id) => pull_text(alloc, &pull(endpoint, id)),
+        Call::Advance(id, count) => {
+            endpoint.advance(id, count);
+            String::from_str(alloc, "ok")
+        }
+        Call::Waits(id) => waits(alloc, endpoint, id),
+        Call::Lends(id) => bytes_text(alloc, "lends ", endpoint.outgoing(id)),
+        Call::Tries(id) => {
+            let tries = endpoint.block_tries(id);
+            format!(in alloc; "tries {tries}")
+        }
+        Call::Sends(id) => String::from_str(alloc, sends(endpoint, id)),
+        Call::Show => shown(alloc, endpoint),
+        Call::Sent => {
+            let sent = endpoint.sent();
+            format!(in alloc; "sent {sent}")
+        }
+        Call::Goaways => goaways(alloc, endpoint),
+    }
+}
+
+/// Delivers bytes. Those that come back for want of memory are delivered once more, and where they were taken and not read no
+/// bytes are, so that they are read.
+fn deliver(endpoint: &mut Endpoint, id: StreamId, bytes: Bytes) -> Result<(), DeliverError> {
+    match endpoint.deliver(id, bytes) {
+        Err(DeliverError::OutOfMemory(bytes)) => endpoint.deliver(id, bytes),
+        Err(DeliverError::Kept) => endpoint.deliver(id, Bytes::new()),
+        told => told,
+    }
+}
+
+/// Delivers an end, a second time where memory was refused.
+fn deliver_end(endpoint: &mut Endpoint, id: StreamId) -> Result<(), DeliverError> {
+    match endpoint.deliver_end(id) {
+        Err(DeliverError::OutOfMemory(_)) => endpoint.deliver_end(id),
+        told => told,
+    }
+}
+
+/// Delivers a reset, a second time where memory was refused.
+fn deliver_reset(endpoint: &mut Endpoint, id: StreamId, code: u64) -> Result<(), DeliverError> {
+    match endpoint.deliver_reset(id, code) {
+        Err(DeliverError::OutOfMemory(_)) => endpoint.deliver_reset(id, code),
+        told => told,
+    }
+}
+
+/// Pulls, a second time where memory was refused.
+fn pull(endpoint: &mut Endpoint, id: StreamId) -> Pull {
+    match endpoint.pull(id) {
+        Pull::Fault(Fault::Memory) => endpoint.pull(id),
+        told => told,
+    }
+}
+
+/// Cancels, a second time where memory was refused.
+fn cancel(endpoint: &mut Endpoint, id: StreamId) -> Result<(), Refusal> {
+    match endpoint.cancel(id) {
+        Err(Refusal::OutOfMemory) => endpoint.cancel(id),
+        told => told,
+    }
+}
+
+fn opened(alloc: Global, tried: Result<StreamId, Refusal>) -> Result<String, AllocError> {
+    match tried {
+        Ok(id) => answer_text(alloc, &Answer::Opened(id)),
+        Err(refusal) => answer_text(alloc, &Answer::Refused(refusal)),
+    }
+}
+
+fn done(alloc: Global, tried: Result<(), Refusal>) -> Result<String, AllocError> {
+    match tried {
+        Ok(()) => answer_text(alloc, &Answer::Done),
+        Err(refusal) => answer_text(alloc, &Answer::Refused(refusal)),
+    }
+}
+
+fn sent(alloc: Global, tried: Result<(), (Refusal, Bytes)>) -> Result<String, AllocError> {
+    match tried {
+        Ok(()) => answer_text(alloc, &Answer::Done),
+        Err((refusal, _body)) => answer_text(alloc, &Answer::Refused(refusal)),
+    }
+}
+
+fn delivered(alloc: Global, tried: Result<(), DeliverError>) -> Result<String, AllocError> {
+    match tried {
+        Ok(()) => answer_text(alloc, &Answer::Done),
+        Err(e) => answer_text(alloc, &Answer::Refused(refusal_of(&e))),
+    }
+}
+
+/// Why a delivery is not taken, or not read.
+fn refusal_of(e: &DeliverError) -> Refusal {
+    match e {
+        DeliverError::Refused(refusal) => *refusal,
+        DeliverError::OutOfMemory(_) => Refusal::OutOfMemory,
+        DeliverError::Kept => Refusal::Kept,
+    }
+}
+
+/// All that waits on a stream, over pieces.
+fn waits(alloc: Global, endpoint: &Endpoint, id: StreamId) -> Result<String, AllocError> {
+    let mut bytes = Vec::new(alloc);
+    endpoint.copy_outgoing(id, endpoint.waiting(id), &mut bytes)?;
+    bytes_text(alloc, "waits ", &bytes)
+}
+
+/// Whether anything can be sent on a stream, and whether that was finished or cut off.
+fn sends(endpoint: &Endpoint, id: StreamId) -> &'static str {
+    if !endpoint.has_outgoing(id) {
+        return "no stream";
+    }
+    if endpoint.is_finished(id) {
+        return "finished";
+    }
+    if endpoint.is_reset(id) {
+        return "reset";
+    }
+    "sends"
+}
+
+fn shown(alloc: Global, endpoint: &Endpoint) -> Result<String, AllocError> {
+    answer_text(
+        alloc,
+        &Answer::Shown(
+            endpoint.peer_limits(),
+            endpoint.table_size(),
+            endpoint.waiting_heads(),
+        ),
+    )
+}
+
+fn goaways(alloc: Global, endpoint: &Endpoint) -> Result<String, AllocError> {
+    let mut text = String::from_str(alloc, "goaways")?;
+    for id in endpoint.peer_goaways() {
+        let number = id.into_inner();
+        let word = format!(in alloc; " {number}")?;
+        text.push_str(word.as_str())?;
+    }
+    Ok(text)
+}

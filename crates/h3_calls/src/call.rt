@@ -1,0 +1,35 @@
+//! What a line asks of an endpoint.
+use bytes::Bytes;
+use h3_coding::varint::VarInt;
+use h3_header::Header;
+use h3_proto::stream::{Side, StreamId};
+
+/// What a line asks of an endpoint.
+#[derive(Drop)]
+pub enum Call {
+    /// A new endpoint in place of the one before, with its section size, its table and how many streams may wait.
+    New(Side, u64, u64, u64),
+    Open,
+    Head(StreamId, Header),
+    Body(StreamId, Bytes),
+    Trailer(StreamId, Header),
+    Finish(StreamId),
+    Reset(StreamId),
+    Cancel(StreamId),
+    Goaway(VarInt),
+    Deliver(StreamId, Bytes),
+    End(StreamId),
+    Gone(StreamId, u64),
+    Pull(StreamId),
+    /// All that waits on a stream.
+    Waits(StreamId),
+    /// The first piece of what waits.
+    Lends(StreamId),
+    Advance(StreamId, usize),
+    /// Whether anything can be sent on a stream, and whether that was finished or cut off.
+    Sends(StreamId),
+    Tries(StreamId),
+    Show,
+    Sent,
+    Goaways,
+}

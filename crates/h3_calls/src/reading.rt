@@ -1,0 +1,210 @@
+//! Lines that are read as calls.
+ghost use Rattle.std.specs.Prelude.{◌≡◌, Ok, IfOk, IfSome};
+ghost use Rattle.hex.specs.Hex.{decode_of};
+
+use crate::call::Call;
+use bytes::Bytes;
+use h3_coding::varint::VarInt;
+use h3_field::HeaderField;
+use h3_header::Header;
+use h3_proto::stream::{Side, StreamId};
+use hex::FromHexError;
+use percent_encoding::percent_decode;
+use std::alloc::{AllocError, Global};
+use std::borrow::CowSlice;
+
+/// The words of a line, which blanks part.
+fn words(alloc: Global, line: &str) -> Result<Vec<&str>, AllocError> {
+    let mut found = Vec::new(alloc);
+    for word in line.split_whitespace() {
+        found.push(word)?;
+    }
+    Ok(found)
+}
+
+/// The call that a line asks for, where it asks for one.
+pub fn call(alloc: Global, line: &str) -> Result<Option<Call>, AllocError> {
+    let words = words(alloc, line)?;
+    match words.as_slice() {
+        [command] => Ok(plain(*command)),
+        [command, id, more @ ..] => {
+            if *command == "new" {
+                return Ok(new(*id, more));
+            }
+            match stream_id(*id) {
+                Some(id) => on_stream(alloc, *command, id, more),
+                None => Ok(None),
+            }
+        }
+        [] => Ok(None),
+    }
+}
+
+/// A call of one word.
+fn plain(command: &str) -> Option<Call> {
+    if command == "open" {
+        return Some(Call::Open);
+    }
+    if command == "show" {
+        return Some(Call::Show);
+    }
+    if command == "sent" {
+        return Some(Call::Sent);
+    }
+    if command == "goaways" {
+        return Some(Call::Goaways);
+    }
+    None
+}
+
+fn side(word: &str) -> Option<Side> {
+    if word == "c" {
+        return Some(Side::Client);
+    }
+    if word == "s" {
+        return Some(Side::Server);
+    }
+    None
+}
+
+fn new(side_word: &str, limits: &[&str]) -> Option<Call> {
+    let [section, table, blocked] = limits else {
+        return None;
+    };
+    let side = side(side_word)?;
+    let section = number(*section)?;
+    let table = number(*table)?;
+    let blocked = number(*blocked)?;
+    Some(Call::New(side, section, table, blocked))
+}
+
+fn number(word: &str) -> Option<u64> {
+    word.parse().ok()
+}
+
+fn stream_id(word: &str) -> Option<StreamId> {
+    let number = number(word)?;
+    StreamId::try_from(number).ok()
+}
+
+/// A call on a stream.
+fn on_stream(
+    alloc: Global,
+    command: &str,
+    id: StreamId,
+    words: &[&str],
+) -> Result<Option<Call>, AllocError> {
+    if command == "head" {
+        return Ok(section(alloc, words)?.map(|head| Call::Head(id, head)));
+    }
+    if command == "trailer" {
+        return Ok(section(alloc, words)?.map(|trailer| Call::Trailer(id, trailer)));
+    }
+    match words {
+        [] => Ok(alone(command, id)),
+        [word] => with_word(alloc, command, id, *word),
+        _ => Ok(None),
+    }
+}
+
+/// A call on a stream with one word behind its id.
+fn with_word(
+    alloc: Global,
+    command: &str,
+    id: StreamId,
+    word: &str,
+) -> Result<Option<Call>, AllocError> {
+    if command == "body" {
+        return Ok(bytes(alloc, word)?.map(|bytes| Call::Body(id, bytes)));
+    }
+    if command == "deliver" {
+        return Ok(bytes(alloc, word)?.map(|bytes| Call::Deliver(id, bytes)));
+    }
+    let Some(number) = number(word) else {
+        return Ok(None);
+    };
+    if command == "gone" {
+        return Ok(Some(Call::Gone(id, number)));
+    }
+    if command == "advance" {
+        return Ok(Some(Call::Advance(id, number as usize)));
+    }
+    Ok(None)
+}
+
+/// A call on a stream with nothing else.
+fn alone(command: &str, id: StreamId) -> Option<Call> {
+    if command == "pull" {
+        return Some(Call::Pull(id));
+    }
+    if command == "waits" {
+        return Some(Call::Waits(id));
+    }
+    if command == "lends" {
+        return Some(Call::Lends(id));
+    }
+    if command == "sends" {
+        return Some(Call::Sends(id));
+    }
+    if command == "tries" {
+        return Some(Call::Tries(id));
+    }
+    ending(command, id)
+}
+
+/// A call that ends something.
+fn ending(command: &str, id: StreamId) -> Option<Call> {
+    if command == "finish" {
+        return Some(Call::Finish(id));
+    }
+    if command == "reset" {
+        return Some(Call::Reset(id));
+    }
+    if command == "cancel" {
+        return Some(Call::Cancel(id));
+    }
+    if command == "goaway" {
+        return Some(Call::Goaway(VarInt::from(id)));
+    }
+    if command == "end" {
+        return Some(Call::End(id));
+    }
+    None
+}
+
+/// The bytes of hex digits, or none of them for a `-`.
+fn bytes(alloc: Global, word: &str) -> Result<Option<Bytes>, AllocError> {
+    if word == "-" {
+        return Ok(Some(Bytes::new()));
+    }
+    digits(alloc, word)
+}
+
+/// The bytes that hex digits stand for.
+fn digits(alloc: Global, word: &str) -> Result<Option<Bytes>, AllocError>
+    ensures { IfOk result (λ found. IfSome found (λ bytes. decode_of word.now ≡ Ok bytes)) }
+{
+    match hex::decode(alloc, word) {
+        Ok(found) => Ok(Some(Bytes::from_vec(found)?)),
+        Err(FromHexError::OutOfMemory) => Err(AllocError),
+        Err(_) => Ok(None),
+    }
+}
+
+/// The head or trailer of fields, each a word `name=value`.
+fn section(alloc: Global, words: &[&str]) -> Result<Option<Header>, AllocError> {
+    let mut fields = Vec::new(alloc);
+    for word in words {
+        let Some((name, value)) = word.split_once('=') else {
+            return Ok(None);
+        };
+        fields.push(HeaderField::new(decoded(alloc, name)?, decoded(alloc, value)?))?;
+    }
+    Ok(Header::try_from(alloc, fields).ok())
+}
+
+fn decoded(alloc: Global, word: &str) -> Result<CowSlice<'static, u8>, AllocError> {
+    let mut bytes = Vec::new(alloc);
+    percent_decode(word.as_bytes()).append_to(&mut bytes)?;
+    Ok(CowSlice::Owned(bytes))
+}
