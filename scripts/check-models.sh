@@ -1,5 +1,22 @@
 #!/usr/bin/env bash
-# Do the two models of one endpoint, of which one was written without the definitions, answer the same lists of calls alike? One line
-# 'ok two models answer alike (..)', or 'failed ..' with the first differences.
+# Do the two models of one endpoint, of which one was written without the definitions, answer the same lists of calls alike? And does that
+# one have the program write what examples/NAME.stdout has? One line 'ok ..' or 'failed ..' for each, with the first differences.
 set -uo pipefail
-python3 -B "$(dirname "$0")/compare_models.py" 2000 1
+cd "$(dirname "$0")/.."
+
+python3 -B scripts/compare_models.py 2000 1
+bad=$?
+
+scripts=0
+differing=""
+for script in examples/*.talk; do
+  scripts=$((scripts + 1))
+  cmp -s <(python3 -B scripts/independent_talk.py "$script") "${script%.talk}.stdout" || differing="$differing $script"
+done
+if [ -z "$differing" ]; then
+  echo "ok the independent model writes what $scripts examples have"
+else
+  echo "failed the independent model writes something else than$differing have"
+  bad=1
+fi
+exit "$bad"

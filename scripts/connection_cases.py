@@ -1,5 +1,6 @@
 #!/usr/bin/env python3
-"""Hostile lists of calls for crates/h3_connection_rows: what scripts/connection_model.py answers to them, as closed equations.
+"""Hostile lists of calls for crates/h3_connection_rows: what scripts/connection_model.py and scripts/independent_model.py answer to them,
+as closed equations. The lists are those of scripts/compare_models.py, some of which are made here.
 
     python3 scripts/connection_cases.py [CASES A SIDE] [FIRST SEED] [CRATE]
 
@@ -14,7 +15,7 @@ import sys
 sys.path.insert(0, os.path.dirname(os.path.abspath(__file__)))
 from connection_model import CLIENT, SERVER, Endpoint, Unsure, integer, string, varint  # noqa: E402
 
-PER_FILE = 10
+PER_FILE = 5
 REQUEST = [(b":method", b"GET"), (b":scheme", b"https"), (b":authority", b"a.b"), (b":path", b"/")]
 EXTRA = [(b"x-a", b"1"), (b"x-a", b"2"), (b"x-b", b"2"), (b"accept", b"*/*"), (b"server", b"s"), (b"x-longer-name", b"and a value")]
 
@@ -237,7 +238,7 @@ def answer_text(call, a):
     return f"Refused (refusal.{kind} {a[1]})" if len(a) > 1 else f"Refused refusal.{kind}"
 
 
-HEAD = """-- Hostile lists of calls of a {side}, with what scripts/connection_model.py answers to them. Made by scripts/connection_cases.py.
+HEAD = """-- Hostile lists of calls of a {side}, with what both models of scripts/ answer to them. Made by scripts/connection_cases.py.
 use Rattle.std.specs.Prelude.{{List, [], ◌∷◌, codes, Some, None}}
 use Rattle.h3_proto.specs.declared.stream.Side.TheVariants.{{{Side}}}
 use Rattle.h3_connection.specs.declared.event.Item.TheVariants as item
@@ -290,11 +291,16 @@ def emit(crate, side, number, cases):
 
 
 def made(side, count, seed):
+    from compare_models import answered, difference, independent_model  # it takes `case` from here
+
     out = []
     while len(out) < count:
         try:
-            out.append((seed, case(seed, side)))
-        except Unsure:
+            limits, done = answered(seed, side)
+            if difference(side, limits, done):
+                sys.exit(f"{side}, list {seed}: the models differ")
+            out.append((seed, (limits, done)))
+        except (Unsure, independent_model.Unsure):
             pass
         seed += 1
     return out

@@ -9,7 +9,7 @@ use Rattle.h3_connection.specs.declared.event.StreamFault.TheVariants as stream_
 use Rattle.h3_connection.specs.declared.event.Malformation.TheVariants as malformation
 use Rattle.h3_connection.specs.Endpoint.{EndpointHistory, new_endpoint}
 use Rattle.h3_connection.specs.CallLists.{Call, Result}
-use Rattle.h3_connection.specs.CallLists.Call.{OpenRequest, SendHead, SendBody, SendTrailer, Finish, Reset, Goaway, Advance, Outgoing, Deliver, DeliverEnd, DeliverReset, PullStream, Cancel, Show}
+use Rattle.h3_connection.specs.CallLists.Call.{OpenRequest, Outgoing, Deliver, DeliverEnd, PullStream, Cancel, Show}
 use Rattle.h3_connection.specs.CallLists.Result.{Opened, Done, Refused, Waits, Pulled, Shown}
 use Rattle.h3_connection_rows.specs.Worked.{hex, field, head, plain}
 

@@ -1,16 +1,15 @@
 -- Worked rows of one stream beside calls of others.
-use Rattle.std.specs.Prelude.{List, [], ◌∷◌, codes, Some, None}
-use Rattle.h3_proto.specs.declared.stream.Side.TheVariants.{Client, Server}
+use Rattle.std.specs.Prelude.{List, [], ◌∷◌, codes}
+use Rattle.h3_proto.specs.declared.stream.Side.TheVariants.{Server}
 use Rattle.h3_connection.specs.declared.event.Item.TheVariants as item
 use Rattle.h3_connection.specs.declared.event.Pull.TheVariants as pulls
-use Rattle.h3_connection.specs.declared.event.Refusal.TheVariants as refusal
 use Rattle.h3_connection.specs.declared.event.Fault.TheVariants as fault
 use Rattle.h3_connection.specs.declared.event.StreamFault.TheVariants as stream_fault
 use Rattle.h3_connection.specs.declared.event.Malformation.TheVariants as malformation
 use Rattle.h3_connection.specs.Endpoint.{EndpointHistory, new_endpoint}
 use Rattle.h3_connection.specs.CallLists.{Call, Result}
-use Rattle.h3_connection.specs.CallLists.Call.{OpenRequest, SendHead, SendBody, SendTrailer, Finish, Reset, Goaway, Advance, Outgoing, Deliver, DeliverEnd, DeliverReset, PullStream, Cancel, Show}
-use Rattle.h3_connection.specs.CallLists.Result.{Opened, Done, Refused, Waits, Pulled, Shown}
+use Rattle.h3_connection.specs.CallLists.Call.{Deliver, PullStream, Cancel}
+use Rattle.h3_connection.specs.CallLists.Result.{Done, Pulled}
 use Rattle.h3_connection_rows.specs.Worked.{hex, field, head, plain}
 
 abbrev pub beside_a_malformed_head_at_0_endpoint : EndpointHistory

@@ -1,5 +1,5 @@
 -- Worked rows of what is kept when memory was refused, and of what was handed over to send.
-use Rattle.std.specs.Prelude.{ℕ, List, [], ◌∷◌, codes, Bool, take}
+use Rattle.std.specs.Prelude.{ℕ, List, [], ◌∷◌, codes, take}
 use Rattle.h3_proto.specs.declared.stream.Side.TheVariants.{Client, Server}
 use Rattle.h3_connection.specs.declared.arrival.Arrival.TheVariants.{BytesCame, EndCame, ResetCame}
 use Rattle.h3_connection.specs.CallLists.{Call, endpoint_after}

@@ -7,6 +7,12 @@ pub mod IsolationRows
 pub mod ClientCases1
 pub mod ClientCases2
 pub mod ClientCases3
+pub mod ClientCases4
+pub mod ClientCases5
+pub mod ClientCases6
 pub mod ServerCases1
 pub mod ServerCases2
 pub mod ServerCases3
+pub mod ServerCases4
+pub mod ServerCases5
+pub mod ServerCases6

@@ -4,6 +4,9 @@
 pub mod client_cases_1;
 pub mod client_cases_2;
 pub mod client_cases_3;
+pub mod client_cases_4;
+pub mod client_cases_5;
+pub mod client_cases_6;
 pub mod fault_rows;
 pub mod isolation_rows;
 pub mod kept_rows;
@@ -11,4 +14,7 @@ pub mod message_rows;
 pub mod server_cases_1;
 pub mod server_cases_2;
 pub mod server_cases_3;
+pub mod server_cases_4;
+pub mod server_cases_5;
+pub mod server_cases_6;
 pub mod table_rows;

@@ -3,18 +3,13 @@
 ghost use Rattle.std.specs.Prelude.{◌≡◌};
 ghost use Rattle.h3_connection.specs.CallLists.{answers};
 ghost use Rattle.h3_connection_rows.specs.Worked.{as_lists};
-ghost use Rattle.h3_connection_rows.specs.ServerCases2.{case_11_endpoint, case_11, case_11_answers, case_12_endpoint, case_12, case_12_answers, case_13_endpoint, case_13, case_13_answers, case_14_endpoint, case_14, case_14_answers, case_15_endpoint, case_15, case_15_answers, case_16_endpoint, case_16, case_16_answers, case_17_endpoint, case_17, case_17_answers, case_18_endpoint, case_18, case_18_answers, case_19_endpoint, case_19, case_19_answers, case_20_endpoint, case_20, case_20_answers};
+ghost use Rattle.h3_connection_rows.specs.ServerCases2.{case_6_endpoint, case_6, case_6_answers, case_7_endpoint, case_7, case_7_answers, case_8_endpoint, case_8, case_8_answers, case_9_endpoint, case_9, case_9_answers, case_10_endpoint, case_10, case_10_answers};
 
 /// They are answered as the model answers them.
 pub fn server_cases_2_compute()
-    ensures case_11 { as_lists (answers case_11_endpoint case_11) ≡ case_11_answers }
-    ensures case_12 { as_lists (answers case_12_endpoint case_12) ≡ case_12_answers }
-    ensures case_13 { as_lists (answers case_13_endpoint case_13) ≡ case_13_answers }
-    ensures case_14 { as_lists (answers case_14_endpoint case_14) ≡ case_14_answers }
-    ensures case_15 { as_lists (answers case_15_endpoint case_15) ≡ case_15_answers }
-    ensures case_16 { as_lists (answers case_16_endpoint case_16) ≡ case_16_answers }
-    ensures case_17 { as_lists (answers case_17_endpoint case_17) ≡ case_17_answers }
-    ensures case_18 { as_lists (answers case_18_endpoint case_18) ≡ case_18_answers }
-    ensures case_19 { as_lists (answers case_19_endpoint case_19) ≡ case_19_answers }
-    ensures case_20 { as_lists (answers case_20_endpoint case_20) ≡ case_20_answers }
+    ensures case_6 { as_lists (answers case_6_endpoint case_6) ≡ case_6_answers }
+    ensures case_7 { as_lists (answers case_7_endpoint case_7) ≡ case_7_answers }
+    ensures case_8 { as_lists (answers case_8_endpoint case_8) ≡ case_8_answers }
+    ensures case_9 { as_lists (answers case_9_endpoint case_9) ≡ case_9_answers }
+    ensures case_10 { as_lists (answers case_10_endpoint case_10) ≡ case_10_answers }
 {}

@@ -3,18 +3,13 @@
 ghost use Rattle.std.specs.Prelude.{◌≡◌};
 ghost use Rattle.h3_connection.specs.CallLists.{answers};
 ghost use Rattle.h3_connection_rows.specs.Worked.{as_lists};
-ghost use Rattle.h3_connection_rows.specs.ServerCases3.{case_21_endpoint, case_21, case_21_answers, case_22_endpoint, case_22, case_22_answers, case_23_endpoint, case_23, case_23_answers, case_24_endpoint, case_24, case_24_answers, case_25_endpoint, case_25, case_25_answers, case_26_endpoint, case_26, case_26_answers, case_27_endpoint, case_27, case_27_answers, case_28_endpoint, case_28, case_28_answers, case_29_endpoint, case_29, case_29_answers, case_30_endpoint, case_30, case_30_answers};
+ghost use Rattle.h3_connection_rows.specs.ServerCases3.{case_11_endpoint, case_11, case_11_answers, case_12_endpoint, case_12, case_12_answers, case_13_endpoint, case_13, case_13_answers, case_14_endpoint, case_14, case_14_answers, case_15_endpoint, case_15, case_15_answers};
 
 /// They are answered as the model answers them.
 pub fn server_cases_3_compute()
-    ensures case_21 { as_lists (answers case_21_endpoint case_21) ≡ case_21_answers }
-    ensures case_22 { as_lists (answers case_22_endpoint case_22) ≡ case_22_answers }
-    ensures case_23 { as_lists (answers case_23_endpoint case_23) ≡ case_23_answers }
-    ensures case_24 { as_lists (answers case_24_endpoint case_24) ≡ case_24_answers }
-    ensures case_25 { as_lists (answers case_25_endpoint case_25) ≡ case_25_answers }
-    ensures case_26 { as_lists (answers case_26_endpoint case_26) ≡ case_26_answers }
-    ensures case_27 { as_lists (answers case_27_endpoint case_27) ≡ case_27_answers }
-    ensures case_28 { as_lists (answers case_28_endpoint case_28) ≡ case_28_answers }
-    ensures case_29 { as_lists (answers case_29_endpoint case_29) ≡ case_29_answers }
-    ensures case_30 { as_lists (answers case_30_endpoint case_30) ≡ case_30_answers }
+    ensures case_11 { as_lists (answers case_11_endpoint case_11) ≡ case_11_answers }
+    ensures case_12 { as_lists (answers case_12_endpoint case_12) ≡ case_12_answers }
+    ensures case_13 { as_lists (answers case_13_endpoint case_13) ≡ case_13_answers }
+    ensures case_14 { as_lists (answers case_14_endpoint case_14) ≡ case_14_answers }
+    ensures case_15 { as_lists (answers case_15_endpoint case_15) ≡ case_15_answers }
 {}

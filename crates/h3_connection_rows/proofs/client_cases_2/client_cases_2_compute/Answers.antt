@@ -19,42 +19,22 @@ use Rattle.h3_connection.specs.Pulling.{pull_stream}
 use Rattle.std.proofs.Common.{refl}
 use Rattle.h3_connection_rows.proofs.client_cases_2.client_cases_2_compute.Goals as goal
 
-pub returns-clause-case_11 : goal.returns-clause-case_11
+pub returns-clause-case_6 : goal.returns-clause-case_6
 unfolding encoding static_field static_name chars encode varint_at split_of bits code_word octets huffman static_table frame_at frame_of known is_token_byte is_utf8 kind_of head_of unhuffman hear listen fields_in decode_section skipped read_peer pull_stream
-returns-clause-case_11 c = refl
+returns-clause-case_6 c = refl
 
-pub returns-clause-case_12 : goal.returns-clause-case_12
+pub returns-clause-case_7 : goal.returns-clause-case_7
 unfolding encoding static_field static_name chars encode varint_at split_of bits code_word octets huffman static_table frame_at frame_of known is_token_byte is_utf8 kind_of head_of unhuffman hear listen fields_in decode_section skipped read_peer pull_stream
-returns-clause-case_12 c = refl
+returns-clause-case_7 c = refl
 
-pub returns-clause-case_13 : goal.returns-clause-case_13
+pub returns-clause-case_8 : goal.returns-clause-case_8
 unfolding encoding static_field static_name chars encode varint_at split_of bits code_word octets huffman static_table frame_at frame_of known is_token_byte is_utf8 kind_of head_of unhuffman hear listen fields_in decode_section skipped read_peer pull_stream
-returns-clause-case_13 c = refl
+returns-clause-case_8 c = refl
 
-pub returns-clause-case_14 : goal.returns-clause-case_14
+pub returns-clause-case_9 : goal.returns-clause-case_9
 unfolding encoding static_field static_name chars encode varint_at split_of bits code_word octets huffman static_table frame_at frame_of known is_token_byte is_utf8 kind_of head_of unhuffman hear listen fields_in decode_section skipped read_peer pull_stream
-returns-clause-case_14 c = refl
+returns-clause-case_9 c = refl
 
-pub returns-clause-case_15 : goal.returns-clause-case_15
+pub returns-clause-case_10 : goal.returns-clause-case_10
 unfolding encoding static_field static_name chars encode varint_at split_of bits code_word octets huffman static_table frame_at frame_of known is_token_byte is_utf8 kind_of head_of unhuffman hear listen fields_in decode_section skipped read_peer pull_stream
-returns-clause-case_15 c = refl
-
-pub returns-clause-case_16 : goal.returns-clause-case_16
-unfolding encoding static_field static_name chars encode varint_at split_of bits code_word octets huffman static_table frame_at frame_of known is_token_byte is_utf8 kind_of head_of unhuffman hear listen fields_in decode_section skipped read_peer pull_stream
-returns-clause-case_16 c = refl
-
-pub returns-clause-case_17 : goal.returns-clause-case_17
-unfolding encoding static_field static_name chars encode varint_at split_of bits code_word octets huffman static_table frame_at frame_of known is_token_byte is_utf8 kind_of head_of unhuffman hear listen fields_in decode_section skipped read_peer pull_stream
-returns-clause-case_17 c = refl
-
-pub returns-clause-case_18 : goal.returns-clause-case_18
-unfolding encoding static_field static_name chars encode varint_at split_of bits code_word octets huffman static_table frame_at frame_of known is_token_byte is_utf8 kind_of head_of unhuffman hear listen fields_in decode_section skipped read_peer pull_stream
-returns-clause-case_18 c = refl
-
-pub returns-clause-case_19 : goal.returns-clause-case_19
-unfolding encoding static_field static_name chars encode varint_at split_of bits code_word octets huffman static_table frame_at frame_of known is_token_byte is_utf8 kind_of head_of unhuffman hear listen fields_in decode_section skipped read_peer pull_stream
-returns-clause-case_19 c = refl
-
-pub returns-clause-case_20 : goal.returns-clause-case_20
-unfolding encoding static_field static_name chars encode varint_at split_of bits code_word octets huffman static_table frame_at frame_of known is_token_byte is_utf8 kind_of head_of unhuffman hear listen fields_in decode_section skipped read_peer pull_stream
-returns-clause-case_20 c = refl
+returns-clause-case_10 c = refl

@@ -19,42 +19,22 @@ use Rattle.h3_connection.specs.Pulling.{pull_stream}
 use Rattle.std.proofs.Common.{refl}
 use Rattle.h3_connection_rows.proofs.client_cases_3.client_cases_3_compute.Goals as goal
 
-pub returns-clause-case_21 : goal.returns-clause-case_21
+pub returns-clause-case_11 : goal.returns-clause-case_11
 unfolding encoding static_field static_name chars encode varint_at split_of bits code_word octets huffman static_table frame_at frame_of known is_token_byte is_utf8 kind_of head_of unhuffman hear listen fields_in decode_section skipped read_peer pull_stream
-returns-clause-case_21 c = refl
+returns-clause-case_11 c = refl
 
-pub returns-clause-case_22 : goal.returns-clause-case_22
+pub returns-clause-case_12 : goal.returns-clause-case_12
 unfolding encoding static_field static_name chars encode varint_at split_of bits code_word octets huffman static_table frame_at frame_of known is_token_byte is_utf8 kind_of head_of unhuffman hear listen fields_in decode_section skipped read_peer pull_stream
-returns-clause-case_22 c = refl
+returns-clause-case_12 c = refl
 
-pub returns-clause-case_23 : goal.returns-clause-case_23
+pub returns-clause-case_13 : goal.returns-clause-case_13
 unfolding encoding static_field static_name chars encode varint_at split_of bits code_word octets huffman static_table frame_at frame_of known is_token_byte is_utf8 kind_of head_of unhuffman hear listen fields_in decode_section skipped read_peer pull_stream
-returns-clause-case_23 c = refl
+returns-clause-case_13 c = refl
 
-pub returns-clause-case_24 : goal.returns-clause-case_24
+pub returns-clause-case_14 : goal.returns-clause-case_14
 unfolding encoding static_field static_name chars encode varint_at split_of bits code_word octets huffman static_table frame_at frame_of known is_token_byte is_utf8 kind_of head_of unhuffman hear listen fields_in decode_section skipped read_peer pull_stream
-returns-clause-case_24 c = refl
+returns-clause-case_14 c = refl
 
-pub returns-clause-case_25 : goal.returns-clause-case_25
+pub returns-clause-case_15 : goal.returns-clause-case_15
 unfolding encoding static_field static_name chars encode varint_at split_of bits code_word octets huffman static_table frame_at frame_of known is_token_byte is_utf8 kind_of head_of unhuffman hear listen fields_in decode_section skipped read_peer pull_stream
-returns-clause-case_25 c = refl
-
-pub returns-clause-case_26 : goal.returns-clause-case_26
-unfolding encoding static_field static_name chars encode varint_at split_of bits code_word octets huffman static_table frame_at frame_of known is_token_byte is_utf8 kind_of head_of unhuffman hear listen fields_in decode_section skipped read_peer pull_stream
-returns-clause-case_26 c = refl
-
-pub returns-clause-case_27 : goal.returns-clause-case_27
-unfolding encoding static_field static_name chars encode varint_at split_of bits code_word octets huffman static_table frame_at frame_of known is_token_byte is_utf8 kind_of head_of unhuffman hear listen fields_in decode_section skipped read_peer pull_stream
-returns-clause-case_27 c = refl
-
-pub returns-clause-case_28 : goal.returns-clause-case_28
-unfolding encoding static_field static_name chars encode varint_at split_of bits code_word octets huffman static_table frame_at frame_of known is_token_byte is_utf8 kind_of head_of unhuffman hear listen fields_in decode_section skipped read_peer pull_stream
-returns-clause-case_28 c = refl
-
-pub returns-clause-case_29 : goal.returns-clause-case_29
-unfolding encoding static_field static_name chars encode varint_at split_of bits code_word octets huffman static_table frame_at frame_of known is_token_byte is_utf8 kind_of head_of unhuffman hear listen fields_in decode_section skipped read_peer pull_stream
-returns-clause-case_29 c = refl
-
-pub returns-clause-case_30 : goal.returns-clause-case_30
-unfolding encoding static_field static_name chars encode varint_at split_of bits code_word octets huffman static_table frame_at frame_of known is_token_byte is_utf8 kind_of head_of unhuffman hear listen fields_in decode_section skipped read_peer pull_stream
-returns-clause-case_30 c = refl
+returns-clause-case_15 c = refl

@@ -38,23 +38,3 @@ returns-clause-case_4 c = refl
 pub returns-clause-case_5 : goal.returns-clause-case_5
 unfolding encoding static_field static_name chars encode varint_at split_of bits code_word octets huffman static_table frame_at frame_of known is_token_byte is_utf8 kind_of head_of unhuffman hear listen fields_in decode_section skipped read_peer pull_stream
 returns-clause-case_5 c = refl
-
-pub returns-clause-case_6 : goal.returns-clause-case_6
-unfolding encoding static_field static_name chars encode varint_at split_of bits code_word octets huffman static_table frame_at frame_of known is_token_byte is_utf8 kind_of head_of unhuffman hear listen fields_in decode_section skipped read_peer pull_stream
-returns-clause-case_6 c = refl
-
-pub returns-clause-case_7 : goal.returns-clause-case_7
-unfolding encoding static_field static_name chars encode varint_at split_of bits code_word octets huffman static_table frame_at frame_of known is_token_byte is_utf8 kind_of head_of unhuffman hear listen fields_in decode_section skipped read_peer pull_stream
-returns-clause-case_7 c = refl
-
-pub returns-clause-case_8 : goal.returns-clause-case_8
-unfolding encoding static_field static_name chars encode varint_at split_of bits code_word octets huffman static_table frame_at frame_of known is_token_byte is_utf8 kind_of head_of unhuffman hear listen fields_in decode_section skipped read_peer pull_stream
-returns-clause-case_8 c = refl
-
-pub returns-clause-case_9 : goal.returns-clause-case_9
-unfolding encoding static_field static_name chars encode varint_at split_of bits code_word octets huffman static_table frame_at frame_of known is_token_byte is_utf8 kind_of head_of unhuffman hear listen fields_in decode_section skipped read_peer pull_stream
-returns-clause-case_9 c = refl
-
-pub returns-clause-case_10 : goal.returns-clause-case_10
-unfolding encoding static_field static_name chars encode varint_at split_of bits code_word octets huffman static_table frame_at frame_of known is_token_byte is_utf8 kind_of head_of unhuffman hear listen fields_in decode_section skipped read_peer pull_stream
-returns-clause-case_10 c = refl
