@@ -96,6 +96,57 @@ impl Batch {
     }
 }
 
+/// Both ends of a session, the batch between them, and what came of the batches before it.
+#[derive(Drop)]
+struct Ends {
+    sender: Sender,
+    receiver: Receiver,
+    batch: Batch,
+    report: Report,
+}
+
+impl Ends {
+    fn new(alloc: Global, shape: Shape) -> Result<Ends, Failure> {
+        let mut batch = Batch::new(alloc, shape.batch)?;
+        let sender = Sender::new(alloc, shape.capacity, shape.limit, &mut batch.instructions)?;
+        let receiver = Receiver::new(alloc, shape.capacity)?;
+        Ok(Ends {
+            sender,
+            receiver,
+            batch,
+            report: Report::new(),
+        })
+    }
+
+    /// The batch is read, answered and packed, and the next begins.
+    fn settle(&mut self, packed: &mut Vec<u8>) -> Result<(), Failure> {
+        self.batch.receive(&mut self.receiver, &mut self.report)?;
+        self.sender.hear(&self.batch.replies)?;
+        self.batch.put(packed)?;
+        self.batch.clear();
+        Ok(())
+    }
+}
+
+/// Sends each list once, the first on `first`. Returns the stream of the next list.
+fn send_lists(
+    lists: &[FieldList],
+    first: u64,
+    is_last_pass: bool,
+    ends: &mut Ends,
+    packed: &mut Vec<u8>,
+) -> Result<u64, Failure> {
+    let mut stream = first;
+    for (place, list) in lists.iter().enumerate() {
+        ends.batch.send(&mut ends.sender, stream, list)?;
+        stream = stream.wrapping_add(4) % (1 << 62);
+        if ends.batch.is_full() || is_last_pass && place + 1 == lists.len() {
+            ends.settle(packed)?;
+        }
+    }
+    Ok(stream)
+}
+
 /// A session. Its batches stand in `packed` then.
 fn exchange(
     alloc: Global,
@@ -103,26 +154,14 @@ fn exchange(
     lists: &[FieldList],
     packed: &mut Vec<u8>,
 ) -> Result<Report, Failure> {
-    let mut report = Report::new();
-    let mut batch = Batch::new(alloc, shape.batch)?;
-    let mut sender = Sender::new(alloc, shape.capacity, shape.limit, &mut batch.instructions)?;
-    let mut receiver = Receiver::new(alloc, shape.capacity)?;
+    let mut ends = Ends::new(alloc, shape)?;
     let mut stream: u64 = 0;
     packed.clear();
     for pass in 0..shape.passes {
-        for (place, list) in lists.iter().enumerate() {
-            batch.send(&mut sender, stream, list)?;
-            stream = stream.wrapping_add(4) % (1 << 62);
-            let is_last = pass + 1 == shape.passes && place + 1 == lists.len();
-            if batch.is_full() || is_last {
-                batch.receive(&mut receiver, &mut report)?;
-                sender.hear(&batch.replies)?;
-                batch.put(packed)?;
-                batch.clear();
-            }
-        }
+        let is_last = pass + 1 == shape.passes;
+        stream = send_lists(lists, stream, is_last, &mut ends, packed)?;
     }
-    Ok(report)
+    Ok(ends.report)
 }
 
 fn run(

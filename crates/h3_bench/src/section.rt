@@ -32,7 +32,8 @@ fn decode_section(alloc: Global, section: &[u8]) -> Result<Decoded, Failure> {
     }
 }
 
-fn count_fields(fields: &[HeaderField], report: &mut Report) {
+/// Adds the fields that a section gave.
+pub(crate) fn count_fields(fields: &[HeaderField], report: &mut Report) {
     for field in fields {
         report.add(1, field.name().len());
         report.add(0, field.value().len());

@@ -8,6 +8,7 @@ use crate::ends::{Receiver, Sender};
 use crate::input::{FieldList, take_lists, take_number, take_string};
 use crate::output;
 use crate::report::{Failure, Report, answer};
+use crate::section::count_fields;
 use h3_field::{HeaderField, SliceCursor};
 use std::alloc::Global;
 
@@ -19,27 +20,39 @@ enum Step<'a, T> {
 }
 
 fn sender_step<'a>(input: &mut SliceCursor<'a>) -> Result<Step<'a, usize>, Failure> {
-    match take_number(input)? {
-        0 => {
-            let stream = take_number(input)? as u64;
-            let list = take_number(input)?;
-            Ok(Step::Stream(stream, list))
-        }
-        1 => Ok(Step::Hear(take_string(input)?)),
-        _ => Err(Failure::Input),
+    let kind = take_number(input)?;
+    if kind == 0 {
+        return take_listed(input);
     }
+    if kind != 1 {
+        return Err(Failure::Input);
+    }
+    let heard = take_string(input)?;
+    Ok(Step::Hear(heard))
+}
+
+fn take_listed<'a>(input: &mut SliceCursor<'a>) -> Result<Step<'a, usize>, Failure> {
+    let stream = take_number(input)? as u64;
+    let list = take_number(input)?;
+    Ok(Step::Stream(stream, list))
 }
 
 fn receiver_step<'a>(input: &mut SliceCursor<'a>) -> Result<Step<'a, &'a [u8]>, Failure> {
-    match take_number(input)? {
-        0 => {
-            let stream = take_number(input)? as u64;
-            let section = take_string(input)?;
-            Ok(Step::Stream(stream, section))
-        }
-        1 => Ok(Step::Hear(take_string(input)?)),
-        _ => Err(Failure::Input),
+    let kind = take_number(input)?;
+    if kind == 0 {
+        return take_sectioned(input);
     }
+    if kind != 1 {
+        return Err(Failure::Input);
+    }
+    let heard = take_string(input)?;
+    Ok(Step::Hear(heard))
+}
+
+fn take_sectioned<'a>(input: &mut SliceCursor<'a>) -> Result<Step<'a, &'a [u8]>, Failure> {
+    let stream = take_number(input)? as u64;
+    let section = take_string(input)?;
+    Ok(Step::Stream(stream, section))
 }
 
 fn sender_steps<'a>(
@@ -70,8 +83,43 @@ fn receiver_steps<'a>(alloc: Global, bytes: &'a [u8]) -> Result<Vec<Step<'a, &'a
     Ok(steps)
 }
 
-/// A session of an encoder: what it writes in each step, a section and the instructions to be read before it, stands in
-/// `packed` then.
+/// A step of an encoder. It appends the section and the instructions that it writes.
+fn send(
+    sender: &mut Sender,
+    lists: &[FieldList],
+    step: &Step<'_, usize>,
+    section: &mut Vec<u8>,
+    instructions: &mut Vec<u8>,
+    report: &mut Report,
+) -> Result<(), Failure> {
+    match step {
+        Step::Stream(stream, number) => {
+            let Some(list) = lists.get(*number) else {
+                return Err(Failure::Input);
+            };
+            sender.send(*stream, list, section, instructions)?;
+            report.add(list.fields().len(), section.len());
+            report.add(0, instructions.len());
+            Ok(())
+        }
+        Step::Hear(bytes) => sender.hear(*bytes),
+    }
+}
+
+/// Packs what a step wrote, a section and the instructions to be read before it, and makes room for the next.
+fn put_written(
+    packed: &mut Vec<u8>,
+    section: &mut Vec<u8>,
+    instructions: &mut Vec<u8>,
+) -> Result<(), Failure> {
+    output::put_string(packed, section)?;
+    output::put_string(packed, instructions)?;
+    section.clear();
+    instructions.clear();
+    Ok(())
+}
+
+/// A session of an encoder: what it writes in each step stands in `packed` then.
 fn send_all(
     alloc: Global,
     capacity: usize,
@@ -87,31 +135,17 @@ fn send_all(
     packed.clear();
     output::put_number(packed, steps.len())?;
     for step in steps {
-        match step {
-            Step::Stream(stream, number) => {
-                let Some(list) = lists.get(*number) else {
-                    return Err(Failure::Input);
-                };
-                sender.send(*stream, list, &mut section, &mut instructions)?;
-                report.add(list.fields().len(), section.len());
-                report.add(0, instructions.len());
-            }
-            Step::Hear(bytes) => sender.hear(*bytes)?,
-        }
-        output::put_string(packed, &section)?;
-        output::put_string(packed, &instructions)?;
-        section.clear();
-        instructions.clear();
+        send(
+            &mut sender,
+            lists,
+            step,
+            &mut section,
+            &mut instructions,
+            &mut report,
+        )?;
+        put_written(packed, &mut section, &mut instructions)?;
     }
     Ok(report)
-}
-
-/// Adds the fields that a section gave.
-fn count(fields: &[HeaderField], report: &mut Report) {
-    for field in fields {
-        report.add(1, field.name().len());
-        report.add(0, field.value().len());
-    }
 }
 
 /// A step of a decoder; the fields where it decoded a section. It appends what it writes.
@@ -140,11 +174,36 @@ fn receive_all(
     let mut receiver = Receiver::new(alloc, capacity)?;
     for step in steps {
         if let Some(fields) = receive(&mut receiver, step, &mut replies)? {
-            count(&fields, &mut report);
+            count_fields(&fields, &mut report);
         }
         replies.clear();
     }
     Ok(report)
+}
+
+/// Packs 1 and a list where a section was decoded, else 0.
+fn put_decoded(packed: &mut Vec<u8>, decoded: Option<Vec<HeaderField>>) -> Result<(), Failure> {
+    match decoded {
+        Some(fields) => {
+            output::put_number(packed, 1)?;
+            output::put_fields(packed, &fields)
+        }
+        None => output::put_number(packed, 0),
+    }
+}
+
+/// Packs what a step of a decoder gives and writes. `replies` is empty before and after.
+fn receive_into(
+    packed: &mut Vec<u8>,
+    receiver: &mut Receiver,
+    step: &Step<'_, &[u8]>,
+    replies: &mut Vec<u8>,
+) -> Result<(), Failure> {
+    let decoded = receive(receiver, step, replies)?;
+    put_decoded(packed, decoded)?;
+    output::put_string(packed, replies)?;
+    replies.clear();
+    Ok(())
 }
 
 /// What a decoder gives and writes in a session, for each step: 1 and a list where it decoded a section, else 0; and
@@ -155,15 +214,7 @@ fn received(alloc: Global, capacity: usize, steps: &[Step<'_, &[u8]>]) -> Result
     let mut receiver = Receiver::new(alloc, capacity)?;
     output::put_number(&mut packed, steps.len())?;
     for step in steps {
-        match receive(&mut receiver, step, &mut replies)? {
-            Some(fields) => {
-                output::put_number(&mut packed, 1)?;
-                output::put_fields(&mut packed, &fields)?;
-            }
-            None => output::put_number(&mut packed, 0)?,
-        }
-        output::put_string(&mut packed, &replies)?;
-        replies.clear();
+        receive_into(&mut packed, &mut receiver, step, &mut replies)?;
     }
     Ok(packed)
 }
