@@ -19,4 +19,5 @@ pub mod RoleCuts
 pub mod ReadingCuts
 pub mod DeliveryCuts
 pub mod PullCuts
+pub mod RequestCuts
 pub mod JoinedPulls

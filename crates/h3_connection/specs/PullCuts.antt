@@ -4,8 +4,11 @@ use Rattle.std.specs.List.{concat, AllByRecursion}
 use Rattle.h3_connection.specs.declared.event.Item.TheVariants as item
 use Rattle.h3_connection.specs.declared.event.Pull.{Pull}
 use Rattle.h3_connection.specs.declared.event.Pull.TheVariants as pull
+use Rattle.h3_connection.specs.Delivering.{with_incoming}
+use Rattle.h3_connection.specs.Endpoint.{EndpointHistory}
 use Rattle.h3_connection.specs.Incoming.{Incoming}
 use Rattle.h3_connection.specs.Pulling.{Pulled}
+use Rattle.h3_connection.specs.StreamSets.{stream_at}
 
 -- the bytes of a piece of a body or of a session
 abbrev pub piece_in : Pull → Option (List ℕ)
@@ -43,3 +46,12 @@ pub data PullsAlike (p q : Pulled) : Type 0 where
       → length x + p.incoming.body_left ≡ length y + q.incoming.body_left → HandOut x y p q → PullsAlike p q
   Raws : (x y : List ℕ) → p.answer ≡ pull.Item (item.Raw x) → q.answer ≡ pull.Item (item.Raw y)
       → p.incoming.body_left ≡ q.incoming.body_left → HandOut x y p q → PullsAlike p q
+
+-- Nothing of two endpoints differs but the cuts of one request stream.
+pub record DifferInOneStream (id : ℕ) (one two : EndpointHistory) : Type 0 where
+  pub first : Incoming
+  pub second : Incoming
+  pub at_first : stream_at one.incoming id ≡ Some first
+  pub at_second : stream_at two.incoming id ≡ Some second
+  pub differ : DifferInCuts first second
+  pub others : one ≡ with_incoming two id first

@@ -120,15 +120,17 @@ pub fn cut_deliveries_are_answered_alike()
     h3_qpack::laws::decoder_bytes_are_their_value();
 }
 
-ghost use Rattle.h3_connection.specs.Delivering.{kept};
-ghost use Rattle.h3_connection.specs.PullCuts.{HaveBytes, DifferInCuts, PullsAlike};
+ghost use Rattle.h3_connection.specs.Delivering.{incoming_at};
+ghost use Rattle.h3_connection.specs.PullCuts.{HaveBytes, DifferInCuts, DifferInOneStream, PullsAlike};
 ghost use Rattle.h3_connection.specs.JoinedPulls.{joined_pulls, JoinedAlike};
 
 /// However what waits on a request stream was cut into pieces, a pull answers the same and leaves what differs only in cuts, but for a
 /// piece of a body or of a session, which is a front of the other or begins with it. Pulled until something else comes, these have the
-/// same bytes in all, and the same comes behind them. So it is with bytes that come in one delivery or in two.
+/// same bytes in all, and the same comes behind them. Bytes that come in one delivery or in two are answered alike and leave endpoints of
+/// which nothing else differs, so that no other stream sees it.
 pub fn cut_pulls_are_answered_alike()
-    ensures delivered { (i : Incoming) (first second : List ℕ) → HaveBytes i.unread → DifferInCuts (kept i (first ++ second)) (kept (kept i first) second) }
+    ensures delivered { (e : EndpointHistory) (id : ℕ) (first second : List ℕ) → kind_of e.side id ≡ Request → HaveBytes (incoming_at e id).unread →
+        SameAnswers (DifferInOneStream id) (deliver e id (first ++ second)) (deliver_cut e id first second) }
     ensures one { (side : Side) (own : Announced) (id : ℕ) (r : DecoderState) (i j : Incoming) → DifferInCuts i j → PullsAlike (pull_stream side own id r i) (pull_stream side own id r j) }
     ensures joined { (side : Side) (own : Announced) (id : ℕ) (r : DecoderState) (i j : Incoming) → DifferInCuts i j → JoinedAlike (joined_pulls side own id r i) (joined_pulls side own id r j) }
 {}
