@@ -2,15 +2,17 @@
 """Hostile lists of calls of an endpoint, as the lines that the program h3_calls reads, and the lines that both models of an endpoint
 (scripts/connection_model.py and scripts/independent_model.py) answer to them.
 
-    python3 scripts/hostile_calls.py FOLDER [LISTS A SIDE] [FIRST SEED]
+    python3 scripts/hostile_calls.py PROGRAM [LISTS A SIDE] [FIRST SEED]
 
-writes files NAME and NAME.stdout into the folder, as `rt try --cases` takes them, and prints how many lists there are. Half of the lists are
-those of scripts/connection_cases.py, a quarter each the sends and the wilder bytes of scripts/compare_models.py; half of all have more calls put
-between them. Lists in which a model does not know a rule of another library are left out. Ends with 1 where the models differ.
+runs the program on 2,000 lists a side and prints a line 'ok NAME' or 'failed NAME' for each side, with the first list that it answers
+otherwise. Half of the lists are those of scripts/connection_cases.py, a quarter each the sends and the wilder bytes of
+scripts/compare_models.py; half of all have more calls put between them. Lists in which a model does not know a rule of another library are
+left out. Ends with 1 where the models differ.
 """
 import collections
 import os
 import random
+import subprocess
 import sys
 
 sys.path.insert(0, os.path.dirname(os.path.abspath(__file__)))
@@ -19,7 +21,6 @@ from compare_models import calls_of, difference, sends_of  # noqa: E402
 from connection_cases import calls  # noqa: E402
 from connection_model import CLIENT, SERVER, Endpoint, Unsure, head_of  # noqa: E402
 
-PER_FILE = 250
 CODES = {
     0x103: "H3_STREAM_CREATION_ERROR", 0x104: "H3_CLOSED_CRITICAL_STREAM", 0x105: "H3_FRAME_UNEXPECTED", 0x106: "H3_FRAME_ERROR",
     0x108: "H3_ID_ERROR", 0x109: "H3_SETTINGS_ERROR", 0x10A: "H3_MISSING_SETTINGS", 0x200: "QPACK_DECOMPRESSION_FAILED",
@@ -141,19 +142,34 @@ def lists(side, count, seed):
     return made
 
 
+def compared(program, side, count, first):
+    """asks the program, and tells the first list that it answers otherwise"""
+    made = lists(side, count, first)
+    text = "".join(text + "\n" for asked, _ in made for text in asked)
+    ran = subprocess.run([program], input=text.encode("ascii"), stdout=subprocess.PIPE, timeout=100)
+    answers = ran.stdout.decode("ascii").split("\n")
+    at = 0
+    for asked, told in made:
+        got = answers[at:at + len(told)]
+        at += len(told)
+        if got != told:
+            place = next(k for k, text in enumerate(told) if got[k:k + 1] != [text])
+            calls_so_far = "".join(f"    {call}\n" for call in asked[:place + 1])
+            print(f"{calls_so_far}the program: {got[place:place + 1]}, the models: {told[place]!r}", file=sys.stderr)
+            return False
+    return ran.returncode == 0 and answers[at:] == [""]
+
+
 def main():
-    folder = sys.argv[1]
+    program = sys.argv[1]
     count = int(sys.argv[2]) if len(sys.argv) > 2 else 2000
     first = int(sys.argv[3]) if len(sys.argv) > 3 else 1
+    good = True
     for side in (CLIENT, SERVER):
-        made = lists(side, count, first)
-        for k in range(0, count, PER_FILE):
-            part = made[k:k + PER_FILE]
-            name = "%s/%s_%03d" % (folder, side.lower(), k // PER_FILE)
-            for path, which in ((name, 0), (name + ".stdout", 1)):
-                with open(path, "w", encoding="ascii") as f:
-                    f.write("".join(text + "\n" for pair in part for text in pair[which]))
-    print(2 * count)
+        right = compared(program, side, count, first)
+        print(f"{'ok' if right else 'failed'} hostile calls of a {side.lower()}")
+        good = good and right
+    sys.exit(0 if good else 1)
 
 
 if __name__ == "__main__":

@@ -1,7 +1,7 @@
 #!/usr/bin/env bash
 # The gate: the checks of this repository (scripts/check-*.sh), which take about a minute and each print one line 'ok NAME' or
-# 'failed NAME' for each thing that they check, then `rt ci`, and then the program that it built: a large exchange, and scripts with
-# memory refused. Where one of these fails the gate ends there. The last line is the sum.
+# 'failed NAME' for each thing that they check, then `rt ci`, and then the programs that it built: a large exchange, scripts with
+# memory refused, and hostile calls of an endpoint. Where one of these fails the gate ends there. The last line is the sum.
 set -uo pipefail
 cd "$(dirname "$0")/.."
 
@@ -53,6 +53,7 @@ fi
 if [ "$failed" -eq 0 ]; then
   count python3 scripts/exchange.py crates/h3_talk/out/h3_talk
   count python3 scripts/refused_memory.py crates/h3_talk/out/h3_talk
+  count python3 scripts/hostile_calls.py crates/h3_calls/out/h3_calls
 fi
 
 if [ -s "$times" ]; then
