@@ -5,8 +5,6 @@
 pub mod ext;
 pub mod headers;
 pub mod laws;
-#[cfg(test)]
-mod tests;
 
 pub use ext::{InvalidProtocol, Protocol};
 pub use headers::{Header, HeaderError, HeaderIter};

@@ -7,6 +7,4 @@ pub mod frame;
 pub mod laws;
 pub mod push;
 pub mod stream;
-#[cfg(test)]
-mod tests;
 pub mod webtransport;

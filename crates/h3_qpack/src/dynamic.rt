@@ -150,7 +150,7 @@ impl DynamicTable {
     }
 
     /// How many sections may be blocked at the decoder.
-    pub(crate) fn blocks_out(&self) -> usize
+    pub fn blocks_out(&self) -> usize
         ensures { result ≡ length self.now.blocking_counts }
     {
         self.blocking_counts.len()

@@ -1,16 +1,10 @@
 //! QPACK's dynamic table (RFC 9204): what a decoder reads, what an encoder writes, and the law of their sessions.
 #![tactic(auto)]
 
-#[cfg(test)]
-mod canceled_tests;
 pub mod decoder;
 pub mod dynamic;
-#[cfg(test)]
-mod encode_tests;
 pub mod encoder;
 pub mod encoder_view;
-#[cfg(test)]
-mod encoder_view_tests;
 mod entries;
 pub mod examples;
 mod increment;
@@ -18,12 +12,8 @@ mod index;
 pub mod laws;
 mod lines;
 mod pending_section;
-#[cfg(test)]
-mod run_tests;
 mod section;
 pub mod session;
-#[cfg(test)]
-mod tests;
 mod tracking;
 pub mod view;
 pub mod within;

@@ -7,7 +7,5 @@ pub mod laws;
 mod line;
 mod pieces;
 pub mod script;
-#[cfg(test)]
-mod tests;
 pub mod text;
 mod words;

@@ -7,5 +7,3 @@ pub mod laws;
 pub mod proto;
 pub mod quic;
 pub mod stream;
-#[cfg(test)]
-mod tests;

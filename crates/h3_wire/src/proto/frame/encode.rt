@@ -56,8 +56,8 @@ impl<B: Buf> Frame<B> {
         }
     }
 
-    /// Whether the length of the payload has an encoding: it is below 2^62.
-    pub(crate) fn has_length(&self) -> bool
+    /// Whether the length of the payload has an encoding, as `encode` requires: it is below 2^62.
+    pub fn has_length(&self) -> bool
         ensures { IsTrue result ↔ HasLength B.unread self.now }
     {
         match self {
