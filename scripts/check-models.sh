@@ -4,7 +4,7 @@
 set -uo pipefail
 cd "$(dirname "$0")/.."
 
-python3 -B scripts/compare_models.py 2000 1
+python3 -B scripts/compare_models.py 4000 1
 bad=$?
 
 scripts=0
