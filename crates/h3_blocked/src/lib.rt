@@ -4,7 +4,5 @@
 #![tactic(auto)]
 
 pub mod counts;
-#[cfg(test)]
-mod tests;
 
 pub use counts::{above, replace};

@@ -2,7 +2,5 @@
 #![tactic(auto)]
 
 pub mod outgoing;
-#[cfg(test)]
-mod tests;
 
 pub use outgoing::OutgoingStream;

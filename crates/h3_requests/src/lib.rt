@@ -4,8 +4,6 @@
 
 pub mod stream;
 pub mod streams;
-#[cfg(test)]
-mod tests;
 
 pub use stream::RequestStream;
 pub use streams::RequestStreams;

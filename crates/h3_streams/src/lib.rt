@@ -10,5 +10,3 @@ mod map;
 mod readers;
 mod roles;
 pub mod streams;
-#[cfg(test)]
-mod tests;

@@ -7,6 +7,4 @@ pub mod decoding;
 pub mod encoding;
 pub mod own;
 pub mod stream;
-#[cfg(test)]
-mod tests;
 pub mod waiting;

@@ -1,12 +1,12 @@
 //! What a server sends on its unidirectional streams, at a client.
-use crate::left::Left;
-use crate::streams::ConnectionStreams;
 use bytes::Bytes;
 use h3_connection::event::{Item, Pull};
 use h3_connection::setup::{Announced, Limits};
 use h3_proto::config::Config;
 use h3_proto::error::Code;
 use h3_proto::stream::{Side, StreamId};
+use h3_streams::left::Left;
+use h3_streams::streams::ConnectionStreams;
 use std::alloc::Global;
 use std::test::Fail;
 
@@ -156,8 +156,8 @@ fn answers_faults(rt: HostRuntime) -> Result<(), Fail> {
         (&[(11, DECODER), (15, SESSION)], None),
     ];
     for (steps, want) in &rows {
-        assert_eq!(rt; fault_of(rt.alloc(), *steps, 100)?, *want);
-        assert_eq!(rt; fault_of(rt.alloc(), *steps, 1)?, *want);
+        assert!(rt; fault_of(rt.alloc(), *steps, 100)? == *want);
+        assert!(rt; fault_of(rt.alloc(), *steps, 1)? == *want);
     }
     Ok(())
 }
@@ -175,7 +175,7 @@ fn writes_the_capacity_and_increments(rt: HostRuntime) -> Result<(), Fail> {
 fn hands_out_a_session(rt: HostRuntime) -> Result<(), Fail> {
     let rows = [(1, "session"), (2, "raw"), (3, "end")];
     for (number, want) in &rows {
-        assert_eq!(rt; pulled(rt.alloc(), &[(15, SESSION)], *number)?, *want);
+        assert!(rt; pulled(rt.alloc(), &[(15, SESSION)], *number)? == *want);
     }
     Ok(())
 }

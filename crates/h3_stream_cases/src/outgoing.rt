@@ -1,7 +1,7 @@
 //! A response on a request stream: a HEADERS frame with the section of status 200, and a DATA frame.
-use crate::OutgoingStream;
 use bytes::Bytes;
 use h3_connection::place::SendPlace;
+use h3_outgoing::OutgoingStream;
 use std::alloc::Global;
 use std::test::Fail;
 
@@ -22,14 +22,14 @@ fn response(alloc: Global) -> Result<OutgoingStream, Fail> {
 #[test]
 fn lends_each_part_in_turn(rt: HostRuntime) -> Result<(), Fail> {
     let mut stream = response(rt.alloc())?;
-    assert_eq!(rt; stream.waiting(), 9);
-    assert_eq!(rt; stream.outgoing(), [1, 3].as_slice());
+    assert!(rt; stream.waiting() == 9);
+    assert!(rt; stream.outgoing() == [1, 3].as_slice());
     stream.advance(2);
-    assert_eq!(rt; stream.outgoing(), [0, 0, 217].as_slice());
+    assert!(rt; stream.outgoing() == [0, 0, 217].as_slice());
     stream.advance(3);
-    assert_eq!(rt; stream.outgoing(), [0, 2].as_slice());
+    assert!(rt; stream.outgoing() == [0, 2].as_slice());
     stream.advance(2);
-    assert_eq!(rt; stream.outgoing(), b"hi".as_slice());
+    assert!(rt; stream.outgoing() == b"hi".as_slice());
     stream.advance(2);
     assert!(rt; stream.outgoing().is_empty());
     Ok(())
@@ -38,14 +38,14 @@ fn lends_each_part_in_turn(rt: HostRuntime) -> Result<(), Fail> {
 #[test]
 fn advances_over_parts(rt: HostRuntime) -> Result<(), Fail> {
     let mut stream = response(rt.alloc())?;
-    assert_eq!(rt; stream.waiting(), 9);
+    assert!(rt; stream.waiting() == 9);
     stream.advance(4);
-    assert_eq!(rt; stream.outgoing(), [217].as_slice());
-    assert_eq!(rt; stream.waiting(), 5);
+    assert!(rt; stream.outgoing() == [217].as_slice());
+    assert!(rt; stream.waiting() == 5);
     stream.finish();
     assert!(rt; !stream.takes_body());
     stream.reset();
-    assert_eq!(rt; stream.waiting(), 0);
+    assert!(rt; stream.waiting() == 0);
     assert!(rt; !stream.is_finished());
     Ok(())
 }
