@@ -5,6 +5,7 @@ use Rattle.std.proofs.lemmas.Grind.{common_steps, flat_map-append}
 use Rattle.std.proofs.lemmas.List.{map-append}
 use Rattle.h3_field.specs.Field.{Field, section_size}
 use Rattle.h3_header.specs.Head.{Head as Fields, head_fields}
+use Rattle.h3_header.specs.Reads.{head_of_fields}
 use Rattle.h3_connection.specs.declared.event.Item.{Item}
 use Rattle.h3_connection.specs.declared.event.Item.TheVariants as item
 use Rattle.h3_world.specs.Flow.{Flow, Part}
@@ -74,7 +75,7 @@ part_out most f g part handing ending next over sent parts body taken ends =
 
 -- a section within the limit
 section_whole : (kind : Fields → Item) (mark : List Field → Content) (most : ℕ) (fields : List Field) (i : Item) → ((h : Fields) → item_contents (kind h) ≡ mark (head_fields h) ∷ [])
-    → ((head : Fields) × (i ≡ kind head) × (head_fields head ≡ fields) × (section_size fields ≤ most)) → item_contents i ≡ within most fields (mark fields) ∷ []
+    → ((head : Fields) × (i ≡ kind head) × (head_fields head ≡ fields) × (section_size fields ≤ most) × (head ≡ head_of_fields fields)) → item_contents i ≡ within most fields (mark fields) ∷ []
 section_whole kind mark most fields i of h =
     ap item_contents h.1 ∙ of h.0 ∙ ap (λ fs. mark fs ∷ []) h.2 ∙ ap (λ b. (if b then TooLarge (section_size fields) else mark fields) ∷ []) (sym (not_above most (section_size fields) h.3))
   where

@@ -174,7 +174,7 @@ module _ (lists : ListsAreTheirValue) (side : Side) (announced : Announced) (id 
       ∙ ap (λ b. if b && is_interim h.status then item_at (item.Interim h) x else item_at (item.Head h) (record x { place = InBody })) readable.0
       ∙ ap (λ b. if b then item_at (item.Interim h) x else item_at (item.Head h) (record x { place = InBody })) readable.2)
       (λ size e large. (e, large))
-      (λ fits. (h, refl, back.1, fits))
+      (λ fits. (h, refl, back.1, fits, refl))
     where
       item_at : Item → Incoming → Pulled
       item_at i y = record { answer = pull.Item i; incoming = y; replies = replies }
@@ -189,7 +189,7 @@ module _ (lists : ListsAreTheirValue) (side : Side) (announced : Announced) (id 
       ∙ ap (λ b. if not b then malformed id malformation.WrongSide x replies else (if is_client side && is_interim h.status then item_at (item.Interim h) x else item_at (item.Head h) (record x { place = InBody }))) readable.0
       ∙ ap (λ b. if b then item_at (item.Interim h) x else item_at (item.Head h) (record x { place = InBody })) readable.1)
       (λ size e large. (e, large))
-      (λ fits. (h, refl, back.1, fits))
+      (λ fits. (h, refl, back.1, fits, refl))
     where
       item_at : Item → Incoming → Pulled
       item_at i y = record { answer = pull.Item i; incoming = y; replies = replies }
@@ -207,7 +207,7 @@ module _ (lists : ListsAreTheirValue) (side : Side) (announced : Announced) (id 
       (ap (λ p. head_or_trailer side id x replies p h) at
       ∙ ap (λ b. if b then malformed id malformation.PseudoInTrailer x replies else item_at (item.Trailer h) (record x { place = AfterTrailer })) readable)
       (λ size e large. (e, large))
-      (λ fits. (h, refl, back.1, fits))
+      (λ fits. (h, refl, back.1, fits, refl))
     where
       item_at : Item → Incoming → Pulled
       item_at i y = record { answer = pull.Item i; incoming = y; replies = replies }

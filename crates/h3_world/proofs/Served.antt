@@ -81,11 +81,11 @@ section_is kind most fields back made = by_test (nat_lt most (section_size field
 has_come : (most : ℕ) (p : Party) (f : Flow) (came : ℕ) (part : Option Part) → IsSentNext p part → pause_before f came part ≡ None → HasCome most f part (item_there most f part)
 has_come most p f came None sent e = cc
 has_come most p f came (Some (Interim s)) sent e =
-    (own_came f came s e, section_is item.Interim most s.fields sent.1.0.reads_back (λ h. (head_of_fields s.fields, refl, sent.1.0.reads_back.1, h)))
+    (own_came f came s e, section_is item.Interim most s.fields sent.1.0.reads_back (λ h. (head_of_fields s.fields, refl, sent.1.0.reads_back.1, h, refl)))
 has_come most p f came (Some (Head s)) sent e =
-    (own_came f came s e, section_is item.Head most s.fields sent.1.0.reads_back (λ h. (head_of_fields s.fields, refl, sent.1.0.reads_back.1, h)))
+    (own_came f came s e, section_is item.Head most s.fields sent.1.0.reads_back (λ h. (head_of_fields s.fields, refl, sent.1.0.reads_back.1, h, refl)))
 has_come most p f came (Some (Trailer s)) sent e =
-    (own_came f came s e, section_is item.Trailer most s.fields sent.1.0.reads_back (λ h. (head_of_fields s.fields, refl, sent.1.0.reads_back.1, h)))
+    (own_came f came s e, section_is item.Trailer most s.fields sent.1.0.reads_back (λ h. (head_of_fields s.fields, refl, sent.1.0.reads_back.1, h, refl)))
 has_come most p f came (Some (Body bytes own)) sent e = (body_there f bytes own, some (body_there f bytes own) e, omega arith, refl)
   where
     positive : (n : ℕ) (b : Bool) → (n == 0) ≡ b → ◌≡◌ {A = Option Pull} (if b then Some pull.Pending else None) None → 0 < n
