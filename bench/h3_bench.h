@@ -32,6 +32,16 @@ uint32_t h3_bench_section_encode(uint64_t rounds, const uint8_t *bytes, size_t l
 uint32_t h3_bench_section_decode(uint64_t rounds, const uint8_t *bytes, size_t len, uint8_t *out, size_t room,
                                  h3_report *report);
 
+/* `bytes` are encoded field sections, as strings. Their headers are made; their fields alone are decoded; the fields of
+ * their headers are listed. The report counts the fields. */
+uint32_t h3_bench_header_read(uint64_t rounds, const uint8_t *bytes, size_t len, h3_report *report);
+uint32_t h3_bench_header_decode(uint64_t rounds, const uint8_t *bytes, size_t len, h3_report *report);
+uint32_t h3_bench_header_fields(uint64_t rounds, const uint8_t *bytes, size_t len, h3_report *report);
+
+/* `count` DATA frames are sent, each with a front of this payload: head and payload are lent, one after the other, and
+ * passed over. */
+uint32_t h3_bench_data_send(uint64_t rounds, size_t count, const uint8_t *body, size_t len, h3_report *report);
+
 /* A session with a dynamic table, of which `limit` sections may wait: `passes` times all lists, `batch` of which are sent
  * before they are read and answered. `out` gets each batch: the count of its sections, each of them, the instructions
  * and the replies, as strings. The report: the fields that came out, and the bytes of sections and instructions. */

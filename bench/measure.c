@@ -1,5 +1,6 @@
 #define _GNU_SOURCE
 #include "measure.h"
+#include <malloc.h>
 #include <stdio.h>
 #include <stdlib.h>
 #include <string.h>
@@ -10,30 +11,59 @@ const char *measure_only;
 volatile uint64_t measure_sink;
 static int below;
 
+enum { RUNS = 5 };
+
 typedef struct {
-  double seconds[CONTENDERS];     /* of one round: the best of all runs; 0 where there is no such contender */
+  double seconds[CONTENDERS];     /* of one round: the median of five runs; 0 where there is no such contender */
   double allocations[CONTENDERS]; /* of one round: calls of malloc, calloc and realloc */
 } figures;
+
+/* What is held, where it is asked. */
+static int is_asked;
+static memory_held held, most_held;
+
+static void *gain(void *block) {
+  if (is_asked && block) {
+    held.bytes += (double)malloc_usable_size(block);
+    held.blocks += 1;
+    if (held.bytes > most_held.bytes) most_held = held;
+  }
+  return block;
+}
+
+static void lose(void *block) {
+  if (is_asked && block) {
+    held.bytes -= (double)malloc_usable_size(block);
+    held.blocks -= 1;
+  }
+}
 
 /* The linker sends each call of these through here (-Wl,--wrap). */
 static uint64_t allocations;
 void *__real_malloc(size_t size);
 void *__real_calloc(size_t count, size_t size);
 void *__real_realloc(void *block, size_t size);
+void __real_free(void *block);
 void *__wrap_malloc(size_t size);
 void *__wrap_calloc(size_t count, size_t size);
 void *__wrap_realloc(void *block, size_t size);
+void __wrap_free(void *block);
 void *__wrap_malloc(size_t size) {
   allocations++;
-  return __real_malloc(size);
+  return gain(__real_malloc(size));
 }
 void *__wrap_calloc(size_t count, size_t size) {
   allocations++;
-  return __real_calloc(count, size);
+  return gain(__real_calloc(count, size));
 }
 void *__wrap_realloc(void *block, size_t size) {
   allocations++;
-  return __real_realloc(block, size);
+  lose(block);
+  return gain(__real_realloc(block, size));
+}
+void __wrap_free(void *block) {
+  lose(block);
+  __real_free(block);
 }
 
 static double read_clock(clockid_t clock) {
@@ -51,7 +81,7 @@ static double time_of(const contender *c, uint64_t rounds) {
   return read_clock(CLOCK_THREAD_CPUTIME_ID) - start;
 }
 
-static double allocations_of(const contender *c, uint64_t rounds) {
+double allocations_of(const contender *c, uint64_t rounds) {
   uint64_t before = allocations;
   c->work(c->data, rounds);
   return (double)(allocations - before);
@@ -76,40 +106,61 @@ static uint64_t rounds_of(const contender *c) {
   return rounds;
 }
 
+/* One run: the contenders in turn, in pieces of some milliseconds; of each the best piece counts. */
+static void run(const contender contenders[CONTENDERS], const uint64_t rounds[CONTENDERS], double taken[CONTENDERS]) {
+  double best[CONTENDERS], none[CONTENDERS];
+  for (int k = 0; k < CONTENDERS; k++) best[k] = none[k] = 1e9;
+  double end = now() + measure_seconds / RUNS;
+  do {
+    for (int k = 0; k < CONTENDERS; k++) {
+      if (!contenders[k].work) continue;
+      double idle = time_of(&contenders[k], 0), busy = time_of(&contenders[k], rounds[k]);
+      if (idle < none[k]) none[k] = idle;
+      if (busy < best[k]) best[k] = busy;
+    }
+  } while (now() < end);
+  for (int k = 0; k < CONTENDERS; k++)
+    taken[k] = contenders[k].work ? (best[k] - none[k]) / (double)rounds[k] : 0;
+}
+
+static int in_order(const void *one, const void *other) {
+  double a = *(const double *)one, b = *(const double *)other;
+  return (a > b) - (a < b);
+}
+
 static figures measure(const contender contenders[CONTENDERS]) {
   figures found = {0};
-  uint64_t rounds[CONTENDERS];
-  double best[CONTENDERS], none[CONTENDERS];
+  uint64_t rounds[CONTENDERS] = {0};
+  double taken[RUNS][CONTENDERS], one[RUNS];
   for (int k = 0; k < CONTENDERS; k++) {
-    best[k] = none[k] = 1e9;
     if (!contenders[k].work) continue;
     rounds[k] = rounds_of(&contenders[k]);
     double with = allocations_of(&contenders[k], rounds[k]), without = allocations_of(&contenders[k], 0);
     found.allocations[k] = (with - without) / (double)rounds[k];
   }
-  for (double end = now() + measure_seconds; now() < end;) {
-    for (int k = 0; k < CONTENDERS; k++) {
-      if (!contenders[k].work) continue;
-      double idle = time_of(&contenders[k], 0), taken = time_of(&contenders[k], rounds[k]);
-      if (idle < none[k]) none[k] = idle;
-      if (taken < best[k]) best[k] = taken;
-    }
+  for (int i = 0; i < RUNS; i++) run(contenders, rounds, taken[i]);
+  for (int k = 0; k < CONTENDERS; k++) {
+    for (int i = 0; i < RUNS; i++) one[i] = taken[i][k];
+    qsort(one, RUNS, sizeof *one, in_order);
+    found.seconds[k] = one[RUNS / 2];
   }
-  for (int k = 0; k < CONTENDERS; k++)
-    if (contenders[k].work) found.seconds[k] = (best[k] - none[k]) / (double)rounds[k];
   return found;
 }
 
 void print_head(void) {
-  printf("%-28s %-13s %12s %12s %12s %-8s %9s %9s\n", "row", "set", "ours", "nghttp3", "plain C", "unit", "/nghttp3",
-         "/plain C");
+  printf("%-28s %-13s %12s %12s %12s %-8s %9s %9s\n", "row", "set", "ours", "nghttp3", "third", "unit", "/nghttp3",
+         "/third");
+}
+
+static double figure_of(const row_kind *kind, double seconds) {
+  return kind->each ? seconds / kind->count * 1e9 : kind->count / seconds / kind->scale;
 }
 
 static void print_figure(const row_kind *kind, double seconds) {
   if (seconds <= 0)
     printf(" %12s", "-");
   else
-    printf(" %12.2f", kind->each ? seconds / kind->count * 1e9 : kind->count / seconds / kind->scale);
+    printf(" %12.2f", figure_of(kind, seconds));
 }
 
 static int print_ratio(double ours, double other, double target) {
@@ -128,31 +179,68 @@ static void print_row(const row_kind *kind, const figures *found) {
   for (int k = 0; k < CONTENDERS; k++) print_figure(kind, found->seconds[k]);
   printf(" %-8s", kind->unit);
   int short_of = print_ratio(found->seconds[OURS], found->seconds[PEER], kind->target_peer);
-  short_of |= print_ratio(found->seconds[OURS], found->seconds[PLAIN], kind->target_plain);
+  short_of |= print_ratio(found->seconds[OURS], found->seconds[THIRD], kind->target_third);
+  if (found->seconds[THIRD] > 0) printf(" %s", kind->third ? kind->third : "plain C");
+  if (kind->most > 0) {
+    int above = figure_of(kind, found->seconds[OURS]) > kind->most;
+    printf(" at most %.0f%c", kind->most, above ? '*' : ' ');
+    short_of |= above;
+  }
   printf("\n");
   fflush(stdout);
   below += short_of;
 }
 
 static void print_allocations(const figures *found, double count) {
-  printf("%-28s %-13s %12.2f %12.2f %12s %-8s\n", "  allocations", "", found->allocations[OURS] / count,
-         found->allocations[PEER] / count, "-", "a list");
+  printf("%-28s %-13s", "  allocations", "");
+  for (int k = 0; k < CONTENDERS; k++) {
+    if (found->seconds[k] > 0)
+      printf(" %12.2f", found->allocations[k] / count);
+    else
+      printf(" %12s", "-");
+  }
+  printf(" %-8s\n", "a list");
 }
 
-void size_row(const char *row, const char *set, double ours, double peers, double most) {
+int is_measured(const char *row, const char *set) {
   char name[128];
   snprintf(name, sizeof name, "%s %s", row, set);
-  if (measure_only && !strstr(name, measure_only)) return;
-  int short_of = most > 0 && ours > most;
-  printf("%-28s %-13s %12.3f %12.3f %12s %-8s %8.2f%c\n", "  size", "", ours, peers, "-", "of plain", peers / ours,
+  return !measure_only || strstr(name, measure_only);
+}
+
+void figure_row(const figure_kind *kind, double ours, double peers) {
+  if (!is_measured(kind->row, kind->set)) return;
+  int short_of = kind->most > 0 && ours > kind->most;
+  printf("%-28s %-13s %12.3f %12.3f %12s %-8s %8.2f%c\n", kind->figure, "", ours, peers, "-", kind->unit, peers / ours,
          short_of ? '*' : ' ');
+  fflush(stdout);
   below += short_of;
 }
 
+void size_row(const char *row, const char *set, double ours, double peers, double most) {
+  figure_row(&(figure_kind){row, set, "  size", "of plain", most}, ours, peers);
+}
+
+memory_held memory_of(const contender *c) {
+  held = most_held = (memory_held){0, 0};
+  is_asked = 1;
+  c->work(c->data, 1);
+  is_asked = 0;
+  return most_held;
+}
+
+void measure_step(const row_kind *kind, const contender *whole, const contender *part, double lists) {
+  if (!is_measured(kind->row, kind->set)) return;
+  const contender both[CONTENDERS] = {*whole, *part, {0}};
+  figures found = measure(both), step = {0};
+  step.seconds[OURS] = found.seconds[OURS] - found.seconds[PEER];
+  step.allocations[OURS] = found.allocations[OURS] - found.allocations[PEER];
+  print_row(kind, &step);
+  if (lists > 0) print_allocations(&step, lists);
+}
+
 void measure_row(const row_kind *kind, const contender contenders[CONTENDERS], double lists) {
-  char name[128];
-  snprintf(name, sizeof name, "%s %s", kind->row, kind->set);
-  if (measure_only && !strstr(name, measure_only)) return;
+  if (!is_measured(kind->row, kind->set)) return;
   figures found = measure(contenders);
   print_row(kind, &found);
   if (lists > 0) print_allocations(&found, lists);

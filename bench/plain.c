@@ -85,11 +85,14 @@ uint8_t *plain_huffman_encode(uint8_t *to, const uint8_t *from, size_t len) {
   for (size_t i = 0; i < len; i++) {
     bits = bits << CODE_LENGTHS[from[i]] | CODES[from[i]];
     count += CODE_LENGTHS[from[i]];
-    while (count >= 8) {
-      count -= 8;
-      *to++ = (uint8_t)(bits >> count);
+    if (count >= 32) {
+      count -= 32;
+      uint32_t word = __builtin_bswap32((uint32_t)(bits >> count));
+      memcpy(to, &word, sizeof word);
+      to += sizeof word;
     }
   }
+  for (; count >= 8; *to++ = (uint8_t)(bits >> count)) count -= 8;
   if (count) *to++ = (uint8_t)(bits << (8 - count) | 0xffu >> count);
   return to;
 }

@@ -1,5 +1,6 @@
 /* Field sections with no dynamic table. */
 #include "measure.h"
+#include "peer_hpack.h"
 #include "peer_session.h"
 #include "rows.h"
 #include <stdlib.h>
@@ -70,11 +71,15 @@ static section_work prepare(const field_lists *lists) {
 
 void section_rows(const field_lists *lists) {
   section_work w = prepare(lists);
-  const contender encode[CONTENDERS] = {{our_encode, &w}, {peer_encode, &w}, {0}};
-  const contender decode[CONTENDERS] = {{our_decode, &w}, {peer_decode, &w}, {0}};
+  peer_hpack *hpack = peer_hpack_new(lists, 1, 0);
+  const contender encode[CONTENDERS] = {{our_encode, &w}, {peer_encode, &w}, {peer_hpack_encode, hpack}};
+  const contender decode[CONTENDERS] = {{our_decode, &w}, {peer_decode, &w}, {peer_hpack_decode, hpack}};
   double count = (double)lists->count;
-  measure_row(&(row_kind){"encode, capacity 0", lists->name, "klists/s", count, 1e3, 0, 1.0, 0}, encode, count);
-  measure_row(&(row_kind){"decode, capacity 0", lists->name, "klists/s", count, 1e3, 0, 1.0, 0}, decode, count);
+  measure_row(&(row_kind){"encode, capacity 0", lists->name, "klists/s", count, 1e3, 0, 1.0, 0, "nghttp2"}, encode,
+              count);
+  measure_row(&(row_kind){"decode, capacity 0", lists->name, "klists/s", count, 1e3, 0, 1.0, 0, "nghttp2"}, decode,
+              count);
+  peer_hpack_free(hpack);
   free_pack(&w.packed);
   free_pack(&w.our_sections);
   free(w.out);

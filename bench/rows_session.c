@@ -1,15 +1,17 @@
 /* Sessions with a dynamic table: both ends, and each end alone, driven by what the other wrote. */
 #include "measure.h"
+#include "peer_hpack.h"
 #include "peer_session.h"
 #include "rows.h"
 #include "session_steps.h"
 #include <stdio.h>
 #include <stdlib.h>
 
-enum { CAPACITY = 4096, LIMIT = 100, PASSES = 8, MOST_BATCH = 64 };
+enum { LIMIT = 100, PASSES = 8, MOST_BATCH = 64 };
 
 typedef struct {
   const field_lists *lists;
+  size_t capacity;    /* of the tables */
   size_t batch;       /* lists sent before their bytes are read and answered */
   pack packed;        /* the lists, as the static library takes them */
   pack encode, decode; /* the steps of our ends */
@@ -24,15 +26,15 @@ static size_t lists_of(const session_work *w) { return PASSES * w->lists->count;
 
 static void our_both(void *data, uint64_t rounds) {
   session_work *w = data;
-  done("exchange", h3_bench_exchange(rounds, CAPACITY, LIMIT, w->batch, PASSES, w->packed.bytes, w->packed.len, w->out,
-                                     w->room, &w->both));
+  done("exchange", h3_bench_exchange(rounds, w->capacity, LIMIT, w->batch, PASSES, w->packed.bytes, w->packed.len,
+                                     w->out, w->room, &w->both));
   if (w->both.items != PASSES * w->lists->fields) stop("exchange: another count", (long)w->both.items);
 }
 
 static void our_encode(void *data, uint64_t rounds) {
   session_work *w = data;
   h3_report report;
-  done("session_encode", h3_bench_session_encode(rounds, CAPACITY, LIMIT, w->encode.bytes, w->encode.len, w->out,
+  done("session_encode", h3_bench_session_encode(rounds, w->capacity, LIMIT, w->encode.bytes, w->encode.len, w->out,
                                                  w->room, &report));
   if (report.items != w->both.items || report.bytes != w->both.bytes)
     stop("session_encode: other counts", (long)report.items);
@@ -42,7 +44,7 @@ static void our_decode(void *data, uint64_t rounds) {
   session_work *w = data;
   h3_report report;
   done("session_decode",
-       h3_bench_session_decode(rounds, CAPACITY, w->decode.bytes, w->decode.len, w->out, w->room, &report));
+       h3_bench_session_decode(rounds, w->capacity, w->decode.bytes, w->decode.len, w->out, w->room, &report));
   if (rounds && (report.items != PASSES * w->lists->fields || report.bytes != PASSES * w->lists->bytes))
     stop("session_decode: other counts", (long)report.items);
 }
@@ -63,8 +65,8 @@ static void peer_send_batch(peer_sender *sender, const session_work *w, size_t f
 /* One session of nghttp3. What its decoder wrote is kept where `replies` is given. Answers how many bytes sections and
  * instructions had. */
 static size_t peer_session(const session_work *w, pack *replies) {
-  peer_sender sender = peer_sender_new(CAPACITY, LIMIT);
-  peer_receiver receiver = peer_receiver_new(CAPACITY, LIMIT);
+  peer_sender sender = peer_sender_new(w->capacity, LIMIT);
+  peer_receiver receiver = peer_receiver_new(w->capacity, LIMIT);
   size_t fields = 0, sum = 0, written = 0, total = lists_of(w);
   for (size_t from = 0; from < total; from += w->batch) {
     size_t to = from + w->batch < total ? from + w->batch : total;
@@ -97,7 +99,7 @@ static void peer_encode(void *data, uint64_t rounds) {
   session_work *w = data;
   size_t total = lists_of(w);
   for (; rounds; rounds--) {
-    peer_sender sender = peer_sender_new(CAPACITY, LIMIT);
+    peer_sender sender = peer_sender_new(w->capacity, LIMIT);
     for (size_t from = 0; from < total; from += w->batch) {
       const pack *replies = &w->peer_replies[from / w->batch];
       peer_send_batch(&sender, w, from, from + w->batch < total ? from + w->batch : total);
@@ -112,7 +114,7 @@ static void peer_encode(void *data, uint64_t rounds) {
 static void peer_decode(void *data, uint64_t rounds) {
   session_work *w = data;
   for (; rounds; rounds--) {
-    peer_receiver receiver = peer_receiver_new(CAPACITY, LIMIT);
+    peer_receiver receiver = peer_receiver_new(w->capacity, LIMIT);
     const uint8_t *place = w->decode.bytes;
     size_t fields = 0, sum = 0, len;
     for (size_t steps = take_number(&place); steps; steps--) {
@@ -160,8 +162,8 @@ static void keep_steps(session_work *w) {
   free_pack(&decode.steps);
 }
 
-static session_work prepare(const field_lists *lists, size_t batch) {
-  session_work w = {.lists = lists, .batch = batch, .packed = pack_lists(lists)};
+static session_work prepare(const field_lists *lists, size_t capacity, size_t batch) {
+  session_work w = {.lists = lists, .capacity = capacity, .batch = batch, .packed = pack_lists(lists)};
   w.room = 4 * PASSES * w.packed.len + 1024;
   w.out = malloc(w.room);
   w.peer_replies = calloc(lists_of(&w) / batch + 1, sizeof *w.peer_replies);
@@ -181,19 +183,26 @@ static void free_work(session_work *w) {
   free(w->out);
 }
 
-void session_rows(const field_lists *lists, size_t batch, double most_size) {
-  session_work w = prepare(lists, batch);
-  const contender encode[CONTENDERS] = {{our_encode, &w}, {peer_encode, &w}, {0}};
-  const contender decode[CONTENDERS] = {{our_decode, &w}, {peer_decode, &w}, {0}};
+void session_rows_in(const field_lists *lists, size_t capacity, size_t batch, double most_size) {
+  session_work w = prepare(lists, capacity, batch);
+  /* HPACK acknowledges nothing, so it has lock-step alone */
+  peer_hpack *hpack = batch == 1 ? peer_hpack_new(lists, PASSES, capacity) : NULL;
+  const contender encode[CONTENDERS] = {{our_encode, &w}, {peer_encode, &w}, {hpack ? peer_hpack_encode : NULL, hpack}};
+  const contender decode[CONTENDERS] = {{our_decode, &w}, {peer_decode, &w}, {hpack ? peer_hpack_decode : NULL, hpack}};
   const contender both[CONTENDERS] = {{our_both, &w}, {peer_both, &w}, {0}};
   double count = (double)lists_of(&w);
   char row[3][48];
   static const char *const works[] = {"encode", "decode", "both"};
-  for (int k = 0; k < 3; k++) snprintf(row[k], sizeof row[k], "%s, 4096/100, by %zu", works[k], batch);
-  measure_row(&(row_kind){row[0], lists->name, "klists/s", count, 1e3, 0, 1.0, 0}, encode, count);
-  measure_row(&(row_kind){row[1], lists->name, "klists/s", count, 1e3, 0, 1.0, 0}, decode, count);
+  for (int k = 0; k < 3; k++) snprintf(row[k], sizeof row[k], "%s, %zu/100, by %zu", works[k], capacity, batch);
+  measure_row(&(row_kind){row[0], lists->name, "klists/s", count, 1e3, 0, 1.0, 0, "nghttp2"}, encode, count);
+  measure_row(&(row_kind){row[1], lists->name, "klists/s", count, 1e3, 0, 1.0, 0, "nghttp2"}, decode, count);
   measure_row(&(row_kind){row[2], lists->name, "klists/s", count, 1e3, 0, 1.0, 0}, both, count);
   double plain = PASSES * (double)lists->bytes;
   size_row(row[2], lists->name, (double)w.both.bytes / plain, (double)w.peer_bytes / plain, most_size);
+  if (hpack) peer_hpack_free(hpack);
   free_work(&w);
+}
+
+void session_rows(const field_lists *lists, size_t batch, double most_size) {
+  session_rows_in(lists, 4096, batch, most_size);
 }

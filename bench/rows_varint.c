@@ -20,15 +20,19 @@ static uint64_t next_random(uint64_t *state) {
   return *state;
 }
 
-/* Numbers whose encodings have one byte each, or one, two, four and eight alike often. */
-static varints make(int mixed) {
+enum { MIXED = 4 };
+
+/* Numbers whose shortest encodings have 2^form bytes each; MIXED: one, two, four and eight alike often. */
+static varints make(int form) {
   static const uint64_t most[4] = {63, 16383, 1073741823u, 4611686018427387903u};
+  static const uint64_t least[4] = {0, 64, 16384, 1073741824u};
   uint64_t state = 88172645463325252u;
   varints v = {malloc(NUMBERS * sizeof(uint64_t)), malloc(ROOM), malloc(ROOM), 0, 0};
   uint8_t *end = v.bytes;
   for (size_t i = 0; i < NUMBERS; i++) {
     uint64_t random = next_random(&state);
-    v.numbers[i] = random >> 2 & most[mixed ? random & 3 : 0];
+    uint64_t number = random >> 2 & most[form == MIXED ? random & 3 : (uint64_t)form];
+    v.numbers[i] = form != MIXED && number < least[form] ? number + least[form] : number;
     v.sum += v.numbers[i];
     end = nghttp3_put_varint(end, (int64_t)v.numbers[i]);
   }
@@ -101,14 +105,15 @@ static void check_bytes(const varints *v) {
 }
 
 void varint_rows(void) {
-  static const char *const names[2] = {"1 byte", "1 to 8 bytes"};
-  for (int mixed = 0; mixed < 2; mixed++) {
-    varints v = make(mixed);
+  static const char *const names[MIXED + 1] = {"1 byte", "2 bytes", "4 bytes", "8 bytes", "1 to 8 bytes"};
+  for (int form = 0; form <= MIXED; form++) {
+    double target = form == MIXED ? 1.1 : 1.0;
+    varints v = make(form);
     check_bytes(&v);
     const contender encode[CONTENDERS] = {{our_encode, &v}, {peer_encode, &v}, {plain_encode, &v}};
     const contender decode[CONTENDERS] = {{our_decode, &v}, {peer_decode, &v}, {plain_decode, &v}};
-    measure_row(&(row_kind){"varint encode", names[mixed], "ns", NUMBERS, 1, 1, 1.0, 0}, encode, 0);
-    measure_row(&(row_kind){"varint decode", names[mixed], "ns", NUMBERS, 1, 1, 1.0, 0}, decode, 0);
+    measure_row(&(row_kind){"varint encode", names[form], "ns", NUMBERS, 1, 1, target, 0}, encode, 0);
+    measure_row(&(row_kind){"varint decode", names[form], "ns", NUMBERS, 1, 1, target, 0}, decode, 0);
     free(v.numbers);
     free(v.bytes);
     free(v.out);

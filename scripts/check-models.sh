@@ -1,11 +1,14 @@
 #!/usr/bin/env bash
 # Do the two models of one endpoint, of which one was written without the definitions, answer the same lists of calls alike? And does that
-# one have the program write what examples/NAME.stdout has? One line 'ok ..' or 'failed ..' for each, with the first differences.
+# one have the program write what examples/NAME.stdout has? And are bytes answered alike wherever they are cut into deliveries? One line
+# 'ok ..' or 'failed ..' for each, with the first differences.
 set -uo pipefail
 cd "$(dirname "$0")/.."
 
 python3 -B scripts/compare_models.py 4000 1
 bad=$?
+
+python3 -B scripts/cut_lists.py 1000 1 || bad=1
 
 scripts=0
 differing=""

@@ -1,12 +1,14 @@
 #!/usr/bin/env bash
-# Sees to it that nghttp3's header and static archive are there, and says so where it installs them.
+# Says which Debian packages are missing that bench/ is built with, and ends with an error where one is.
 set -euo pipefail
 
-if [ -f /usr/include/nghttp3/nghttp3.h ] && [ -n "$(gcc -print-file-name=libnghttp3.a | grep /)" ]; then
-  exit 0
+missing=()
+for name in nghttp3 nghttp2; do
+  if [ ! -f "/usr/include/$name/$name.h" ] || [ ! -f "$(gcc -print-file-name="lib$name.a")" ]; then
+    missing+=("lib$name-dev")
+  fi
+done
+if [ ${#missing[@]} -gt 0 ]; then
+  echo "missing: ${missing[*]} (Debian: apt-get install ${missing[*]})" >&2
+  exit 1
 fi
-echo "libnghttp3-dev is missing: installing it" >&2
-as_root=()
-[ "$(id -u)" -eq 0 ] || as_root=(sudo)
-"${as_root[@]}" apt-get update -qq >&2
-DEBIAN_FRONTEND=noninteractive "${as_root[@]}" apt-get install -y -qq --no-install-recommends libnghttp3-dev >&2

@@ -1,7 +1,8 @@
 #!/usr/bin/env bash
 # The gate: the checks of this repository (scripts/check-*.sh), which take about a minute and each print one line 'ok NAME' or
 # 'failed NAME' for each thing that they check, then `rt ci`, and then the programs that it built: a large exchange, scripts with
-# memory refused, and hostile calls of an endpoint. Where one of these fails the gate ends there. The last line is the sum.
+# memory refused, input and output that fail, and hostile calls of an endpoint. Where one of these fails the gate ends there. The last line is
+# the sum. The C programs of tests/c have a command of their own (make test-c): rt ci leaves no archive, and rt lib would prove all crates anew.
 set -uo pipefail
 cd "$(dirname "$0")/.."
 
@@ -53,6 +54,7 @@ fi
 if [ "$failed" -eq 0 ]; then
   count python3 scripts/exchange.py crates/h3_talk/out/h3_talk
   count python3 scripts/refused_memory.py crates/h3_talk/out/h3_talk
+  count python3 scripts/failing_streams.py crates/h3_talk/out/h3_talk
   count python3 scripts/hostile_calls.py crates/h3_calls/out/h3_calls
 fi
 

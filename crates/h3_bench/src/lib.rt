@@ -6,6 +6,7 @@
 
 mod ends;
 mod exchange;
+mod header;
 mod huffman;
 mod input;
 mod output;
@@ -13,3 +14,4 @@ mod report;
 mod section;
 mod session;
 mod varint;
+mod wire;

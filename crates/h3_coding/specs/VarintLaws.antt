@@ -51,6 +51,13 @@ reads_none old left count (short first byte e k few) =
     let few' : length old < 2 ^ (first / 64) = subst (λ x. length old < 2 ^ x) k few in
     ap varint_at e ∙ fewer first left (omega (arith, few', ap length e))
 
+-- bytes with no number in front, of which there are some, are fewer than the first one tells
+pub unfinished_at : (first count : ℕ) (bytes rest : List ℕ) → first < 256 → bytes ≡ first ∷ rest → varint_at bytes ≡ None → count ≡ first / 64 → IsUnfinished bytes count rest
+unfinished_at first count bytes rest byte e none k = elim (cases_lt (length rest) (2 ^ (first / 64) - 1)) [
+  | inl few ↦ let power = pow_pos (first / 64) in short first byte e k (rw k (omega (arith, few, power, ap length e)))
+  | inr h ↦ let there = enough first rest h in let same = ap varint_at e in absurd (cc)
+]
+
 pub reads_varint : (r : Result ℕ UnexpectedEnd) (old new : List ℕ) → IfOk r (λ v. Takes (IsEncoding v) old new) → IfErr r (λ e. IsUnfinished old e.0 new) → ReadsVarint r old new
 reads_varint (Ok v) old new ok err = reads_taken v old new ok
 reads_varint (Err e) old new ok err = reads_none old new e.0 err

@@ -112,15 +112,49 @@ impl VarInt {
         ensures err { IfErr result (λ e. IsUnfinished (B.unread buf.old) e.0 (B.unread buf.new)) }
         ensures kept { B.kept buf.new ≡ B.kept buf.old }
     {
-        if let Some((number, size)) = VarInt::at_front(buf.chunk()) {
+        let bytes = buf.chunk();
+        let len = bytes.len();
+        if let Some((number, size)) = VarInt::at_front(bytes) {
             buf.advance(size);
             return Ok(number);
+        }
+        if buf.remaining() == len {
+            return Err(VarInt::take_unfinished(buf));
         }
         VarInt::decode_in_pieces(buf)
     }
 
+    // Takes the first byte, where there is one, of bytes that begin no encoding, and answers why.
+    // Where the bytes of a buffer always lie together, this is all that is left of a read that fails:
+    // so the place of such a buffer stays in registers.
+    #[inline(always)]
+    fn take_unfinished<B: Buf>(buf: &mut B) -> UnexpectedEnd
+        requires { varint_at (B.unread buf.old) ≡ None }
+        ensures why { IsUnfinished (B.unread buf.old) result.0 (B.unread buf.new) }
+        ensures kept { B.kept buf.new ≡ B.kept buf.old }
+    {
+        let bytes = buf.chunk();
+        let len = bytes.len();
+        if len == 0 {
+            return UnexpectedEnd(0);
+        }
+        let count = VarInt::form_of(bytes[0]);
+        buf.advance(1);
+        UnexpectedEnd(count)
+    }
+
+    // 0, 1, 2 or 3 for a first byte of a form of 1, 2, 4 or 8 bytes.
+    fn form_of(first: u8) -> usize
+        ensures value { result ≡ first / 64 }
+        ensures byte { first < 256 }
+    {
+        usize::from(first >> 6)
+    }
+
     // The number that the bytes begin with, and how many of them it has; none where it does not lie
-    // whole in them.
+    // whole in them. Short forms have a branch each, so that the place of the next number does not
+    // wait for this one's bytes. Longer ones take one load and share a branch, since one more would
+    // often be guessed wrong where all forms come in turn.
     #[inline(always)]
     fn at_front(bytes: &[u8]) -> Option<(Self, usize)>
         ensures some { IfSome result (λ p. IsEncoding p.0 (take p.1 bytes.now)
@@ -135,15 +169,17 @@ impl VarInt {
         if first < 0x40 {
             return Some((VarInt(u64::from(first)), 1));
         }
-        if len >= 8 {
-            return Some(VarInt::at_wide_front(bytes));
-        }
         if first < 0x80 {
             if len < 2 {
                 return None;
             }
             let number = u16::from_be_bytes([first, bytes[1]]) & 0x3fff;
             return Some((VarInt(u64::from(number)), 2));
+        }
+        if let Some(octets) = bytes.first_chunk::<8>() {
+            let word = u64::from_be_bytes(*octets) & 0x3fff_ffff_ffff_ffff;
+            let size = 4 * (usize::from(first >> 6) - 1);
+            return Some((VarInt(word >> (64 - 8 * size)), size));
         }
         if first < 0xc0 {
             if len < 4 {
@@ -153,23 +189,6 @@ impl VarInt {
             return Some((VarInt(u64::from(number)), 4));
         }
         None
-    }
-
-    // The same where eight bytes are there: one load, and no branch by the form, which is hard to
-    // predict.
-    #[inline(always)]
-    fn at_wide_front(bytes: &[u8]) -> (Self, usize)
-        requires { 8 ≤ length bytes.now }
-        ensures encoding { IsEncoding result.0 (take result.1 bytes.now) }
-        ensures within { result.1 ≤ 8 }
-    {
-        let octets = [
-            bytes[0], bytes[1], bytes[2], bytes[3], bytes[4], bytes[5], bytes[6], bytes[7],
-        ];
-        let word = u64::from_be_bytes(octets);
-        let size: usize = 1 << (word >> 62);
-        let number = (word & 0x3fff_ffff_ffff_ffff) >> (64 - 8 * size);
-        (VarInt(number), size)
     }
 
     // Reads an encoding byte by byte, across the pieces of the buffer.
@@ -186,7 +205,7 @@ impl VarInt {
         let first = buf.get_u8();
         let more = VarInt::encoded_size(first) - 1;
         if buf.remaining() < more {
-            return Err(UnexpectedEnd(usize::from(first >> 6)));
+            return Err(UnexpectedEnd(VarInt::form_of(first)));
         }
         Ok(VarInt(get_number(buf, first & 0x3f, more)))
     }

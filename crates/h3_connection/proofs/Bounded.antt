@@ -8,7 +8,7 @@ use Rattle.h3_field.specs.Instruction.{EncoderInstruction}
 use Rattle.h3_field.specs.Instruction.EncoderInstruction.{SetCapacity, InsertWithStaticName, InsertWithEntryName, InsertLiteral, Duplicate}
 use Rattle.h3_field.specs.InstructionReading.{InstructionForm, instruction}
 use Rattle.h3_qpack.specs.DecoderState.{DecoderState, decoder_after, inserting, insertion_of, greatest_capacity}
-use Rattle.h3_qpack.specs.TableState.{has_room, with_entry}
+use Rattle.h3_table.specs.TableState.{has_room, with_entry}
 use Rattle.h3_connection.specs.Bounds.{TriesTwice, WaitsOnce, OfStream, IsBounded}
 use Rattle.h3_connection.specs.Arrivals.{Arrival, BytesCame, EndCame, ResetCame, stream_of}
 use Rattle.h3_connection.specs.StreamSets.{Streams, stream_at, set_stream}

@@ -39,7 +39,7 @@ by_does success e f code refused is = ap (λ x. x.closed) (does_closed success e
 by_taken : (e : EndpointHistory) (code : ℕ) (r : Option Refusal) (found : Found) → e.closed ≡ Some code → (done Done (taken e.closed r e found)).1.closed ≡ Some code
 by_taken e code r found is = ap (λ p. (done Done p).1.closed) (taken_closed e.closed code r e found is) ∙ is
 
-stays : (e : EndpointHistory) (c : Call) (code : ℕ) → e.closed ≡ Some code → (called e c).1.closed ≡ Some code
+pub stays : (e : EndpointHistory) (c : Call) (code : ℕ) → e.closed ≡ Some code → (called e c).1.closed ≡ Some code
 stays e OpenRequest code is = by_does _ e _ code _ is
 stays e (SendHead q head) code is = by_does _ e _ code _ is
 stays e (SendBody q bytes) code is = by_does _ e _ code _ is

@@ -23,7 +23,7 @@ first_if : (b : Bool) (e : EndpointHistory) (found : Found) → (unless_second b
 first_if true e found none = cc
 first_if false e found none = refl
 
-only_first : (first : Option ℕ) (id : ℕ) (e : EndpointHistory) (found other : Found) → (only_one first id e found).1 ≡ None → only_one first id e other ≡ other
+pub only_first : (first : Option ℕ) (id : ℕ) (e : EndpointHistory) (found other : Found) → (only_one first id e found).1 ≡ None → only_one first id e other ≡ other
 only_first first id e found other none = ap (λ b. unless_second b e other) (first_if (is_second first id) e found none)
 
 only_same : (first : Option ℕ) (id : ℕ) (e : EndpointHistory) (found : Found) → first ≡ Some id → only_one first id e found ≡ found
@@ -116,7 +116,7 @@ with_bytes_on o role (Ignored, bytes) = refl
 set_again : (e : EndpointHistory) (id : ℕ) (u v : Unidirectional) → with_unidirectional (with_unidirectional e id u) id v ≡ with_unidirectional e id v
 set_again e id u v = ap (λ s. record e { unidirectional = s }) (set-set e.unidirectional id u v)
 
-untold_cut : (e : EndpointHistory) (id : ℕ) (o : Unidirectional) (front rest b : List ℕ) → rest ≡ []
+pub untold_cut : (e : EndpointHistory) (id : ℕ) (o : Unidirectional) (front rest b : List ℕ) → rest ≡ []
     → Alike (LeftAs (role_after (Untold front) b).0 e.own.replies) (read_unidirectional e id o (then_role b (Untold front, rest)))
     (read_unidirectional (with_unidirectional e id (record o { role = Untold front })) id (record o { role = Untold front }) (role_after (Untold front) b))
 untold_cut e id o front rest b none =
@@ -144,7 +144,7 @@ by_role ec dc e id o Ignored rest b good none plain =
     let u : Unidirectional = record o { role = Ignored } in alike_same _ _ (ap (λ w. (w, None)) (sym (set_again e id u u)))
 
 -- a delivery that is taken
-taken_good : (closed : Option ℕ) (r : Option Refusal) (e : EndpointHistory) (found : Found) → (taken closed r e found).0 ≡ None → (closed ≡ None) × (r ≡ None) × (found.1 ≡ None) × ((taken closed r e found).1 ≡ found.0)
+pub taken_good : (closed : Option ℕ) (r : Option Refusal) (e : EndpointHistory) (found : Found) → (taken closed r e found).0 ≡ None → (closed ≡ None) × (r ≡ None) × (found.1 ≡ None) × ((taken closed r e found).1 ≡ found.0)
 taken_good (Some code) r e found none = absurd (cc)
 taken_good None (Some r) e found none = absurd (cc)
 taken_good None None e (f, Some code) none = absurd (cc)
@@ -158,11 +158,11 @@ delivered_as e id o bytes open_still kind accepted is =
     ∙ ap (λ k. closed_by (bytes_at e id bytes k)) kind
     ∙ ap (λ (x : Unidirectional). closed_by (read_unidirectional e id x (role_after x.role bytes))) is
 
-abbrev closed_answer : Option ℕ → Option Refusal
+abbrev pub closed_answer : Option ℕ → Option Refusal
 closed_answer None = None
 closed_answer (Some code) = Some (refusal.Connection code)
 
-answered : (found : Found) → (closed_by found).0 ≡ closed_answer found.1
+pub answered : (found : Found) → (closed_by found).0 ≡ closed_answer found.1
 answered (e, None) = refl
 answered (e, Some code) = refl
 
@@ -171,13 +171,36 @@ closed_same Left (x, None) (y, None) h = record { answer = refl; left = λ none.
 closed_same Left (x, Some code) two h = record { answer = ap closed_answer h.answer ∙ sym (answered two); left = λ none. absurd (cc) }
 closed_same Left (x, None) (y, Some code) h = let wrong : None ≡ Some code = h.answer in absurd (cc)
 
-pub cut_delivery : EncoderCuts → DecoderCuts → (e : EndpointHistory) (id : ℕ) (a b : List ℕ) → kind_of e.side id ≡ PeerUnidirectional → (deliver e id a).0 ≡ None → IsNoSession (role_with e id (a ++ b))
-    → SameAnswers (LeftAs (role_with e id (a ++ b)) e.own.replies) (deliver e id (a ++ b)) (deliver_cut e id a b)
-cut_delivery ec dc e id a b kind none plain =
-    subst (λ p. SameAnswers (LeftAs (role_with e id (a ++ b)) e.own.replies) p (deliver_cut e id a b)) (sym one)
-    (subst (λ p. SameAnswers (LeftAs (role_with e id (a ++ b)) e.own.replies) (closed_by (read_unidirectional e id o (then_role b x))) p) (sym two)
-    (subst (λ role. SameAnswers (LeftAs role e.own.replies) (closed_by (read_unidirectional e id o (then_role b x))) (closed_by (read_unidirectional f id u (role_after x.0 b)))) (sym role)
-    (closed_same (LeftAs (role_after x.0 b).0 e.own.replies) _ _ (by_role ec dc e id o x.0 x.1 b good (untold_leaves_none o.role a) (subst IsNoSession role plain)))))
+-- what two ways of a delivery find
+pub record CutAs (Left : EndpointHistory → EndpointHistory → Type 0) (one two : Option Refusal × EndpointHistory) : Type 0 where
+  pub first : Found
+  pub second : Found
+  pub first_is : one ≡ closed_by first
+  pub second_is : two ≡ closed_by second
+  pub alike : Alike Left first second
+
+-- the role that all bytes give, and what is read of them at once and in two
+pub record RoleCut (e : EndpointHistory) (id : ℕ) (a b : List ℕ) : Type 0 where
+  pub heard : Role × List ℕ
+  pub same_role : role_with e id (a ++ b) ≡ (role_after heard.0 b).0
+  pub good : (read_unidirectional e id (unidirectional_at e id) heard).1 ≡ None
+  pub untold : (front : List ℕ) → heard.0 ≡ Untold front → heard.1 ≡ []
+  pub left : (deliver e id a).1 ≡ (read_unidirectional e id (unidirectional_at e id) heard).0
+  pub role_left : (unidirectional_at (deliver e id a).1 id).role ≡ heard.0
+  pub at_once : deliver e id (a ++ b) ≡ closed_by (read_unidirectional e id (unidirectional_at e id) (then_role b heard))
+  pub apart : deliver_cut e id a b ≡ closed_by (read_unidirectional (read_unidirectional e id (unidirectional_at e id) heard).0 id (with_bytes (unidirectional_at e id) heard) (role_after heard.0 b))
+
+pub role_cut_of : (e : EndpointHistory) (id : ℕ) (a b : List ℕ) → kind_of e.side id ≡ PeerUnidirectional → (deliver e id a).0 ≡ None → RoleCut e id a b
+role_cut_of e id a b kind none = record {
+  heard = x;
+  same_role = role;
+  good = good;
+  untold = untold_leaves_none o.role a;
+  left = left;
+  role_left = ap (λ f. (unidirectional_at f id).role) left ∙ ap (λ (y : Unidirectional). y.role) there ∙ ap (λ y. y.role) (role_of_bytes o x);
+  at_once = one;
+  apart = two;
+}
   where
     o : Unidirectional
     o = unidirectional_at e id
@@ -225,21 +248,42 @@ cut_delivery ec dc e id a b kind none plain =
         ap (λ g. deliver g id b) left ∙ delivered_as f id u b (h.closed ∙ taken_all.0) still open_now there
         ∙ ap (λ r. closed_by (read_unidirectional f id u (role_after r b))) (ap (λ y. y.role) (role_of_bytes o x))
 
+pub cut_as : (Left : EndpointHistory → EndpointHistory → Type 0) (one two : Option Refusal × EndpointHistory) → CutAs Left one two → SameAnswers Left one two
+cut_as Left one two c = subst (λ p. SameAnswers Left p two) (sym c.first_is) (subst (λ p. SameAnswers Left (closed_by c.first) p) (sym c.second_is) (closed_same Left c.first c.second c.alike))
+
+pub found_cut : EncoderCuts → DecoderCuts → (e : EndpointHistory) (id : ℕ) (a b : List ℕ) → kind_of e.side id ≡ PeerUnidirectional → (deliver e id a).0 ≡ None → IsNoSession (role_with e id (a ++ b))
+    → CutAs (LeftAs (role_with e id (a ++ b)) e.own.replies) (deliver e id (a ++ b)) (deliver_cut e id a b)
+found_cut ec dc e id a b kind none plain =
+    let c = role_cut_of e id a b kind none in
+    let o = unidirectional_at e id in
+    record {
+      first = read_unidirectional e id o (then_role b c.heard);
+      second = read_unidirectional (read_unidirectional e id o c.heard).0 id (with_bytes o c.heard) (role_after c.heard.0 b);
+      first_is = c.at_once;
+      second_is = c.apart;
+      alike = subst (λ role. Alike (LeftAs role e.own.replies) (read_unidirectional e id o (then_role b c.heard)) (read_unidirectional (read_unidirectional e id o c.heard).0 id (with_bytes o c.heard) (role_after c.heard.0 b))) (sym c.same_role)
+          (by_role ec dc e id o c.heard.0 c.heard.1 b c.good c.untold (subst IsNoSession c.same_role plain));
+    }
+
+pub cut_delivery : EncoderCuts → DecoderCuts → (e : EndpointHistory) (id : ℕ) (a b : List ℕ) → kind_of e.side id ≡ PeerUnidirectional → (deliver e id a).0 ≡ None → IsNoSession (role_with e id (a ++ b))
+    → SameAnswers (LeftAs (role_with e id (a ++ b)) e.own.replies) (deliver e id (a ++ b)) (deliver_cut e id a b)
+cut_delivery ec dc e id a b kind none plain = cut_as (LeftAs (role_with e id (a ++ b)) e.own.replies) _ _ (found_cut ec dc e id a b kind none plain)
+
 -- a refused delivery
-second_fault : (first : Option ℕ) (id : ℕ) (e : EndpointHistory) (found other : Found) (code : ℕ) → (only_one first id e found).1 ≡ Some code → (found.1 ≡ Some code → other.1 ≡ Some code) → (only_one first id e other).1 ≡ Some code
+pub second_fault : (first : Option ℕ) (id : ℕ) (e : EndpointHistory) (found other : Found) (code : ℕ) → (only_one first id e found).1 ≡ Some code → (found.1 ≡ Some code → other.1 ≡ Some code) → (only_one first id e other).1 ≡ Some code
 second_fault first id e found other code = by_second (is_second first id)
   where
     by_second : (b : Bool) → (unless_second b e found).1 ≡ Some code → (found.1 ≡ Some code → other.1 ≡ Some code) → (unless_second b e other).1 ≡ Some code
     by_second true is h = is
     by_second false is h = h is
 
-role_fault : EncoderCuts → DecoderCuts → (e : EndpointHistory) (id : ℕ) (o : Unidirectional) (role : Role) (rest b : List ℕ) (code : ℕ) → (e.peer.settings ≡ None → e.decoder_unread ≡ [])
+pub role_fault : EncoderCuts → DecoderCuts → (e : EndpointHistory) (id : ℕ) (o : Unidirectional) (role : Role) (rest b : List ℕ) (code : ℕ) → (role ≡ Control → e.peer.settings ≡ None → e.decoder_unread ≡ [])
     → (read_unidirectional e id o (role, rest)).1 ≡ Some code → (read_unidirectional e id o (then_role b (role, rest))).1 ≡ Some code
 role_fault ec dc e id o (Untold front) rest b code early is = absurd (cc)
 role_fault ec dc e id o Control rest b code early is =
     let w = with_unidirectional e id (record o { role = Control }) in
     let g = record w { control_on = Some id } in
-    second_fault e.control_on id w (read_control g rest) (read_control g (rest ++ b)) code is (control_fault g rest b code early)
+    second_fault e.control_on id w (read_control g rest) (read_control g (rest ++ b)) code is (control_fault g rest b code (early refl))
 role_fault ec dc e id o Encoder rest b code early is =
     let w = with_unidirectional e id (record o { role = Encoder }) in
     let g = record w { encoder_on = Some id } in
@@ -259,7 +303,7 @@ bytes_fault ec dc e id a b OwnUnidirectional code early is = absurd (cc)
 bytes_fault ec dc e id a b PeerUnidirectional code early is =
     let o = unidirectional_at e id in
     let x = role_after o.role a in
-    ap (λ y. (read_unidirectional e id o y).1) (role_cut o.role a b) ∙ role_fault ec dc e id o x.0 x.1 b code early is
+    ap (λ y. (read_unidirectional e id o y).1) (role_cut o.role a b) ∙ role_fault ec dc e id o x.0 x.1 b code (λ control. early) is
 
 refused_alike : (closed : Option ℕ) (r : Option Refusal) (e : EndpointHistory) (found other : Found) (why : Refusal) → (taken closed r e found).0 ≡ Some why → ((code : ℕ) → found.1 ≡ Some code → other.1 ≡ Some code)
     → (taken closed r e other).0 ≡ Some why

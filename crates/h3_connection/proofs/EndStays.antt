@@ -41,7 +41,7 @@ use Rattle.h3_connection.proofs.ReadingStays.{bytes_stay, end_stays, reset_stays
 use Rattle.h3_connection.proofs.Isolated.{keeps_rest}
 
 -- what a pull of a stream that is over does
-over_pulled : (side : _) (own : _) (id : ℕ) (r : _) (i : Incoming) → IsOver i → pull_stream side own id r i ≡ just (answer.Item item.End) i
+pub over_pulled : (side : _) (own : _) (id : ℕ) (r : _) (i : Incoming) → IsOver i → pull_stream side own id r i ≡ just (answer.Item item.End) i
 unfolding pull_stream
 over_pulled side own id r i h = rw (h.no_fault, h.over) refl
 
@@ -314,7 +314,7 @@ ends_stream e id s is = by_over s.stream.is_over refl
 
     by_over : (b : Bool) → s.stream.is_over ≡ b → IsOver p.incoming
     by_over true over = let h = s.is_over over in subst (λ x. IsOver x.incoming) (sym (over_pulled e.side e.announced id e.decoding.decoder s.stream h)) h
-    by_over false not_over = pull_ends e.side e.announced id e.decoding.decoder s.stream not_over is
+    by_over false not_over = (pull_ends e.side e.announced id e.decoding.decoder s.stream not_over).0 is
 
 not_too_many : (b : Bool) (e : EndpointHistory) (id : ℕ) (p : Pulled) → (pulled e id (if_too_many b p)).0 ≡ answer.Item item.End → (if_too_many b p ≡ p) × (p.answer ≡ answer.Item item.End)
 not_too_many true e id p is = cc

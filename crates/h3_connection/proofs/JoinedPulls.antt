@@ -56,7 +56,7 @@ enough x k is = elim (cases_lt x k) [
   | inr h ↦ h
 ]
 
-whole_on : (b : Bool) (x k y l : ℕ) → (b && nat_lt x k) ≡ false → (k ≤ x → l ≤ y) → (b && nat_lt y l) ≡ false
+pub whole_on : (b : Bool) (x k y l : ℕ) → (b && nat_lt x k) ≡ false → (k ≤ x → l ≤ y) → (b && nat_lt y l) ≡ false
 whole_on false x k y l is h = refl
 whole_on true x k y l is h = le-ltb y l (h (enough x k is))
 
@@ -70,7 +70,7 @@ payload_on i p t h some = record {
   whole = whole_on i.ended (length (p ++ concat t)) i.body_left (length (concat t)) (i.body_left - length p) h.whole (λ e. omega (arith, e, length-append p (concat t)));
 }
 
-raw_ends : (b : Bool) (i : Incoming) → piece_in (if b then just (pull.Item item.End) (record i { is_over = true }) else just pull.Pending i).answer ≡ None
+pub raw_ends : (b : Bool) (i : Incoming) → piece_in (if b then just (pull.Item item.End) (record i { is_over = true }) else just pull.Pending i).answer ≡ None
 raw_ends true i = refl
 raw_ends false i = refl
 
@@ -78,19 +78,19 @@ raw_left : (b : Bool) (i : Incoming) → i.unread ≡ [] → (if b then just (pu
 raw_left true i e = e
 raw_left false i e = e
 
-no_difference : (i : Incoming) → HaveBytes i.unread → DifferInCuts i i
+pub no_difference : (i : Incoming) → HaveBytes i.unread → DifferInCuts i i
 no_difference i h = record { bytes = refl; same = refl; first = h; second = h }
 
 abbrev at_pieces : Incoming → List (List ℕ) → Incoming
 at_pieces i t = record i { unread = t }
 
 module _ (side : Side) (own : Announced) (id : ℕ) (r : DecoderState) where
-  pull_of_payload : (i : Incoming) → Payload i → pull_stream side own id r i ≡ in_payload i
+  pub pull_of_payload : (i : Incoming) → Payload i → pull_stream side own id r i ≡ in_payload i
   pull_of_payload i h =
       pull_next side own id r i h.no_fault h.not_over ∙ by_place side own id r i i.place h.message ∙ ap (in_message side own id r i) h.no_section
       ∙ ap (λ b. if b then in_payload i else between_frames side own id r i) (lt-ltb 0 i.body_left h.some)
 
-  pull_of_session : (i : Incoming) → InASession i → pull_stream side own id r i ≡ raw i
+  pub pull_of_session : (i : Incoming) → InASession i → pull_stream side own id r i ≡ raw i
   pull_of_session i h = pull_next side own id r i h.no_fault h.not_over ∙ ap (next_item side own id r i) h.session
 
   joins_alike : (m : ℕ) (i j : Incoming) → pull_stream side own id r i ≡ pull_stream side own id r j → joined_within side own id r m i ≡ joined_within side own id r m j
@@ -209,7 +209,7 @@ module _ (side : Side) (own : Announced) (id : ℕ) (r : DecoderState) where
       a_piece m (at_pieces i (p ∷ t)) (at_pieces i t) p _ (pull_of_session (at_pieces i (p ∷ t)) h) refl refl
       ∙ ap (behind p) (session_ends m t i (record { no_fault = h.no_fault; not_over = h.not_over; session = h.session }) have.1 (omega (arith, few, have.0, length-append p (concat t))))
 
-  session_too : (i j : Incoming) → DifferInCuts i j → InASession i → InASession j
+  pub session_too : (i j : Incoming) → DifferInCuts i j → InASession i → InASession j
   session_too i j d h = subst InASession (sym d.same) (record { no_fault = h.no_fault; not_over = h.not_over; session = h.session })
 
   sessions_alike : (m n : ℕ) (i j : Incoming) → InASession i → DifferInCuts i j → length (concat i.unread) ≤ m → length (concat i.unread) ≤ n → JoinedAlike (joined_within side own id r m i) (joined_within side own id r n j)

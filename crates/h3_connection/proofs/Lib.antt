@@ -21,3 +21,15 @@ pub mod DeliveryCuts
 pub mod PullCuts
 pub mod RequestCuts
 pub mod JoinedPulls
+pub mod AlikeEnds
+pub mod AlikeReading
+pub mod AlikeCalls
+pub mod AlikePulls
+pub mod PieceRuns
+pub mod AlikePieces
+pub mod AlikeDeliveries
+pub mod AlikeGroups
+pub mod CallCuts
+pub mod UnknownStreams
+pub mod EndedWell
+pub mod EndOverLists

@@ -74,7 +74,7 @@ cuts_ending n t u c = record {
 same_head : {x y : ℕ} {xs ys : List ℕ} → (x ∷ xs) ≡ (y ∷ ys) → (x ≡ y) × (xs ≡ ys)
 same_head e = (cc, cc)
 
-two_fronts : (x y r s : List ℕ) → x ++ r ≡ y ++ s → IsFront x y ⊎ IsFront y x
+pub two_fronts : (x y r s : List ℕ) → x ++ r ≡ y ++ s → IsFront x y ⊎ IsFront y x
 two_fronts [] y r s e = inl (y, refl)
 two_fronts (a ∷ x) [] r s e = inr (a ∷ x, refl)
 two_fronts (a ∷ x) (b ∷ y) r s e =
@@ -135,14 +135,14 @@ pulls_as : (size : ℕ) (p q x y : Pulled) → p ≡ x → q ≡ y → Pulls siz
 pulls_as size p q x y e f h = subst (λ z. Pulls size z q) (sym e) (subst (λ z. Pulls size x z) (sym f) h)
 
 -- the first piece, as far as a payload goes
-record Chunk (n : ℕ) (pieces : List (List ℕ)) : Type 0 where
-  front : List ℕ
-  others : List (List ℕ)
-  is : chunk_of n pieces ≡ (Some front, others)
-  bytes : front ++ concat others ≡ concat pieces
-  few : length front ≤ n
-  some : 0 < n → 0 < length front
-  have : HaveBytes others
+pub record Chunk (n : ℕ) (pieces : List (List ℕ)) : Type 0 where
+  pub front : List ℕ
+  pub others : List (List ℕ)
+  pub is : chunk_of n pieces ≡ (Some front, others)
+  pub bytes : front ++ concat others ≡ concat pieces
+  pub few : length front ≤ n
+  pub some : 0 < n → 0 < length front
+  pub have : HaveBytes others
 
 -- the first piece is longer, or is taken whole
 pub chunk_cut : (n : ℕ) (p : List ℕ) (pieces : List (List ℕ)) → n < length p → chunk_of n (p ∷ pieces) ≡ (Some (take n p), drop n p ∷ pieces)
@@ -151,7 +151,7 @@ chunk_cut n p pieces more = rw (lt-leb (length p) n more) refl
 pub chunk_whole : (n : ℕ) (p : List ℕ) (pieces : List (List ℕ)) → length p ≤ n → chunk_of n (p ∷ pieces) ≡ (Some p, pieces)
 chunk_whole n p pieces all = rw (le-leb (length p) n all) refl
 
-chunk : (n : ℕ) (p : List ℕ) (pieces : List (List ℕ)) → HaveBytes (p ∷ pieces) → Chunk n (p ∷ pieces)
+pub chunk : (n : ℕ) (p : List ℕ) (pieces : List (List ℕ)) → HaveBytes (p ∷ pieces) → Chunk n (p ∷ pieces)
 chunk n p pieces h = elim (cases_lt n (length p)) [
   | inl more ↦ record {
     front = take n p;
@@ -176,7 +176,7 @@ chunk n p pieces h = elim (cases_lt n (length p)) [
 no_bytes : (p : List ℕ) (pieces : List (List ℕ)) → HaveBytes (p ∷ pieces) → concat (p ∷ pieces) ≡ [] → ⊥
 no_bytes p pieces h e = absurd (omega (arith, h.0, ap length e, length-append p (concat pieces)))
 
-no_pieces : (t : List (List ℕ)) → HaveBytes t → length (concat t) ≤ 0 → t ≡ []
+pub no_pieces : (t : List (List ℕ)) → HaveBytes t → length (concat t) ≤ 0 → t ≡ []
 no_pieces [] h e = refl
 no_pieces (p ∷ t) h e = absurd (omega (arith, h.0, e, length-append p (concat t)))
 
@@ -394,7 +394,7 @@ pub cut_pulled : (side : Side) (own : Announced) (id : ℕ) (r : DecoderState) (
 cut_pulled side own id r i j d = shown _ _ _ (cut_pulls side own id r i j d)
 
 -- what a delivery adds
-piece_bytes : (t : List (List ℕ)) (bytes : List ℕ) → concat (with_piece t bytes) ≡ concat t ++ bytes
+pub piece_bytes : (t : List (List ℕ)) (bytes : List ℕ) → concat (with_piece t bytes) ≡ concat t ++ bytes
 piece_bytes t [] = sym (append-nil (concat t))
 piece_bytes t (byte ∷ bytes) = concat-append t ((byte ∷ bytes) ∷ []) ∙ ap (λ l. concat t ++ l) (append-nil (byte ∷ bytes))
 
@@ -402,7 +402,7 @@ one_more : (t : List (List ℕ)) (byte : ℕ) (bytes : List ℕ) → HaveBytes t
 one_more [] byte bytes h = (omega arith, tt)
 one_more (p ∷ t) byte bytes h = (h.0, one_more t byte bytes h.1)
 
-have_piece : (t : List (List ℕ)) (bytes : List ℕ) → HaveBytes t → HaveBytes (with_piece t bytes)
+pub have_piece : (t : List (List ℕ)) (bytes : List ℕ) → HaveBytes t → HaveBytes (with_piece t bytes)
 have_piece t [] h = h
 have_piece t (byte ∷ bytes) h = one_more t byte bytes h
 

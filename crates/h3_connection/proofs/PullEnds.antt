@@ -1,4 +1,4 @@
--- A pull of a request stream answers its end only where the end came, and then the stream is over.
+-- A pull of a request stream answers its end only where the end came, and then, and only then, the stream is over.
 use Rattle.std.proofs.Common.{◌≡◌, ℕ, Bool, true, false, List, [], ◌∷◌, length, refl, sym, ◌∙◌, ap}
 use Rattle.std.specs.Prelude.{Option, Some, None, if◌then◌else◌, ◌==◌, nat_lt, not, ◌&&◌}
 use Rattle.std.specs.List.{concat}
@@ -21,6 +21,7 @@ use Rattle.h3_connection.specs.Incoming.{Incoming, is_body}
 use Rattle.h3_connection.specs.Skipping.{skipped}
 use Rattle.h3_connection.specs.Pulling.{Pulled, just, connection_fault, whole_head, whole_trailer, head_or_trailer, judged, read_section, decoded, at_section, new_section, at_end, at_frame, framed, next_frame, in_message, next_item, pull_stream, in_payload, body_of, raw_of, tried, begun_section, begun_payload, left_with, is_for, is_client, is_interim, told_size}
 use Rattle.h3_connection.specs.declared.setup.Announced.{Announced}
+use Rattle.h3_connection.specs.declared.event.Pull.{Pull}
 use Rattle.h3_connection.specs.declared.event.Pull.TheVariants as pull
 use Rattle.h3_connection.specs.declared.event.StreamFault.{StreamFault}
 use Rattle.h3_connection.specs.declared.event.Fault.TheVariants as fault
@@ -28,9 +29,20 @@ use Rattle.h3_connection.specs.declared.event.Item.TheVariants as item
 use Rattle.h3_connection.specs.declared.place.Place.{Place}
 use Rattle.h3_connection.specs.declared.place.Place.TheVariants.{BeforeHead, InBody, AfterTrailer, InSession}
 
--- where it answers the end, the stream is over
+-- a stream that is over has ended, and no fault
+abbrev pub EndedWell : Incoming → Type 0
+EndedWell i = i.is_over ≡ true → IsOver i
+
+-- where it answers the end, the stream is over, and it is over in no other way
 abbrev pub Ends : Pulled → Type 0
-Ends p = p.answer ≡ pull.Item item.End → IsOver p.incoming
+Ends p = (p.answer ≡ pull.Item item.End → IsOver p.incoming) × EndedWell p.incoming
+
+-- another answer
+goes : {a : Pull} {i : Incoming} → (a ≡ pull.Item item.End → IsOver i) → i.is_over ≡ false → (a ≡ pull.Item item.End → IsOver i) × (i.is_over ≡ true → IsOver i)
+goes other not_over = (other, λ over. absurd (clash (sym not_over ∙ over)))
+  where
+    clash : false ≡ true → ⊥
+    clash x = cc
 
 either : (b : Bool) (x y : Pulled) → Ends x → Ends y → Ends (if b then x else y)
 either true x y h k = h
@@ -45,87 +57,87 @@ unless_over : (b : Bool) (x y : Pulled) → b ≡ false → Ends y → Ends (if 
 unless_over true x y not_over h = cc
 unless_over false x y not_over h = h
 
-over : (i : Incoming) → i.fault ≡ None → i.ended ≡ true → IsOver (record i { is_over = true })
-over i no_fault ended = record { over = refl; ended = ended; no_fault = no_fault }
+over : (p : Pulled) → p.incoming.fault ≡ None → p.incoming.ended ≡ true → p.incoming.is_over ≡ true → Ends p
+over p no_fault ended is_over = let h : IsOver p.incoming = record { over = is_over; ended = ended; no_fault = no_fault } in (λ x. h, λ x. h)
 
-body_ends : (i : Incoming) (found : Option (List ℕ) × List (List ℕ)) → Ends (body_of i found)
-body_ends i (None, pieces) = λ x. cc
-body_ends i (Some bytes, pieces) = λ x. cc
+body_ends : (i : Incoming) (found : Option (List ℕ) × List (List ℕ)) → i.is_over ≡ false → Ends (body_of i found)
+body_ends i (None, pieces) n = goes (λ x. cc) n
+body_ends i (Some bytes, pieces) n = goes (λ x. cc) n
 
-payload_ends : (i : Incoming) → Ends (in_payload i)
-payload_ends i = either (i.ended && nat_lt (length (concat i.unread)) i.body_left) (connection_fault 0x106 i) (body_of i (chunk_of i.body_left i.unread)) (λ x. cc) (body_ends i (chunk_of i.body_left i.unread))
+payload_ends : (i : Incoming) → i.is_over ≡ false → Ends (in_payload i)
+payload_ends i n = either (i.ended && nat_lt (length (concat i.unread)) i.body_left) (connection_fault 0x106 i) (body_of i (chunk_of i.body_left i.unread)) (goes (λ x. cc) n) (body_ends i (chunk_of i.body_left i.unread) n)
 
-raw_ends : (i : Incoming) (found : Option (List ℕ) × List (List ℕ)) → i.fault ≡ None → Ends (raw_of i found)
-raw_ends i (None, pieces) no_fault = given i.ended (just (pull.Item item.End) (record i { is_over = true })) (just pull.Pending i) (λ ended x. over i no_fault ended) (λ x. cc)
-raw_ends i (Some bytes, pieces) no_fault = λ x. cc
+raw_ends : (i : Incoming) (found : Option (List ℕ) × List (List ℕ)) → i.fault ≡ None → i.is_over ≡ false → Ends (raw_of i found)
+raw_ends i (None, pieces) no_fault n = given i.ended (just (pull.Item item.End) (record i { is_over = true })) (just pull.Pending i) (λ ended. over (just (pull.Item item.End) (record i { is_over = true })) no_fault ended refl) (goes (λ x. cc) n)
+raw_ends i (Some bytes, pieces) no_fault n = goes (λ x. cc) n
 
-head_ends : (side : Side) (id : ℕ) (i : Incoming) (replies : List DecoderInstruction) (h : Head) → Ends (whole_head side id i replies h)
-head_ends side id i replies h = either (not (is_for side h)) _ _ (λ x. cc) (either (is_client side && is_interim h.status) _ _ (λ x. cc) (λ x. cc))
+head_ends : (side : Side) (id : ℕ) (i : Incoming) (replies : List DecoderInstruction) (h : Head) → i.is_over ≡ false → Ends (whole_head side id i replies h)
+head_ends side id i replies h n = either (not (is_for side h)) _ _ (goes (λ x. cc) n) (either (is_client side && is_interim h.status) _ _ (goes (λ x. cc) n) (goes (λ x. cc) n))
 
-trailer_ends : (id : ℕ) (i : Incoming) (replies : List DecoderInstruction) (h : Head) → Ends (whole_trailer id i replies h)
-trailer_ends id i replies h = either (has_pseudo h) _ _ (λ x. cc) (λ x. cc)
+trailer_ends : (id : ℕ) (i : Incoming) (replies : List DecoderInstruction) (h : Head) → i.is_over ≡ false → Ends (whole_trailer id i replies h)
+trailer_ends id i replies h n = either (has_pseudo h) _ _ (goes (λ x. cc) n) (goes (λ x. cc) n)
 
-section_ends : (side : Side) (id : ℕ) (i : Incoming) (replies : List DecoderInstruction) (place : Place) (h : Head) → Ends (head_or_trailer side id i replies place h)
-section_ends side id i replies BeforeHead h = head_ends side id i replies h
-section_ends side id i replies InBody h = trailer_ends id i replies h
-section_ends side id i replies AfterTrailer h = trailer_ends id i replies h
-section_ends side id i replies InSession h = trailer_ends id i replies h
+section_ends : (side : Side) (id : ℕ) (i : Incoming) (replies : List DecoderInstruction) (place : Place) (h : Head) → i.is_over ≡ false → Ends (head_or_trailer side id i replies place h)
+section_ends side id i replies BeforeHead h n = head_ends side id i replies h n
+section_ends side id i replies InBody h n = trailer_ends id i replies h n
+section_ends side id i replies AfterTrailer h n = trailer_ends id i replies h n
+section_ends side id i replies InSession h n = trailer_ends id i replies h n
 
-judged_ends : (side : Side) (id : ℕ) (i : Incoming) (replies : List DecoderInstruction) (read : HeadRead) → Ends (judged side id i replies read)
-judged_ends side id i replies (IsNone why) = λ x. cc
-judged_ends side id i replies (IsHead h) = section_ends side id i replies i.place h
+judged_ends : (side : Side) (id : ℕ) (i : Incoming) (replies : List DecoderInstruction) (read : HeadRead) → i.is_over ≡ false → Ends (judged side id i replies read)
+judged_ends side id i replies (IsNone why) n = goes (λ x. cc) n
+judged_ends side id i replies (IsHead h) n = section_ends side id i replies i.place h n
 
 module _ (side : Side) (own : Announced) (id : ℕ) (r : DecoderState) where
-  read_ends : (i : Incoming) (replies : List DecoderInstruction) (fields : List Field) → Ends (read_section side own id r i replies fields)
-  read_ends i replies fields = either (nat_lt (section_of own) (told_size fields)) _ _ (λ x. cc) (judged_ends side id i replies (head_of fields))
+  read_ends : (i : Incoming) (replies : List DecoderInstruction) (fields : List Field) → i.is_over ≡ false → Ends (read_section side own id r i replies fields)
+  read_ends i replies fields n = either (nat_lt (section_of own) (told_size fields)) _ _ (goes (λ x. cc) n) (judged_ends side id i replies (head_of fields) n)
 
-  decoded_ends : (i : Incoming) (d : DecodedSection) → Ends (decoded side own id r i d)
-  decoded_ends i (Fields fields count) = read_ends _ _ fields
-  decoded_ends i (Missing count) = either (i.waits_for == 0) _ _ (λ x. cc) (λ x. cc)
-  decoded_ends i BadSection = λ x. cc
+  decoded_ends : (i : Incoming) (d : DecodedSection) → i.is_over ≡ false → Ends (decoded side own id r i d)
+  decoded_ends i (Fields fields count) n = read_ends _ _ fields n
+  decoded_ends i (Missing count) n = either (i.waits_for == 0) _ _ (goes (λ x. cc) n) (goes (λ x. cc) n)
+  decoded_ends i BadSection n = goes (λ x. cc) n
 
-  at_ends : (i : Incoming) (bytes : List ℕ) → Ends (at_section side own id r i bytes)
-  at_ends i bytes = either (nat_lt r.table.inserted i.waits_for) _ _ (λ x. cc) (decoded_ends i (decode_section r bytes))
+  at_ends : (i : Incoming) (bytes : List ℕ) → i.is_over ≡ false → Ends (at_section side own id r i bytes)
+  at_ends i bytes n = either (nat_lt r.table.inserted i.waits_for) _ _ (goes (λ x. cc) n) (decoded_ends i (decode_section r bytes) n)
 
-  end_ends : (i : Incoming) (place : Place) → i.fault ≡ None → i.ended ≡ true → Ends (at_end side own id r i place)
-  end_ends i BeforeHead no_fault ended = λ x. cc
-  end_ends i InBody no_fault ended = λ x. over (record i { unread = [] }) no_fault ended
-  end_ends i AfterTrailer no_fault ended = λ x. over (record i { unread = [] }) no_fault ended
-  end_ends i InSession no_fault ended = λ x. over (record i { unread = [] }) no_fault ended
+  end_ends : (i : Incoming) (place : Place) → i.fault ≡ None → i.ended ≡ true → i.is_over ≡ false → Ends (at_end side own id r i place)
+  end_ends i BeforeHead no_fault ended n = goes (λ x. cc) n
+  end_ends i InBody no_fault ended n = over (just (pull.Item item.End) (record i { unread = []; is_over = true })) no_fault ended refl
+  end_ends i AfterTrailer no_fault ended n = over (just (pull.Item item.End) (record i { unread = []; is_over = true })) no_fault ended refl
+  end_ends i InSession no_fault ended n = over (just (pull.Item item.End) (record i { unread = []; is_over = true })) no_fault ended refl
 
-  frame_ends : (side' : Side) (i : Incoming) (place : Place) (f : Frame PayloadLen) → Ends (at_frame side own id r side' i place f)
-  frame_ends Client i BeforeHead (frame.Headers bytes) = at_ends (begun_section i bytes) bytes
-  frame_ends Server i BeforeHead (frame.Headers bytes) = at_ends (begun_section i bytes) bytes
-  frame_ends Client i InBody (frame.Headers bytes) = at_ends (begun_section i bytes) bytes
-  frame_ends Server i InBody (frame.Headers bytes) = at_ends (begun_section i bytes) bytes
-  frame_ends Client i InBody (frame.Data len) = payload_ends (begun_payload i len.0)
-  frame_ends Server i InBody (frame.Data len) = payload_ends (begun_payload i len.0)
-  frame_ends Server i BeforeHead (frame.WebTransportStream session) = λ x. cc
-  frame_ends Client i place (frame.PushPromise promise) = λ x. cc
-  frame_ends _ i place _ = λ x. cc
+  frame_ends : (side' : Side) (i : Incoming) (place : Place) (f : Frame PayloadLen) → i.is_over ≡ false → Ends (at_frame side own id r side' i place f)
+  frame_ends Client i BeforeHead (frame.Headers bytes) n = at_ends (begun_section i bytes) bytes n
+  frame_ends Server i BeforeHead (frame.Headers bytes) n = at_ends (begun_section i bytes) bytes n
+  frame_ends Client i InBody (frame.Headers bytes) n = at_ends (begun_section i bytes) bytes n
+  frame_ends Server i InBody (frame.Headers bytes) n = at_ends (begun_section i bytes) bytes n
+  frame_ends Client i InBody (frame.Data len) n = payload_ends (begun_payload i len.0) n
+  frame_ends Server i InBody (frame.Data len) n = payload_ends (begun_payload i len.0) n
+  frame_ends Server i BeforeHead (frame.WebTransportStream session) n = goes (λ x. cc) n
+  frame_ends Client i place (frame.PushPromise promise) n = goes (λ x. cc) n
+  frame_ends _ i place _ n = goes (λ x. cc) n
 
-  framed_ends : (i : Incoming) (front : Front) → Ends (framed side own id r i front)
-  framed_ends i (Unfinished least) = either i.ended _ _ (λ x. cc) (λ x. cc)
-  framed_ends i (Whole f rest) = frame_ends side (left_with i rest) i.place f
-  framed_ends i (Unknown kind rest) = λ x. cc
-  framed_ends i (Refused e) = λ x. cc
+  framed_ends : (i : Incoming) (front : Front) → i.is_over ≡ false → Ends (framed side own id r i front)
+  framed_ends i (Unfinished least) n = either i.ended _ _ (goes (λ x. cc) n) (goes (λ x. cc) n)
+  framed_ends i (Whole f rest) n = frame_ends side (left_with i rest) i.place f n
+  framed_ends i (Unknown kind rest) n = goes (λ x. cc) n
+  framed_ends i (Refused e) n = goes (λ x. cc) n
 
-  next_ends : (i : Incoming) (bytes : List ℕ) → i.fault ≡ None → Ends (next_frame side own id r i bytes)
-  next_ends i [] no_fault = given i.ended (at_end side own id r i i.place) (just pull.Pending i) (λ ended. end_ends i i.place no_fault ended) (λ x. cc)
-  next_ends i (byte ∷ bytes) no_fault = framed_ends i (frame_at (byte ∷ bytes))
+  next_ends : (i : Incoming) (bytes : List ℕ) → i.fault ≡ None → i.is_over ≡ false → Ends (next_frame side own id r i bytes)
+  next_ends i [] no_fault n = given i.ended (at_end side own id r i i.place) (just pull.Pending i) (λ ended. end_ends i i.place no_fault ended n) (goes (λ x. cc) n)
+  next_ends i (byte ∷ bytes) no_fault n = framed_ends i (frame_at (byte ∷ bytes)) n
 
-  message_ends : (i : Incoming) (section : Option (List ℕ)) → i.fault ≡ None → Ends (in_message side own id r i section)
-  message_ends i (Some bytes) no_fault = at_ends i bytes
-  message_ends i None no_fault =
+  message_ends : (i : Incoming) (section : Option (List ℕ)) → i.fault ≡ None → i.is_over ≡ false → Ends (in_message side own id r i section)
+  message_ends i (Some bytes) no_fault n = at_ends i bytes n
+  message_ends i None no_fault n =
       let bytes = skipped (is_body i.place) (concat i.unread) in
       let j = record i { unread = ending (length bytes) i.unread } in
-      either (nat_lt 0 i.body_left) (in_payload i) (next_frame side own id r j bytes) (payload_ends i) (next_ends j bytes no_fault)
+      either (nat_lt 0 i.body_left) (in_payload i) (next_frame side own id r j bytes) (payload_ends i n) (next_ends j bytes no_fault n)
 
-  item_ends : (i : Incoming) (place : Place) → i.fault ≡ None → Ends (next_item side own id r i place)
-  item_ends i InSession no_fault = raw_ends i (first_of i.unread) no_fault
-  item_ends i BeforeHead no_fault = message_ends i i.section no_fault
-  item_ends i InBody no_fault = message_ends i i.section no_fault
-  item_ends i AfterTrailer no_fault = message_ends i i.section no_fault
+  item_ends : (i : Incoming) (place : Place) → i.fault ≡ None → i.is_over ≡ false → Ends (next_item side own id r i place)
+  item_ends i InSession no_fault n = raw_ends i (first_of i.unread) no_fault n
+  item_ends i BeforeHead no_fault n = message_ends i i.section no_fault n
+  item_ends i InBody no_fault n = message_ends i i.section no_fault n
+  item_ends i AfterTrailer no_fault n = message_ends i i.section no_fault n
 
   -- unless it was over already
   pub pull_ends : (i : Incoming) → i.is_over ≡ false → Ends (pull_stream side own id r i)
@@ -136,5 +148,5 @@ module _ (side : Side) (own : Announced) (id : ℕ) (r : DecoderState) where
         | Some why ↦ just (pull.Fault (fault.Stream why)) i
         | None ↦ if i.is_over then just (pull.Item item.End) i else next_item side own id r i i.place
       ])
-      by_fault (Some f) is = λ x. cc
-      by_fault None is = unless_over i.is_over (just (pull.Item item.End) i) (next_item side own id r i i.place) not_over (item_ends i i.place is)
+      by_fault (Some f) is = goes (λ x. cc) not_over
+      by_fault None is = unless_over i.is_over (just (pull.Item item.End) i) (next_item side own id r i i.place) not_over (item_ends i i.place is not_over)

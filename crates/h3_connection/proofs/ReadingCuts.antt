@@ -73,7 +73,7 @@ listen_cut cuts s unread a b good =
     ap (listen s) (sym (append_assoc unread a b)) ∙ cuts s (unread ++ a) b ∙ ap (listened_with (listen s (unread ++ a)) b) good
 
 -- what is read of the decoder stream, where it is told whether the settings came
-abbrev read_if : Bool → EndpointHistory → List ℕ → Found
+abbrev pub read_if : Bool → EndpointHistory → List ℕ → Found
 read_if came e bytes =
     if came then listened_to e (listen e.encoder (e.decoder_unread ++ bytes)) else (record e { decoder_unread = e.decoder_unread ++ bytes }, None)
 
@@ -259,3 +259,73 @@ control_fault g a b code early is =
     let x = read_peer g.side (with_unread g.peer (g.peer.unread ++ a)) in
     ap (λ z. (after_peer g z).1) (read_behind g a b)
     ∙ fault_found g b x code early (λ pairs e. settings_stay g.side (with_unread g.peer (g.peer.unread ++ a)) pairs e) is
+
+-- where bytes of the decoder stream wait for the settings too, it is a fault
+any_fault : (g : EndpointHistory) (b : List ℕ) (x : PeerFound) (code : ℕ) → ((pairs : List (ℕ × ℕ)) → g.peer.settings ≡ Some pairs → x.0.settings ≡ Some pairs)
+    → (after_peer g x).1 ≡ Some code → (other : ℕ) × ((after_peer g (then_peer g.side b x)).1 ≡ Some other)
+any_fault g b (q, Some found) code keep is = (code, is)
+any_fault g b (q, None) code keep is = by_settings g.peer.settings q.settings refl refl
+  where
+    y : PeerFound
+    y = read_peer g.side (with_unread q (q.unread ++ b))
+
+    none_found : q.settings ≡ g.peer.settings → (other : ℕ) × ((after_peer g y).1 ≡ Some other)
+    none_found same = let wrong : None ≡ Some code = sym (ap (λ x. x.1) (after_same g (q, None) same)) ∙ is in absurd (cc)
+
+    by_settings : (o p : Option (List (ℕ × ℕ))) → g.peer.settings ≡ o → q.settings ≡ p → (other : ℕ) × ((after_peer g y).1 ≡ Some other)
+    by_settings (Some pairs) p before after = none_found (keep pairs before ∙ sym before)
+    by_settings None None before after = none_found (after ∙ sym before)
+    by_settings None (Some pairs) before after = by_fault y.1 refl
+      where
+        h : EndpointHistory
+        h = record g { peer = q }
+
+        still : y.0.settings ≡ Some pairs
+        still = settings_stay g.side (with_unread q (q.unread ++ b)) pairs after
+
+        found : after_peer g y ≡ then_decoder None (Some pairs) (learned (record g { peer = y.0 }) pairs) y.1
+        found = ap (λ o. after_by o g y) before ∙ ap (λ o. then_decoder None o (if_learned None o (record g { peer = y.0 })) y.1) still
+
+        first : (read_decoder (learned h pairs) []).1 ≡ Some code
+        first = sym (ap (λ x. x.1) (ap (λ o. after_by o g (q, None)) before ∙ ap (λ o. then_decoder None o (if_learned None o h) None) after)) ∙ is
+
+        known : y.0.settings ≡ (learned h pairs).peer.settings
+        known = still ∙ sym (ap (λ x. x.settings) (learned_peer h pairs) ∙ after)
+
+        by_fault : (o : Option ℕ) → y.1 ≡ o → (other : ℕ) × ((after_peer g y).1 ≡ Some other)
+        by_fault (Some other) e = (other, ap (λ x. x.1) (found ∙ ap (then_decoder None (Some pairs) (learned (record g { peer = y.0 }) pairs)) e))
+        by_fault None e = (
+          code,
+          ap (λ x. x.1) (found ∙ ap (then_decoder None (Some pairs) (learned (record g { peer = y.0 }) pairs)) e
+              ∙ ap (λ f. read_decoder f []) (learned_with h y.0 pairs) ∙ decoder_with (learned h pairs) y.0 [] known) ∙ first,
+        )
+
+pub control_faults : (g : EndpointHistory) (a b : List ℕ) (code : ℕ) → (read_control g a).1 ≡ Some code → (other : ℕ) × ((read_control g (a ++ b)).1 ≡ Some other)
+control_faults g a b code is =
+    let found = any_fault g b (read_peer g.side (with_unread g.peer (g.peer.unread ++ a))) code (λ pairs e. settings_stay g.side (with_unread g.peer (g.peer.unread ++ a)) pairs e) is in
+    (found.0, ap (λ z. (after_peer g z).1) (read_behind g a b) ∙ found.1)
+
+-- until the settings come, bytes of the control stream change nothing of the decoder stream
+pub quiet_until : (g : EndpointHistory) (bytes : List ℕ) → (read_control g bytes).0.peer.settings ≡ None → (g.peer.settings ≡ None) × ((read_control g bytes).0.decoder_unread ≡ g.decoder_unread)
+quiet_until g bytes none = by_settings g.peer.settings x.0.settings refl refl
+  where
+    x : PeerFound
+    x = read_peer g.side (with_unread g.peer (g.peer.unread ++ bytes))
+
+    differ : {A : Type 0} (o : Option A) (y : A) → o ≡ None → o ≡ Some y → ⊥
+    differ o y none some = let wrong : None ≡ Some y = sym none ∙ some in cc
+
+    then_peer_is : (pairs : List (ℕ × ℕ)) (fault : Option ℕ) (e : EndpointHistory) → (then_decoder None (Some pairs) e fault).0.peer ≡ e.peer
+    then_peer_is pairs None e = decoder_peer e []
+    then_peer_is pairs (Some code) e = refl
+
+    by_settings : (o p : Option (List (ℕ × ℕ))) → g.peer.settings ≡ o → x.0.settings ≡ p → (g.peer.settings ≡ None) × ((read_control g bytes).0.decoder_unread ≡ g.decoder_unread)
+    by_settings None None before after = (before, ap (λ z. z.0.decoder_unread) (after_same g x (after ∙ sym before)))
+    by_settings (Some pairs) p before after =
+        let still : x.0.settings ≡ Some pairs = settings_stay g.side (with_unread g.peer (g.peer.unread ++ bytes)) pairs before in
+        absurd (differ (read_control g bytes).0.peer.settings pairs none (ap (λ z. z.0.peer.settings) (after_same g x (still ∙ sym before)) ∙ still))
+    by_settings None (Some pairs) before after =
+        let h : EndpointHistory = record g { peer = x.0 } in
+        let found : read_control g bytes ≡ then_decoder None (Some pairs) (learned h pairs) x.1 = ap (λ o. after_by o g x) before ∙ ap (λ o. then_decoder None o (if_learned None o h) x.1) after in
+        absurd (differ (read_control g bytes).0.peer.settings pairs none
+        (ap (λ z. z.0.peer.settings) found ∙ ap (λ (q : Peer). q.settings) (then_peer_is pairs x.1 (learned h pairs) ∙ learned_peer h pairs) ∙ after))

@@ -16,7 +16,7 @@ use Rattle.h3_connection.specs.StreamSetLaws.{set-set}
 use Rattle.h3_connection.proofs.PullCuts.{delivered_differ}
 use Rattle.h3_connection.proofs.Seen.{at_same, OpensAt, opens_at}
 
-some_refusal : (side : Side) (i : Incoming) → request_refusal side (Some i) ≡ closed_refusal (i.ended || i.was_reset)
+pub some_refusal : (side : Side) (i : Incoming) → request_refusal side (Some i) ≡ closed_refusal (i.ended || i.was_reset)
 some_refusal Client i = refl
 some_refusal Server i = refl
 

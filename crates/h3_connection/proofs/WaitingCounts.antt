@@ -1,20 +1,19 @@
 -- How many streams wait, when one of them changes or insertions come.
-use Rattle.std.proofs.Common.{arith, ◌≡◌, ◌<◌, ◌≤◌, ℕ, ◌+◌, Bool, true, false, List, [], ◌∷◌, refl, sym, ◌∙◌, ap, inl, inr}
+use Rattle.std.proofs.Common.{arith, ◌≡◌, ◌≤◌, ℕ, ◌+◌, Bool, true, false, [], ◌∷◌, refl, ap, inl, inr}
 use Rattle.std.specs.Prelude.{Option, Some, None, if◌then◌else◌, ◌==◌, nat_lt, count_by}
 use Rattle.std.proofs.lemmas.List.Sums.{sum_by-cons}
 use Rattle.std.proofs.lemmas.Grind.{common_steps}
 use Rattle.std.proofs.lemmas.Bool.{cases_eq, cases_lt, lt-ltb, le-ltb}
 use Rattle.h3_connection.specs.Incoming.{Incoming}
 use Rattle.h3_connection.specs.StreamSets.{Streams, stream_at, set_stream}
-use Rattle.h3_connection.specs.StreamSetLaws.{other_id}
 
 abbrev pub waiting_above : ℕ → Streams Incoming → ℕ
 waiting_above n streams = count_by (λ s. nat_lt n s.1.waits_for) streams
 
-abbrev one_if : Bool → ℕ
+abbrev pub one_if : Bool → ℕ
 one_if b = if b then 1 else 0
 
-count_more : (n q : ℕ) (i : Incoming) (streams : Streams Incoming) → waiting_above n ((q, i) ∷ streams) ≡ one_if (nat_lt n i.waits_for) + waiting_above n streams
+pub count_more : (n q : ℕ) (i : Incoming) (streams : Streams Incoming) → waiting_above n ((q, i) ∷ streams) ≡ one_if (nat_lt n i.waits_for) + waiting_above n streams
 count_more n q i streams = sum_by-cons (λ s. if nat_lt n s.1.waits_for then 1 else 0) (q, i) streams
 
 one_less : (n m a b : ℕ) → m ≤ n → a ≤ b → one_if (nat_lt n a) ≤ one_if (nat_lt m b)

@@ -39,5 +39,7 @@ pub mod ReceivingContracts
 pub mod ReadingContracts
 pub mod CallLists
 pub mod Isolation
+pub mod CallCuts
+pub mod UnknownStreams
 pub mod Shown
 pub mod StandsLaws

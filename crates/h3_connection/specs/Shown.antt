@@ -1,7 +1,7 @@
 -- What can be read of an endpoint.
 use Rattle.std.specs.Prelude.{ℕ, ◌^◌, ◌-◌, Bool, false, ◌||◌, List, length, Option, unwrap_or, option_map, is_some}
 use Rattle.h3_field.specs.Field.{section_size}
-use Rattle.h3_qpack.specs.Table.{table}
+use Rattle.h3_table.specs.Table.{table}
 use Rattle.h3_proto.specs.Settings.{value_of}
 use Rattle.h3_connection.specs.OwnIds.{is_own}
 use Rattle.h3_connection.specs.StreamSets.{stream_at}

@@ -1,19 +1,20 @@
 -- What is stored stands for the endpoint's history, when one part of both changes.
 use Rattle.std.proofs.Common.{◌≡◌, ℕ, List, Option, Some, None, refl, ap, sym, subst, ◌∙◌, inl, inr}
-use Rattle.std.specs.Prelude.{◌≢◌, ◌⊎◌, option_map, IsSome, All}
+use Rattle.std.specs.Prelude.{◌≢◌, ◌⊎◌, true, option_map, unwrap_or, IsSome, IfSome, All}
 use Rattle.std.proofs.lemmas.Bool.{cases_eq}
 use Rattle.std.proofs.lemmas.List.Elements.{All-weaker}
+use Rattle.h3_proto.specs.declared.stream.Side.{Side}
 use Rattle.h3_connection.specs.Arrivals.{Arrival, stream_of}
 use Rattle.h3_connection.specs.Calls.{Sets, AllSame}
-use Rattle.h3_connection.specs.Delivering.{with_incoming, with_unidirectional}
+use Rattle.h3_connection.specs.Delivering.{with_incoming, with_unidirectional, unidirectional_at}
 use Rattle.h3_connection.specs.Endpoint.{EndpointHistory}
 use Rattle.h3_connection.specs.Incoming.{Incoming}
 use Rattle.h3_connection.specs.Outgoing.{Outgoing}
 use Rattle.h3_connection.specs.Sending.{with_outgoing}
-use Rattle.h3_connection.specs.State.{EndpointState, RequestState, OwnState, StandsFor, OwnStands, TakesWhatIsThere, IsOfOutgoing, IsReached, KeepsOpen, SameAt, kept_at}
+use Rattle.h3_connection.specs.State.{EndpointState, RequestState, OwnState, StandsFor, OwnStands, TakesWhatIsThere, IsOfOutgoing, IsReached, IsToldPeer, KeepsOpen, SameAt, kept_at}
 use Rattle.h3_connection.specs.StreamSets.{Streams, stream_at, set_stream}
 use Rattle.h3_connection.specs.StreamSetLaws.{other_id, set-here, set-other, set-distinct}
-use Rattle.h3_connection.specs.Unidirectional.{Unidirectional}
+use Rattle.h3_connection.specs.Unidirectional.{Unidirectional, untold, is_critical}
 
 -- the own streams of an endpoint that differs elsewhere
 pub own_same : (own : OwnState) (e f : EndpointHistory) → f ≡ record e { incoming = f.incoming; outgoing = f.outgoing; unidirectional = f.unidirectional; sent = f.sent; next_id = f.next_id; closed = f.closed } → OwnStands own e → OwnStands own f
@@ -25,8 +26,8 @@ own_same own e f is h = subst (OwnStands own) (sym is) (record {
 })
 
 -- what every history has in common, of one that differs elsewhere
-pub reached_same : (e f : EndpointHistory) → f ≡ record e { outgoing = f.outgoing; unidirectional = f.unidirectional; sent = f.sent; next_id = f.next_id; closed = f.closed; own = f.own } → IsReached e → IsReached f
-reached_same e f is h = subst IsReached (sym is) (record { unlearned = h.unlearned; control = h.control; encoder = h.encoder; decoder = h.decoder; kept = h.kept })
+pub reached_same : (e f : EndpointHistory) → f ≡ record e { outgoing = f.outgoing; sent = f.sent; next_id = f.next_id; closed = f.closed; own = f.own } → IsReached e → IsReached f
+reached_same e f is h = subst IsReached (sym is) (record { unlearned = h.unlearned; control = h.control; encoder = h.encoder; decoder = h.decoder; told_control = h.told_control; told_encoder = h.told_encoder; told_decoder = h.told_decoder; kept = h.kept })
 
 -- a stream that is there stays there
 there_by : (streams : Streams Incoming) (id q : ℕ) (i : Incoming) → q ≡ id ⊎ q ≢ id → IsSome (stream_at streams q) → IsSome (stream_at (set_stream streams id i) q)
@@ -44,6 +45,9 @@ reached_receiving e id i h =
       control = h.control;
       encoder = h.encoder;
       decoder = h.decoder;
+      told_control = h.told_control;
+      told_encoder = h.told_encoder;
+      told_decoder = h.told_decoder;
       kept = All-weaker (KeepsOpen e.side e.incoming) (KeepsOpen e.side (set_stream e.incoming id i)) (λ a keeps is. still_there e.incoming id (stream_of a) i (keeps is)) e.kept h.kept;
     }
 
@@ -135,10 +139,38 @@ stands_receiving s e new id before x h was same sets =
       reached = reached_receiving e id x.incoming h.reached;
     }
 
--- A unidirectional stream of the peer changes, or is the first that comes of it.
+-- A stream that is read as one of the connection's is one still where a stream changes that stays told.
+told_at : (streams : Streams Unidirectional) (id q : ℕ) (o : Unidirectional) → q ≡ id ⊎ q ≢ id → (is_critical (unwrap_or (stream_at streams id) untold).role ≡ true → is_critical o.role ≡ true)
+    → is_critical (unwrap_or (stream_at streams q) untold).role ≡ true → is_critical (unwrap_or (stream_at (set_stream streams id o) q) untold).role ≡ true
+told_at streams id q o (inl same) keeps h =
+    subst (λ n. is_critical (unwrap_or (stream_at (set_stream streams id o) n) untold).role ≡ true) (sym same)
+    (subst (λ (x : Option Unidirectional). is_critical (unwrap_or x untold).role ≡ true) (sym (set-here streams id o))
+    (keeps (subst (λ n. is_critical (unwrap_or (stream_at streams n) untold).role ≡ true) same h)))
+told_at streams id q o (inr differs) keeps h =
+    subst (λ (x : Option Unidirectional). is_critical (unwrap_or x untold).role ≡ true) (sym (set-other streams id q o (other_id q id differs))) h
+
+told_set : (side : Side) (streams : Streams Unidirectional) (id : ℕ) (o : Unidirectional) (on : Option ℕ) → (is_critical (unwrap_or (stream_at streams id) untold).role ≡ true → is_critical o.role ≡ true)
+    → IfSome on (IsToldPeer side streams) → IfSome on (IsToldPeer side (set_stream streams id o))
+told_set side streams id o None keeps h = tt
+told_set side streams id o (Some q) keeps h = (h.0, told_at streams id q o (cases_eq q id) keeps h.1)
+
+reached_unidirectional : (e : EndpointHistory) (id : ℕ) (o : Unidirectional) → (is_critical (unidirectional_at e id).role ≡ true → is_critical o.role ≡ true) → IsReached e → IsReached (with_unidirectional e id o)
+reached_unidirectional e id o keeps h =
+    record {
+      unlearned = h.unlearned;
+      control = h.control;
+      encoder = h.encoder;
+      decoder = h.decoder;
+      told_control = told_set e.side e.unidirectional id o e.control_on keeps h.told_control;
+      told_encoder = told_set e.side e.unidirectional id o e.encoder_on keeps h.told_encoder;
+      told_decoder = told_set e.side e.unidirectional id o e.decoder_on keeps h.told_decoder;
+      kept = h.kept;
+    }
+
+-- A unidirectional stream of the peer changes, or is the first that comes of it. One that told to be the connection's stays so.
 pub stands_unidirectional : (s : EndpointState) (e : EndpointHistory) (new : Streams Unidirectional) (id : ℕ) (o : Unidirectional) → StandsFor s e
-    → Sets s.unidirectional new id o → StandsFor (record s { unidirectional = new }) (with_unidirectional e id o)
-stands_unidirectional s e new id o h sets =
+    → (is_critical (unidirectional_at e id).role ≡ true → is_critical o.role ≡ true) → Sets s.unidirectional new id o → StandsFor (record s { unidirectional = new }) (with_unidirectional e id o)
+stands_unidirectional s e new id o h keeps sets =
     record {
       side = h.side;
       announced = h.announced;
@@ -162,5 +194,5 @@ stands_unidirectional s e new id o h sets =
       last_goaway = h.last_goaway;
       kept = h.kept;
       sent = h.sent;
-      reached = reached_same e (with_unidirectional e id o) refl h.reached;
+      reached = reached_unidirectional e id o keeps h.reached;
     }

@@ -1,5 +1,5 @@
 -- What an endpoint stores, and which histories that stands for.
-use Rattle.std.specs.Prelude.{if◌then◌else◌, ◌≡◌, ℕ, ◌+◌, Bool, List, [], length, Option, Some, None, option_map, ◌≤◌, flat_map, ◌++◌, false, All, IsSome}
+use Rattle.std.specs.Prelude.{if◌then◌else◌, ◌≡◌, ℕ, ◌+◌, Bool, List, [], length, Option, Some, None, option_map, ◌≤◌, flat_map, ◌++◌, true, false, unwrap_or, All, IsSome, IfSome}
 use Rattle.h3_coding.specs.Encodings.{encoding}
 use Rattle.h3_wire.specs.StreamHeaders.{control_encoding}
 use Rattle.h3_field.specs.Instruction.{encoder_bytes, decoder_bytes}
@@ -12,7 +12,7 @@ use Rattle.h3_qpack.specs.EncoderState.{encoder_state}
 use Rattle.h3_connection.specs.Incoming.{Incoming}
 use Rattle.h3_connection.specs.Lasts.{last_id}
 use Rattle.h3_connection.specs.Listeners.{Decoding, Encoding}
-use Rattle.h3_connection.specs.Unidirectional.{Unidirectional}
+use Rattle.h3_connection.specs.Unidirectional.{Unidirectional, untold, is_critical}
 use Rattle.h3_connection.specs.Outgoing.{Outgoing, OwnPart, is_unsent, last_is_trailer, part_bytes, part_bytes_waiting}
 use Rattle.h3_connection.specs.WaitingPieces.{pieces_waiting}
 use Rattle.h3_wire.specs.Outgoing.{Outgoing as Piece}
@@ -21,7 +21,7 @@ use Rattle.h3_connection.specs.PeerReading.{Peer}
 use Rattle.h3_connection.specs.Arrivals.{Arrival, stream_of}
 use Rattle.h3_connection.specs.StreamSets.{Streams, HaveDistinctIds, stream_at}
 use Rattle.h3_connection.specs.Endpoint.{EndpointHistory, goaway_encoding, own_waiting, kind_of}
-use Rattle.h3_connection.specs.Endpoint.Kind.{Request}
+use Rattle.h3_connection.specs.Endpoint.Kind.{Request, PeerUnidirectional}
 use Rattle.h3_connection.specs.declared.setup.Announced.{Announced}
 use Rattle.h3_connection.specs.declared.place.SendPlace.{SendPlace}
 use Rattle.h3_connection.specs.declared.place.SendPlace.TheVariants.{NothingSent, HeadSent, TrailerSent}
@@ -104,6 +104,10 @@ pub record OwnStands (own : OwnState) (e : EndpointHistory) : Type 0 where
 abbrev pub KeepsOpen : Side → Streams Incoming → Arrival → Type 0
 KeepsOpen side streams a = kind_of side (stream_of a) ≡ Request → IsSome (stream_at streams (stream_of a))
 
+-- a stream of the peer that told to be its control, encoder or decoder stream
+abbrev pub IsToldPeer : Side → Streams Unidirectional → ℕ → Type 0
+IsToldPeer side streams id = (kind_of side id ≡ PeerUnidirectional) × (is_critical (unwrap_or (stream_at streams id) untold).role ≡ true)
+
 -- What every history has in common that calls made: no other one is stood for.
 pub record IsReached (e : EndpointHistory) : Type 0 where
   -- no table is used before the peer's settings came
@@ -112,6 +116,10 @@ pub record IsReached (e : EndpointHistory) : Type 0 where
   pub control : e.control_on ≡ None → e.peer.unread ≡ []
   pub encoder : e.encoder_on ≡ None → e.decoding.unread ≡ []
   pub decoder : e.decoder_on ≡ None → e.decoder_unread ≡ []
+  -- what is read as one of the connection's streams told to be one
+  pub told_control : IfSome e.control_on (IsToldPeer e.side e.unidirectional)
+  pub told_encoder : IfSome e.encoder_on (IsToldPeer e.side e.unidirectional)
+  pub told_decoder : IfSome e.decoder_on (IsToldPeer e.side e.unidirectional)
   -- a request stream of which something is kept is open
   pub kept : All (KeepsOpen e.side e.incoming) e.kept
 

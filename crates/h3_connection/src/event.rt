@@ -6,7 +6,7 @@ use h3_proto::stream::StreamId;
 use h3_proto::webtransport::SessionId;
 
 /// Why a call was refused. It then changed nothing, but for `Connection` where the call found the fault, and `Kept`.
-#[derive(Clone, Copy)]
+#[derive(Clone, Copy, Debug, PartialEq, Eq)]
 pub enum Refusal {
     /// The connection was closed by this fault.
     Closed(Code),
@@ -47,7 +47,7 @@ pub enum Refusal {
 }
 
 /// Why a message is none (RFC 9114, section 4.1.2), in the order in which it is judged.
-#[derive(Clone, Copy)]
+#[derive(Clone, Copy, Debug, PartialEq, Eq)]
 pub enum Malformation {
     Name,
     Value,
@@ -58,7 +58,7 @@ pub enum Malformation {
 }
 
 /// What a pull hands out.
-#[derive(Drop)]
+#[derive(Debug, Drop)]
 pub enum Item {
     /// A head with a status from 100 to 199, which is not the last one.
     Interim(Header),
@@ -74,7 +74,7 @@ pub enum Item {
 }
 
 /// Why a stream gives no more.
-#[derive(Clone, Copy)]
+#[derive(Clone, Copy, Debug, PartialEq, Eq)]
 pub enum StreamFault {
     Malformed(Malformation),
     Reset(u64),
@@ -82,7 +82,7 @@ pub enum StreamFault {
 }
 
 /// Why there is nothing to hand out.
-#[derive(Clone, Copy)]
+#[derive(Clone, Copy, Debug, PartialEq, Eq)]
 pub enum Fault {
     Connection(Code),
     Stream(StreamFault),
@@ -91,7 +91,7 @@ pub enum Fault {
 }
 
 /// The answer of a pull.
-#[derive(Drop)]
+#[derive(Debug, Drop)]
 pub enum Pull {
     Item(Item),
     /// The next item isn't there yet.
@@ -104,7 +104,7 @@ pub enum Pull {
 }
 
 /// Why a delivery is not taken, or not read.
-#[derive(Drop)]
+#[derive(Debug, Drop)]
 pub enum DeliverError {
     Refused(Refusal),
     /// Nothing was delivered. The bytes come back.
@@ -114,7 +114,7 @@ pub enum DeliverError {
 }
 
 /// What the peer's settings allow (RFC 9204, section 5; RFC 9114, section 7.2.4.1), with their defaults.
-#[derive(Clone, Copy)]
+#[derive(Clone, Copy, Debug, PartialEq, Eq)]
 pub struct PeerLimits {
     pub capacity: u64,
     pub blocked: u64,
@@ -122,7 +122,7 @@ pub struct PeerLimits {
 }
 
 /// The sizes of both dynamic tables (RFC 9204, section 3.2.1).
-#[derive(Clone, Copy)]
+#[derive(Clone, Copy, Debug, PartialEq, Eq)]
 pub struct TableSizes {
     pub sending: usize,
     pub receiving: usize,

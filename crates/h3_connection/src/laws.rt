@@ -61,25 +61,37 @@ pub fn tries_and_waiting_streams_are_bounded()
 
 ghost use Rattle.h3_connection.specs.declared.event.Item.TheVariants as item;
 ghost use Rattle.h3_connection.specs.HandedOut.{RequestIsOver, SessionIsOver, EndsSoundly};
+ghost use Rattle.std.specs.Prelude.{◌∷◌};
+ghost use Rattle.h3_connection.specs.CallLists.Call.{PullStream};
 
-/// Once the end of a stream was handed out, every later pull of it answers the end, up to a connection fault.
+/// Once the end of a stream was handed out, every later pull of it answers the end, up to a connection fault: in every list of calls of a new
+/// endpoint, of a request stream and of a session on a unidirectional stream.
 pub fn the_end_stays()
     ensures begins { (e : EndpointHistory) (id : ℕ) → (pull e id).0 ≡ answer.Item item.End → EndsSoundly e id → RequestIsOver (pull e id).1 id }
     ensures stays { (e : EndpointHistory) (calls : List Call) (id : ℕ) → IsBounded e → e.closed ≡ None → RequestIsOver e id → FindsNoFault e calls →
         (pull (endpoint_after e calls) id).0 ≡ answer.Item item.End }
     ensures session { (e : EndpointHistory) (id : ℕ) → e.closed ≡ None → SessionIsOver e id → (pull e id).0 ≡ answer.Item item.End }
+    ensures calls { (side : Side) (own : Announced) (before between : List Call) (id : ℕ) → FindsNoFault (new_endpoint side own) before → FindsNoFault (endpoint_after (new_endpoint side own) before) (PullStream id ∷ between) →
+        (pull (endpoint_after (new_endpoint side own) before) id).0 ≡ answer.Item item.End →
+        (pull (endpoint_after (endpoint_after (new_endpoint side own) before) (PullStream id ∷ between)) id).0 ≡ answer.Item item.End }
 {}
 
 ghost use Rattle.h3_connection.specs.Delivering.{delivery_refusal, unidirectional_at, with_unidirectional};
 ghost use Rattle.h3_connection.specs.Endpoint.Kind.{PeerUnidirectional};
 ghost use Rattle.h3_connection.specs.Unidirectional.{role_after};
-ghost use Rattle.h3_connection.specs.Unidirectional.Role.{Ignored};
+ghost use Rattle.h3_connection.specs.Unidirectional.Role.{Untold, Ignored};
+ghost use Rattle.h3_connection.specs.CallLists.{answers};
+ghost use Rattle.h3_connection.specs.Isolation.{brought_on};
+ghost use Rattle.h3_connection.specs.UnknownStreams.{IsUnread, without_stream, answers_without};
 
-/// Bytes of a unidirectional stream of unknown type change nothing but what is known of that stream.
+/// Bytes of a unidirectional stream of unknown type change nothing but what is known of that stream. Over whole lists of calls all others are
+/// answered as without those of this stream, whatever comes on it, its end or its reset, and also where the connection has a fault.
 pub fn unknown_streams_change_nothing_else()
-    ensures { (e : EndpointHistory) (id : ℕ) (bytes rest : List ℕ) → e.closed ≡ None → kind_of e.side id ≡ PeerUnidirectional → delivery_refusal e id ≡ None →
+    ensures bytes { (e : EndpointHistory) (id : ℕ) (bytes rest : List ℕ) → e.closed ≡ None → kind_of e.side id ≡ PeerUnidirectional → delivery_refusal e id ≡ None →
         role_after (unidirectional_at e id).role bytes ≡ (Ignored, rest) →
         deliver e id bytes ≡ (None, with_unidirectional e id (record (unidirectional_at e id) { role = Ignored })) }
+    ensures calls { (side : Side) (own : Announced) (id : ℕ) (calls : List Call) → kind_of side id ≡ PeerUnidirectional → IsUnread (role_after (Untold []) (brought_on id calls)).0 →
+        answers_without id (new_endpoint side own) calls ≡ answers (new_endpoint side own) (without_stream id calls) }
 {}
 
 ghost use Rattle.std.specs.List.{concat};
@@ -134,3 +146,21 @@ pub fn cut_pulls_are_answered_alike()
     ensures one { (side : Side) (own : Announced) (id : ℕ) (r : DecoderState) (i j : Incoming) → DifferInCuts i j → PullsAlike (pull_stream side own id r i) (pull_stream side own id r j) }
     ensures joined { (side : Side) (own : Announced) (id : ℕ) (r : DecoderState) (i j : Incoming) → DifferInCuts i j → JoinedAlike (joined_pulls side own id r i) (joined_pulls side own id r j) }
 {}
+
+ghost use Rattle.h3_connection.specs.CallCuts.{Part, first_calls, second_calls, DifferInCutsAlone, AreCuts, AllAnsweredAlike};
+
+/// Two lists of calls that differ only in where the bytes of streams are cut into deliveries, with pulls that end at the same bytes, are
+/// answered alike, up to a connection fault, which both find in the same part: the same refusals, the same items, and pieces of a body or of
+/// a session that have the same bytes in all. What is left differs in cuts alone: in the pieces that wait, and in how insertions are
+/// acknowledged by increments (RFC 9204, section 4.4.3). So it is of any stream, sessions included.
+pub fn cut_calls_are_answered_alike()
+    ensures calls { (side : Side) (own : Announced) (parts : List Part) → AreCuts (new_endpoint side own) (new_endpoint side own) parts → AllAnsweredAlike (new_endpoint side own) (new_endpoint side own) parts }
+    ensures behind { (e f : EndpointHistory) (parts : List Part) → DifferInCutsAlone e f → e.closed ≡ None → AreCuts e f parts → AllAnsweredAlike e f parts }
+    ensures left { (e f : EndpointHistory) (parts : List Part) → DifferInCutsAlone e f → e.closed ≡ None → AreCuts e f parts → FindsNoFault e (first_calls parts) →
+        DifferInCutsAlone (endpoint_after e (first_calls parts)) (endpoint_after f (second_calls parts)) }
+    ensures delivered { (e : EndpointHistory) (id : ℕ) (first second : List ℕ) → DifferInCutsAlone e e → (deliver e id first).0 ≡ None →
+        SameAnswers DifferInCutsAlone (deliver e id (first ++ second)) (deliver_cut e id first second) }
+{
+    h3_qpack::laws::encoder_bytes_are_their_value();
+    h3_qpack::laws::decoder_bytes_are_their_value();
+}

@@ -1,7 +1,7 @@
 //! Where a message is (RFC 9114, section 4.1), at its receiver and at its sender.
 
 /// Where the message that is received is.
-#[derive(Clone, Copy)]
+#[derive(Clone, Copy, Debug, PartialEq, Eq)]
 pub enum Place {
     /// No head, or interim ones alone.
     BeforeHead,
@@ -12,7 +12,7 @@ pub enum Place {
 }
 
 /// Where the message that is sent is.
-#[derive(Clone, Copy)]
+#[derive(Clone, Copy, Debug, PartialEq, Eq)]
 pub enum SendPlace {
     /// No head, or interim ones alone.
     NothingSent,

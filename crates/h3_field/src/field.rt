@@ -1,5 +1,5 @@
 //! A field of two byte strings, static or owned.
-ghost use Rattle.std.specs.Prelude.{◌≡◌, ◌++◌, ◌∷◌, [], codes, string_bytes, IfOk, Some, encode_utf8_all, nat_eq, min, ◌^◌, ◌-◌};
+ghost use Rattle.std.specs.Prelude.{◌≡◌, ◌++◌, ◌∷◌, [], codes, string_bytes, IfOk, Some, encode_utf8_all, nat_eq, min, ◌^◌, ◌-◌, ◌+◌, ◌≤◌, length};
 ghost use Rattle.std.specs.Cow.{cow_slice_items};
 ghost use Rattle.h3_field.specs.Field.{field_size};
 ghost use Rattle.h3_field.specs.ReadBack.{IsFieldOfBytes};
@@ -97,6 +97,21 @@ impl HeaderField {
             .len()
             .saturating_add(self.value().len())
             .saturating_add(ESTIMATED_OVERHEAD_BYTES)
+    }
+
+    /// How many bytes of name and value the field owns: static parts have none.
+    pub fn owned_len(&self) -> usize
+        ensures { result ≤ length self.now.name + length self.now.value }
+    {
+        let name = match &self.name {
+            CowSlice::Borrowed(_) => 0,
+            CowSlice::Owned(name) => name.len(),
+        };
+        let value = match &self.value {
+            CowSlice::Borrowed(_) => 0,
+            CowSlice::Owned(value) => value.len(),
+        };
+        name.saturating_add(value)
     }
 
     /// Each item of name and value is a byte. It does nothing: a proof that needs the fact calls it.

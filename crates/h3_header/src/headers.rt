@@ -18,9 +18,11 @@ use http_header::HeaderMap;
 use http_uri::{Parts, Uri};
 pub use iter::HeaderIter;
 use iter::RegularIter;
+pub use kind::FieldKind;
 use pseudo::Pseudo;
 use std::alloc::{AllocError, Global};
 use std::marker::Model;
+use store::Store;
 
 mod authority;
 mod error;
@@ -28,6 +30,7 @@ mod iter;
 mod kind;
 mod pseudo;
 mod read;
+mod store;
 mod write;
 
 /// The header or the trailer of a message: its pseudo-header fields, and the map of its regular
@@ -230,7 +233,7 @@ impl Header {
         ensures reads_back { IfOk result (λ v. ReadsBack v.items) }
         ensures read_as { IfOk result (λ v. head_of_fields v.items ≡ as_read self.now) }
     {
-        let mut list = Vec::new(alloc);
+        let mut list = Vec::with_capacity(alloc, self.len())?;
         self.pseudo.append_to(alloc, &mut list)?;
         write::append_regular(alloc, &mut list, &self.fields)?;
         Ok(list)
@@ -271,9 +274,10 @@ impl Header {
         ensures err { IfErr result (RefusesOne (trailer_head []) fields.items) }
     {
         let mut pseudo = Pseudo::none();
-        let mut map = HeaderMap::new(alloc);
+        let mut map = store::map_for(alloc, &fields);
+        let mut kept = Store::of(alloc, &fields);
         for field in fields {
-            read::read_field(alloc, &mut pseudo, &mut map, field)?;
+            read::read_field(alloc, &mut pseudo, &mut map, &mut kept, field)?;
         }
         Ok(Header {
             pseudo,

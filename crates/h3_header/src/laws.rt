@@ -35,8 +35,10 @@ pub fn round_trip(alloc: Global, header: &Header) -> Result<Header, HeaderError>
     Header::try_from(alloc, fields)
 }
 
-/// What a field list is read as is a value: its head, or the first refusal.
+/// What a field list is read as is a value: its head, or the first refusal, memory aside. What the value says is so.
 pub fn lists_are_their_value()
     ensures head { (fields : List Field) (h : Head) → IsHeadOf fields h → head_of fields ≡ IsHead h }
     ensures refused { (fields : List Field) (e : HeaderError) (why : HeadRefusal) → RefusesOne (trailer_head []) fields e → told e ≡ Some why → head_of fields ≡ IsNone why }
+    ensures is_head { (fields : List Field) (h : Head) → head_of fields ≡ IsHead h → IsHeadOf fields h }
+    ensures is_refused { (fields : List Field) (e : HeaderError) (why : HeadRefusal) → head_of fields ≡ IsNone why → told e ≡ Some why → RefusesOne (trailer_head []) fields e }
 {}

@@ -7,4 +7,4 @@ pub mod headers;
 pub mod laws;
 
 pub use ext::{InvalidProtocol, Protocol};
-pub use headers::{Header, HeaderError, HeaderIter};
+pub use headers::{FieldKind, Header, HeaderError, HeaderIter};

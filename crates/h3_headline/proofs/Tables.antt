@@ -7,7 +7,7 @@ use Rattle.h3_field.specs.Instruction.{encoder_bytes}
 use Rattle.h3_qpack.specs.DecoderState.{announcing, decoder_after_all}
 use Rattle.h3_qpack.specs.EncoderHistory.{EncoderHistory}
 use Rattle.h3_qpack.specs.Instructions.{AreAccepted}
-use Rattle.h3_qpack.specs.Table.{table, evictions}
+use Rattle.h3_table.specs.Table.{table, evictions}
 use Rattle.h3_qpack.specs.WholeInstructions.{whole_in}
 use Rattle.h3_proto.specs.declared.stream.Side.{Side}
 use Rattle.h3_connection.specs.OwnIds.{other}

@@ -15,7 +15,7 @@ use Rattle.h3_qpack.specs.Instructions.{AreAccepted}
 use Rattle.h3_qpack.specs.Schedule.{SessionEvent, SessionStep, SessionRun, beginning}
 use Rattle.h3_qpack.specs.Schedule.SessionEvent.{DecoderInstructionRead}
 use Rattle.h3_qpack.specs.Session.{Session, IsSound, acknowledgments, tracked_references, after_decoder_instruction}
-use Rattle.h3_qpack.specs.TableState.{has_room, with_entry, with_capacity}
+use Rattle.h3_table.specs.TableState.{has_room, with_entry, with_capacity}
 use Rattle.h3_qpack.specs.WholeInstructions.{is_insertion}
 use Rattle.h3_proto.specs.declared.stream.Side.{Side}
 use Rattle.h3_world.specs.declared.setup.Setup.{Setup}

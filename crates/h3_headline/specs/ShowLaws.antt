@@ -3,7 +3,7 @@ use Rattle.std.proofs.Common.{◌≡◌, ℕ, Bool, true, false, refl, sym, ap, 
 use Rattle.std.specs.Prelude.{option_map}
 use Rattle.h3_field.specs.Field.{section_size}
 use Rattle.h3_qpack.specs.EncoderHistory.{EncoderHistory}
-use Rattle.h3_qpack.specs.Table.{table}
+use Rattle.h3_table.specs.Table.{table}
 use Rattle.h3_proto.specs.declared.stream.Side.{Side}
 use Rattle.h3_connection.specs.Endpoint.{EndpointHistory}
 use Rattle.h3_connection.specs.OwnIds.{other}

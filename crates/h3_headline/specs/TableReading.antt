@@ -1,7 +1,7 @@
 -- What a side has made of the other side's encoder stream.
 use Rattle.std.specs.Prelude.{◌≡◌, take, Some}
 use Rattle.h3_qpack.specs.DecoderState.{DecoderState}
-use Rattle.h3_qpack.specs.Table.{table}
+use Rattle.h3_table.specs.Table.{table}
 use Rattle.h3_proto.specs.declared.stream.Side.{Side}
 use Rattle.h3_connection.specs.OwnIds.{other}
 use Rattle.h3_world.specs.declared.setup.Setup.{Setup}

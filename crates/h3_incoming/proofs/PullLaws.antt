@@ -30,7 +30,7 @@ use Rattle.h3_incoming.specs.Finding.{Finds}
 use Rattle.h3_incoming.specs.Gives.{Gives}
 use Rattle.h3_incoming.specs.Placing.{is_session}
 use Rattle.h3_incoming.specs.declared.stream.front.Found.TheVariants as found
-use Rattle.h3_incoming.proofs.FrontLaws.{skipped-length}
+use Rattle.h3_connection.specs.SkippingLaws.{skipped-length}
 
 pub gives_as : (p q : Pulled) (answer : Pull) (new : Incoming) (before after : List ℕ) → p ≡ q → Gives q answer new before after → Gives p answer new before after
 gives_as p q answer new before after e h = subst (λ x. Gives x answer new before after) (sym e) h

@@ -23,7 +23,7 @@ use Rattle.h3_incoming.specs.Finding.{Finds, PassesFrames}
 use Rattle.h3_incoming.specs.Placing.{is_session}
 use Rattle.h3_incoming.specs.Resuming.{Begins, Resumes, delivered}
 use Rattle.h3_incoming.specs.declared.stream.front.Found.TheVariants as found
-use Rattle.h3_incoming.proofs.FrontLaws.{skipped-length, found_not_empty}
+use Rattle.h3_connection.specs.SkippingLaws.{skipped-length, found_not_empty}
 use Rattle.h3_incoming.proofs.PullLaws.{pull_of_section, pull_of_payload, pull_of_frame, left_is, left_left, place_passed, between_frame}
 
 pub resumes_same : (old new : Incoming) → new ≡ old → Resumes old new

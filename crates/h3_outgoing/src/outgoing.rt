@@ -135,6 +135,7 @@ impl OutgoingStream {
         ensures { self.new ≡ has_ended self.old }
     {
         self.is_finished = true;
+        self.release();
     }
 
     /// Sending ends here: what waits is dropped. It takes no memory.
@@ -145,6 +146,17 @@ impl OutgoingStream {
         self.waiting = 0;
         self.is_reset = true;
         self.is_finished = false;
+        self.release();
+    }
+
+    // The queue keeps no memory once nothing of the stream is left to be sent.
+    fn release(&mut self)
+        ensures { self.new ≡ self.old }
+    {
+        if self.is_sent_off() && self.pieces.is_empty() {
+            let alloc = *self.pieces.allocator();
+            self.pieces = VecDeque::new(alloc);
+        }
     }
 
     /// The first bytes that wait: the rest of a frame's type and length, or of its payload. Empty exactly where nothing waits.
@@ -191,6 +203,7 @@ impl OutgoingStream {
         while left > 0 {
             left -= self.advance_first(left);
         }
+        self.release();
     }
 
     // Takes up to `count` bytes of the first piece, and answers how many.

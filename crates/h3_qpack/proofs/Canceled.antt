@@ -16,7 +16,7 @@ use Rattle.h3_field.specs.Line.FieldLine.{StaticField, RelativeField, StaticName
 use Rattle.h3_field.specs.Instruction.{encoder_bytes}
 use Rattle.h3_field.specs.Prefix.{prefix_bytes}
 use Rattle.h3_field.specs.Section.{literal_line, line_or_literal, static_line, static_lines, section_bytes}
-use Rattle.h3_qpack.specs.Table.{table, evictions}
+use Rattle.h3_table.specs.Table.{table, evictions}
 use Rattle.h3_qpack.specs.EncoderHistory.{EncoderHistory, blocks_out, was_canceled, writing_on}
 use Rattle.h3_qpack.specs.EncoderState.{EncoderState, encoder_state}
 use Rattle.h3_qpack.specs.SectionEncoding.{Draft, add_line, add_literal, add_field, found, found_name, entry_name_line, is_insertable, draft_of, required_insert_count, encoded_section, instructions_for, sent_section}

@@ -3,13 +3,16 @@ use Rattle.std.proofs.Common.{◌≡◌, ℕ, ◌+◌, ◌-◌, ◌^◌, ◌<◌
 use Rattle.std.specs.List.{AllByRecursion, list_all, flat_map}
 use Rattle.std.proofs.lemmas.Grind.{common_steps}
 use Rattle.h3_field.specs.Field.{Field, field_eq, field_size}
-use Rattle.h3_qpack.specs.Table.{table, evictions}
-use Rattle.h3_qpack.specs.TableState.{evicted, newest_in, with_entry}
+use Rattle.h3_table.specs.Table.{table, evictions}
+use Rattle.h3_table.specs.TableState.{evicted, newest_in, with_entry}
 use Rattle.h3_qpack.specs.EncoderHistory.{EncoderHistory, UnacknowledgedSection, blocks_out, referenced_entries}
 use Rattle.h3_qpack.specs.SectionEncoding.{Draft, is_usable, found, found_name, remaining, evictions_by, is_insertable}
-use Rattle.h3_qpack.specs.Tracking.{is_free_to}
+use Rattle.h3_table.specs.Tracking.{is_free_to}
+use Rattle.h3_table.specs.declared.tracking.TrackedSection.{TrackedSection}
+use Rattle.h3_table.specs.InOrder.{in_order}
+use Rattle.h3_table.proofs.InOrders.{all_in_order}
 use Rattle.h3_qpack.specs.EncoderState.{EncoderState, tracked_section, least, MayInsertInto}
-use Rattle.h3_qpack.proofs.Tables.{evictions-append}
+use Rattle.h3_table.proofs.Tables.{evictions-append}
 use Rattle.h3_qpack.proofs.TableStates.{table_state_of, with_entry-held, search_held}
 
 -- the greatest number that may be named, of those up to a number
@@ -134,16 +137,20 @@ list_all-append n (x ∷ xs) ys = ap (λ b. nat_lt n x && b) (list_all-append n 
     join true b c = refl
     join false b c = refl
 
-pub tracked_free : (n : ℕ) (ts : List UnacknowledgedSection) → AllByRecursion (λ t. 0 < least t.references) ts → list_all (λ k. nat_lt n k) (flat_map (λ t. t.references) ts) ≡ is_free_to n (map tracked_section ts)
-tracked_free n [] h = refl
-tracked_free n (t ∷ ts) h =
+stored_free : (n : ℕ) (ts : List UnacknowledgedSection) → AllByRecursion (λ t. 0 < least t.references) ts → list_all (λ k. nat_lt n k) (flat_map (λ t. t.references) ts) ≡ is_free_to n (map tracked_section ts)
+stored_free n [] h = refl
+stored_free n (t ∷ ts) h =
     list_all-append n t.references (flat_map (λ (t : UnacknowledgedSection). t.references) ts)
-    ∙ ap (λ b. list_all (λ k. nat_lt n k) t.references && b) (tracked_free n ts h.1)
+    ∙ ap (λ b. list_all (λ k. nat_lt n k) t.references && b) (stored_free n ts h.1)
     ∙ ap (λ b. b && is_free_to n (map tracked_section ts)) (own t.references h.0)
   where
     own : (ns : List ℕ) → 0 < least ns → list_all (λ k. nat_lt n k) ns ≡ nat_lt n (least ns)
     own [] above = absurd (omega (arith, above))
     own (m ∷ ns) above = least_all n m ns
+
+pub tracked_free : (n : ℕ) (ts : List UnacknowledgedSection) → AllByRecursion (λ t. 0 < least t.references) ts
+    → list_all (λ k. nat_lt n k) (flat_map (λ t. t.references) ts) ≡ is_free_to n (in_order (λ t. t.stream) (map tracked_section ts))
+tracked_free n ts h = stored_free n ts h ∙ sym (all_in_order (λ (t : TrackedSection). nat_lt n t.oldest) (λ t. t.stream) (map tracked_section ts))
 
 pub drafted_free : (n : ℕ) (ns : List ℕ) → n < 2 ^ 64 - 1 → list_all (λ k. nat_lt n k) ns ≡ nat_lt n (oldest_of ns)
 drafted_free n ns small = front (lt_true n (2 ^ 64 - 1) small) ∙ least_all n (2 ^ 64 - 1) ns
@@ -152,7 +159,7 @@ drafted_free n ns small = front (lt_true n (2 ^ 64 - 1) small) ∙ least_all n (
     front e = sym (ap (λ b. b && list_all (λ k. nat_lt n k) ns) e)
 
 -- A field is inserted exactly where what is kept allows it.
-pub insertable_held : (s : EncoderHistory) (d : Draft) (f : Field) (t : EncoderState) → t.table ≡ table_state_of s.capacity d.inserted → t.known_received ≡ s.known_received → t.tracked ≡ map tracked_section s.tracked
+pub insertable_held : (s : EncoderHistory) (d : Draft) (f : Field) (t : EncoderState) → t.table ≡ table_state_of s.capacity d.inserted → t.known_received ≡ s.known_received → t.tracked ≡ in_order (λ u. u.stream) (map tracked_section s.tracked)
     → NameEntries s → length d.inserted < 2 ^ 62 → nat_lt (blocks_out s) s.limit ≡ true → MayInsertInto t f (oldest_of d.references) → is_insertable s d f ≡ true
 insertable_held s d f t table known tracked named small waits h =
     let fits : field_size f ≤ s.capacity = omega (arith, h.fits, ap (λ k. k.capacity) table) in
@@ -181,7 +188,7 @@ pub record Insertable (s : EncoderHistory) (t : EncoderState) (f : Field) (oldes
   pub waits : nat_lt (blocks_out s) s.limit ≡ true
   pub may : MayInsertInto t f oldest
 
-pub held_insertable : (s : EncoderHistory) (d : Draft) (f : Field) (t : EncoderState) → t.table ≡ table_state_of s.capacity d.inserted → t.known_received ≡ s.known_received → t.tracked ≡ map tracked_section s.tracked
+pub held_insertable : (s : EncoderHistory) (d : Draft) (f : Field) (t : EncoderState) → t.table ≡ table_state_of s.capacity d.inserted → t.known_received ≡ s.known_received → t.tracked ≡ in_order (λ u. u.stream) (map tracked_section s.tracked)
     → NameEntries s → length d.inserted < 2 ^ 62 → is_insertable s d f ≡ true → Insertable s t f (oldest_of d.references)
 held_insertable s d f t table known tracked named small h =
     let a = both _ (list_all (λ number. nat_lt (evictions_by s d f) number) (referenced_entries s ++ d.references)) h in

@@ -2,13 +2,13 @@
 use Rattle.std.proofs.Common.{◌≡◌, ℕ, ◌-◌, ◌^◌, ◌<◌, Bool, true, false, [], ◌∷◌, length, min, refl, sym, ◌∙◌, ap, subst, nat_lt, if◌then◌else◌, Some, None}
 use Rattle.h3_field.specs.Field.{Field}
 use Rattle.h3_field.specs.Line.{FieldLine as line}
-use Rattle.h3_qpack.specs.TableState.{evicted, newest_in}
-use Rattle.h3_qpack.specs.Matches.{matches}
+use Rattle.h3_table.specs.TableState.{evicted, newest_in}
+use Rattle.h3_table.specs.Matches.{matches}
 use Rattle.h3_qpack.specs.EncoderHistory.{EncoderHistory, blocks_out}
 use Rattle.h3_qpack.specs.EncoderState.{EncoderState, MayInsertInto}
 use Rattle.h3_qpack.specs.SectionEncoding.{Draft, add_line, add_inserted, add_field, entry_name_line, found, found_name, evictions_by, is_insertable, insertion}
 use Rattle.h3_qpack.specs.Drafting.{IsDraftState, IsChosen, older, named, most_usable, insertion_for}
-use Rattle.h3_qpack.specs.declared.entries.Match.TheVariants as what
+use Rattle.h3_table.specs.declared.entries.Match.TheVariants as what
 use Rattle.h3_qpack.specs.declared.section.Section.{Section}
 use Rattle.h3_qpack.specs.declared.section.Choice.{Choice}
 use Rattle.h3_qpack.specs.declared.section.Choice.TheVariants as choice

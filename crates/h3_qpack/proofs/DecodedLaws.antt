@@ -11,7 +11,7 @@ use Rattle.h3_field.specs.Prefix.{most_entries, IsRequiredCount}
 use Rattle.h3_field.specs.PrefixReading.{EncodedPrefix, prefix, IsCount, IsBase, IsPrefix}
 use Rattle.h3_field.specs.Reading.{Reading, Whole, Unfinished, Bad}
 use Rattle.h3_field.specs.Section.{HasLine, AreLines, NoLine, NextLine}
-use Rattle.h3_qpack.specs.TableState.{TableState}
+use Rattle.h3_table.specs.TableState.{TableState}
 use Rattle.h3_qpack.specs.DecoderState.{DecoderState, count_capacity}
 use Rattle.h3_qpack.specs.Meaning.{field_at, HaveFields, HasPrefix, MeansFields, IsMissing, IsBadSection}
 use Rattle.h3_qpack.proofs.Counts.{one_residue}

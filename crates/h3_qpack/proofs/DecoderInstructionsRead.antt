@@ -14,7 +14,7 @@ use Rattle.h3_field.specs.declared.prefix_int.Error.TheVariants.{Overflow}
 use Rattle.h3_field.specs.declared.parse_error.ParseError.{ParseError}
 use Rattle.h3_field.specs.declared.parse_error.ParseError.TheVariants.{Integer}
 use Rattle.h3_qpack.specs.EncoderHistory.{EncoderHistory, encoder_after, encoder_after_all, is_refused}
-use Rattle.h3_qpack.specs.Tracking.{is_of}
+use Rattle.h3_table.specs.Tracking.{is_of}
 use Rattle.h3_qpack.specs.EncoderState.{EncoderState, encoder_state, encoder_state_after}
 use Rattle.h3_qpack.specs.Instructions.{AreDecoderInstructions, NoDecoderInstruction, NextDecoderInstruction, AreAccepted}
 use Rattle.h3_qpack.specs.EncoderAnswers.{HasReadDecoderInstructions, HasReadDecoderInstruction, IsDecoderInstructionRefusal}

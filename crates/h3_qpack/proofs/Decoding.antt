@@ -10,14 +10,16 @@ use Rattle.h3_field.specs.Line.FieldLine.{StaticField, RelativeField, PostBaseFi
 use Rattle.h3_field.specs.StaticTable.{static_field, static_name}
 use Rattle.h3_field.specs.Prefix.{most_entries, IsRequiredCount}
 use Rattle.h3_qpack.proofs.Counts.{few_entries}
-use Rattle.h3_qpack.specs.Table.{table, evictions}
+use Rattle.h3_table.specs.Table.{table, evictions}
 use Rattle.h3_qpack.specs.EncoderHistory.{EncoderHistory, UnacknowledgedSection}
 use Rattle.h3_qpack.specs.NamedFields.{insertion_at, named_field, StandFor, entry_number}
 use Rattle.h3_qpack.specs.SectionEncoding.{Draft, found, found_name, is_insertable, add_line, add_literal, add_inserted, add_field, draft_of, required_insert_count}
 use Rattle.h3_qpack.specs.Session.{Session, UndecodedSection, oldest, without_oldest, count_of, references_of, undecoded_references, tracked_references, acknowledgments, is_canceled, IsWrittenOver, IsSound, DecodesTo}
-use Rattle.h3_qpack.proofs.Tables.{evictions-append}
+use Rattle.h3_table.proofs.Tables.{evictions-append}
 use Rattle.h3_qpack.proofs.Newest.{chosen, newest_from-passes}
-use Rattle.h3_qpack.proofs.Drafts.{either_way, both, All-join, All-first}
+use Rattle.h3_qpack.proofs.Drafts.{either_way, All-first}
+use Rattle.h3_table.proofs.Releasing.{All-join}
+use Rattle.h3_table.proofs.Equals.{both}
 use Rattle.h3_qpack.proofs.NamedFieldsOf.{section_stands, StandFor-append, with_value-more}
 use Rattle.h3_qpack.proofs.Sessions.{taken_names}
 

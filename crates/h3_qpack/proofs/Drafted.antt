@@ -7,8 +7,10 @@ use Rattle.h3_field.specs.Field.{Field, field_size}
 use Rattle.h3_field.specs.Line.{FieldLine, line_bytes}
 use Rattle.h3_field.specs.Line.{FieldLine as line}
 use Rattle.h3_field.specs.Instruction.{encoder_bytes}
-use Rattle.h3_qpack.specs.TableState.{evicted, with_entry}
+use Rattle.h3_table.specs.TableState.{evicted, with_entry}
 use Rattle.h3_qpack.specs.EncoderHistory.{EncoderHistory, UnacknowledgedSection}
+use Rattle.h3_table.specs.declared.tracking.TrackedSection.{TrackedSection}
+use Rattle.h3_table.proofs.InOrders.{All_in_order}
 use Rattle.h3_qpack.specs.EncoderState.{EncoderState, encoder_state, tracked_section, least}
 use Rattle.h3_qpack.specs.SectionEncoding.{Draft, add_line, add_inserted, add_field, entry_name_line, evictions_by, insertion}
 use Rattle.h3_qpack.specs.Drafting.{IsDraftState, IsDrafted, IsSmall, IsChosen, IsPossible, line_for, section_after, encoder_state_with, instructions_after, naming, oldest_of}
@@ -102,7 +104,8 @@ chosen_drafted s d t section f choice.Literal lines start instruction_bytes h p 
 
 -- what sections that are tracked name is there
 names_kept : (s : EncoderHistory) (d : Draft) (t : EncoderState) (section : Section) → IsDraftState s d t section → AllByRecursion (λ u. 0 < u.oldest) t.tracked → NameEntries s
-names_kept s d t section k h = each s.tracked (subst (AllByRecursion (λ u. 0 < u.oldest)) (ap (λ (u : EncoderState). u.tracked) k.stores) h)
+names_kept s d t section k h =
+    each s.tracked (All_in_order (λ u. 0 < u.oldest) (λ (u : TrackedSection). u.stream) (map tracked_section s.tracked) (subst (AllByRecursion (λ u. 0 < u.oldest)) (ap (λ (u : EncoderState). u.tracked) k.stores) h))
   where
     each : (ts : List UnacknowledgedSection) → AllByRecursion (λ u. 0 < u.oldest) (map tracked_section ts) → AllByRecursion (λ u. 0 < least u.references) ts
     each [] h = tt

@@ -4,11 +4,13 @@ use Rattle.std.specs.List.{AllByRecursion, list_all}
 use Rattle.std.proofs.lemmas.Grind.{common_steps}
 use Rattle.h3_field.specs.Field.{Field, field_eq, field_size}
 use Rattle.h3_field.specs.Line.{FieldLine}
-use Rattle.h3_qpack.specs.Table.{evictions}
+use Rattle.h3_table.specs.Table.{evictions}
 use Rattle.h3_qpack.specs.EncoderHistory.{EncoderHistory, blocks_out, referenced_entries}
 use Rattle.h3_qpack.specs.SectionEncoding.{Draft, is_usable, found, evictions_by, is_insertable, found_name, add_line, add_literal, add_inserted, add_field, draft_of}
 use Rattle.h3_field.specs.StaticTable.{static_field, static_name}
-use Rattle.h3_qpack.proofs.Tables.{length-table}
+use Rattle.h3_table.proofs.Equals.{both}
+use Rattle.h3_table.proofs.Releasing.{All-join}
+use Rattle.h3_table.proofs.Tables.{length-table}
 use Rattle.h3_qpack.proofs.Newest.{chosen, newest_from-passes}
 
 -- the entry is there, and the decoder has it or one more section may be blocked
@@ -24,14 +26,6 @@ pub record IsDraft (s : EncoderHistory) (d : Draft) : Type 0 where
   pub present : AllByRecursion (λ number. evictions s.capacity d.inserted < number) (referenced_entries s)
   pub evictions_known : evictions s.capacity d.inserted ≤ max s.known_received (evictions s.capacity s.inserted)
   pub small : length s.inserted < 2 ^ 62 → length d.inserted < 2 ^ 62
-
-pub both : (a b : Bool) → (a && b) ≡ true → (a ≡ true) × (b ≡ true)
-both true b h = (refl, h)
-both false b h = cc
-
-pub All-join : {X : Type 0} (P : X → Type 0) (xs ys : List X) → AllByRecursion P xs → AllByRecursion P ys → AllByRecursion P (xs ++ ys)
-All-join P [] ys h k = k
-All-join P (x ∷ xs) ys h k = (h.0, All-join P xs ys h.1 k)
 
 All-map : {X : Type 0} (P Q : X → Type 0) (xs : List X) → ((x : X) → P x → Q x) → AllByRecursion P xs → AllByRecursion Q xs
 All-map P Q [] f h = tt

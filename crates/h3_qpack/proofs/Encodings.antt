@@ -8,16 +8,17 @@ use Rattle.h3_field.specs.Line.FieldLine.{StaticField, RelativeField, PostBaseFi
 use Rattle.h3_field.specs.Section.{AreLines, NoLine, NextLine}
 use Rattle.h3_field.specs.StaticTable.{static_field, static_name}
 use Rattle.h3_field.proofs.ReadBack.{line_reads_back}
-use Rattle.h3_qpack.specs.Table.{evictions}
+use Rattle.h3_table.specs.Table.{evictions}
 use Rattle.h3_qpack.specs.EncoderHistory.{EncoderHistory}
-use Rattle.h3_qpack.specs.TableState.{TableState, entry_at}
+use Rattle.h3_table.specs.TableState.{TableState, entry_at}
 use Rattle.h3_qpack.specs.TableHistory.{table_state, table_of}
 use Rattle.h3_qpack.specs.NamedFields.{insertion_at, named_field, StandFor, entry_number}
 use Rattle.h3_qpack.specs.Meaning.{field_at, HaveFields}
 use Rattle.h3_qpack.specs.SectionEncoding.{Draft, found, found_name, is_insertable, add_line, add_literal, add_inserted, add_field, draft_of}
 use Rattle.h3_qpack.specs.Encodings.{IsWrittenLine}
 use Rattle.h3_qpack.proofs.Newest.{chosen, newest_from-passes}
-use Rattle.h3_qpack.proofs.Drafts.{either_way, All-join}
+use Rattle.h3_qpack.proofs.Drafts.{either_way}
+use Rattle.h3_table.proofs.Releasing.{All-join}
 use Rattle.std.proofs.lemmas.List.{length-take-le}
 use Rattle.std.specs.Prelude.{◌==◌}
 use Rattle.h3_field.specs.Reading.{Whole}

@@ -5,7 +5,7 @@ use Rattle.h3_field.specs.Line.{FieldLine}
 use Rattle.h3_field.specs.LineReading.{LineForm, line}
 use Rattle.h3_field.specs.Reading.{Reading, Whole, Unfinished, Bad}
 use Rattle.h3_field.specs.Section.{AreLines, NoLine, NextLine}
-use Rattle.h3_qpack.specs.TableState.{TableState}
+use Rattle.h3_table.specs.TableState.{TableState}
 use Rattle.h3_qpack.specs.Meaning.{HaveFields}
 use Rattle.h3_qpack.specs.SectionAnswers.{BeginsWith, BeginsWithNone}
 use Rattle.h3_field.specs.Values.{line_of}

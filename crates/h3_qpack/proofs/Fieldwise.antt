@@ -8,7 +8,7 @@ use Rattle.h3_field.specs.Field.{Field, field_size, section_size}
 use Rattle.h3_field.specs.ReadBack.{IsFieldOfBytes}
 use Rattle.h3_field.specs.Line.{line_bytes}
 use Rattle.h3_field.specs.Instruction.{encoder_bytes}
-use Rattle.h3_qpack.specs.TableState.{TableState, evicted}
+use Rattle.h3_table.specs.TableState.{TableState, evicted}
 use Rattle.h3_qpack.specs.EncoderHistory.{EncoderHistory}
 use Rattle.h3_qpack.specs.EncoderState.{EncoderState}
 use Rattle.h3_qpack.specs.SectionEncoding.{Draft, add_field, draft_of}
@@ -16,8 +16,8 @@ use Rattle.h3_qpack.specs.Drafting.{IsDrafted, IsOver, IsSmall, IsChosen, IsPoss
 use Rattle.h3_qpack.specs.declared.section.Section.{Section}
 use Rattle.h3_qpack.specs.declared.section.Choice.{Choice}
 use Rattle.h3_qpack.specs.declared.section.Choice.TheVariants as choice
-use Rattle.h3_qpack.proofs.Rooms.{evicted_with_entry}
-use Rattle.h3_qpack.proofs.Drafts.{All-join}
+use Rattle.h3_table.proofs.Rooms.{evicted_with_entry}
+use Rattle.h3_table.proofs.Releasing.{All-join}
 use Rattle.h3_qpack.proofs.Drafted.{field_drafted}
 
 -- what follows from two facts of an accepted call

@@ -2,15 +2,15 @@
 use Rattle.std.proofs.Common.{◌≡◌, ◌≤◌, ℕ, ◌+◌, ◌-◌, List, [], ◌∷◌, ◌++◌, length, map, drop, sym, ◌∙◌, ap, arith, length-append}
 use Rattle.std.proofs.lemmas.List.{map-append, drop-map, length-map}
 use Rattle.h3_field.specs.Field.{Field}
-use Rattle.h3_qpack.specs.Table.{table, evictions}
-use Rattle.h3_qpack.specs.TableState.{TableState, evicted, with_entry, with_capacity}
-use Rattle.h3_qpack.specs.Slots.{slot_of}
-use Rattle.h3_qpack.specs.Index.{IsIndexed}
+use Rattle.h3_table.specs.Table.{table, evictions}
+use Rattle.h3_table.specs.TableState.{TableState, evicted, with_entry, with_capacity}
+use Rattle.h3_table.specs.Slots.{slot_of}
+use Rattle.h3_table.specs.Index.{IsIndexed}
 use Rattle.h3_qpack.specs.TableInside.{IsIndexedBy}
-use Rattle.h3_qpack.specs.declared.index.Index.{Index}
-use Rattle.h3_qpack.specs.declared.entries.Match.{Match}
+use Rattle.h3_table.specs.declared.index.Index.{Index}
+use Rattle.h3_table.specs.declared.entries.Match.{Match}
 use Rattle.h3_qpack.proofs.TableStates.{table-end}
-use Rattle.h3_qpack.proofs.Tables.{length-table}
+use Rattle.h3_table.proofs.Tables.{length-table}
 
 -- `old` with the oldest of its entries dropped, so many, is `new`.
 abbrev pub IsDropped : Index → Index → ℕ → Type 0

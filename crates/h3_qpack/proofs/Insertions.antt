@@ -8,14 +8,15 @@ use Rattle.h3_field.specs.Field.{Field, field_eq, field_size}
 use Rattle.h3_field.specs.Section.{with_value}
 use Rattle.h3_field.specs.StaticTable.{static_table, static_field, static_name}
 use Rattle.h3_field.specs.Instruction.{EncoderInstruction}
-use Rattle.h3_qpack.specs.Table.{evictions}
+use Rattle.h3_table.specs.Table.{evictions}
 use Rattle.h3_qpack.specs.EncoderHistory.{EncoderHistory}
 use Rattle.h3_qpack.specs.SectionEncoding.{Draft, found, evictions_by, is_insertable, remaining, insertion, add_line, add_literal, add_field, draft_of, found_name, instructions_for}
 use Rattle.h3_qpack.specs.TableHistory.{TableHistory, entry_still_at, field_inserted, table_after_insertion, table_after, table_after_all, table_of, IsReadAs}
-use Rattle.h3_qpack.proofs.Tables.{evictions-append}
+use Rattle.h3_table.proofs.Tables.{evictions-append}
 use Rattle.h3_qpack.proofs.Newest.{chosen, newest_from-passes}
-use Rattle.h3_qpack.proofs.Drafts.{may_insert, either_way, both}
-use Rattle.h3_qpack.proofs.NamedFieldsOf.{insertion_found, same_field, same_bytes, name_at}
+use Rattle.h3_qpack.proofs.Drafts.{may_insert, either_way}
+use Rattle.h3_qpack.proofs.NamedFieldsOf.{insertion_found, name_at}
+use Rattle.h3_table.proofs.Equals.{both, same_bytes, same_field}
 
 -- an entry that remains after the insertion is there, and stands at its index
 remains : (s : EncoderHistory) (d : Draft) (f : Field) (test : Field → Bool) (number : ℕ) → remaining s d f test ≡ Some number

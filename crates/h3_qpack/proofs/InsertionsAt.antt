@@ -20,7 +20,7 @@ use Rattle.std.proofs.lemmas.Grind.{common_steps}
 use Rattle.h3_field.specs.Instruction.EncoderInstruction.{SetCapacity, InsertWithStaticName, InsertWithEntryName, InsertLiteral, Duplicate}
 use Rattle.h3_field.specs.declared.decoder_error.DecoderError.{DecoderError}
 use Rattle.h3_field.specs.declared.decoder_error.DecoderError.TheVariants as error
-use Rattle.h3_qpack.specs.TableState.{TableState, has_room, with_entry, with_capacity}
+use Rattle.h3_table.specs.TableState.{TableState, has_room, with_entry, with_capacity}
 use Rattle.h3_qpack.specs.DecoderState.{DecoderState, insertion_of, inserting, decoder_after, greatest_capacity}
 use Rattle.h3_qpack.specs.WholeInstructions.{is_insertion}
 use Rattle.h3_qpack.specs.Instructions.{BeginsBad}

@@ -19,7 +19,7 @@ use Rattle.h3_field.specs.declared.parse_error.ParseError.{ParseError}
 use Rattle.h3_field.specs.declared.parse_error.ParseError.TheVariants.{Integer, String, InvalidPrefix, InvalidBase, OutOfMemory}
 use Rattle.h3_field.proofs.Sections.{line_one, whole_same}
 use Rattle.h3_field.proofs.StaticEntries.{table_length}
-use Rattle.h3_qpack.specs.TableState.{TableState}
+use Rattle.h3_table.specs.TableState.{TableState}
 use Rattle.h3_qpack.specs.Meaning.{field_at}
 use Rattle.h3_qpack.specs.SectionAnswers.{BeginsWith, BeginsWithNone, IsReasonFor}
 

@@ -11,12 +11,13 @@ use Rattle.h3_field.specs.Section.{with_value}
 use Rattle.h3_field.specs.Line.{FieldLine}
 use Rattle.h3_field.specs.Line.FieldLine.{StaticField, RelativeField, PostBaseField, StaticName, RelativeName, PostBaseName, Literal}
 use Rattle.h3_field.specs.StaticTable.{static_table, static_field, static_name}
-use Rattle.h3_qpack.specs.Table.{newest}
+use Rattle.h3_table.specs.Table.{newest}
 use Rattle.h3_qpack.specs.EncoderHistory.{EncoderHistory}
 use Rattle.h3_qpack.specs.SectionEncoding.{Draft, is_usable, found, found_name, is_insertable, add_line, add_literal, add_inserted, add_field, draft_of, entry_name_line}
 use Rattle.h3_qpack.specs.NamedFields.{insertion_at, named_field, StandFor}
 use Rattle.h3_qpack.proofs.Newest.{chosen, newest_from-passes}
-use Rattle.h3_qpack.proofs.Drafts.{either_way, both}
+use Rattle.h3_qpack.proofs.Drafts.{either_way}
+use Rattle.h3_table.proofs.Equals.{both, same_bytes, same_field}
 
 slice_get-append : {X : Type 0} (xs ys : List X) (i : ℕ) (x : X) → slice_get xs i ≡ Some x → slice_get (xs ++ ys) i ≡ Some x
 slice_get-append [] ys i x h = cc
@@ -55,16 +56,6 @@ one_more inserted base [] [] line f h e = (e, tt)
 one_more inserted base (l ∷ lines) (g ∷ fields) line f h e = (h.0, one_more inserted base lines fields line f h.1 e)
 one_more inserted base [] (g ∷ fields) line f h e = absurd h
 one_more inserted base (l ∷ lines) [] line f h e = absurd h
-
-pub same_bytes : (a b : List ℕ) → bytes_eq a b ≡ true → a ≡ b
-same_bytes a b h = (bytes_eq-Decides a b).0 h
-
-pub same_field : (f g : Field) → field_eq f g ≡ true → f ≡ g
-same_field f g h =
-    let e = both (bytes_eq f.name g.name) (bytes_eq f.value g.value) h in
-    let n = same_bytes f.name g.name e.0 in
-    let v = same_bytes f.value g.value e.1 in
-    λ i. record { name = n i; value = v i }
 
 -- what stands at the place of an equal entry
 equal_at : (entries : List Field) (f : Field) (i : ℕ) → position (λ entry. field_eq entry f) entries ≡ Some i → slice_get entries i ≡ Some f

@@ -1,12 +1,15 @@
 -- Lists without the last item that passes.
-use Rattle.std.proofs.Common.{◌≡◌, ◌∙◌, nat_lt, ℕ, Bool, true, false, ◌||◌, List, [], ◌∷◌, map, filter, cond, refl, ap, arith, if◌then◌else◌}
+use Rattle.std.proofs.Common.{◌≡◌, ◌∙◌, nat_lt, ℕ, Bool, true, false, ◌||◌, List, [], ◌∷◌, map, filter, cond, refl, sym, ap, arith, if◌then◌else◌}
 use Rattle.std.specs.Prelude.{◌==◌}
 use Rattle.std.specs.List.{list_any}
 use Rattle.std.proofs.lemmas.Grind.{common_steps}
-use Rattle.h3_qpack.specs.EncoderHistory.{EncoderHistory, without_newest, withdrawn}
-use Rattle.h3_qpack.specs.Tracking.{is_of, without_newest_of}
+use Rattle.h3_qpack.specs.EncoderHistory.{EncoderHistory, withdrawn}
+use Rattle.h3_table.specs.Tracking.{is_of, without_newest, without_newest_of}
 use Rattle.h3_qpack.specs.EncoderState.{encoder_state, tracked_section, encoder_state_withdrawn}
-use Rattle.h3_qpack.proofs.Releasing.{none_newest}
+use Rattle.h3_table.specs.declared.tracking.TrackedSection.{TrackedSection}
+use Rattle.h3_table.specs.InOrder.{in_order}
+use Rattle.h3_table.proofs.InOrders.{newest_in_order}
+use Rattle.h3_table.proofs.Releasing.{none_newest}
 
 any_map : {X Y : Type 0} (f : X → Y) (test : Y → Bool) (xs : List X) → list_any (λ x. test (f x)) xs ≡ list_any test (map f xs)
 any_map f test [] = refl
@@ -77,9 +80,18 @@ newest_filter keep count (n ∷ ns) false e =
 
 pub withdrawn_state : (s : EncoderHistory) (stream count : ℕ) → encoder_state (withdrawn s stream count) ≡ encoder_state_withdrawn (encoder_state s) stream count
 withdrawn_state s stream count =
-    rw (newest_filter (λ n. nat_lt s.known_received n) count s.required_insert_counts (nat_lt s.known_received count) refl, kept (count == 0)) refl
+    ap (λ (counts : List ℕ). record (encoder_state (withdrawn s stream count)) { blocking_counts = counts }) counted
+    ∙ ap (λ ts. record (encoder_state s) { blocking_counts = without_newest (λ n. n == count) (in_order (λ n. n) (filter (λ n. nat_lt s.known_received n) s.required_insert_counts)); tracked = ts }) (kept (count == 0))
   where
-    kept : (b : Bool) → map tracked_section (if b then s.tracked else without_newest (λ t. t.stream == stream) s.tracked)
-        ≡ (if b then map tracked_section s.tracked else without_newest_of stream (map tracked_section s.tracked))
+    counted : in_order (λ n. n) (filter (λ n. nat_lt s.known_received n) (without_newest (λ n. n == count) s.required_insert_counts))
+        ≡ without_newest (λ n. n == count) (in_order (λ n. n) (filter (λ n. nat_lt s.known_received n) s.required_insert_counts))
+    counted =
+        ap (in_order (λ n. n)) (newest_filter (λ n. nat_lt s.known_received n) count s.required_insert_counts (nat_lt s.known_received count) refl)
+        ∙ sym (newest_in_order (λ n. n) count (filter (λ n. nat_lt s.known_received n) s.required_insert_counts))
+
+    kept : (b : Bool) → in_order (λ t. t.stream) (map tracked_section (if b then s.tracked else without_newest (λ t. t.stream == stream) s.tracked))
+        ≡ (if b then in_order (λ t. t.stream) (map tracked_section s.tracked) else without_newest_of stream (in_order (λ t. t.stream) (map tracked_section s.tracked)))
     kept true = refl
-    kept false = newest_map tracked_section (is_of stream) s.tracked
+    kept false =
+        ap (in_order (λ t. t.stream)) (newest_map tracked_section (is_of stream) s.tracked)
+        ∙ sym (newest_in_order (λ (t : TrackedSection). t.stream) stream (map tracked_section s.tracked))

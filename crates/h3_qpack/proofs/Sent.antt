@@ -18,6 +18,9 @@ use Rattle.h3_qpack.specs.EncoderState.{EncoderState, encoder_state, tracked_sec
 use Rattle.h3_qpack.specs.SectionEncoding.{Draft, draft_of, required_insert_count, encoded_section, instructions_for}
 use Rattle.h3_qpack.specs.Drafting.{IsDraftState, IsDrafted, IsOver, IsSmall, IsSent, IsCutOff, begun, oldest_of}
 use Rattle.h3_qpack.specs.declared.section.Section.{Section}
+use Rattle.h3_table.specs.declared.tracking.TrackedSection.{TrackedSection}
+use Rattle.h3_table.specs.InOrder.{in_order, put_last}
+use Rattle.h3_table.proofs.InOrders.{in_order_more}
 use Rattle.h3_qpack.proofs.EncoderStates.{blocking_counted}
 use Rattle.h3_qpack.proofs.Canceled.{sent_draft}
 
@@ -78,23 +81,29 @@ least_is (n ∷ ns) some few =
     ap (λ m. fold min m ns) same
 
 -- the counts above what is known
-blocking_more : (known count : ℕ) (counts : List ℕ) → (if nat_lt known count then filter (λ c. nat_lt known c) counts ++ count ∷ [] else filter (λ c. nat_lt known c) counts) ≡ filter (λ c. nat_lt known c) (counts ++ count ∷ [])
+blocking_more : (known count : ℕ) (counts : List ℕ) → (if nat_lt known count then put_last (λ n. n) count (in_order (λ n. n) (filter (λ c. nat_lt known c) counts)) else in_order (λ n. n) (filter (λ c. nat_lt known c) counts))
+    ≡ in_order (λ n. n) (filter (λ c. nat_lt known c) (counts ++ count ∷ []))
 blocking_more known count counts = by_test (nat_lt known count) refl
   where
-    by_test : (b : Bool) → nat_lt known count ≡ b → (if b then filter (λ c. nat_lt known c) counts ++ count ∷ [] else filter (λ c. nat_lt known c) counts) ≡ filter (λ c. nat_lt known c) (counts ++ count ∷ [])
+    by_test : (b : Bool) → nat_lt known count ≡ b → (if b then put_last (λ n. n) count (in_order (λ n. n) (filter (λ c. nat_lt known c) counts)) else in_order (λ n. n) (filter (λ c. nat_lt known c) counts))
+        ≡ in_order (λ n. n) (filter (λ c. nat_lt known c) (counts ++ count ∷ []))
     by_test true e =
         let one : filter (λ c. nat_lt known c) (count ∷ []) ≡ count ∷ [] = rw e refl in
-        sym (filter-append (λ c. nat_lt known c) counts (count ∷ []) ∙ ap (λ cs. filter (λ c. nat_lt known c) counts ++ cs) one)
+        sym (ap (in_order (λ n. n)) (filter-append (λ c. nat_lt known c) counts (count ∷ []) ∙ ap (λ cs. filter (λ c. nat_lt known c) counts ++ cs) one)
+        ∙ in_order_more (λ n. n) (filter (λ c. nat_lt known c) counts) count)
     by_test false e =
         let none : filter (λ c. nat_lt known c) (count ∷ []) ≡ [] = rw e refl in
-        sym (filter-append (λ c. nat_lt known c) counts (count ∷ []) ∙ ap (λ cs. filter (λ c. nat_lt known c) counts ++ cs) none ∙ append-nil _)
+        sym (ap (in_order (λ n. n)) (filter-append (λ c. nat_lt known c) counts (count ∷ []) ∙ ap (λ cs. filter (λ c. nat_lt known c) counts ++ cs) none ∙ append-nil _))
 
 tracked_more : (b : Bool) (stream : ℕ) (references : List ℕ) (ts : List UnacknowledgedSection) → b ≡ false
-    → map tracked_section ts ++ record { stream = stream; oldest = least references } ∷ [] ≡ map tracked_section (ts ++ (if b then [] else record { stream = stream; references = references } ∷ []))
-tracked_more b stream references ts e = rw e (sym (map-append tracked_section ts (record { stream = stream; references = references } ∷ [])))
+    → put_last (λ t. t.stream) (record { stream = stream; oldest = least references }) (in_order (λ t. t.stream) (map tracked_section ts))
+    ≡ in_order (λ t. t.stream) (map tracked_section (ts ++ (if b then [] else record { stream = stream; references = references } ∷ [])))
+tracked_more b stream references ts e =
+    rw e (sym (ap (in_order (λ t. t.stream)) (map-append tracked_section ts (record { stream = stream; references = references } ∷ []))
+    ∙ in_order_more (λ (t : TrackedSection). t.stream) (map tracked_section ts) (record { stream = stream; oldest = least references })))
 
-tracked_same : (b : Bool) (more ts : List UnacknowledgedSection) → b ≡ true → map tracked_section ts ≡ map tracked_section (ts ++ (if b then [] else more))
-tracked_same b more ts e = rw e (ap (map tracked_section) (sym (append-nil ts)))
+tracked_same : (b : Bool) (more ts : List UnacknowledgedSection) → b ≡ true → in_order (λ t. t.stream) (map tracked_section ts) ≡ in_order (λ t. t.stream) (map tracked_section (ts ++ (if b then [] else more)))
+tracked_same b more ts e = rw e (ap (λ us. in_order (λ t. t.stream) (map tracked_section us)) (sym (append-nil ts)))
 
 not_zero : (n : ℕ) → (n ≡ 0 → ⊥) → (n == 0) ≡ false
 not_zero n some = by_test (n == 0) refl
@@ -132,11 +141,11 @@ pub sent_plain : (s : EncoderHistory) (d : Draft) (stream : ℕ) (t : EncoderSta
 sent_plain s d stream t section k none =
     let zero_is : required_insert_count d ≡ 0 = sym k.newest ∙ none in
     let far : nat_lt s.known_received (required_insert_count d) ≡ false = ap (λ n. nat_lt s.known_received n) zero_is ∙ none_below s.known_received in
-    let counts = ap (λ b. if b then filter (λ c. nat_lt s.known_received c) s.required_insert_counts ++ required_insert_count d ∷ [] else filter (λ c. nat_lt s.known_received c) s.required_insert_counts) (sym far)
+    let counts = ap (λ b. if b then put_last (λ n. n) (required_insert_count d) (in_order (λ n. n) (filter (λ c. nat_lt s.known_received c) s.required_insert_counts)) else in_order (λ n. n) (filter (λ c. nat_lt s.known_received c) s.required_insert_counts)) (sym far)
     ∙ blocking_more s.known_received (required_insert_count d) s.required_insert_counts in
     let none_named : (required_insert_count d == 0) ≡ true = rw zero_is refl in
     k.stores ∙ ap (λ (ws : List ℕ). record (encoder_state (record s { inserted = d.inserted })) { blocking_counts = ws }) counts
-    ∙ ap (λ ts. record (encoder_state (record s { inserted = d.inserted })) { blocking_counts = filter (λ c. nat_lt s.known_received c) (s.required_insert_counts ++ required_insert_count d ∷ []); tracked = ts })
+    ∙ ap (λ ts. record (encoder_state (record s { inserted = d.inserted })) { blocking_counts = in_order (λ n. n) (filter (λ c. nat_lt s.known_received c) (s.required_insert_counts ++ required_insert_count d ∷ [])); tracked = ts })
     (tracked_same (required_insert_count d == 0) (record { stream = stream; references = d.references } ∷ []) s.tracked none_named)
 
 -- The section and its instructions were written, on a stream that is not canceled.

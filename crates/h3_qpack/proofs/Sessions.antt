@@ -9,12 +9,13 @@ use Rattle.std.proofs.lemmas.List.Sums.{sum_by-cons, sum_by-append}
 use Rattle.h3_field.specs.Field.{Field}
 use Rattle.h3_field.specs.Instruction.{DecoderInstruction}
 use Rattle.h3_field.specs.Instruction.DecoderInstruction.{Acknowledge, CancelStream, Increment}
-use Rattle.h3_qpack.specs.Table.{evictions}
+use Rattle.h3_table.specs.Table.{evictions}
 use Rattle.h3_qpack.specs.EncoderHistory.{EncoderHistory, UnacknowledgedSection, released, without_stream, was_canceled, writing_on, blocks_out}
 use Rattle.h3_qpack.specs.SectionEncoding.{Draft, draft_of, required_insert_count}
 use Rattle.h3_qpack.proofs.Canceled.{canceled_more, on_static, on_other, sent_draft}
 use Rattle.h3_qpack.proofs.Insertions.{section_read_as}
-use Rattle.h3_qpack.proofs.Drafts.{All-join, All-first, All-second, draft_is_draft, IsNamed}
+use Rattle.h3_qpack.proofs.Drafts.{All-first, All-second, draft_is_draft, IsNamed}
+use Rattle.h3_table.proofs.Releasing.{All-join}
 use Rattle.h3_qpack.specs.Schedule.{without_section}
 use Rattle.h3_qpack.specs.Session.{Session, UndecodedSection, encoded, inserted, decoded, after_cancellation, after_decoder_instruction, increments, acknowledgments, tracked_references, references_of, undecoded_references, count_of, CancelsAreLast, is_canceled, oldest, without_oldest, IsWrittenOver, IsSound}
 

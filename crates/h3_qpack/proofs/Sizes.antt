@@ -6,7 +6,7 @@ use Rattle.std.specs.Prelude.{IfOk}
 use Rattle.h3_field.specs.declared.decoder_error.DecoderError.{DecoderError}
 use Rattle.h3_qpack.specs.declared.within.DecodedWithin.{DecodedWithin}
 use Rattle.h3_qpack.specs.declared.within.DecodedWithin.TheVariants.{Fields, TooLarge}
-use Rattle.h3_qpack.specs.TableState.{TableState}
+use Rattle.h3_table.specs.TableState.{TableState}
 use Rattle.h3_qpack.specs.DecodedSection.{fields_in}
 use Rattle.h3_qpack.specs.Sizes.{told_size, value_after, last_value, counted, counted_on, IsTooLarge, IsWithin}
 use Rattle.h3_qpack.proofs.FieldsIn.{AreRead}

@@ -1,12 +1,12 @@
 -- A table that is used from now on: nothing was inserted before.
 use Rattle.std.proofs.Common.{◌≡◌, ℕ, ◌≤◌, List, [], ◌∷◌, length, map, refl, sym, ◌∙◌, ap, subst, arith}
-use Rattle.h3_qpack.specs.Table.{table}
-use Rattle.h3_qpack.specs.TableState.{TableState, evicted, with_capacity}
-use Rattle.h3_qpack.specs.Index.{IsIndexed}
-use Rattle.h3_qpack.specs.Slots.{slot_of}
+use Rattle.h3_table.specs.Table.{table}
+use Rattle.h3_table.specs.TableState.{TableState, evicted, with_capacity}
+use Rattle.h3_table.specs.Index.{IsIndexed}
+use Rattle.h3_table.specs.Slots.{slot_of}
 use Rattle.h3_qpack.specs.TableInside.{IsIndexedBy}
-use Rattle.h3_qpack.specs.declared.index.Index.{Index}
-use Rattle.h3_qpack.specs.declared.entries.Match.{Match}
+use Rattle.h3_table.specs.declared.index.Index.{Index}
+use Rattle.h3_table.specs.declared.entries.Match.{Match}
 use Rattle.h3_qpack.specs.EncoderHistory.{EncoderHistory}
 use Rattle.h3_qpack.specs.EncoderState.{EncoderState, encoder_state}
 

@@ -7,9 +7,9 @@ use Rattle.h3_field.specs.Field.{Field, field_size}
 use Rattle.h3_field.specs.Section.{with_value}
 use Rattle.h3_field.specs.Instruction.{EncoderInstruction}
 use Rattle.h3_field.specs.Instruction.EncoderInstruction.{SetCapacity, InsertWithStaticName, InsertWithEntryName, InsertLiteral, Duplicate}
-use Rattle.h3_qpack.specs.Table.{evictions}
+use Rattle.h3_table.specs.Table.{evictions}
 use Rattle.h3_qpack.specs.NamedFields.{insertion_at}
-use Rattle.h3_qpack.specs.TableState.{entry_at, with_entry}
+use Rattle.h3_table.specs.TableState.{entry_at, with_entry}
 use Rattle.h3_qpack.specs.TableHistory.{TableHistory, table_state, entry_still_at, field_inserted, table_after_insertion, table_after, table_after_all, table_of, IsReadAs}
 use Rattle.h3_qpack.specs.DecoderState.{DecoderState, announcing, insertion_of, inserting, decoder_after, decoder_after_all}
 use Rattle.h3_qpack.specs.Encodings.{HasInsertions}
@@ -17,7 +17,7 @@ use Rattle.h3_qpack.specs.Exchange.{opening}
 use Rattle.h3_qpack.proofs.TableStates.{table_state_of, table-end, with_entry-held}
 use Rattle.h3_qpack.proofs.Insertions.{table_after_all-append}
 use Rattle.h3_qpack.proofs.DecoderFronts.{decoder_after_all-append}
-use Rattle.h3_qpack.proofs.Drafts.{both}
+use Rattle.h3_table.proofs.Equals.{both}
 use Rattle.h3_qpack.proofs.Encodings.{still_held}
 
 -- a decoder that has read these insertions, and the capacity before them

@@ -3,7 +3,8 @@ use Rattle.std.proofs.Common.{◌≡◌, ℕ, ◌==◌, Bool, true, false, ◌||
 use Rattle.std.specs.List.{list_any}
 use Rattle.std.proofs.lemmas.Grind.{common_steps}
 use Rattle.h3_field.specs.Field.{Field}
-use Rattle.h3_qpack.specs.EncoderHistory.{EncoderHistory, UnacknowledgedSection, encoder_after, without_newest, withdrawn, writing_on}
+use Rattle.h3_qpack.specs.EncoderHistory.{EncoderHistory, UnacknowledgedSection, encoder_after, withdrawn, writing_on}
+use Rattle.h3_table.specs.Tracking.{without_newest}
 use Rattle.h3_field.specs.Instruction.{DecoderInstruction}
 use Rattle.h3_field.specs.Instruction.DecoderInstruction.{Acknowledge, CancelStream, Increment}
 use Rattle.h3_qpack.specs.SectionEncoding.{draft_of, required_insert_count, sent_section}

@@ -16,7 +16,8 @@ use Rattle.h3_qpack.specs.EncoderHistory.{EncoderHistory}
 use Rattle.h3_qpack.specs.SectionEncoding.{Draft, found, found_name, is_insertable, remaining, insertion, add_line, add_inserted, add_literal, add_field, draft_of, entry_name_line}
 use Rattle.h3_qpack.specs.Encodings.{IsWrittenLine, IsWrittenInstruction}
 use Rattle.h3_qpack.proofs.Newest.{chosen, newest_from-passes}
-use Rattle.h3_qpack.proofs.Drafts.{All-join, either_way, may_insert}
+use Rattle.h3_qpack.proofs.Drafts.{either_way, may_insert}
+use Rattle.h3_table.proofs.Releasing.{All-join}
 
 abbrev pub IsSmallLine : FieldLine → Type 0
 IsSmallLine l = IsWritable l × IsLineOfBytes l

@@ -7,7 +7,7 @@ use Rattle.h3_field.specs.PrefixReading.{EncodedPrefix, prefix}
 use Rattle.h3_field.specs.Reading.{Reading, Whole, Unfinished, Bad}
 use Rattle.h3_field.specs.LineReading.{LineForm, line}
 use Rattle.h3_field.specs.declared.decoder_error.DecoderError.{DecoderError}
-use Rattle.h3_qpack.specs.TableState.{TableState}
+use Rattle.h3_table.specs.TableState.{TableState}
 use Rattle.h3_qpack.specs.DecoderState.{DecoderState, count_capacity}
 use Rattle.h3_qpack.specs.Meaning.{field_at, MeansFields, IsMissing, IsBadSection}
 use Rattle.h3_qpack.specs.SectionAnswers.{IsReasonFor}

@@ -5,7 +5,7 @@ use Rattle.h3_field.specs.Section.{with_value}
 use Rattle.h3_field.specs.StaticTable.{static_table}
 use Rattle.h3_field.specs.Instruction.{EncoderInstruction}
 use Rattle.h3_field.specs.Instruction.EncoderInstruction.{SetCapacity, InsertWithStaticName, InsertWithEntryName, InsertLiteral, Duplicate}
-use Rattle.h3_qpack.specs.TableState.{TableState, no_entries, entry_at, has_room, with_entry, with_capacity}
+use Rattle.h3_table.specs.TableState.{TableState, no_entries, entry_at, has_room, with_entry, with_capacity}
 
 pub record DecoderState : Type 0 where
   -- the greatest capacity that was announced; none where the table came with a capacity of its own

@@ -8,12 +8,12 @@ use Rattle.h3_field.specs.Line.{FieldLine, line_bytes}
 use Rattle.h3_field.specs.Line.{FieldLine as line}
 use Rattle.h3_field.specs.Instruction.{EncoderInstruction, encoder_bytes}
 use Rattle.h3_field.specs.Instruction.EncoderInstruction.{InsertWithStaticName, InsertWithEntryName, InsertLiteral, Duplicate}
-use Rattle.h3_qpack.specs.TableState.{TableState, evicted, newest_in, with_entry}
-use Rattle.h3_qpack.specs.Matches.{matches}
+use Rattle.h3_table.specs.TableState.{TableState, evicted, newest_in, with_entry}
+use Rattle.h3_table.specs.Matches.{matches}
 use Rattle.h3_qpack.specs.EncoderHistory.{EncoderHistory, blocks_out, writing_on}
 use Rattle.h3_qpack.specs.EncoderState.{EncoderState, encoder_state, MayInsertInto}
 use Rattle.h3_qpack.specs.SectionEncoding.{Draft, draft_of, required_insert_count, entry_name_line, encoded_section, instructions_for, sent_section}
-use Rattle.h3_qpack.specs.declared.entries.Match.TheVariants as what
+use Rattle.h3_table.specs.declared.entries.Match.TheVariants as what
 use Rattle.h3_qpack.specs.declared.section.Section.{Section}
 use Rattle.h3_qpack.specs.declared.section.Choice.{Choice}
 use Rattle.h3_qpack.specs.declared.section.Choice.TheVariants as choice

@@ -4,6 +4,7 @@ use Rattle.std.specs.List.{list_any}
 use Rattle.std.specs.Ordering.{nat_cmp}
 use Rattle.std.specs.BTreeSet.{insert_key}
 use Rattle.h3_field.specs.Field.{Field}
+use Rattle.h3_table.specs.Tracking.{without_newest}
 use Rattle.h3_field.specs.Instruction.{DecoderInstruction}
 use Rattle.h3_field.specs.Instruction.DecoderInstruction.{Acknowledge, CancelStream, Increment}
 
@@ -77,11 +78,6 @@ abbrev pub encoder_after_front : EncoderHistory → List DecoderInstruction → 
 encoder_after_front s [] = (s, [])
 encoder_after_front s (instruction ∷ rest) =
     if is_refused s instruction then (s, instruction ∷ rest) else encoder_after_front (encoder_after s instruction) rest
-
--- without the last one that passes
-abbrev pub without_newest : {X : Type 0} → (X → Bool) → List X → List X
-without_newest test [] = []
-without_newest test (x ∷ xs) = if list_any test xs then x ∷ without_newest test xs else (if test x then xs else x ∷ xs)
 
 -- the encoder without the newest section of the stream, which has that required insert count, as if it had not been sent
 abbrev pub withdrawn : EncoderHistory → ℕ → ℕ → EncoderHistory

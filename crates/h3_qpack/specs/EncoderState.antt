@@ -1,24 +1,26 @@
 -- What an encoder keeps of its history.
-use Rattle.std.specs.Prelude.{◌≡◌, ◌⊎◌, false, ◌<◌, ◌≤◌, ℕ, ◌+◌, ◌-◌, ◌^◌, true, min, max, List, [], ◌∷◌, ◌++◌, length, map, filter, fold, nat_lt, if◌then◌else◌, ◌==◌}
+use Rattle.std.specs.Prelude.{◌≡◌, ◌⊎◌, false, ◌<◌, ◌≤◌, ℕ, ◌+◌, ◌-◌, ◌^◌, true, min, max, List, [], ◌∷◌, length, map, filter, fold, nat_lt, if◌then◌else◌, ◌==◌}
 use Rattle.std.specs.Ordering.{nat_cmp}
 use Rattle.std.specs.BTreeSet.{insert_key}
 use Rattle.h3_field.specs.Instruction.{DecoderInstruction}
 use Rattle.h3_field.specs.Instruction.DecoderInstruction.{Acknowledge, CancelStream, Increment}
-use Rattle.h3_qpack.specs.Tracking.{is_free_to, without_oldest_of, without_newest_of, without_all_of}
+use Rattle.h3_table.specs.InOrder.{in_order, put_last}
+use Rattle.h3_table.specs.Tracking.{is_free_to, without_newest, without_oldest_of, without_newest_of, without_all_of}
 use Rattle.h3_field.specs.Field.{Field, field_size}
-use Rattle.h3_qpack.specs.Table.{table}
-use Rattle.h3_qpack.specs.TableState.{TableState, evicted, with_entry, with_capacity}
+use Rattle.h3_table.specs.Table.{table}
+use Rattle.h3_table.specs.TableState.{TableState, evicted, with_entry, with_capacity}
 use Rattle.h3_field.specs.declared.dynamic.Error.{Error}
 use Rattle.h3_field.specs.declared.dynamic.Error.TheVariants.{MaximumTableSizeTooLarge, MaxTableSizeReached}
-use Rattle.h3_qpack.specs.EncoderHistory.{EncoderHistory, UnacknowledgedSection, without_newest}
-use Rattle.h3_qpack.specs.declared.tracking.TrackedSection.{TrackedSection}
+use Rattle.h3_qpack.specs.EncoderHistory.{EncoderHistory, UnacknowledgedSection}
+use Rattle.h3_table.specs.declared.tracking.TrackedSection.{TrackedSection}
 
 pub record EncoderState : Type 0 where
   pub table : TableState
   pub limit : ℕ
   pub known_received : ℕ
-  -- the required insert counts above what is known to be received
+  -- the required insert counts above what is known to be received, in increasing order
   pub blocking_counts : List ℕ
+  -- the sections in the order of their streams, and those of one stream in the order of sending
   pub tracked : List TrackedSection
   -- the streams of which a cancellation was read
   pub canceled : List ℕ
@@ -37,8 +39,8 @@ encoder_state s =
       table = record { capacity = s.capacity; entries = table s.capacity s.inserted; inserted = length s.inserted };
       limit = s.limit;
       known_received = s.known_received;
-      blocking_counts = filter (λ count. nat_lt s.known_received count) s.required_insert_counts;
-      tracked = map tracked_section s.tracked;
+      blocking_counts = in_order (λ count. count) (filter (λ count. nat_lt s.known_received count) s.required_insert_counts);
+      tracked = in_order (λ t. t.stream) (map tracked_section s.tracked);
       canceled = s.canceled;
     }
 
@@ -67,8 +69,8 @@ pub record MayInsertInto (s : EncoderState) (f : Field) (oldest : ℕ) : Type 0 
 abbrev pub encoder_state_sent : EncoderState → ℕ → ℕ → ℕ → EncoderState
 encoder_state_sent s stream count oldest =
     record s {
-      blocking_counts = if nat_lt s.known_received count then s.blocking_counts ++ count ∷ [] else s.blocking_counts;
-      tracked = s.tracked ++ record { stream = stream; oldest = oldest } ∷ [];
+      blocking_counts = if nat_lt s.known_received count then put_last (λ n. n) count s.blocking_counts else s.blocking_counts;
+      tracked = put_last (λ t. t.stream) (record { stream = stream; oldest = oldest }) s.tracked;
     }
 
 -- the state after the newest section of the stream, which has that required insert count, was withdrawn

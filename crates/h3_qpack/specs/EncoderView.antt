@@ -3,7 +3,7 @@ use Rattle.std.specs.Prelude.{◌≡◌, ◌<◌, ◌≤◌, ℕ, ◌+◌, ◌-�
 use Rattle.h3_field.specs.Field.{Field}
 use Rattle.h3_field.specs.StaticTable.{static_field, static_name}
 use Rattle.h3_field.specs.Instruction.EncoderInstruction.{InsertWithStaticName, InsertWithEntryName, InsertLiteral, Duplicate}
-use Rattle.h3_qpack.specs.TableState.{TableState, evicted, with_entry}
+use Rattle.h3_table.specs.TableState.{TableState, evicted, with_entry}
 use Rattle.h3_qpack.specs.EncoderState.{EncoderState, MayInsertInto, encoder_state_sent}
 use Rattle.h3_qpack.specs.Drafting.{naming, older, named, insertion_for, IsNowhere}
 use Rattle.h3_qpack.specs.declared.section.Section.{Section}

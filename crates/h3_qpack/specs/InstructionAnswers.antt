@@ -6,7 +6,7 @@ use Rattle.h3_field.specs.Instruction.{EncoderInstruction}
 use Rattle.h3_field.specs.ReadBack.{HasInstruction}
 use Rattle.h3_field.specs.InstructionReading.{InstructionForm, Says, instruction}
 use Rattle.h3_field.specs.declared.decoder_error.DecoderError.{DecoderError}
-use Rattle.h3_qpack.specs.TableState.{TableState}
+use Rattle.h3_table.specs.TableState.{TableState}
 use Rattle.h3_qpack.specs.DecoderState.{DecoderState, insertion_of, decoder_after}
 use Rattle.h3_qpack.specs.WholeInstructions.{is_insertion}
 use Rattle.h3_qpack.specs.Instructions.{BeginsBad}

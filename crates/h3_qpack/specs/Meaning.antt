@@ -7,7 +7,7 @@ use Rattle.h3_field.specs.Line.{FieldLine}
 use Rattle.h3_field.specs.Line.FieldLine.{StaticField, RelativeField, PostBaseField, StaticName, RelativeName, PostBaseName, Literal}
 use Rattle.h3_field.specs.Reading.{Whole}
 use Rattle.h3_field.specs.PrefixReading.{EncodedPrefix, prefix, IsPrefix}
-use Rattle.h3_qpack.specs.TableState.{TableState, entry_at}
+use Rattle.h3_table.specs.TableState.{TableState, entry_at}
 use Rattle.h3_qpack.specs.DecoderState.{DecoderState, count_capacity}
 
 -- the field of a line, where what it names is there

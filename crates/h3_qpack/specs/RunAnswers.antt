@@ -2,7 +2,7 @@
 use Rattle.std.specs.Prelude.{ℕ, ◌≤◌, List, length, take, ◌++◌, flat_map}
 use Rattle.h3_field.specs.Field.{section_size}
 use Rattle.h3_field.specs.Instruction.{encoder_bytes}
-use Rattle.h3_qpack.specs.Table.{table}
+use Rattle.h3_table.specs.Table.{table}
 use Rattle.h3_qpack.specs.EncoderHistory.{blocks_out}
 use Rattle.h3_qpack.specs.Session.{Session, IsSound}
 use Rattle.h3_qpack.specs.Schedule.{beginning}

@@ -8,7 +8,7 @@ use Rattle.h3_field.specs.Line.FieldLine.{StaticField, RelativeField, PostBaseFi
 use Rattle.h3_field.specs.Instruction.{EncoderInstruction}
 use Rattle.h3_field.specs.Instruction.EncoderInstruction.{InsertWithStaticName, InsertWithEntryName, InsertLiteral, Duplicate}
 use Rattle.h3_field.specs.Prefix.{prefix_bytes}
-use Rattle.h3_qpack.specs.Table.{evictions, newest}
+use Rattle.h3_table.specs.Table.{evictions, newest}
 use Rattle.h3_qpack.specs.EncoderHistory.{EncoderHistory, blocks_out, referenced_entries, writing_on}
 
 -- a section under way: what was inserted so far, the instructions for that, the lines, and the entries that they name

@@ -5,7 +5,7 @@ use Rattle.h3_field.specs.Field.{Field}
 use Rattle.h3_field.specs.Instruction.{EncoderInstruction, DecoderInstruction}
 use Rattle.h3_field.specs.Instruction.DecoderInstruction.{Acknowledge, CancelStream, Increment}
 use Rattle.h3_qpack.specs.NamedFields.{StandFor}
-use Rattle.h3_qpack.specs.Table.{evictions}
+use Rattle.h3_table.specs.Table.{evictions}
 use Rattle.h3_qpack.specs.EncoderHistory.{EncoderHistory, UnacknowledgedSection, encoder_after, blocks_out, referenced_entries, was_canceled, writing_on}
 use Rattle.h3_qpack.specs.SectionEncoding.{draft_of, instructions_for, required_insert_count, sent_section}
 use Rattle.h3_qpack.specs.TableHistory.{IsReadAs}

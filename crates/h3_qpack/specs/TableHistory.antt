@@ -7,8 +7,8 @@ use Rattle.h3_field.specs.StaticTable.{static_table}
 use Rattle.h3_field.specs.Instruction.{EncoderInstruction}
 use Rattle.h3_field.specs.Instruction.EncoderInstruction.{SetCapacity, InsertWithStaticName, InsertWithEntryName, InsertLiteral, Duplicate}
 use Rattle.h3_qpack.specs.NamedFields.{insertion_at}
-use Rattle.h3_qpack.specs.Table.{evictions}
-use Rattle.h3_qpack.specs.TableState.{TableState}
+use Rattle.h3_table.specs.Table.{evictions}
+use Rattle.h3_table.specs.TableState.{TableState}
 
 pub record TableHistory : Type 0 where
   pub capacity : ℕ

@@ -1,17 +1,17 @@
 -- What the fields of `DynamicTable` stand for.
 use Rattle.std.specs.Prelude.{◌≡◌, ◌≤◌, map}
-use Rattle.h3_qpack.specs.TableState.{TableState, evicted}
-use Rattle.h3_qpack.specs.Index.{IsIndexed}
-use Rattle.h3_qpack.specs.Slots.{slot_of}
-use Rattle.h3_qpack.specs.declared.index.Index.{Index}
-use Rattle.h3_qpack.specs.declared.entries.Match.{Match}
-use Rattle.h3_qpack.specs.declared.entries.Match.TheVariants as what
+use Rattle.h3_table.specs.TableState.{TableState, evicted}
+use Rattle.h3_table.specs.Index.{IsIndexed}
+use Rattle.h3_table.specs.Slots.{slot_of}
+use Rattle.h3_table.specs.declared.index.Index.{Index}
+use Rattle.h3_table.specs.declared.entries.Match.{Match}
+use Rattle.h3_table.specs.declared.entries.Match.TheVariants as what
 use Rattle.h3_qpack.specs.EncoderState.{EncoderState}
 use Rattle.h3_qpack.specs.declared.dynamic.DynamicTable.TheInside.{Inside}
 
 abbrev pub encoder_state_inside : Inside → EncoderState
 encoder_state_inside d =
-    record { table = d.entries; limit = d.limit; known_received = d.known_received; blocking_counts = d.blocking_counts.items; tracked = d.tracking.sections; canceled = d.canceled.keys }
+    record { table = d.entries; limit = d.limit; known_received = d.blocking.known_received; blocking_counts = d.blocking.counts; tracked = d.tracking.sections; canceled = d.canceled.keys }
 
 -- The entries are indexed by this.
 abbrev pub IsIndexedBy : Index → Match → TableState → Type 0

@@ -3,7 +3,7 @@ use Rattle.std.specs.Prelude.{◌≡◌, ◌⊎◌, ℕ, Option, Some, None, Res
 use Rattle.h3_field.specs.Field.{Field}
 use Rattle.h3_field.specs.declared.dynamic.Error.{Error}
 use Rattle.h3_field.specs.declared.dynamic.Error.TheVariants.{OutOfMemory}
-use Rattle.h3_qpack.specs.TableState.{TableState}
+use Rattle.h3_table.specs.TableState.{TableState}
 
 -- a table, and the base of a section
 pub record Based : Type 0 where

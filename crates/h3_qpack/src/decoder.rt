@@ -17,9 +17,8 @@ ghost use Rattle.h3_qpack.specs.Instructions.{HasRead, BeginsBad};
 ghost use Rattle.h3_qpack.specs.Hearing.{heard, hear};
 
 use crate::dynamic::DynamicTable;
-use crate::entries::{Entries, MAX_CAPACITY, MOST_INSERTIONS, size_of};
 use crate::increment::{INCREMENT_LEN, put_increment};
-use crate::lines::{Lines, copy_of, named_as, relative};
+use crate::lines::{Lines, relative};
 use crate::within::DecodedWithin;
 use h3_field::block::HeaderPrefix;
 use h3_field::dynamic::Error;
@@ -29,6 +28,7 @@ use h3_field::stream::{
     InsertWithoutNameRef, StreamCancel,
 };
 use h3_field::{Decoded, DecoderError, HeaderField, SliceCursor};
+use h3_table::entries::{Entries, MAX_CAPACITY, MOST_INSERTIONS, size_of};
 use std::alloc::{AllocError, Global};
 use std::borrow::CowSlice;
 use std::marker::Model;
@@ -179,7 +179,7 @@ impl Decoder {
             },
             Ok(Some(InsertWithNameRef::Dynamic { index, value })) => {
                 match relative(&self.entries, self.entries.inserted(), index) {
-                    Ok(entry) => match named_as(self.alloc, entry, value) {
+                    Ok(entry) => match entry.with_value(self.alloc, value) {
                         Ok(field) => Ok(Some(field)),
                         Err(_) => Err(DecoderError::OutOfMemory),
                     },
@@ -216,7 +216,7 @@ impl Decoder {
         match Duplicate::decode(buf) {
             Ok(Some(Duplicate(index))) => {
                 match relative(&self.entries, self.entries.inserted(), index) {
-                    Ok(entry) => match copy_of(self.alloc, entry) {
+                    Ok(entry) => match entry.copy(self.alloc) {
                         Ok(field) => Ok(Some(field)),
                         Err(_) => Err(DecoderError::OutOfMemory),
                     },

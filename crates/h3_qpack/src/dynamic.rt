@@ -1,25 +1,24 @@
 //! The dynamic table with what its encoder goes by (RFC 9204, sections 2.1 and 3.2).
 ghost use Rattle.std.specs.Prelude.{◌≡◌, ℕ, ◌+◌, ◌-◌, ◌^◌, ◌<◌, ◌≤◌, List, [], ◌∷◌, ◌++◌, length, min, max, true, false, None, filter, nat_lt, IfSome, IfNone, ◌==◌, IfOk, IfErr, OnErr, OnOk};
 ghost use Rattle.std.specs.List.{list_any};
-ghost use Rattle.std.specs.Option.{option_copied};
 ghost use Rattle.h3_field.specs.Field.{Field, field_size, section_size};
-ghost use Rattle.h3_qpack.specs.TableState.{TableState, no_entries, evicted, entry_at, newest_in, with_entry, with_capacity};
-ghost use Rattle.h3_qpack.specs.Matches.{matches};
-ghost use Rattle.h3_qpack.specs.Index.{IsIndexed, HasRoom};
-ghost use Rattle.h3_qpack.specs.EncoderHistory.{without_newest};
-ghost use Rattle.h3_qpack.specs.Tracking.{IsLast, is_of, is_free_to, without_oldest_of};
+ghost use Rattle.h3_table.specs.TableState.{TableState, no_entries, evicted, entry_at, newest_in, with_entry, with_capacity};
+ghost use Rattle.h3_table.specs.Matches.{matches};
+ghost use Rattle.h3_table.specs.Index.{IsIndexed, HasRoom};
+ghost use Rattle.h3_table.specs.Tracking.{is_of, is_free_to, without_oldest_of};
 ghost use Rattle.h3_field.specs.Instruction.DecoderInstruction.{CancelStream};
 ghost use Rattle.h3_qpack.specs.EncoderState.{EncoderState, MayInsertInto, MayHaveCapacity, IsCapacityRefusal, raised, encoder_state_sent, encoder_state_after, encoder_state_withdrawn};
 ghost use Rattle.h3_qpack.specs.Drafting.{begun, IsOver, IsSmall};
 ghost use Rattle.h3_field.specs.declared.dynamic.Error.TheVariants.{MaxBlockedStreamsTooLarge};
 
 use crate::encoder_view::DynamicTableEncoder;
-use crate::entries::{Entries, MAX_CAPACITY, MOST_INSERTIONS, Match, size_of};
-use crate::index::Index;
-use crate::tracking::{TrackedSection, Tracking};
 use crate::view::DynamicTableDecoder;
 use h3_field::HeaderField;
 pub use h3_field::dynamic::Error;
+use h3_table::blocking::BlockingCounts;
+use h3_table::entries::{Entries, Entry, MAX_CAPACITY, MOST_INSERTIONS, Match, size_of};
+use h3_table::index::Index;
+use h3_table::tracking::{TrackedSection, Tracking};
 use std::alloc::{AllocError, Global};
 use std::collections::BTreeSet;
 use std::marker::Model;
@@ -40,9 +39,9 @@ pub struct DynamicTable {
     canceled: BTreeSet<u64>,
     // how many sections may be blocked at the decoder
     limit: usize,
-    known_received: usize,
-    // the required insert counts above the known received count
-    blocking_counts: Vec<usize>,
+    // what is known to be received, and the required insert counts above that
+    blocking: BlockingCounts,
+    alloc: Global,
 }
 
 impl Model for DynamicTable {
@@ -55,30 +54,6 @@ impl Model for DynamicTable {
     ghost view = { encoder_state_inside };
 
     ghost invariant = { IsTable };
-}
-
-/// The place of the newest one of the equal counts.
-fn last_equal(counts: &Vec<usize>, count: usize) -> Option<usize>
-    ensures some { IfSome result (IsLast (λ n. n == count) counts.now.items) }
-    ensures none { IfNone result (list_any (λ n. n == count) counts.now.items ≡ false) }
-{
-    let mut left = counts.len();
-    while left > 0 {
-        left -= 1;
-        if counts[left] == count {
-            return Some(left);
-        }
-    }
-    None
-}
-
-/// Removes the newest one of the equal counts.
-fn remove_newest(counts: &mut Vec<usize>, count: usize)
-    ensures { counts.new.items ≡ without_newest (λ n. n == count) counts.old.items }
-{
-    if let Some(place) = last_equal(counts, count) {
-        counts.remove(place);
-    }
 }
 
 /// Takes memory for one entry more in both.
@@ -103,8 +78,8 @@ impl DynamicTable {
             tracking: Tracking::new(alloc),
             canceled: BTreeSet::new(alloc),
             limit: 0,
-            known_received: 0,
-            blocking_counts: Vec::new(alloc),
+            blocking: BlockingCounts::new(alloc),
+            alloc,
         }
     }
 
@@ -118,7 +93,7 @@ impl DynamicTable {
 
     /// Where the table takes its memory.
     pub(crate) fn alloc(&self) -> Global {
-        *self.blocking_counts.allocator()
+        self.alloc
     }
 
     pub(crate) fn capacity(&self) -> usize
@@ -146,14 +121,14 @@ impl DynamicTable {
     pub(crate) fn known_received(&self) -> usize
         ensures { result ≡ self.now.known_received }
     {
-        self.known_received
+        self.blocking.known_received()
     }
 
     /// How many sections may be blocked at the decoder.
     pub fn blocks_out(&self) -> usize
         ensures { result ≡ length self.now.blocking_counts }
     {
-        self.blocking_counts.len()
+        self.blocking.len()
     }
 
     pub(crate) fn limit(&self) -> usize
@@ -163,8 +138,8 @@ impl DynamicTable {
     }
 
     /// The entry of that number, where it is there.
-    pub(crate) fn get(&self, number: usize) -> Option<&HeaderField>
-        ensures value { option_copied result ≡ entry_at self.now.table number }
+    pub(crate) fn get(&self, number: usize) -> Option<Entry<'_>>
+        ensures value { result ≡ entry_at self.now.table number }
         ensures beyond { (n : ℕ) → 2 ^ 62 ≤ n → entry_at self.now.table n ≡ None }
     {
         self.entries.get(number)
@@ -293,7 +268,7 @@ impl DynamicTable {
             return None;
         }
         let evicted = self.entries.evicted();
-        let most = self.known_received.max(evicted);
+        let most = self.blocking.known_received().max(evicted);
         let after = self.entries.evicted_after(field, most)?;
         if after >= oldest || !self.tracking.is_free_to(after) {
             return None;
@@ -307,27 +282,25 @@ impl DynamicTable {
         ensures after { self.new ≡ raised self.old increment }
         ensures small { self.old.known_received < 2 ^ 64 }
     {
-        let known = self.known_received.saturating_add(increment);
-        self.known_received = known;
-        self.blocking_counts.retain(|count| *count > known);
+        self.blocking.raise(increment);
     }
 
     /// Inserts a field that may be: the oldest entries, up to `after`, are evicted. Where memory is refused nothing changes.
-    pub(crate) fn insert(&mut self, field: HeaderField, after: usize) -> Result<(), AllocError>
-        requires after { after ≡ evicted (with_entry self.old.table field) }
+    pub(crate) fn insert(&mut self, field: &HeaderField, after: usize) -> Result<(), AllocError>
+        requires after { after ≡ evicted (with_entry self.old.table field.now) }
         requires from { evicted self.old.table ≤ after }
         requires few { self.old.table.inserted + 1 < 2 ^ 62 }
-        requires fits { field_size field ≤ self.old.table.capacity }
-        requires free { is_free_to (evicted (with_entry self.old.table field)) self.old.tracked ≡ true }
-        ensures ok { OnOk result (self.new ≡ record self.old { table = with_entry self.old.table field }) }
+        requires fits { field_size field.now ≤ self.old.table.capacity }
+        requires free { is_free_to (evicted (with_entry self.old.table field.now)) self.old.tracked ≡ true }
+        ensures ok { OnOk result (self.new ≡ record self.old { table = with_entry self.old.table field.now }) }
         ensures err { OnErr result (self.new ≡ self.old) }
     {
         reserve(&mut self.names, &mut self.fields)?;
-        let name = Match::Name.slot(&field);
-        let whole = Match::Field.slot(&field);
+        let name = Match::Name.slot(field);
+        let whole = Match::Field.slot(field);
         let evicted = self.entries.evicted();
         self.tracking.add_entry()?;
-        let Ok(()) = self.entries.insert(field) else {
+        let Ok(()) = self.entries.insert_copy(field) else {
             self.tracking.remove_entry();
             return Err(AllocError);
         };
@@ -352,11 +325,11 @@ impl DynamicTable {
         ensures ok { OnOk result (self.new ≡ encoder_state_sent self.old stream count oldest) }
         ensures err { OnErr result (self.new ≡ self.old) }
     {
-        self.blocking_counts.reserve(1)?;
-        self.tracking.track(TrackedSection { stream, oldest })?;
-        if count > self.known_received {
-            self.blocking_counts.push_reserved(count);
-        }
+        self.blocking.add(count)?;
+        let Ok(()) = self.tracking.track(TrackedSection { stream, oldest }) else {
+            self.blocking.remove(count);
+            return Err(AllocError);
+        };
         Ok(())
     }
 
@@ -392,7 +365,7 @@ impl DynamicTable {
     pub(crate) fn withdraw(&mut self, stream: u64, count: usize)
         ensures { self.new ≡ encoder_state_withdrawn self.old stream count }
     {
-        remove_newest(&mut self.blocking_counts, count);
+        self.blocking.remove(count);
         if count != 0 {
             self.tracking.release_newest(stream);
         }

@@ -8,23 +8,23 @@ ghost use Rattle.h3_field.specs.Reading.{Unfinished};
 ghost use Rattle.h3_field.specs.Shapes.{begins};
 ghost use Rattle.h3_field.specs.InstructionReading.{decoder_instruction};
 ghost use Rattle.h3_qpack.specs.EncoderHistory.{EncoderHistory, no_table, blocks_out, was_canceled, writing_on, withdrawn};
-ghost use Rattle.h3_qpack.specs.Table.{table};
+ghost use Rattle.h3_table.specs.Table.{table};
 ghost use Rattle.h3_qpack.specs.EncoderState.{encoder_state, MayHaveCapacity};
 ghost use Rattle.h3_qpack.specs.Drafting.{IsSent, IsCutOff};
-ghost use Rattle.h3_qpack.specs.TableState.{with_capacity};
+ghost use Rattle.h3_table.specs.TableState.{with_capacity};
 ghost use Rattle.h3_field.specs.Instruction.{encoder_bytes};
 ghost use Rattle.h3_field.specs.Instruction.EncoderInstruction.{SetCapacity};
 ghost use Rattle.h3_qpack.specs.Hearing.{HasListened};
 ghost use Rattle.h3_qpack.specs.EncoderAnswers.{HasReadDecoderInstructions, AnswersDecoderInstruction, IsLeft, IsDecoderInstructionRefusal, IsSizeRefusal, IsTableRefusal};
 
 use crate::dynamic::{DynamicTable, MAX_BLOCKED};
-use crate::entries::MAX_CAPACITY;
 use crate::section::Section;
 use crate::writing::{put_fields, put_section};
 use h3_field::stream::{
     DecoderInstruction, DynamicTableSizeUpdate, HeaderAck, InsertCountIncrement, StreamCancel,
 };
 use h3_field::{EncoderError, HeaderField, SliceCursor, dynamic, encode_stateless};
+use h3_table::entries::MAX_CAPACITY;
 use std::alloc::Global;
 use std::marker::Model;
 

@@ -2,17 +2,16 @@
 ghost use Rattle.std.specs.Prelude.{◌≡◌, ◌≤◌, IfOk, IfErr};
 ghost use Rattle.h3_field.specs.StaticTable.{static_name};
 ghost use Rattle.h3_field.specs.declared.dynamic.Error.TheVariants.{OutOfMemory};
-ghost use Rattle.h3_qpack.specs.TableState.{evicted, with_entry};
+ghost use Rattle.h3_table.specs.TableState.{evicted, with_entry};
 ghost use Rattle.h3_qpack.specs.Drafting.{begun, IsOver};
 ghost use Rattle.h3_qpack.specs.EncoderView.{AnswersField, AnswersName, section_found, IsInsertion, AnswersInsertion, committed};
 
 use crate::dynamic::DynamicTable;
-use crate::entries::Match;
 use crate::section::Section;
-use crate::writing::entry_of;
 use h3_field::HeaderField;
 use h3_field::dynamic::Error;
 use h3_field::static_::StaticTable;
+use h3_table::entries::Match;
 
 /// An entry that a line may name. Dynamic entries have the numbers of their insertions, from 1 (`absolute`), and an index
 /// below the base of the section or from it on.
@@ -219,11 +218,8 @@ impl<'a> DynamicTableEncoder<'a> {
         };
         let static_index = StaticTable::find_name(field.name());
         let answer = insertion_of(self.table, self.section.base, field, static_index, after);
-        let Ok(entry) = entry_of(self.table.alloc(), field, static_index) else {
-            return Err(Error::OutOfMemory);
-        };
         let number = self.table.inserted() + 1;
-        let Ok(()) = self.table.insert(entry, after) else {
+        let Ok(()) = self.table.insert(field, after) else {
             return Err(Error::OutOfMemory);
         };
         self.section.name(number);

@@ -9,7 +9,7 @@ ghost use Rattle.std.specs.Prelude.{Some, None, option_map, true, false};
 ghost use Rattle.h3_field.specs.Instruction.DecoderInstruction.{Acknowledge};
 ghost use Rattle.h3_field.specs.Instruction.EncoderInstruction.{SetCapacity, InsertWithEntryName};
 ghost use Rattle.h3_qpack.specs.EncoderHistory.{is_refused, encoder_after_front, withdrawn};
-ghost use Rattle.h3_qpack.specs.Table.{table};
+ghost use Rattle.h3_table.specs.Table.{table};
 ghost use Rattle.h3_qpack.specs.DecoderState.{announcing, decoder_after, decoder_after_all};
 ghost use Rattle.h3_qpack.specs.Worked.{three, fresh, sample, host_text, path_text, with_header, x_a, x_b, x_a_of, older_known, three_canceled, canceled_first};
 

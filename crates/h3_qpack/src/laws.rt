@@ -5,7 +5,7 @@ ghost use Rattle.h3_field.specs.Field.{Field, section_size};
 ghost use Rattle.h3_field.specs.ReadBack.{IsFieldOfBytes};
 ghost use Rattle.h3_field.specs.Section.{section_bytes};
 ghost use Rattle.h3_field.specs.Instruction.DecoderInstruction.{Acknowledge, CancelStream, Increment};
-ghost use Rattle.h3_qpack.specs.Table.{table};
+ghost use Rattle.h3_table.specs.Table.{table};
 ghost use Rattle.std.specs.Prelude.{take, length, [], ◌++◌};
 ghost use Rattle.h3_qpack.specs.DecoderState.{DecoderState, announcing, decoder_after_all};
 ghost use Rattle.std.specs.Prelude.{flat_map};

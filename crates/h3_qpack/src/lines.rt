@@ -4,16 +4,16 @@ ghost use Rattle.h3_field.specs.Field.{Field, field_size};
 ghost use Rattle.h3_field.specs.Shapes.{begins};
 ghost use Rattle.h3_field.specs.declared.decoder_error.DecoderError.TheVariants.{InvalidIndex};
 ghost use Rattle.h3_field.specs.declared.vas.Error.TheVariants.{RelativeIndex, PostbaseIndex};
-ghost use Rattle.h3_qpack.specs.TableState.{entry_at};
+ghost use Rattle.h3_table.specs.TableState.{entry_at};
 ghost use Rattle.h3_qpack.specs.SectionAnswers.{AnswersLineAt};
 
-use crate::entries::{Entries, MOST_INSERTIONS, size_of};
 use h3_field::block::{
     HeaderBlockField, Indexed, IndexedWithPostBase, Literal, LiteralWithNameRef,
     LiteralWithPostBaseNameRef,
 };
 use h3_field::static_::StaticTable;
 use h3_field::{DecoderError, HeaderField, SliceCursor, vas};
+use h3_table::entries::{Entries, Entry, MOST_INSERTIONS};
 use std::alloc::{AllocError, Global};
 use std::borrow::CowSlice;
 use std::marker::Model;
@@ -29,9 +29,9 @@ pub(crate) enum Source<'t> {
     /// A field that is no entry's.
     Own(HeaderField),
     /// An entry.
-    Entry(&'t HeaderField),
+    Entry(Entry<'t>),
     /// A value under the name of an entry.
-    Named(&'t HeaderField, Vec<u8>),
+    Named(Entry<'t>, Vec<u8>),
 }
 
 impl<'t> Model for LineField<'t> {
@@ -52,16 +52,16 @@ impl<'t> LineField<'t> {
         }
     }
 
-    fn entry(entry: &'t HeaderField) -> LineField<'t>
-        ensures { result ≡ entry.now }
+    fn entry(entry: Entry<'t>) -> LineField<'t>
+        ensures { result ≡ entry.entry }
     {
         LineField {
             source: Source::Entry(entry),
         }
     }
 
-    fn named(entry: &'t HeaderField, value: Vec<u8>) -> LineField<'t>
-        ensures { result ≡ record { name = entry.now.name; value = value.items } }
+    fn named(entry: Entry<'t>, value: Vec<u8>) -> LineField<'t>
+        ensures { result ≡ record { name = entry.entry.name; value = value.items } }
     {
         LineField {
             source: Source::Named(entry, value),
@@ -110,8 +110,8 @@ impl<'t> LineField<'t> {
     {
         match self.source {
             Source::Own(field) => Ok(field),
-            Source::Entry(entry) => copy_of(alloc, entry),
-            Source::Named(entry, value) => named_as(alloc, entry, value),
+            Source::Entry(entry) => entry.copy(alloc),
+            Source::Named(entry, value) => entry.with_value(alloc, value),
         }
     }
 
@@ -123,32 +123,13 @@ impl<'t> LineField<'t> {
     }
 }
 
-/// A field with copies of the bytes of another. A static name is not copied.
-pub(crate) fn copy_of(alloc: Global, field: &HeaderField) -> Result<HeaderField, AllocError>
-    ensures { IfOk result (λ f. f ≡ field.now) }
-{
-    let value = Vec::from_slice(alloc, field.value())?;
-    field.with_value(alloc, CowSlice::Owned(value))
-}
-
-/// A field with the name of another. A static name is not copied.
-pub(crate) fn named_as(
-    alloc: Global,
-    field: &HeaderField,
-    value: Vec<u8>,
-) -> Result<HeaderField, AllocError>
-    ensures { IfOk result (λ f. f ≡ record { name = field.now.name; value = value.items }) }
-{
-    field.with_value(alloc, CowSlice::Owned(value))
-}
-
 /// The entry at a distance below the base.
 pub(crate) fn relative(
     entries: &Entries,
     base: usize,
     index: usize,
-) -> Result<&HeaderField, DecoderError>
-    ensures { MatchResult result (λ f. entry_at entries.now (base - index) ≡ Some f.now) (λ e. (entry_at entries.now (base - index) ≡ None) × (e ≡ InvalidIndex (RelativeIndex index))) }
+) -> Result<Entry<'_>, DecoderError>
+    ensures { MatchResult result (λ f. entry_at entries.now (base - index) ≡ Some f) (λ e. (entry_at entries.now (base - index) ≡ None) × (e ≡ InvalidIndex (RelativeIndex index))) }
 {
     match entries.get(base.saturating_sub(index)) {
         Some(entry) => Ok(entry),
@@ -157,8 +138,8 @@ pub(crate) fn relative(
 }
 
 /// The entry at a distance from the base on.
-fn post_base(entries: &Entries, base: usize, index: usize) -> Result<&HeaderField, DecoderError>
-    ensures { MatchResult result (λ f. entry_at entries.now (base + index + 1) ≡ Some f.now) (λ e. (entry_at entries.now (base + index + 1) ≡ None) × (e ≡ InvalidIndex (PostbaseIndex index))) }
+fn post_base(entries: &Entries, base: usize, index: usize) -> Result<Entry<'_>, DecoderError>
+    ensures { MatchResult result (λ f. entry_at entries.now (base + index + 1) ≡ Some f) (λ e. (entry_at entries.now (base + index + 1) ≡ None) × (e ≡ InvalidIndex (PostbaseIndex index))) }
 {
     // beyond all numbers of entries, where the sum might not fit
     let number = if base < MOST_INSERTIONS && index < MOST_INSERTIONS {

@@ -4,9 +4,9 @@ ghost use Rattle.h3_qpack.specs.EncoderState.{EncoderState};
 ghost use Rattle.h3_qpack.specs.Drafting.{begun, naming, most_usable, IsOver, IsNowhere, IsLiteral, IsChosen, IsPossible};
 
 use crate::dynamic::DynamicTable;
-use crate::entries::Match;
 use h3_field::HeaderField;
 use h3_field::static_::StaticTable;
+use h3_table::entries::Match;
 
 /// How a field is written.
 #[derive(Clone, Copy)]

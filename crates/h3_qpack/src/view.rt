@@ -1,14 +1,13 @@
 //! A dynamic table as the lines of one section name its entries (RFC 9204, sections 3.2.5 and 3.2.6).
 ghost use Rattle.std.specs.Prelude.{◌≡◌, ◌+◌, ◌-◌};
 ghost use Rattle.h3_field.specs.declared.dynamic.Error.TheVariants.{BadRelativeIndex, BadPostbaseIndex};
-ghost use Rattle.h3_qpack.specs.TableState.{entry_at};
+ghost use Rattle.h3_table.specs.TableState.{entry_at};
 ghost use Rattle.h3_qpack.specs.Views.{AnswersEntry};
 
 use crate::dynamic::DynamicTable;
-use crate::entries::MOST_INSERTIONS;
-use crate::lines::copy_of;
 use h3_field::HeaderField;
 use h3_field::dynamic::Error;
+use h3_table::entries::MOST_INSERTIONS;
 use std::marker::Model;
 
 /// The entries of a table, as the lines of a section with a base name them.
@@ -40,7 +39,7 @@ impl<'a> DynamicTableDecoder<'a> {
         let Some(entry) = self.table.get(self.base.saturating_sub(index)) else {
             return Err(Error::BadRelativeIndex(index));
         };
-        let Ok(field) = copy_of(self.table.alloc(), entry) else {
+        let Ok(field) = entry.copy(self.table.alloc()) else {
             return Err(Error::OutOfMemory);
         };
         Ok(field)
@@ -59,7 +58,7 @@ impl<'a> DynamicTableDecoder<'a> {
         let Some(entry) = self.table.get(number) else {
             return Err(Error::BadPostbaseIndex(index));
         };
-        let Ok(field) = copy_of(self.table.alloc(), entry) else {
+        let Ok(field) = entry.copy(self.table.alloc()) else {
             return Err(Error::OutOfMemory);
         };
         Ok(field)

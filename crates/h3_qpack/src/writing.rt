@@ -10,15 +10,13 @@ ghost use Rattle.h3_field.specs.Instruction.{encoder_bytes};
 ghost use Rattle.h3_field.specs.Prefix.{prefix_bytes};
 ghost use Rattle.h3_field.specs.StaticTable.{static_name};
 ghost use Rattle.h3_field.specs.declared.encoder_error.EncoderError.TheVariants.{OutOfMemory};
-ghost use Rattle.h3_qpack.specs.TableState.{evicted, with_entry};
+ghost use Rattle.h3_table.specs.TableState.{evicted, with_entry};
 ghost use Rattle.h3_qpack.specs.EncoderState.{MayInsertInto};
 ghost use Rattle.h3_qpack.specs.EncoderHistory.{EncoderHistory};
 ghost use Rattle.h3_qpack.specs.SectionEncoding.{Draft, add_field, draft_of, entry_name_line};
 ghost use Rattle.h3_qpack.specs.Drafting.{naming, IsOver, IsPossible, line_for, section_after, encoder_state_with, instructions_after, insertion_for, IsDrafted, IsCutOff};
 
 use crate::dynamic::DynamicTable;
-use crate::entries::Match;
-use crate::lines::copy_of;
 use crate::section::{Choice, Section};
 use h3_field::block::{
     HeaderPrefix, Indexed, IndexedWithPostBase, Literal, LiteralWithNameRef,
@@ -27,26 +25,8 @@ use h3_field::block::{
 use h3_field::static_::StaticTable;
 use h3_field::stream::{Duplicate, InsertWithNameRef, InsertWithoutNameRef};
 use h3_field::{EncoderError, HeaderField};
-use std::alloc::{AllocError, Global};
-
-/// The entry of a field, where its name may be that of the static entry of an index. Such a name is not copied.
-pub(crate) fn entry_of(
-    alloc: Global,
-    field: &HeaderField,
-    static_index: Option<usize>,
-) -> Result<HeaderField, AllocError>
-    requires { static_index ≡ static_name field.now.name }
-    ensures { IfOk result (λ f. f ≡ field.now) }
-{
-    let Some(index) = static_index else {
-        return copy_of(alloc, field);
-    };
-    let Ok(name) = StaticTable::get_name(index) else {
-        return copy_of(alloc, field);
-    };
-    let value = Vec::from_slice(alloc, field.value())?;
-    Ok(HeaderField::with_static_name(name, value))
-}
+use h3_table::entries::Match;
+use std::alloc::AllocError;
 
 /// Appends the instruction that inserts a field, after which so many entries are evicted. The index is that of the static
 /// entry with its name.
@@ -104,11 +84,10 @@ fn put_inserted(
     ensures err { OnErr result ((table.new ≡ table.old) × (encoder_buf.new.items ≡ encoder_buf.old.items)) }
 {
     let static_index = StaticTable::find_name(field.name());
-    let entry = entry_of(table.alloc(), field, static_index)?;
     IndexedWithPostBase(table.inserted() - base).encode(lines)?;
     let start = encoder_buf.len();
     put_insertion(table, field, static_index, after, encoder_buf)?;
-    if table.insert(entry, after).is_err() {
+    if table.insert(field, after).is_err() {
         encoder_buf.truncate(start);
         return Err(EncoderError::OutOfMemory);
     }

@@ -106,6 +106,13 @@ end_unfinished writer reader id has finished shows_has there shows_finished not_
     let finished_is : is_finished w id ≡ false = sym (shows_finished w hw) ∙ not_yet in
     rw (has_is, finished_is) (refl, hw, hr)
 
+pub reset_unset : (writer reader : EndpointState) (id : ℕ) (has was : Bool) → ShowsOutgoing writer id has → has ≡ true → ShowsReset writer id was → was ≡ false
+    → Carries (λ w r. reset_goes w r id) writer reader answer.Early writer reader
+reset_unset writer reader id has was shows_has there shows_reset not_yet w r hw hr not_memory =
+    let has_is : has_outgoing w id ≡ true = sym (shows_has w hw) ∙ there in
+    let was_is : is_reset w id ≡ false = sym (shows_reset w hw) ∙ not_yet in
+    rw (has_is, was_is) (refl, hw, hr)
+
 some_waits : (n : ℕ) → 0 < n → (n == 0) ≡ false
 some_waits n h = grind (arith, common_steps, h)
 

@@ -8,7 +8,7 @@ use Rattle.h3_field.specs.Line.FieldLine.{StaticField, RelativeField, StaticName
 use Rattle.h3_field.specs.StaticTable.{static_field, static_name}
 use Rattle.h3_qpack.specs.EncoderHistory.{EncoderHistory, blocks_out, referenced_entries, was_canceled, writing_on}
 use Rattle.h3_qpack.specs.SectionEncoding.{Draft, draft_of, add_field, add_line, add_inserted, add_literal, entry_name_line, evictions_by, found, found_name, is_insertable}
-use Rattle.h3_qpack.specs.Table.{evictions}
+use Rattle.h3_table.specs.Table.{evictions}
 
 -- a choice whose ways all keep what was inserted
 either : (kept : List Field) (o : Option ℕ) (x : ℕ → Draft) (rest : Draft) → ((n : ℕ) → (x n).inserted ≡ kept) → rest.inserted ≡ kept → (unwrap_or (option_map x o) rest).inserted ≡ kept

@@ -17,7 +17,7 @@ use Rattle.h3_streams.specs.Placed.{StreamsState, placed}
 use Rattle.h3_connection.specs.declared.event.Refusal.{Refusal}
 use Rattle.h3_connection.specs.declared.event.Refusal.TheVariants as refusal
 use Rattle.h3_session.specs.Refused.{streams_of, or_later, refused_if, end_refused, end_refused_at, is_critical_in, reset_refused, reset_refused_at, goaway_refused}
-use Rattle.h3_session.proofs.SendingRefusals.{open_refusal_is, end_refusal_is, reset_refusal_is, goaway_refusal_is, end_takes_none, reset_takes_none}
+use Rattle.h3_session.proofs.SendingRefusals.{open_refusal_is, end_refusal_is, reset_refusal_is, goaway_refusal_is, end_takes_none, reset_takes_none, goaway_takes_none}
 use Rattle.h3_session.proofs.SendingStands.{opened_stands, goaway_stands_for}
 
 -- What is untouched is the same.
@@ -185,6 +185,11 @@ goes_away_here s id is =
     acts (λ e. goaway_refusal e id) (λ e. record e { own = record e.own { goaways = e.own.goaways ++ id ∷ [] } }) s
     (record s { own = record s.own { control = s.own.control ++ goaway_encoding id }; last_goaway = Some id })
     (λ e h. sym (goaway_refusal_is s e id h) ∙ is) (λ e h. goaway_stands_for s e id h)
+
+pub goaway_refuses : (s : EndpointState) (id : ℕ) (r : Refusal) → goaway_refused s id ≡ Some r → GoesAway s s id (Err r)
+goaway_refuses s id r is =
+    refuses (λ e. goaway_refusal e id) (λ e. record e { own = record e.own { goaways = e.own.goaways ++ id ∷ [] } }) s r
+    (λ e h. sym (goaway_refusal_is s e id h) ∙ is) (λ memory. goaway_takes_none s id (is ∙ ap Some memory))
 
 pub goes_away : (s now : EndpointState) (x : StreamsState) (id : ℕ) → s ≡ now → goaway_refused now id ≡ None
     → x ≡ record (streams_of s) { own = record s.own { control = s.own.control ++ goaway_encoding id } } → GoesAway now (placed (record s { last_goaway = Some id }) x) id (Ok tt)

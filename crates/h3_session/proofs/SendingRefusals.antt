@@ -1,6 +1,6 @@
 -- The refusals by what is stored are those of every history that it stands for.
 use Rattle.std.proofs.Common.{◌≡◌, ◌==◌, ℕ, ◌%◌, Bool, true, false, if◌then◌else◌, List, [], ◌∷◌, Option, Some, None, refl, ap, sym, ◌∙◌}
-use Rattle.std.specs.Prelude.{◌^◌, ◌≢◌, not, ◌&&◌, nat_le, option_map, is_some, unwrap_or}
+use Rattle.std.specs.Prelude.{◌^◌, ◌≢◌, not, ◌&&◌, nat_le, nat_lt, option_map, is_some, unwrap_or}
 use Rattle.h3_header.specs.Head.{Head, has_pseudo, head_fields}
 use Rattle.h3_field.specs.Field.{Field, section_size}
 use Rattle.h3_proto.specs.declared.stream.Side.{Side}
@@ -160,6 +160,15 @@ reset_takes_none s id = by s.closed (is_critical_in s id) (kept_at s.requests id
     by None true r is = absurd (cc)
     by None false None is = absurd (cc)
     by None false (Some r) is = none_if (sent.is_sent_off r.outgoing) refusal.Ended (λ same. absurd (cc)) is
+
+pub goaway_takes_none : (s : EndpointState) (id : ℕ) → goaway_refused s id ≢ Some refusal.OutOfMemory
+goaway_takes_none s id = by s.closed (not (is_client s.side) && not (id % 4 == 0)) s.last_goaway
+  where
+    by : (closed : Option ℕ) (b : Bool) (last : Option ℕ) → closed_or closed (or_later (refused_if b refusal.NotRequestId) (raised id last)) ≢ Some refusal.OutOfMemory
+    by (Some code) b last is = absurd (cc)
+    by None true last is = absurd (cc)
+    by None false None is = absurd (cc)
+    by None false (Some earlier) is = none_if (nat_lt earlier id) (refusal.Raised earlier) (λ same. absurd (cc)) is
 
 pub body_takes_none : (s : EndpointState) (id : ℕ) → body_refused s id ≢ Some refusal.OutOfMemory
 body_takes_none s id = by s.closed (kept_at s.requests id)

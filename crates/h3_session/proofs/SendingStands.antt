@@ -33,6 +33,9 @@ reached_opened e id h =
       control = h.control;
       encoder = h.encoder;
       decoder = h.decoder;
+      told_control = h.told_control;
+      told_encoder = h.told_encoder;
+      told_decoder = h.told_decoder;
       kept = All-weaker (KeepsOpen e.side e.incoming) (KeepsOpen e.side (set_stream e.incoming id nothing_came))
           (λ a keeps is. still_there e.incoming id (stream_of a) nothing_came (keeps is)) e.kept h.kept;
     }
@@ -196,6 +199,9 @@ encoding_stands s e encoding encoder is h stores unread unlearned =
         control = h.reached.control;
         encoder = h.reached.encoder;
         decoder = h.reached.decoder;
+        told_control = h.reached.told_control;
+        told_encoder = h.reached.told_encoder;
+        told_decoder = h.reached.told_decoder;
         kept = h.reached.kept;
       };
     }

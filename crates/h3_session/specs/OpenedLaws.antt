@@ -48,7 +48,7 @@ stands_requests s e new ins outs h received sent distinct keeps =
       last_goaway = h.last_goaway;
       kept = h.kept;
       sent = h.sent;
-      reached = record { unlearned = h.reached.unlearned; control = h.reached.control; encoder = h.reached.encoder; decoder = h.reached.decoder; kept = keeps };
+      reached = record { unlearned = h.reached.unlearned; control = h.reached.control; encoder = h.reached.encoder; decoder = h.reached.decoder; told_control = h.reached.told_control; told_encoder = h.reached.told_encoder; told_decoder = h.reached.told_decoder; kept = keeps };
     }
 
 -- the same streams are found
@@ -191,5 +191,5 @@ stands_keeping s e kept h keeps =
       last_goaway = h.last_goaway;
       kept = refl;
       sent = h.sent;
-      reached = record { unlearned = h.reached.unlearned; control = h.reached.control; encoder = h.reached.encoder; decoder = h.reached.decoder; kept = keeps };
+      reached = record { unlearned = h.reached.unlearned; control = h.reached.control; encoder = h.reached.encoder; decoder = h.reached.decoder; told_control = h.reached.told_control; told_encoder = h.reached.told_encoder; told_decoder = h.reached.told_decoder; kept = keeps };
     }

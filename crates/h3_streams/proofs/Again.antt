@@ -53,4 +53,4 @@ touched_stands s x e id h role on =
     let there : kept_at x.unidirectional id ≡ Some (record o { role = Control }) = h.unidirectional id ∙ is_there _ Control role untold_control ∙ ap Some same in
     let sets : Sets x.unidirectional x.unidirectional id (record o { role = Control }) = record { here = there; others = λ q differs. refl } in
     subst (λ c. StandsFor (placed s x) (record (with_unidirectional e id (record o { role = Control })) { control_on = c })) on
-    (stands_unidirectional (placed s x) e x.unidirectional id (record o { role = Control }) h sets)
+    (stands_unidirectional (placed s x) e x.unidirectional id (record o { role = Control }) h (λ told. refl) sets)

@@ -6,7 +6,7 @@ use Rattle.h3_connection.specs.Control.{is_usable}
 use Rattle.h3_connection.specs.PartReading.{PeerReadsPart}
 use Rattle.h3_connection.specs.PeerReading.{Peer, with_unread}
 use Rattle.h3_unidirectional.specs.Learned.{capacity_of, blocked_of, usable_capacity}
-use Rattle.h3_unidirectional.proofs.PeerLaws.{nothing_read_on}
+use Rattle.h3_connection.specs.PeerReadingLaws.{nothing_read_on}
 
 -- nothing was read
 pub nothing_read : (side : Side) (p : Peer) → PeerReadsPart side p p

@@ -18,11 +18,11 @@ use Rattle.h3_unidirectional.specs.declared.stream.Received.{Received}
 use Rattle.h3_unidirectional.specs.declared.stream.Received.TheVariants as received
 use Rattle.h3_streams.specs.Placed.{StreamsState, placed, stream_of_peer, Receives, Reads}
 use Rattle.h3_streams.specs.PlacedLaws.{stands_map}
-use Rattle.h3_streams.specs.ReadingOn.{ReadsSome, StopsAt, IsRead, IsPeers, IsDue, MayRead, Stops, reader_on, left_arrivals}
+use Rattle.h3_streams.specs.ReadingOn.{ReadsSome, StopsAt, IsRead, IsPeers, IsDue, Stops, reader_on, left_arrivals}
 use Rattle.h3_streams.specs.declared.left.Left.{Left}
 use Rattle.h3_streams.proofs.Closing.{there}
-use Rattle.h3_streams.proofs.Peers.{one_peer}
-use Rattle.h3_streams.proofs.Told.{IsTold, told_read, told_found, told_stopped}
+use Rattle.h3_streams.proofs.Peers.{one_peer, unread_on}
+use Rattle.h3_streams.proofs.Told.{IsTold, told_kept, told_read, told_found, told_stopped}
 
 -- nothing of them was taken
 pub untaken : (x : StreamsState) (new : Streams Unidirectional) (side : Side) (id : ℕ) (bytes back : List ℕ) (left : Left) → AllSame x.unidirectional new → back ≡ bytes → left ≡ record { id = id; bytes = back; early = None }
@@ -61,7 +61,7 @@ nothing_read x new side id bytes receives s e due =
     let o = unidirectional_at e id in
     let given = given_there s x new e id bytes received.Nothing due.stands receives in
     subst (Reads s None (record x { unidirectional = new })) (sym (quiet (role_after o.role bytes) e id o given))
-    (refl, stands_unidirectional (placed s x) e new id (with_bytes o (role_after o.role bytes)) due.stands (sets_there s x new e id bytes received.Nothing due.stands receives))
+    (refl, stands_unidirectional (placed s x) e new id (with_bytes o (role_after o.role bytes)) due.stands (told_kept o bytes) (sets_there s x new e id bytes received.Nothing due.stands receives))
 
 -- a push stream
 pushed : (read_as : Role × List ℕ) (e : EndpointHistory) (id : ℕ) (o : Unidirectional) → received.Push ≡ received_by read_as → read_unidirectional e id o read_as ≡ (with_unidirectional e id (with_bytes o read_as), Some (push_code e.side))
@@ -79,7 +79,7 @@ push_read x new side id bytes code is receives s e due =
     let o = unidirectional_at e id in
     let given = given_there s x new e id bytes received.Push due.stands receives in
     subst (Reads s (Some code) (record x { unidirectional = new })) (sym (pushed (role_after o.role bytes) e id o given))
-    (ap Some (is ∙ ap push_code (sym due.side_is)), stands_unidirectional (placed s x) e new id (with_bytes o (role_after o.role bytes)) due.stands (sets_there s x new e id bytes received.Push due.stands receives))
+    (ap Some (is ∙ ap push_code (sym due.side_is)), stands_unidirectional (placed s x) e new id (with_bytes o (role_after o.role bytes)) due.stands (told_kept o bytes) (sets_there s x new e id bytes received.Push due.stands receives))
 
 -- For which reader they are.
 abbrev pub for_reader : Role → List ℕ → Received
@@ -131,31 +131,31 @@ is_told r s x new e id bytes rest critical h receives =
     let front = subst (λ (o : Unidirectional). (t : Role) (l : List ℕ) → is_untold t ≡ false → role_after o.role bytes ≡ (t, l) → TellsFirst o.role bytes t l) (there s x e id h) receives.front in
     record { critical = critical; after = after; sets = sets_there s x new e id bytes (for_reader r rest) h receives; front = front r rest (critical_told r critical) after }
 
-pub role_read : (r : Role) (x y : StreamsState) (new : Streams Unidirectional) (side : Side) (id : ℕ) (told : Bool) (len : ℕ) (bytes rest : List ℕ) (fault : Option ℕ) → is_critical r ≡ true
-    → Receives x.unidirectional new id bytes (for_reader r rest) → MayRead x side id told len
+pub role_read : (r : Role) (x y : StreamsState) (new : Streams Unidirectional) (side : Side) (id : ℕ) (bytes rest : List ℕ) (fault : Option ℕ) → is_critical r ≡ true
+    → Receives x.unidirectional new id bytes (for_reader r rest)
     → ((s : EndpointState) (e : EndpointHistory) → IsRead s (record x { unidirectional = new }) e side id r → Reads s fault y (heard_as e id r rest))
     → (s : EndpointState) (e : EndpointHistory) → IsDue s x e side id → Reads s fault y (bytes_at e id bytes PeerUnidirectional)
-role_read r x y new side id told len bytes rest fault critical receives may reads s e due =
+role_read r x y new side id bytes rest fault critical receives reads s e due =
     let t = is_told r s x new e id bytes rest critical due.stands receives in
-    told_found s x y new e side id bytes r rest fault t (reads s _ (told_read s x new e side id bytes r rest due.stands due.side_is due.kind may.early t))
+    told_found s x y new e side id bytes r rest fault t (reads s _ (told_read s x new e side id bytes r rest due.stands due.side_is due.kind t))
 
 -- the stream is not read as such before it is told
-not_read : (r : Role) (s : EndpointState) (x : StreamsState) (e : EndpointHistory) (side : Side) (id : ℕ) (told : Bool) (len : ℕ) → is_critical r ≡ true → StandsFor (placed s x) e → MayRead x side id told len → told ≡ false
+not_read : (r : Role) (s : EndpointState) (x : StreamsState) (e : EndpointHistory) (id : ℕ) → is_critical r ≡ true → StandsFor (placed s x) e → is_critical (unidirectional_at e id).role ≡ false
     → is_read_as (reader_on r e) id ≡ false
-not_read (Untold front) s x e side id told len c h may is = absurd (cc)
-not_read Control s x e side id told len c h may is = ap (λ o. is_read_as o id) (sym h.control_on) ∙ (may.unread is).0
-not_read Encoder s x e side id told len c h may is = ap (λ o. is_read_as o id) (sym h.encoder_on) ∙ (may.unread is).1
-not_read Decoder s x e side id told len c h may is = ap (λ o. is_read_as o id) (sym h.decoder_on) ∙ (may.unread is).2
-not_read (Session n) s x e side id told len c h may is = absurd (cc)
-not_read (Push n) s x e side id told len c h may is = absurd (cc)
-not_read Ignored s x e side id told len c h may is = absurd (cc)
+not_read (Untold front) s x e id c h unread = absurd (cc)
+not_read Control s x e id c h unread = unread_on e.side e.unidirectional e.control_on id h.reached.told_control unread
+not_read Encoder s x e id c h unread = unread_on e.side e.unidirectional e.encoder_on id h.reached.told_encoder unread
+not_read Decoder s x e id c h unread = unread_on e.side e.unidirectional e.decoder_on id h.reached.told_decoder unread
+not_read (Session n) s x e id c h unread = absurd (cc)
+not_read (Push n) s x e id c h unread = absurd (cc)
+not_read Ignored s x e id c h unread = absurd (cc)
 
-pub role_stopped : (r : Role) (x y : StreamsState) (new : Streams Unidirectional) (side : Side) (id : ℕ) (told : Bool) (len : ℕ) (bytes rest : List ℕ) (left : List Arrival) → is_critical r ≡ true
-    → Receives x.unidirectional new id bytes (for_reader r rest) → MayRead x side id told len → told ≡ is_critical (stream_of_peer x id).role
+pub role_stopped : (r : Role) (x y : StreamsState) (new : Streams Unidirectional) (side : Side) (id : ℕ) (told : Bool) (bytes rest : List ℕ) (left : List Arrival) → is_critical r ≡ true
+    → Receives x.unidirectional new id bytes (for_reader r rest) → told ≡ is_critical (stream_of_peer x id).role
     → ((s : EndpointState) (e : EndpointHistory) → IsRead s (record x { unidirectional = new }) e side id r → Stops r told s (record x { unidirectional = new }) y e id rest left)
     → (s : EndpointState) (e : EndpointHistory) → IsDue s x e side id → StopsAt s y e (BytesCame id bytes ∷ []) left
-role_stopped r x y new side id told len bytes rest left critical receives may was stops s e due =
+role_stopped r x y new side id told bytes rest left critical receives was stops s e due =
     let t = is_told r s x new e id bytes rest critical due.stands receives in
     let was' : is_critical (unidirectional_at e id).role ≡ told = ap (λ (o : Unidirectional). is_critical o.role) (sym (there s x e id due.stands)) ∙ sym was in
-    told_stopped s x y new e id bytes r rest left told due.stands due.kind t was' (not_read r s x e side id told len critical due.stands may)
-    (stops s _ (told_read s x new e side id bytes r rest due.stands due.side_is due.kind may.early t))
+    told_stopped s x y new e id bytes r rest left told due.stands due.kind t was' (λ untold. not_read r s x e id critical due.stands (was' ∙ untold))
+    (stops s _ (told_read s x new e side id bytes r rest due.stands due.side_is due.kind t))

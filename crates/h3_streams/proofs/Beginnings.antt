@@ -10,10 +10,10 @@ use Rattle.h3_connection.specs.Control.{Found, read_control, read_encoder, read_
 use Rattle.h3_connection.specs.Endpoint.{EndpointHistory, is_second, is_read_as, replied}
 use Rattle.h3_connection.specs.Listeners.{Decoding, Encoding, fault_if, heard_more, after_hearing, insertions_heard}
 use Rattle.h3_connection.specs.PeerReading.{with_unread, read_peer}
-use Rattle.h3_connection.specs.State.{EndpointState, StandsFor}
+use Rattle.h3_connection.specs.State.{EndpointState, StandsFor, IsToldPeer}
 use Rattle.h3_streams.specs.Placed.{StreamsState, placed}
 use Rattle.h3_streams.specs.PlacedLaws.{stands_control, stands_encoder, stands_decoder}
-use Rattle.h3_unidirectional.proofs.PeerLaws.{nothing_read_on}
+use Rattle.h3_connection.specs.PeerReadingLaws.{nothing_read_on}
 
 pub hear_nothing : (r : DecoderState) → hear r [] ≡ heard r [] false
 unfolding hear
@@ -48,9 +48,9 @@ then_same (Some pairs) e (Some code) = refl
 pub none_behind : (bytes : List ℕ) → bytes ≡ [] → bytes ++ [] ≡ []
 none_behind bytes e = append-nil bytes ∙ e
 
-pub control_begins : (s : EndpointState) (x : StreamsState) (e : EndpointHistory) (id : ℕ) → StandsFor (placed s x) e → e.control_on ≡ None
+pub control_begins : (s : EndpointState) (x : StreamsState) (e : EndpointHistory) (id : ℕ) → StandsFor (placed s x) e → IsToldPeer e.side e.unidirectional id → e.control_on ≡ None
     → Begins s (record x { control_on = Some id }) (read_control (record e { control_on = Some id }) [])
-control_begins s x e id h none =
+control_begins s x e id h told none =
     let nothing = h.reached.control none in
     let p = with_unread e.peer [] in
     let f = record e { control_on = Some id } in
@@ -60,15 +60,15 @@ control_begins s x e id h none =
     record {
       new = new;
       is = ap (after_peer f) read ∙ then_same e.peer.settings new None;
-      stands = subst (λ q. StandsFor (placed s (record x { control_on = Some id; peer = q })) new) (sym same) (stands_control s x e id p h (λ unknown. unknown));
+      stands = subst (λ q. StandsFor (placed s (record x { control_on = Some id; peer = q })) new) (sym same) (stands_control s x e id p h told (λ unknown. unknown));
     }
 
 no_increment : (n : ℕ) (bytes : List ℕ) → bytes ++ flat_map decoder_bytes (increment (n - n)) ≡ bytes
 no_increment n bytes = let zero : n - n ≡ 0 = omega arith in ap (λ k. bytes ++ flat_map decoder_bytes (increment k)) zero ∙ append-nil bytes
 
-pub encoder_begins : (s : EndpointState) (x : StreamsState) (e : EndpointHistory) (id : ℕ) → StandsFor (placed s x) e → e.encoder_on ≡ None
+pub encoder_begins : (s : EndpointState) (x : StreamsState) (e : EndpointHistory) (id : ℕ) → StandsFor (placed s x) e → IsToldPeer e.side e.unidirectional id → e.encoder_on ≡ None
     → Begins s (record x { encoder_on = Some id }) (read_encoder (record e { encoder_on = Some id }) [])
-encoder_begins s x e id h none =
+encoder_begins s x e id h told none =
     let nothing = h.reached.encoder none in
     let f = record e { encoder_on = Some id } in
     let n = e.decoding.decoder.table.inserted in
@@ -76,7 +76,7 @@ encoder_begins s x e id h none =
     let read : heard_more e.decoding [] ≡ heard e.decoding.decoder [] false = ap (λ l. hear e.decoding.decoder l) (none_behind e.decoding.unread nothing) ∙ hear_nothing e.decoding.decoder in
     let same : x.decoding ≡ d = h.decoding ∙ ap (λ l. record e.decoding { unread = l }) nothing in
     let new = replied (record e { encoder_on = Some id; decoding = d }) (increment (n - n)) in
-    let there = stands_encoder s x e id d (increment (n - n)) h in
+    let there = stands_encoder s x e id d (increment (n - n)) h told in
     record {
       new = new;
       is = ap (λ (k : Heard). (replied (record f { decoding = after_hearing k }) (increment (insertions_heard f.decoding k)), fault_if k.is_bad encoder_stream_error)) read;
@@ -88,9 +88,9 @@ listened_nothing : (e : EndpointHistory) (b : Bool) (l : List ℕ) → l ≡ [] 
 listened_nothing e true l is = ap (λ k. listened_to e (listen e.encoder k)) is ∙ ap (λ k. listened_to e k) (listen_nothing e.encoder)
 listened_nothing e false l is = ap (λ k. (record e { decoder_unread = k }, None)) is
 
-pub decoder_begins : (s : EndpointState) (x : StreamsState) (e : EndpointHistory) (id : ℕ) → StandsFor (placed s x) e → e.decoder_on ≡ None
+pub decoder_begins : (s : EndpointState) (x : StreamsState) (e : EndpointHistory) (id : ℕ) → StandsFor (placed s x) e → IsToldPeer e.side e.unidirectional id → e.decoder_on ≡ None
     → Begins s (record x { decoder_on = Some id }) (read_decoder (record e { decoder_on = Some id }) [])
-decoder_begins s x e id h none =
+decoder_begins s x e id h told none =
     let nothing = h.reached.decoder none in
     let f = record e { decoder_on = Some id } in
     let n : Encoding = record { encoder = x.encoding.encoder; unread = [] } in
@@ -99,5 +99,5 @@ decoder_begins s x e id h none =
     record {
       new = new;
       is = listened_nothing f (is_some e.peer.settings) (e.decoder_unread ++ []) (none_behind e.decoder_unread nothing);
-      stands = subst (λ q. StandsFor (placed s (record x { decoder_on = Some id; encoding = q })) new) (sym same) (stands_decoder s x e id n e.encoder h h.encoder h.reached.unlearned);
+      stands = subst (λ q. StandsFor (placed s (record x { decoder_on = Some id; encoding = q })) new) (sym same) (stands_decoder s x e id n e.encoder h told h.encoder h.reached.unlearned);
     }

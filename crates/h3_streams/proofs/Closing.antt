@@ -22,7 +22,7 @@ closes s x e new id code critical h now is same c =
     let o = there s x e id h in
     let sets = subst (λ p. Sets x.unidirectional new id p) (ap (λ p. closed_by p code) o ∙ sym is) c.sets in
     let fault : closing_code critical ≡ closing_code (is_critical now.role) = ap closing_code (c.critical_is ∙ ap (λ (p : Unidirectional). is_critical p.role) o ∙ sym same) in
-    (fault, stands_unidirectional (placed s x) e new id now h sets)
+    (fault, stands_unidirectional (placed s x) e new id now h (λ told. same ∙ told) sets)
 
 pub ends : (x : StreamsState) (new : Streams Unidirectional) (id : ℕ) (critical : Bool) (fault : Option ℕ) → fault ≡ closing_code critical → Closes x.unidirectional new id None critical
     → (s : EndpointState) (e : EndpointHistory) → StandsFor (placed s x) e → Reads s fault (record x { unidirectional = new }) (end_at e id PeerUnidirectional)

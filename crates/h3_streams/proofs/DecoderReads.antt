@@ -12,7 +12,7 @@ use Rattle.h3_connection.specs.Delivering.{heard_as}
 use Rattle.h3_connection.specs.Endpoint.{EndpointHistory, is_second}
 use Rattle.h3_connection.specs.Listeners.{Encoding, Listens}
 use Rattle.h3_connection.specs.PartReading.{ReadsOn, ListensPart, held_as}
-use Rattle.h3_connection.specs.State.{EndpointState, StandsFor}
+use Rattle.h3_connection.specs.State.{EndpointState, StandsFor, IsToldPeer}
 use Rattle.h3_connection.specs.Unidirectional.Role.{Decoder}
 use Rattle.h3_unidirectional.specs.Fronts.{StopsListening}
 use Rattle.h3_streams.specs.Placed.{StreamsState, placed, Reads}
@@ -23,7 +23,7 @@ use Rattle.h3_streams.specs.declared.left.Left.{Left}
 use Rattle.h3_streams.specs.declared.readers.Stop.{Stop}
 use Rattle.h3_streams.specs.declared.readers.Stop.TheVariants.{Unheld, Held}
 use Rattle.h3_streams.proofs.EncoderReads.{first_found}
-use Rattle.h3_streams.proofs.Peers.{one_peer, turn}
+use Rattle.h3_streams.proofs.Peers.{one_peer, told_peer, turn}
 
 -- settings that are there are known
 pub known_not_none : (o : Option (List (ℕ × ℕ))) → is_some o ≡ true → o ≡ None → ⊥
@@ -35,26 +35,26 @@ some_settings None h = absurd (cc)
 some_settings (Some pairs) h = (pairs, refl)
 
 -- the reading of what is unread by an encoder of this history
-pub listened_stands : (s : EndpointState) (x : StreamsState) (e : EndpointHistory) (id : ℕ) (unread : List ℕ) (n : Encoding) (fault : Option ℕ) → StandsFor (placed s x) e
+pub listened_stands : (s : EndpointState) (x : StreamsState) (e : EndpointHistory) (id : ℕ) (unread : List ℕ) (n : Encoding) (fault : Option ℕ) → StandsFor (placed s x) e → IsToldPeer e.side e.unidirectional id
     → is_some e.peer.settings ≡ true → Listens e.encoder unread n fault
     → Reads s fault (record x { decoder_on = Some id; encoding = n }) (listened_to (record e { decoder_on = Some id }) (listen e.encoder unread))
-listened_stands s x e id unread n fault h known l =
+listened_stands s x e id unread n fault h told known l =
     let t = (listen e.encoder unread).encoder in
-    let there = stands_decoder s x e id n t h l.encoder (λ unknown. absurd (known_not_none e.peer.settings known unknown)) in
+    let there = stands_decoder s x e id n t h told l.encoder (λ unknown. absurd (known_not_none e.peer.settings known unknown)) in
     (l.fault, subst (λ bytes. StandsFor (placed s (record x { decoder_on = Some id; encoding = n })) (record e { decoder_on = Some id; encoder = t; decoder_unread = bytes })) l.left there)
 
-read_by : (s : EndpointState) (x : StreamsState) (e : EndpointHistory) (id : ℕ) (bytes : List ℕ) (n : Encoding) (fault : Option ℕ) (known : Bool) → StandsFor (placed s x) e → is_some e.peer.settings ≡ known
+read_by : (s : EndpointState) (x : StreamsState) (e : EndpointHistory) (id : ℕ) (bytes : List ℕ) (n : Encoding) (fault : Option ℕ) (known : Bool) → StandsFor (placed s x) e → IsToldPeer e.side e.unidirectional id → is_some e.peer.settings ≡ known
     → ListensIf known bytes x.encoding n fault
     → Reads s fault (record x { decoder_on = Some id; encoding = n })
     (if known then listened_to (record e { decoder_on = Some id }) (listen e.encoder (e.decoder_unread ++ bytes)) else (record e { decoder_on = Some id; decoder_unread = e.decoder_unread ++ bytes }, None))
-read_by s x e id bytes n fault true h known listens =
-    listened_stands s x e id (e.decoder_unread ++ bytes) n fault h known (subst (λ l. Listens e.encoder (l ++ bytes) n fault) h.decoder_unread (listens e.encoder h.encoder))
-read_by s x e id bytes n fault false h unknown (same, none) =
+read_by s x e id bytes n fault true h told known listens =
+    listened_stands s x e id (e.decoder_unread ++ bytes) n fault h told known (subst (λ l. Listens e.encoder (l ++ bytes) n fault) h.decoder_unread (listens e.encoder h.encoder))
+read_by s x e id bytes n fault false h told unknown (same, none) =
     let unread : n.unread ≡ e.decoder_unread ++ bytes = ap (λ (m : Encoding). m.unread) same ∙ ap (λ l. l ++ bytes) h.decoder_unread in
     let state : n.encoder ≡ encoder_state e.encoder = ap (λ (m : Encoding). m.encoder) same ∙ h.encoder in (
       none,
       subst (λ l. StandsFor (placed s (record x { decoder_on = Some id; encoding = n })) (record e { decoder_on = Some id; decoder_unread = l })) unread
-          (stands_decoder s x e id n e.encoder h state h.reached.unlearned),
+          (stands_decoder s x e id n e.encoder h told state h.reached.unlearned),
     )
 
 pub decoder_read : (x : StreamsState) (id : ℕ) (bytes : List ℕ) (n : Encoding) (fault : Option ℕ) (known : Bool) → false ≡ is_second x.decoder_on id → known ≡ is_some x.peer.settings
@@ -66,7 +66,7 @@ decoder_read x id bytes n fault known first knows listens s e side r =
     let knows' : is_some e.peer.settings ≡ known = ap (λ p. is_some p.settings) (sym h.peer) ∙ sym knows in
     let f = record e { decoder_on = Some id } in
     subst (Reads s fault (record x { decoder_on = Some id; encoding = n })) (sym (first_found (read_decoder f bytes) e.decoder_on e id here))
-    (rw knows' (read_by s x e id bytes n fault known h knows' listens))
+    (rw knows' (read_by s x e id bytes n fault known h (told_peer s x e side id Decoder refl r) knows' listens))
 
 -- a front of them was read
 decoder_held : (x : StreamsState) (id : ℕ) (bytes : List ℕ) (n : Encoding) (left : List Arrival) (told : Bool) → false ≡ is_second x.decoder_on id → true ≡ is_some x.peer.settings
@@ -84,7 +84,7 @@ decoder_held x id bytes n left told first knows stopped is s e side r =
     let stops : StopsAt s y (held_as e id (Decoder, bytes)) (BytesCame id [] ∷ []) (BytesCame id [] ∷ []) = record {
       after = record e { decoder_on = Some id; encoder = l.after; decoder_unread = n.unread };
       reads = λ more. ReadsSome.Steps (ReadsOn.Listens refl pairs.1 part) ReadsSome.Stays;
-      stands = stands_decoder s x e id n l.after h l.state (λ unknown. absurd (known_not_none e.peer.settings known unknown));
+      stands = stands_decoder s x e id n l.after h (told_peer s x e side id Decoder refl r) l.state (λ unknown. absurd (known_not_none e.peer.settings known unknown));
       kinds = one_peer e.side id [] r.kind;
     } in
     Stops.Held here (subst (StopsAt s y (held_as e id (Decoder, bytes)) (BytesCame id [] ∷ [])) (sym is) stops)

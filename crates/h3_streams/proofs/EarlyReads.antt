@@ -20,7 +20,7 @@ use Rattle.h3_streams.specs.Stopping.{early_of, ReadsEarly, StopsEarly}
 use Rattle.h3_streams.specs.declared.left.Left.{Left}
 use Rattle.h3_streams.proofs.Beginnings.{listen_nothing, none_behind}
 use Rattle.h3_streams.proofs.DecoderReads.{listened_stands, known_not_none}
-use Rattle.h3_streams.proofs.Peers.{one_peer}
+use Rattle.h3_streams.proofs.Peers.{one_peer, told_by}
 
 -- it has said nothing, or the settings did not come
 silent_by : (s : EndpointState) (x : StreamsState) (e : EndpointHistory) (q : Option (List (ℕ × ℕ))) (on : Option ℕ) → StandsFor (placed s x) e → e.peer.settings ≡ q → e.decoder_on ≡ on → None ≡ early_of q on
@@ -58,7 +58,7 @@ early_read x d n fault is listens s e h =
     let k = named s x e d h is in
     let came : is_some e.peer.settings ≡ true = ap (λ o. is_some o) k.1 in
     let l = subst (λ u. Listens e.encoder u n fault) h.decoder_unread (listens e.encoder h.encoder) in
-    let there = listened_stands s x e d e.decoder_unread n fault h came l in
+    let there = listened_stands s x e d e.decoder_unread n fault h (told_by e.side e.unidirectional e.decoder_on d k.2 h.reached.told_decoder) came l in
     let with_on = subst (λ o. Reads s fault (record x { decoder_on = Some d; encoding = n }) (listened_to (record e { decoder_on = o }) (listen e.encoder e.decoder_unread))) (sym k.2) there in
     subst (Reads s fault (record x { encoding = n })) (sym (read_early e k.0 k.1))
     (subst (λ o. Reads s fault (record x { decoder_on = o; encoding = n }) (listened_to e (listen e.encoder e.decoder_unread))) (sym (h.decoder_on ∙ k.2)) with_on)
@@ -72,7 +72,7 @@ early_held x side d n left is stopped left_is s e h side_is peers =
     let part = subst (λ u. ListensPart e.encoder l.after u n.unread) h.decoder_unread l.part in
     let came : is_some e.peer.settings ≡ true = ap (λ o. is_some o) k.1 in
     let new = record e { decoder_on = Some d; encoder = l.after; decoder_unread = n.unread } in
-    let there = stands_decoder s x e d n l.after h l.state (λ unknown. absurd (known_not_none e.peer.settings came unknown)) in
+    let there = stands_decoder s x e d n l.after h (told_by e.side e.unidirectional e.decoder_on d k.2 h.reached.told_decoder) l.state (λ unknown. absurd (known_not_none e.peer.settings came unknown)) in
     let stands = subst (λ o. StandsFor (placed s (record x { decoder_on = o; encoding = n })) (record e { encoder = l.after; decoder_unread = n.unread })) (sym (h.decoder_on ∙ k.2))
     (subst (λ o. StandsFor (placed s (record x { decoder_on = Some d; encoding = n })) (record e { decoder_on = o; encoder = l.after; decoder_unread = n.unread })) (sym k.2) there) in
     let arrivals : BytesCame d [] ∷ [] ≡ early_if None e.peer.settings e.decoder_on = ap (λ o. early_if None (Some k.0) o) (sym k.2) ∙ ap (λ q. early_if None q e.decoder_on) (sym k.1) in

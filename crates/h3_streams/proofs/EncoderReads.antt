@@ -12,7 +12,7 @@ use Rattle.h3_connection.specs.Delivering.{heard_as, unless_second}
 use Rattle.h3_connection.specs.Endpoint.{EndpointHistory, is_second, replied}
 use Rattle.h3_connection.specs.Listeners.{Decoding, Hears, heard_more, after_hearing, insertions_heard}
 use Rattle.h3_connection.specs.PartReading.{ReadsOn, HearsPart, held_as}
-use Rattle.h3_connection.specs.State.{EndpointState, StandsFor}
+use Rattle.h3_connection.specs.State.{EndpointState, StandsFor, IsToldPeer}
 use Rattle.h3_connection.specs.Unidirectional.Role.{Encoder}
 use Rattle.h3_streams.specs.Placed.{StreamsState, placed, Reads}
 use Rattle.h3_streams.specs.PlacedLaws.{stands_encoder}
@@ -21,7 +21,7 @@ use Rattle.h3_streams.specs.Stopping.{HeardPart, left_by}
 use Rattle.h3_streams.specs.declared.left.Left.{Left}
 use Rattle.h3_streams.specs.declared.readers.Stop.{Stop}
 use Rattle.h3_streams.specs.declared.readers.Stop.TheVariants.{Unheld, Held}
-use Rattle.h3_streams.proofs.Peers.{one_peer, turn}
+use Rattle.h3_streams.proofs.Peers.{one_peer, told_peer, turn}
 
 increment_by : (b : Bool) (n : ℕ) → flat_map decoder_bytes (if b then [] else Increment n ∷ []) ≡ (if b then [] else decoder_bytes (Increment n))
 increment_by true n = refl
@@ -31,11 +31,11 @@ increment_bytes : (n : ℕ) → flat_map decoder_bytes (increment n) ≡ increme
 increment_bytes n = increment_by (n == 0) n
 
 -- what waits on the own decoder stream
-with_increment : (s : EndpointState) (x : StreamsState) (e : EndpointHistory) (id n : ℕ) (d : Decoding) (after : List ℕ) → StandsFor (placed s x) e → after ≡ x.own.decoder ++ increment_for n
+with_increment : (s : EndpointState) (x : StreamsState) (e : EndpointHistory) (id n : ℕ) (d : Decoding) (after : List ℕ) → StandsFor (placed s x) e → IsToldPeer e.side e.unidirectional id → after ≡ x.own.decoder ++ increment_for n
     → StandsFor (placed s (record x { encoder_on = Some id; decoding = d; own = record x.own { decoder = after } })) (replied (record e { encoder_on = Some id; decoding = d }) (increment n))
-with_increment s x e id n d after h is =
+with_increment s x e id n d after h told is =
     subst (λ l. StandsFor (placed s (record x { encoder_on = Some id; decoding = d; own = record x.own { decoder = l } })) (replied (record e { encoder_on = Some id; decoding = d }) (increment n)))
-    (ap (λ l. x.own.decoder ++ l) (increment_bytes n) ∙ sym is) (stands_encoder s x e id d (increment n) h)
+    (ap (λ l. x.own.decoder ++ l) (increment_bytes n) ∙ sym is) (stands_encoder s x e id d (increment n) h told)
 
 pub first_found : (role_found : Found) (on : Option ℕ) (e : EndpointHistory) (id : ℕ) → is_second on id ≡ false → unless_second (is_second on id) e role_found ≡ role_found
 first_found found on e id first = ap (λ b. unless_second b e found) first
@@ -50,7 +50,7 @@ encoder_read x id bytes d fault after first hears s e side r =
     let k = subst (λ o. Hears o d bytes fault x.own.decoder after) h.decoding hears in
     let all = heard_more e.decoding bytes in
     let stands = subst (λ q. StandsFor (placed s (record x { encoder_on = Some id; decoding = q; own = record x.own { decoder = after } })) (read_encoder f bytes).0) (sym k.table)
-    (with_increment s x e id (insertions_heard e.decoding all) (after_hearing all) after h k.increment) in
+    (with_increment s x e id (insertions_heard e.decoding all) (after_hearing all) after h (told_peer s x e side id Encoder refl r) k.increment) in
     subst (Reads s fault y) (sym (first_found (read_encoder f bytes) e.encoder_on e id here)) (k.fault, stands)
 
 -- a front of them was read
@@ -69,7 +69,7 @@ encoder_held x id bytes d after left told first part wrote is s e side r =
     let stops : StopsAt s y (held_as e id (Encoder, bytes)) (BytesCame id [] ∷ []) (BytesCame id [] ∷ []) = record {
       after = new;
       reads = λ more. ReadsSome.Steps (ReadsOn.Hears refl part') ReadsSome.Stays;
-      stands = with_increment s x e id n d after h wrote';
+      stands = with_increment s x e id n d after h (told_peer s x e side id Encoder refl r) wrote';
       kinds = one_peer e.side id [] r.kind;
     } in
     Stops.Held here (subst (StopsAt s y (held_as e id (Encoder, bytes)) (BytesCame id [] ∷ [])) (sym is) stops)

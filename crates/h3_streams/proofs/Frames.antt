@@ -17,7 +17,7 @@ use Rattle.h3_streams.specs.ReadingOn.{ReadsSome, StopsAt, IsRead, Stops, ReadsH
 use Rattle.h3_streams.specs.declared.left.Left.{Left}
 use Rattle.h3_streams.proofs.EncoderReads.{first_found}
 use Rattle.h3_streams.proofs.PeerAgain.{settings_stay}
-use Rattle.h3_streams.proofs.Peers.{one_peer, turn}
+use Rattle.h3_streams.proofs.Peers.{one_peer, told_by, told_peer, turn}
 
 -- the peer's bytes are held
 held_read : (s : EndpointState) (x : StreamsState) (e : EndpointHistory) (side : Side) (id : ℕ) (bytes : List ℕ) (p : Peer) → IsRead s x e side id Control → p ≡ with_unread x.peer (x.peer.unread ++ bytes)
@@ -27,7 +27,7 @@ held_read s x e side id bytes p r is =
     let q = with_unread e.peer (e.peer.unread ++ bytes) in
     let same : p ≡ q = is ∙ ap (λ (o : Peer). with_unread o (o.unread ++ bytes)) h.peer in
     record {
-      stands = subst (λ o. StandsFor (placed s (record x { control_on = Some id; peer = o })) (held_as e id (Control, bytes))) (sym same) (stands_control s x e id q h (λ unknown. unknown));
+      stands = subst (λ o. StandsFor (placed s (record x { control_on = Some id; peer = o })) (held_as e id (Control, bytes))) (sym same) (stands_control s x e id q h (told_peer s x e side id Control refl r) (λ unknown. unknown));
       side_is = r.side_is;
       kind = r.kind;
       role_is = r.role_is;
@@ -79,7 +79,7 @@ pub stands_peer : (s : EndpointState) (x : StreamsState) (e : EndpointHistory) (
     → StandsFor (placed s (record x { peer = p })) (record e { peer = p })
 stands_peer s x e id p h on known =
     subst (λ o. StandsFor (placed s (record x { control_on = o; peer = p })) (record e { peer = p })) (sym (h.control_on ∙ on))
-    (subst (λ o. StandsFor (placed s (record x { control_on = Some id; peer = p })) (record e { control_on = o; peer = p })) (sym on) (stands_control s x e id p h known))
+    (subst (λ o. StandsFor (placed s (record x { control_on = Some id; peer = p })) (record e { control_on = o; peer = p })) (sym on) (stands_control s x e id p h (told_by e.side e.unidirectional e.control_on id on h.reached.told_control) known))
 
 -- the reading of the stored peer is that of the endpoint's
 pub peer_found : (s : EndpointState) (x : StreamsState) (e : EndpointHistory) (side : Side) (found : PeerFound) → StandsFor (placed s x) e → e.side ≡ side → read_peer side x.peer ≡ found → read_peer e.side e.peer ≡ found

@@ -13,7 +13,7 @@ use Rattle.h3_connection.specs.Endpoint.Kind.{PeerUnidirectional}
 use Rattle.h3_connection.specs.Keeping.{read_arrival}
 use Rattle.h3_connection.specs.PartReading.{ReadsOn, held, held_as, is_reader}
 use Rattle.h3_connection.specs.StandsLaws.{stands_unidirectional}
-use Rattle.h3_connection.specs.State.{EndpointState, StandsFor, kept_at}
+use Rattle.h3_connection.specs.State.{EndpointState, StandsFor, IsToldPeer, kept_at}
 use Rattle.h3_connection.specs.StreamSets.{Streams, stream_at}
 use Rattle.h3_connection.specs.StreamSetLaws.{set-here}
 use Rattle.h3_connection.specs.Unidirectional.{Unidirectional, Role, untold, is_critical, role_after, with_bytes}
@@ -25,7 +25,7 @@ use Rattle.h3_streams.specs.ReadingOn.{ReadsSome, StopsAt, IsRead, IsPeers, Stop
 use Rattle.h3_streams.proofs.Again.{is_there}
 use Rattle.h3_streams.proofs.Beginnings.{Begins, none_on, control_begins, encoder_begins, decoder_begins}
 use Rattle.h3_streams.proofs.EncoderReads.{first_found}
-use Rattle.h3_streams.proofs.Peers.{one_peer}
+use Rattle.h3_streams.proofs.Peers.{one_peer, peer_on}
 
 -- the stream, told to be of this role
 abbrev pub told_as : EndpointHistory → ℕ → Role → EndpointHistory
@@ -49,6 +49,10 @@ told_after (Session id) l c = absurd (cc)
 told_after (Push id) l c = absurd (cc)
 told_after Ignored l c = absurd (cc)
 
+-- a stream that told to be the connection's stays so
+pub told_kept : (o : Unidirectional) (bytes : List ℕ) → is_critical o.role ≡ true → is_critical (with_bytes o (role_after o.role bytes)).role ≡ true
+told_kept o bytes c = subst (λ (p : Unidirectional). is_critical p.role ≡ true) (sym (ap (λ p. with_bytes o p) (told_after o.role bytes c) ∙ told_bytes o.role o bytes c)) c
+
 not_untold : (r : Role) → is_critical r ≡ true → Untold [] ≡ r → ⊥
 not_untold (Untold front) c e = cc
 not_untold Control c e = cc
@@ -71,14 +75,14 @@ reader_is e id Ignored c = absurd (cc)
 begins_first : (s : EndpointState) (x : StreamsState) (e : EndpointHistory) (id : ℕ) (on : Option ℕ) (found : Found) → on ≡ None → Begins s x found → Begins s x (only_one on id e found)
 begins_first s x e id on found none b = record { new = b.new; is = first_found found on e id (ap (λ o. is_second o id) none) ∙ b.is; stands = b.stands }
 
-begins_as : (r : Role) (s : EndpointState) (x : StreamsState) (e : EndpointHistory) (id : ℕ) → is_critical r ≡ true → StandsFor (placed s x) e → reader_on r e ≡ None → Begins s (with_reader r x id) (heard_as e id r [])
-begins_as (Untold front) s x e id c h none = absurd (cc)
-begins_as Control s x e id c h none = begins_first s (record x { control_on = Some id }) e id e.control_on (read_control (record e { control_on = Some id }) []) none (control_begins s x e id h none)
-begins_as Encoder s x e id c h none = begins_first s (record x { encoder_on = Some id }) e id e.encoder_on (read_encoder (record e { encoder_on = Some id }) []) none (encoder_begins s x e id h none)
-begins_as Decoder s x e id c h none = begins_first s (record x { decoder_on = Some id }) e id e.decoder_on (read_decoder (record e { decoder_on = Some id }) []) none (decoder_begins s x e id h none)
-begins_as (Session n) s x e id c h none = absurd (cc)
-begins_as (Push n) s x e id c h none = absurd (cc)
-begins_as Ignored s x e id c h none = absurd (cc)
+begins_as : (r : Role) (s : EndpointState) (x : StreamsState) (e : EndpointHistory) (id : ℕ) → is_critical r ≡ true → StandsFor (placed s x) e → IsToldPeer e.side e.unidirectional id → reader_on r e ≡ None → Begins s (with_reader r x id) (heard_as e id r [])
+begins_as (Untold front) s x e id c h told none = absurd (cc)
+begins_as Control s x e id c h told none = begins_first s (record x { control_on = Some id }) e id e.control_on (read_control (record e { control_on = Some id }) []) none (control_begins s x e id h told none)
+begins_as Encoder s x e id c h told none = begins_first s (record x { encoder_on = Some id }) e id e.encoder_on (read_encoder (record e { encoder_on = Some id }) []) none (encoder_begins s x e id h told none)
+begins_as Decoder s x e id c h told none = begins_first s (record x { decoder_on = Some id }) e id e.decoder_on (read_decoder (record e { decoder_on = Some id }) []) none (decoder_begins s x e id h told none)
+begins_as (Session n) s x e id c h told none = absurd (cc)
+begins_as (Push n) s x e id c h told none = absurd (cc)
+begins_as Ignored s x e id c h told none = absurd (cc)
 
 -- What is known of the bytes of such a stream: its role, the bytes for it, and the map of streams after them.
 pub record IsTold (x : StreamsState) (new : Streams Unidirectional) (e : EndpointHistory) (id : ℕ) (bytes : List ℕ) (r : Role) (rest : List ℕ) : Type 0 where
@@ -92,19 +96,20 @@ told_stands : (s : EndpointState) (x : StreamsState) (new : Streams Unidirection
     → StandsFor (placed s (record x { unidirectional = new })) (told_as e id r)
 told_stands s x new e id bytes r rest h t =
     let o = unidirectional_at e id in
-    stands_unidirectional (placed s x) e new id (record o { role = r }) h (subst (λ p. Sets x.unidirectional new id p) (ap (λ p. with_bytes o p) t.after ∙ told_bytes r o rest t.critical) t.sets)
+    stands_unidirectional (placed s x) e new id (record o { role = r }) h (λ told. t.critical) (subst (λ p. Sets x.unidirectional new id p) (ap (λ p. with_bytes o p) t.after ∙ told_bytes r o rest t.critical) t.sets)
 
 pub told_read : (s : EndpointState) (x : StreamsState) (new : Streams Unidirectional) (e : EndpointHistory) (side : Side) (id : ℕ) (bytes : List ℕ) (r : Role) (rest : List ℕ) → StandsFor (placed s x) e → e.side ≡ side
-    → kind_of e.side id ≡ PeerUnidirectional → IfSome x.decoder_on (λ d. kind_of side d ≡ PeerUnidirectional) → IsTold x new e id bytes r rest
+    → kind_of e.side id ≡ PeerUnidirectional → IsTold x new e id bytes r rest
     → IsRead s (record x { unidirectional = new }) (told_as e id r) side id r
-told_read s x new e side id bytes r rest h same kind early t =
+told_read s x new e side id bytes r rest h same kind t =
     let o = unidirectional_at e id in
     record {
       stands = told_stands s x new e id bytes r rest h t;
       side_is = same;
       kind = kind;
       role_is = ap (λ p. (unwrap_or p untold).role) (set-here e.unidirectional id (record o { role = r }));
-      early = early;
+      early = subst (λ u. IfSome x.decoder_on (λ d. kind_of u d ≡ PeerUnidirectional)) same
+          (subst (λ on. IfSome on (λ d. kind_of e.side d ≡ PeerUnidirectional)) (sym h.decoder_on) (peer_on e.side e.unidirectional e.decoder_on h.reached.told_decoder));
     }
 
 -- what the bytes for a role find, all the bytes find
@@ -183,7 +188,8 @@ stopped_now : (s : EndpointState) (x : StreamsState) (new : Streams Unidirection
 stopped_now s x new e id bytes r rest left h kind t none is =
     let o = unidirectional_at e id in
     let f = told_as e id r in
-    let b = begins_as r s (record x { unidirectional = new }) f id t.critical (told_stands s x new e id bytes r rest h t) (told_reader r e id r ∙ none) in
+    let role : (unidirectional_at f id).role ≡ r = ap (λ p. (unwrap_or p untold).role) (set-here e.unidirectional id (record o { role = r })) in
+    let b = begins_as r s (record x { unidirectional = new }) f id t.critical (told_stands s x new e id bytes r rest h t) (kind, ap is_critical role ∙ t.critical) (told_reader r e id r ∙ none) in
     let tells : bytes_at e id t.front.front PeerUnidirectional ≡ heard_as f id r [] =
     ap (λ p. read_unidirectional e id o p) t.front.tells ∙ ap (λ p. heard_as (with_unidirectional e id p) id r []) (told_bytes r o [] t.critical) in
     let read : read_arrival e (BytesCame id t.front.front) ≡ (b.new, None) = ap (λ k. bytes_at e id t.front.front k) kind ∙ tells ∙ b.is in

@@ -1,19 +1,21 @@
 -- What is kept of the unidirectional streams stands for an endpoint's history.
-use Rattle.std.proofs.Common.{◌≡◌, ℕ, List, [], ◌++◌, flat_map, Option, Some, None, refl, sym, subst, ◌∙◌}
-use Rattle.std.specs.Prelude.{Bool}
+use Rattle.std.proofs.Common.{◌≡◌, ℕ, List, [], ◌++◌, flat_map, Option, Some, None, refl, ap, sym, subst, ◌∙◌}
+use Rattle.std.specs.Prelude.{Bool, true, unwrap_or, IfSome}
 use Rattle.h3_field.specs.Instruction.{EncoderInstruction, DecoderInstruction, encoder_bytes, decoder_bytes}
 use Rattle.h3_proto.specs.declared.stream.Side.{Side}
 use Rattle.h3_qpack.specs.EncoderHistory.{EncoderHistory}
 use Rattle.h3_qpack.specs.EncoderState.{encoder_state}
+use Rattle.h3_connection.specs.Delivering.{unidirectional_at}
 use Rattle.h3_connection.specs.Endpoint.{EndpointHistory, Kind, kind_of, is_critical_of, is_critical_id, replied}
 use Rattle.h3_connection.specs.Endpoint.Kind.{Request, ServerOpened, OwnUnidirectional, PeerUnidirectional}
 use Rattle.h3_connection.specs.Listeners.{Decoding, Encoding}
 use Rattle.h3_connection.specs.PeerReading.{Peer}
 use Rattle.h3_connection.specs.Sending.{pull_peer}
 use Rattle.h3_connection.specs.StandsLaws.{stands_unidirectional}
-use Rattle.h3_connection.specs.State.{EndpointState, OwnState, StandsFor, OwnStands, kept_at}
+use Rattle.h3_connection.specs.State.{EndpointState, OwnState, StandsFor, OwnStands, IsToldPeer, kept_at}
 use Rattle.h3_connection.specs.StreamSets.{Streams, stream_at}
-use Rattle.h3_connection.specs.Unidirectional.{Unidirectional, pull_unidirectional}
+use Rattle.h3_connection.specs.Unidirectional.{Unidirectional, Role, untold, is_critical, pull_unidirectional}
+use Rattle.h3_connection.specs.Unidirectional.Role.{Untold, Control, Encoder, Decoder, Session, Push, Ignored}
 use Rattle.h3_connection.specs.declared.event.Pull.{Pull}
 use Rattle.h3_streams.specs.Placed.{StreamsState, placed, is_critical_at, Answers, Pulls, KeepsAll}
 use Rattle.h3_unidirectional.specs.OwnLaws.{instructions_stand, replies_stand}
@@ -32,11 +34,23 @@ critical_stands s x e side id b is h same =
     let here : b ≡ is_critical_at e.side x id (kind_of e.side id) = subst (λ t. b ≡ is_critical_at t x id (kind_of t id)) (sym same) is in
     here ∙ critical_of x e id (kind_of e.side id) h.control_on h.encoder_on h.decoder_on
 
+-- a pull leaves a stream as it is that told to be the connection's
+pull_told : (o : Unidirectional) (r : Role) → is_critical r ≡ true → is_critical o.role ≡ true → is_critical (pull_unidirectional o r).1.role ≡ true
+pull_told o Control h k = k
+pull_told o Encoder h k = k
+pull_told o Decoder h k = k
+pull_told o (Untold front) h k = absurd (cc)
+pull_told o (Session id) h k = absurd (cc)
+pull_told o (Push id) h k = absurd (cc)
+pull_told o Ignored h k = absurd (cc)
+
 -- what a pull answers
 pulled_by : (s : EndpointState) (x : StreamsState) (e : EndpointHistory) (id : ℕ) (there : Option Unidirectional) (given : Pull) (new : Streams Unidirectional) → StandsFor (placed s x) e
     → stream_at e.unidirectional id ≡ there → Pulls there given x.unidirectional new id → Answers s given (record x { unidirectional = new }) (pull_peer e id there)
 pulled_by s x e id None given new h is pulls = (pulls.0, subst (λ m. StandsFor (placed s (record x { unidirectional = m })) e) (sym pulls.1) h)
-pulled_by s x e id (Some o) given new h is pulls = (pulls.0, stands_unidirectional (placed s x) e new id (pull_unidirectional o o.role).1 h pulls.1)
+pulled_by s x e id (Some o) given new h is pulls =
+    let same : (unidirectional_at e id).role ≡ o.role = ap (λ p. (unwrap_or p untold).role) is in
+    (pulls.0, stands_unidirectional (placed s x) e new id (pull_unidirectional o o.role).1 h (λ told. pull_told o o.role (ap is_critical (sym same) ∙ told) (ap is_critical (sym same) ∙ told)) pulls.1)
 
 pub pulled_stands : (x : StreamsState) (id : ℕ) (given : Pull) (new : Streams Unidirectional) → Pulls (kept_at x.unidirectional id) given x.unidirectional new id
     → (s : EndpointState) (e : EndpointHistory) → StandsFor (placed s x) e → Answers s given (record x { unidirectional = new }) (pull_peer e id (stream_at e.unidirectional id))
@@ -58,6 +72,9 @@ pub record StreamsStand (x : StreamsState) (e : EndpointHistory) : Type 0 where
   pub no_control : e.control_on ≡ None → e.peer.unread ≡ []
   pub no_encoder : e.encoder_on ≡ None → e.decoding.unread ≡ []
   pub no_decoder : e.decoder_on ≡ None → e.decoder_unread ≡ []
+  pub told_control : IfSome e.control_on (IsToldPeer e.side e.unidirectional)
+  pub told_encoder : IfSome e.encoder_on (IsToldPeer e.side e.unidirectional)
+  pub told_decoder : IfSome e.decoder_on (IsToldPeer e.side e.unidirectional)
 
 -- the endpoint with those of another one
 abbrev pub with_streams : EndpointHistory → EndpointHistory → EndpointHistory
@@ -96,7 +113,7 @@ stands_with s x y e f h k =
       last_goaway = h.last_goaway;
       kept = h.kept;
       sent = h.sent;
-      reached = record { unlearned = k.unlearned; control = k.no_control; encoder = k.no_encoder; decoder = k.no_decoder; kept = h.reached.kept };
+      reached = record { unlearned = k.unlearned; control = k.no_control; encoder = k.no_encoder; decoder = k.no_decoder; told_control = k.told_control; told_encoder = k.told_encoder; told_decoder = k.told_decoder; kept = h.reached.kept };
     }
 
 -- All of them change, and nothing else.
@@ -124,9 +141,9 @@ some_on : {P : Type 0} (id : ℕ) → Some id ≡ None → P
 some_on id h = absurd (cc)
 
 -- The peer's control stream is read as such from now on, or is read on.
-pub stands_control : (s : EndpointState) (x : StreamsState) (e : EndpointHistory) (id : ℕ) (p : Peer) → StandsFor (placed s x) e → (p.settings ≡ None → e.peer.settings ≡ None)
+pub stands_control : (s : EndpointState) (x : StreamsState) (e : EndpointHistory) (id : ℕ) (p : Peer) → StandsFor (placed s x) e → IsToldPeer e.side e.unidirectional id → (p.settings ≡ None → e.peer.settings ≡ None)
     → StandsFor (placed s (record x { control_on = Some id; peer = p })) (record e { control_on = Some id; peer = p })
-stands_control s x e id p h known =
+stands_control s x e id p h told known =
     let f = record e { control_on = Some id; peer = p } in
     stands_placed s x (record x { control_on = Some id; peer = p }) e f h refl (record {
       unidirectional = h.unidirectional;
@@ -142,12 +159,15 @@ stands_control s x e id p h known =
       no_control = some_on id;
       no_encoder = h.reached.encoder;
       no_decoder = h.reached.decoder;
+      told_control = told;
+      told_encoder = h.reached.told_encoder;
+      told_decoder = h.reached.told_decoder;
     })
 
 -- The peer's encoder stream is, and the replies gain these.
-pub stands_encoder : (s : EndpointState) (x : StreamsState) (e : EndpointHistory) (id : ℕ) (d : Decoding) (is : List DecoderInstruction) → StandsFor (placed s x) e
+pub stands_encoder : (s : EndpointState) (x : StreamsState) (e : EndpointHistory) (id : ℕ) (d : Decoding) (is : List DecoderInstruction) → StandsFor (placed s x) e → IsToldPeer e.side e.unidirectional id
     → StandsFor (placed s (record x { encoder_on = Some id; decoding = d; own = record x.own { decoder = x.own.decoder ++ flat_map decoder_bytes is } })) (replied (record e { encoder_on = Some id; decoding = d }) is)
-stands_encoder s x e id d is h =
+stands_encoder s x e id d is h told =
     let f = record e { encoder_on = Some id; decoding = d } in
     let y = record x { encoder_on = Some id; decoding = d; own = record x.own { decoder = x.own.decoder ++ flat_map decoder_bytes is } } in
     stands_placed s x y e (replied f is) h refl (record {
@@ -164,13 +184,16 @@ stands_encoder s x e id d is h =
       no_control = h.reached.control;
       no_encoder = some_on id;
       no_decoder = h.reached.decoder;
+      told_control = h.reached.told_control;
+      told_encoder = told;
+      told_decoder = h.reached.told_decoder;
     })
 
 -- The peer's decoder stream is, by this encoder.
-pub stands_decoder : (s : EndpointState) (x : StreamsState) (e : EndpointHistory) (id : ℕ) (n : Encoding) (t : EncoderHistory) → StandsFor (placed s x) e → n.encoder ≡ encoder_state t
+pub stands_decoder : (s : EndpointState) (x : StreamsState) (e : EndpointHistory) (id : ℕ) (n : Encoding) (t : EncoderHistory) → StandsFor (placed s x) e → IsToldPeer e.side e.unidirectional id → n.encoder ≡ encoder_state t
     → (e.peer.settings ≡ None → (t.capacity ≡ 0) × (t.inserted ≡ []))
     → StandsFor (placed s (record x { decoder_on = Some id; encoding = n })) (record e { decoder_on = Some id; encoder = t; decoder_unread = n.unread })
-stands_decoder s x e id n t h is unlearned =
+stands_decoder s x e id n t h told is unlearned =
     let f = record e { decoder_on = Some id; encoder = t; decoder_unread = n.unread } in
     stands_placed s x (record x { decoder_on = Some id; encoding = n }) e f h refl (record {
       unidirectional = h.unidirectional;
@@ -186,6 +209,9 @@ stands_decoder s x e id n t h is unlearned =
       no_control = h.reached.control;
       no_encoder = h.reached.encoder;
       no_decoder = some_on id;
+      told_control = h.reached.told_control;
+      told_encoder = h.reached.told_encoder;
+      told_decoder = told;
     })
 
 -- The encoder uses a table, or changes otherwise, and its stream gains these instructions.
@@ -209,6 +235,9 @@ stands_table s x e n t is h state unread unlearned =
       no_control = h.reached.control;
       no_encoder = h.reached.encoder;
       no_decoder = h.reached.decoder;
+      told_control = h.reached.told_control;
+      told_encoder = h.reached.told_encoder;
+      told_decoder = h.reached.told_decoder;
     })
 
 -- The map of streams is another one.
@@ -229,6 +258,9 @@ stands_map s x e new h each =
       no_control = h.reached.control;
       no_encoder = h.reached.encoder;
       no_decoder = h.reached.decoder;
+      told_control = h.reached.told_control;
+      told_encoder = h.reached.told_encoder;
+      told_decoder = h.reached.told_decoder;
     })
 
 -- Each stream of it is as it was.

@@ -87,9 +87,7 @@ pub record IsDue (s : EndpointState) (x : StreamsState) (e : EndpointHistory) (s
   pub side_is : e.side ≡ side
   pub kind : kind_of e.side id ≡ PeerUnidirectional
 
--- It is read as one of the connection's streams only once that was told, and its bytes have room.
-pub record MayRead (x : StreamsState) (side : Side) (id : ℕ) (told : Bool) (len : ℕ) : Type 0 where
+-- Its bytes have room.
+pub record HasRoom (x : StreamsState) (id : ℕ) (len : ℕ) : Type 0 where
   pub session : length (concat (stream_of_peer x id).unread) < 2 ^ 61
   pub small : len < 2 ^ 61
-  pub unread : told ≡ false → (is_read_as x.control_on id ≡ false) × (is_read_as x.encoder_on id ≡ false) × (is_read_as x.decoder_on id ≡ false)
-  pub early : IfSome x.decoder_on (λ d. kind_of side d ≡ PeerUnidirectional)

@@ -1,20 +1,19 @@
 //! What comes on the peer's unidirectional streams (RFC 9114, section 6.2).
-ghost use Rattle.std.specs.Prelude.{◌≡◌, ◌||◌, true, [], ◌∷◌, length, IfOk, IfErr, IfSome, OnErr};
+ghost use Rattle.std.specs.Prelude.{◌≡◌, true, [], ◌∷◌, length, IfOk, IfErr, OnErr};
 ghost use Rattle.std.specs.List.{concat};
 ghost use Rattle.h3_connection.specs.declared.arrival.Arrival.TheVariants.{BytesCame};
 ghost use Rattle.h3_connection.specs.Delivering.{bytes_at, end_at, reset_at, push_code};
-ghost use Rattle.h3_connection.specs.Endpoint.{EndpointHistory, kind_of, is_read_as};
+ghost use Rattle.h3_connection.specs.Endpoint.{EndpointHistory};
 ghost use Rattle.h3_connection.specs.Endpoint.Kind.{PeerUnidirectional};
 ghost use Rattle.h3_connection.specs.State.{EndpointState, StandsFor};
 ghost use Rattle.h3_connection.specs.Unidirectional.{is_critical};
 ghost use Rattle.h3_streams.specs.Placed.{placed, stream_of_peer, Reads, KeepsAll, closing_code};
-ghost use Rattle.h3_streams.specs.ReadingOn.{MayRead, IsDue, StopsAt, left_arrivals};
+ghost use Rattle.h3_streams.specs.ReadingOn.{HasRoom, IsDue, StopsAt, left_arrivals};
 
-use crate::ids::StreamKind;
 use crate::left::Left;
 use crate::map;
 use crate::readers::MOST_HELD;
-use crate::streams::{ConnectionStreams, is_read_as};
+use crate::streams::ConnectionStreams;
 use bytes::Bytes;
 use h3_proto::error::Code;
 use h3_proto::stream::{Side, StreamId};
@@ -41,21 +40,6 @@ fn push_fault(side: Side) -> Code
     }
 }
 
-/// Whether this is none, or a unidirectional stream of the peer.
-fn is_peers(side: Side, id: Option<StreamId>) -> bool
-    ensures { result ≡ true → IfSome id (λ d. kind_of side d ≡ PeerUnidirectional) }
-{
-    let Some(id) = id else {
-        return true;
-    };
-    match StreamKind::of(side, id) {
-        StreamKind::PeerUnidirectional => true,
-        StreamKind::Request => false,
-        StreamKind::ServerOpened => false,
-        StreamKind::OwnUnidirectional => false,
-    }
-}
-
 impl ConnectionStreams {
     /// Whether a stream of the peer was told to be its control, encoder or decoder stream.
     fn is_told(&self, id: StreamId) -> bool
@@ -77,27 +61,11 @@ impl ConnectionStreams {
         }
     }
 
-    /// Whether it is read as the control, encoder or decoder stream.
-    fn is_read(&self, id: StreamId) -> bool
-        ensures { result ≡ (is_read_as self.now.control_on id || is_read_as self.now.encoder_on id || is_read_as self.now.decoder_on id) }
+    /// Whether bytes have room here: no more is held than any memory has room for.
+    fn has_room(&self, id: StreamId, len: usize) -> bool
+        ensures { result ≡ true → HasRoom self.now id len }
     {
-        is_read_as(self.control_on, id)
-            || is_read_as(self.encoder_on, id)
-            || is_read_as(self.decoder_on, id)
-    }
-
-    /// Whether bytes can be read here. It is so after any calls, unless more is held than any memory has room for: a stream is
-    /// read as one of the connection's once that is told, and those are unidirectional streams of the peer.
-    fn may_read(&self, side: Side, id: StreamId, told: bool, len: usize) -> bool
-        ensures { result ≡ true → MayRead self.now side id told len }
-    {
-        if self.session_len(id) >= MOST_HELD || len >= MOST_HELD {
-            return false;
-        }
-        if !told && self.is_read(id) {
-            return false;
-        }
-        is_peers(side, self.decoder_on)
+        self.session_len(id) < MOST_HELD && len < MOST_HELD
     }
 
     /// Bytes came on a unidirectional stream of the peer, which is not closed. They tell its role, or are for it: what is for the
@@ -114,7 +82,7 @@ impl ConnectionStreams {
         ensures err { IfErr result (λ left. (s : EndpointState) (e : EndpointHistory) → IsDue s self.old e side id → StopsAt s self.new e (BytesCame id bytes ∷ []) (left_arrivals left)) }
     {
         let told = self.is_told(id);
-        if !self.may_read(side, id, told, bytes.len()) {
+        if !self.has_room(id, bytes.len()) {
             return Err(Left::of(id, bytes));
         }
         match map::receive(&mut self.unidirectional, alloc, id, bytes) {

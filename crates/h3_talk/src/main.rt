@@ -2,8 +2,6 @@
 #![tactic(auto)]
 
 mod talk;
-#[cfg(test)]
-mod tests;
 
 pub use h3_script::script;
 pub use h3_script::text::answer_text;

@@ -5,8 +5,6 @@
 #[cfg(test)]
 mod coding;
 #[cfg(test)]
-mod decoder;
-#[cfg(test)]
 mod feed;
 #[cfg(test)]
 mod frames;

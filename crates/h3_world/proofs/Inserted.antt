@@ -13,7 +13,7 @@ use Rattle.h3_qpack.specs.SectionEncoding.{Draft, add_field, add_literal, draft_
 use Rattle.h3_qpack.specs.Session.{Session}
 use Rattle.h3_qpack.specs.Schedule.{SessionEvent, SessionStep, SessionRun, beginning}
 use Rattle.h3_qpack.specs.Schedule.SessionEvent.{UseTable, Encode, CutOff, InsertionsRead, Decode, Cancel, DecoderInstructionRead}
-use Rattle.h3_qpack.specs.Table.{newest_from, or_else}
+use Rattle.h3_table.specs.Table.{newest_from, or_else}
 use Rattle.h3_qpack.specs.WholeInstructions.{whole_in, insertions_in, is_insertion}
 use Rattle.h3_proto.specs.declared.stream.Side.{Side}
 use Rattle.h3_connection.specs.OwnIds.{other}

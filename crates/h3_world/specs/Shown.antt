@@ -2,7 +2,7 @@
 use Rattle.std.specs.Prelude.{ℕ, ◌&&◌, count_by, nat_lt, is_none, Option, Some, None, option_map}
 use Rattle.h3_field.specs.Field.{section_size}
 use Rattle.h3_qpack.specs.DecoderState.{DecoderState}
-use Rattle.h3_qpack.specs.Table.{table}
+use Rattle.h3_table.specs.Table.{table}
 use Rattle.h3_proto.specs.declared.stream.Side.{Side}
 use Rattle.h3_proto.specs.declared.stream.Side.TheVariants.{Client, Server}
 use Rattle.h3_connection.specs.OwnIds.{other}

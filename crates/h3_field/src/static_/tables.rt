@@ -1,4 +1,4 @@
-//! The entries of the static table (RFC 9204, appendix A), and where each is found.
+//! The entries of the static table (RFC 9204, appendix A), and where each is found. `scripts/tables.py` writes them.
 
 /// The names of the entries, one behind the other.
 pub(crate) static NAMES: [u8; 1294] = *b"\

@@ -2,20 +2,28 @@
 ghost use Rattle.std.specs.Prelude.{◌≡◌};
 ghost use Rattle.h3_header.specs.Reads.{kind_of};
 
-/// A pseudo-header field, or a regular one.
+/// A pseudo-header field (RFC 9114, 4.3), or a regular one.
 #[derive(Clone, Copy, Debug, PartialEq, Eq)]
-pub(crate) enum FieldKind {
+pub enum FieldKind {
+    /// `:method`
     Method,
+    /// `:scheme`
     Scheme,
+    /// `:authority`
     Authority,
+    /// `:path`
     Path,
+    /// `:status`
     Status,
+    /// `:protocol` (RFC 8441, 4)
     Protocol,
+    /// Any other name
     Regular,
 }
 
 impl FieldKind {
-    pub(crate) fn of(name: &[u8]) -> FieldKind
+    /// The kind of the field with this name (RFC 9114, 4.3).
+    pub fn of(name: &[u8]) -> FieldKind
         ensures { result ≡ kind_of name.now }
     {
         if name == b":method".as_slice() {

@@ -15,8 +15,8 @@ use super::authority::{https, root};
 use super::error::HeaderError;
 use super::kind::FieldKind;
 use super::pseudo::Pseudo;
+use super::store::Store;
 use crate::ext::Protocol;
-use bytes::Bytes;
 use h3_field::HeaderField;
 use http::method::MethodError;
 use http::{Method, StatusCode};
@@ -24,31 +24,6 @@ use http_header::{HeaderMap, HeaderMapError, HeaderName, HeaderNameError, Header
 use http_uri::{Authority, PathAndQuery, Scheme, UriError};
 use std::alloc::Global;
 use std::borrow::CowSlice;
-
-/// The bytes, shared: static ones as they stand, owned ones in the buffer that they are in.
-fn share(bytes: CowSlice<'static, u8>) -> Result<Bytes, HeaderError>
-    ensures ok { IfOk result (λ b. b ≡ cow_slice_items bytes.entry) }
-    ensures err { IfErr result (λ e. e ≡ HeaderError.OutOfMemory) }
-{
-    match bytes {
-        CowSlice::Borrowed(bytes) => Ok(Bytes::from_static(bytes)),
-        CowSlice::Owned(bytes) => match Bytes::from_vec(bytes) {
-            Ok(bytes) => Ok(bytes),
-            Err(_) => Err(HeaderError::OutOfMemory),
-        },
-    }
-}
-
-/// Another owner of the same bytes.
-fn share_again(bytes: &Bytes) -> Result<Bytes, HeaderError>
-    ensures ok { IfOk result (λ b. b ≡ bytes.now) }
-    ensures err { IfErr result (λ e. e ≡ HeaderError.OutOfMemory) }
-{
-    match bytes.clone() {
-        Ok(bytes) => Ok(bytes),
-        Err(_) => Err(HeaderError::OutOfMemory),
-    }
-}
 
 fn read_method(alloc: Global, value: &[u8]) -> Result<Method, HeaderError>
     ensures ok { IfOk result (λ m. IsToken value.now × (m ≡ value.now)) }
@@ -75,32 +50,36 @@ fn read_scheme(alloc: Global, value: &[u8]) -> Result<Scheme, HeaderError>
     }
 }
 
-fn read_authority(alloc: Global, value: CowSlice<'static, u8>) -> Result<Authority, HeaderError>
-    ensures ok { IfOk result (λ m. IsAuthority (cow_slice_items value.entry)
-        × (m ≡ cow_slice_items value.entry)) }
-    ensures err { IfErr result (RefusesValue (IsAuthority (cow_slice_items value.entry)) ⊤) }
+fn read_authority(
+    alloc: Global,
+    store: &mut Store,
+    value: &CowSlice<'static, u8>,
+) -> Result<Authority, HeaderError>
+    ensures ok { IfOk result (λ m. IsAuthority (cow_slice_items value.now)
+        × (m ≡ cow_slice_items value.now)) }
+    ensures err { IfErr result (RefusesValue (IsAuthority (cow_slice_items value.now)) ⊤) }
 {
-    let bytes = share(value)?;
-    let kept = share_again(&bytes)?;
-    match Authority::from_shared(bytes) {
+    match Authority::from_shared(store.keep(value)?) {
         Ok(authority) => Ok(authority),
-        Err(_) => Err(HeaderError::invalid_value(alloc, b":authority", kept.as_slice())),
+        Err(_) => Err(HeaderError::invalid_value(alloc, b":authority", value.as_slice())),
     }
 }
 
-fn read_path(alloc: Global, value: CowSlice<'static, u8>) -> Result<PathAndQuery, HeaderError>
-    ensures ok { IfOk result (λ m. IsPathInput (cow_slice_items value.entry)
-        × (m ≡ without_fragment (cow_slice_items value.entry))) }
-    ensures err { IfErr result (RefusesValue (IsPathInput (cow_slice_items value.entry)) ⊤) }
+fn read_path(
+    alloc: Global,
+    store: &mut Store,
+    value: &CowSlice<'static, u8>,
+) -> Result<PathAndQuery, HeaderError>
+    ensures ok { IfOk result (λ m. IsPathInput (cow_slice_items value.now)
+        × (m ≡ without_fragment (cow_slice_items value.now))) }
+    ensures err { IfErr result (RefusesValue (IsPathInput (cow_slice_items value.now)) ⊤) }
 {
     if value.as_slice() == b"/".as_slice() {
         return Ok(root());
     }
-    let bytes = share(value)?;
-    let kept = share_again(&bytes)?;
-    match PathAndQuery::from_shared(bytes) {
+    match PathAndQuery::from_shared(store.keep(value)?) {
         Ok(path) => Ok(path),
-        Err(_) => Err(HeaderError::invalid_value(alloc, b":path", kept.as_slice())),
+        Err(_) => Err(HeaderError::invalid_value(alloc, b":path", value.as_slice())),
     }
 }
 
@@ -125,10 +104,14 @@ fn read_protocol(alloc: Global, value: &[u8]) -> Result<Protocol, HeaderError>
 }
 
 /// A header name, which is in lower case. A standard one takes no memory.
-fn read_name(alloc: Global, name: CowSlice<'static, u8>) -> Result<HeaderName, HeaderError>
-    ensures ok { IfOk result (λ n. IsHeaderName (cow_slice_items name.entry)
-        × (n ≡ cow_slice_items name.entry)) }
-    ensures err { IfErr result (RefusesName (IsHeaderName (cow_slice_items name.entry))) }
+fn read_name(
+    alloc: Global,
+    store: &mut Store,
+    name: &CowSlice<'static, u8>,
+) -> Result<HeaderName, HeaderError>
+    ensures ok { IfOk result (λ n. IsHeaderName (cow_slice_items name.now)
+        × (n ≡ cow_slice_items name.now)) }
+    ensures err { IfErr result (RefusesName (IsHeaderName (cow_slice_items name.now))) }
 {
     if let Some(standard) = HeaderName::standard(name.as_slice()) {
         if standard.as_bytes() == name.as_slice() {
@@ -136,35 +119,32 @@ fn read_name(alloc: Global, name: CowSlice<'static, u8>) -> Result<HeaderName, H
         }
         return Err(HeaderError::invalid_name(alloc, name.as_slice()));
     }
-    let bytes = share(name)?;
-    let kept = share_again(&bytes)?;
-    match HeaderName::from_shared(alloc, bytes) {
-        Ok(name) => {
+    match HeaderName::from_shared(alloc, store.keep(name)?) {
+        Ok(made) => {
             // `from_shared` takes letters of any case, and makes them lower case.
-            if name.as_bytes() == kept.as_slice() {
-                return Ok(name);
+            if made.as_bytes() == name.as_slice() {
+                return Ok(made);
             }
-            Err(HeaderError::invalid_name(alloc, kept.as_slice()))
+            Err(HeaderError::invalid_name(alloc, name.as_slice()))
         }
-        Err(HeaderNameError::Invalid) => { Err(HeaderError::invalid_name(alloc, kept.as_slice())) }
+        Err(HeaderNameError::Invalid) => { Err(HeaderError::invalid_name(alloc, name.as_slice())) }
         Err(HeaderNameError::OutOfMemory) => Err(HeaderError::OutOfMemory),
     }
 }
 
 fn read_value(
     alloc: Global,
+    store: &mut Store,
     name: &HeaderName,
-    value: CowSlice<'static, u8>,
+    value: &CowSlice<'static, u8>,
 ) -> Result<HeaderValue, HeaderError>
-    ensures ok { IfOk result (λ v. IsFieldValue (cow_slice_items value.entry)
-        × (v ≡ plain_value (cow_slice_items value.entry))) }
-    ensures err { IfErr result (RefusesValue (IsFieldValue (cow_slice_items value.entry)) ⊤) }
+    ensures ok { IfOk result (λ v. IsFieldValue (cow_slice_items value.now)
+        × (v ≡ plain_value (cow_slice_items value.now))) }
+    ensures err { IfErr result (RefusesValue (IsFieldValue (cow_slice_items value.now)) ⊤) }
 {
-    let bytes = share(value)?;
-    let kept = share_again(&bytes)?;
-    match HeaderValue::from_shared(bytes) {
+    match HeaderValue::from_shared(store.keep(value)?) {
         Ok(value) => Ok(value),
-        Err(_) => Err(HeaderError::invalid_value(alloc, name.as_bytes(), kept.as_slice())),
+        Err(_) => Err(HeaderError::invalid_value(alloc, name.as_bytes(), value.as_slice())),
     }
 }
 
@@ -172,20 +152,21 @@ fn read_value(
 fn append_field(
     alloc: Global,
     map: &mut HeaderMap,
-    name: CowSlice<'static, u8>,
-    value: CowSlice<'static, u8>,
+    store: &mut Store,
+    name: &CowSlice<'static, u8>,
+    value: &CowSlice<'static, u8>,
 ) -> Result<(), HeaderError>
-    ensures ok { OnOk result (IsHeaderName (cow_slice_items name.entry)
-        × IsFieldValue (cow_slice_items value.entry)
-        × ¬ (RefusesAppend map.old (cow_slice_items name.entry))
-        × (map.new ≡ append map.old (cow_slice_items name.entry)
-        (plain_value (cow_slice_items value.entry)))) }
-    ensures err { IfErr result (RefusesRegular map.old (cow_slice_items name.entry)
-        (cow_slice_items value.entry)) }
+    ensures ok { OnOk result (IsHeaderName (cow_slice_items name.now)
+        × IsFieldValue (cow_slice_items value.now)
+        × ¬ (RefusesAppend map.old (cow_slice_items name.now))
+        × (map.new ≡ append map.old (cow_slice_items name.now)
+        (plain_value (cow_slice_items value.now)))) }
+    ensures err { IfErr result (RefusesRegular map.old (cow_slice_items name.now)
+        (cow_slice_items value.now)) }
     ensures kept { OnErr result (map.new ≡ map.old) }
 {
-    let name = read_name(alloc, name)?;
-    let value = read_value(alloc, &name, value)?;
+    let name = read_name(alloc, store, name)?;
+    let value = read_value(alloc, store, &name, value)?;
     match map.append(name, value) {
         Ok(_) => Ok(()),
         Err(HeaderMapError::MaxSizeReached) => Err(HeaderError::TooManyFields),
@@ -193,11 +174,12 @@ fn append_field(
     }
 }
 
-/// Reads one field into the parts of a header, and keeps the bytes that the field owns.
+/// Reads one field into the parts of a header, and keeps its bytes in the store.
 pub(crate) fn read_field(
     alloc: Global,
     pseudo: &mut Pseudo,
     map: &mut HeaderMap,
+    store: &mut Store,
     field: HeaderField,
 ) -> Result<(), HeaderError>
     ensures ok { OnOk result (Accepts (head_of_parts pseudo.old map.old) field
@@ -216,11 +198,11 @@ pub(crate) fn read_field(
             Ok(())
         }
         FieldKind::Authority => {
-            pseudo.authority = Some(read_authority(alloc, value)?);
+            pseudo.authority = Some(read_authority(alloc, store, &value)?);
             Ok(())
         }
         FieldKind::Path => {
-            pseudo.path = Some(read_path(alloc, value)?);
+            pseudo.path = Some(read_path(alloc, store, &value)?);
             Ok(())
         }
         FieldKind::Status => {
@@ -232,7 +214,7 @@ pub(crate) fn read_field(
             Ok(())
         }
         FieldKind::Regular => {
-            append_field(alloc, map, name, value)?;
+            append_field(alloc, map, store, &name, &value)?;
             Ok(())
         }
     }

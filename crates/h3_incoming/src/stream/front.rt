@@ -41,7 +41,7 @@ impl IncomingStream {
     }
 
     // Reads one frame. It answers nothing where the frame gives nothing.
-    #[tactic(auto, using(crate::proofs::FrontLaws::finds_unfinished, crate::proofs::FrontLaws::finds_refused, crate::proofs::FrontLaws::finds_frame, crate::proofs::FrontLaws::passes_empty, crate::proofs::FrontLaws::passes_known, crate::proofs::FrontLaws::passed_less, crate::proofs::FrontLaws::passes))]
+    #[tactic(auto, using(crate::proofs::FrontLaws::finds_unfinished, crate::proofs::FrontLaws::finds_refused, crate::proofs::FrontLaws::finds_frame, crate::proofs::FrontLaws::passes_empty, crate::proofs::FrontLaws::passes_known, h3_connection::specs::SkippingLaws::rest_shorter, crate::proofs::FrontLaws::passes))]
     fn front_one(&mut self, alloc: Global) -> Result<Option<Found>, AllocError>
         requires closed { self.old.body_left ≡ 0 }
         requires open { self.old.fault ≡ None }

@@ -7,7 +7,7 @@ use Rattle.h3_header.proofs.headers.Header.try_from.Goals as goal
 
 pub loop-field-init : goal.loop-field-init
 loop-field-init c =
-    rw (c.into_iter-field-iterator.ensures.into_iter_gives.0, c.none-pseudo.ensures, c.new-map.ensures) (Rest-start c.args.fields.items)
+    rw (c.into_iter-field-iterator.ensures.into_iter_gives.0, c.none-pseudo.ensures, c.map_for-map.ensures) (Rest-start c.args.fields.items)
 
 pub returns-in_err-read_field-clause-err : goal.returns-in_err-read_field-clause-err
 returns-in_err-read_field-clause-err c =

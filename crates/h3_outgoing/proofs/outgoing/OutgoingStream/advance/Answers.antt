@@ -7,5 +7,5 @@ pub returns : goal.returns
 returns c =
     let none : c.loop-left.left ≡ 0 = omega arith in
     let pieces = c.loop-left.self.pieces in
-    c.loop-left.invariant.same
+    c.release.ensures ∙ c.loop-left.invariant.same
     ∙ ap (λ ps. record c.args.self.now { pieces = ps }) (sym (without-none pieces) ∙ ap (λ n. without_front n pieces) (sym none) ∙ c.loop-left.invariant.pieces)

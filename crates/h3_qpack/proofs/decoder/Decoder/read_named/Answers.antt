@@ -1,5 +1,5 @@
 use Rattle.std.proofs.Common.{◌≡◌, ◌-◌, refl, sym, ◌∙◌, ap, Some, None}
-use Rattle.h3_qpack.specs.TableState.{entry_at}
+use Rattle.h3_table.specs.TableState.{entry_at}
 use Rattle.h3_field.specs.ShapeAnswer.{behind}
 use Rattle.h3_field.specs.IntegerReading.{integer}
 use Rattle.h3_field.specs.InstructionReading.{name_reference}
@@ -20,12 +20,12 @@ returns-in-Err-get_name c =
     begins_no_insertion (behind (integer 6 c.args.buf.now)) c.args.self.now.table named_insertion (name_reference c.args.buf.now) c.args.buf.now _ _ _ (is_named _ c.requires.some c.requires.own) c.in-Ok-Some-Static.field-0-is (c.in-Ok-Some-Static.ensures.own c.requires.own)
     (rw c.in-Ok-Some-Static.field-0-0-is refl) (rw (c.in-Ok-Some-Static.field-0-0-is, static_none c.in-Ok-Some-Static.index c.in-Err-get_name.ensures.1) refl)
 
-pub returns-in-Ok-named_as : goal.returns-in-Ok-named_as
-returns-in-Ok-named_as c =
-    let there : entry_at c.self.inside.entries (c.self.inside.entries.inserted - c.in-Ok-Some-Dynamic.index) ≡ Some c.in-Ok-relative.entry.now =
+pub returns-in-Ok-with_value : goal.returns-in-Ok-with_value
+returns-in-Ok-with_value c =
+    let there : entry_at c.self.inside.entries (c.self.inside.entries.inserted - c.in-Ok-Some-Dynamic.index) ≡ Some c.in-Ok-relative.entry =
     ap (λ n. entry_at c.self.inside.entries (n - c.in-Ok-Some-Dynamic.index)) (sym c.inserted.ensures.value) ∙ c.in-Ok-relative.ensures in
     rw (← c.self.view_is) (begins_insertion (behind (integer 6 c.args.buf.now)) c.self.inside.entries named_insertion name_reference c.args.buf.now _ _ _ _ name_reference_less (is_named _ c.requires.some c.requires.own) c.in-Ok-Some-Dynamic.field-0-is (c.in-Ok-Some-Dynamic.ensures.own c.requires.own)
-    (rw c.in-Ok-Some-Dynamic.field-0-0-is refl) (rw (c.in-Ok-Some-Dynamic.field-0-0-is, c.in-Ok-named_as.ensures, there) refl))
+    (rw c.in-Ok-Some-Dynamic.field-0-0-is refl) (rw (c.in-Ok-Some-Dynamic.field-0-0-is, c.in-Ok-with_value.ensures, there) refl))
 
 pub returns-in-Err-relative : goal.returns-in-Err-relative
 returns-in-Err-relative c =

@@ -1,7 +1,7 @@
 use Rattle.std.proofs.Common.{◌≡◌, ◌+◌, ◌-◌, ◌^◌, ◌<◌, ◌≤◌, min, ℕ, false, refl, ap, arith}
 use Rattle.std.proofs.lemmas.Grind.{common_steps}
 use Rattle.h3_field.specs.Field.{Field, field_size}
-use Rattle.h3_qpack.specs.TableState.{TableState, has_room}
+use Rattle.h3_table.specs.TableState.{TableState, has_room}
 use Rattle.h3_qpack.proofs.InsertionsAt.{no_insertion_bad, no_room_bad, reason_map}
 use Rattle.h3_qpack.proofs.decoder.Decoder.take_insertion.Goals as goal
 

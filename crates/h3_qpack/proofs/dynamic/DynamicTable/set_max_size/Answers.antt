@@ -1,6 +1,6 @@
 use Rattle.std.proofs.Common.{◌≡◌, ◌≤◌, arith}
-use Rattle.h3_qpack.specs.TableState.{evicted, with_capacity}
-use Rattle.h3_qpack.specs.declared.entries.Match.TheVariants as what
+use Rattle.h3_table.specs.TableState.{evicted, with_capacity}
+use Rattle.h3_table.specs.declared.entries.Match.TheVariants as what
 use Rattle.h3_qpack.proofs.Indexing.{indexed_with_capacity}
 use Rattle.h3_qpack.proofs.dynamic.DynamicTable.set_max_size.Goals as goal
 

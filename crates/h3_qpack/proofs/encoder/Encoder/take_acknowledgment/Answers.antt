@@ -2,8 +2,8 @@ use Rattle.std.proofs.Common.{◌≡◌, true, false, inl, inr, refl, sym, ◌�
 use Rattle.std.specs.List.{list_any}
 use Rattle.h3_field.specs.InstructionReading.{acknowledgment}
 use Rattle.h3_field.specs.InstructionAnswer.{section_acknowledgment}
-use Rattle.h3_qpack.specs.Tracking.{is_of}
-use Rattle.h3_qpack.proofs.Releasing.{none_removed}
+use Rattle.h3_table.specs.Tracking.{is_of}
+use Rattle.h3_table.proofs.Releasing.{none_removed}
 use Rattle.h3_qpack.proofs.DecoderInstructionsRead.{is_acknowledgment, acknowledgment_less, reply_here, heard_one, acknowledged}
 use Rattle.h3_qpack.proofs.encoder.Encoder.take_acknowledgment.Goals as goal
 

@@ -5,8 +5,8 @@ use Rattle.h3_streams.specs.ReadingOn.{left_arrivals}
 use Rattle.h3_streams.proofs.ArrivedBytes.{untaken, nothing_read, push_read, role_read, role_stopped}
 use Rattle.h3_streams.proofs.streams.ConnectionStreams.bytes.Goals as goal
 
-pub returns-then-not-may_read-clause-err : goal.returns-then-not-may_read-clause-err
-returns-then-not-may_read-clause-err c = untaken c.args.self.now c.args.self.now.unidirectional c.args.side c.args.id c.args.bytes _ _ (record { each = λ q. refl }) refl c.of.ensures
+pub returns-then-not-has_room-clause-err : goal.returns-then-not-has_room-clause-err
+returns-then-not-has_room-clause-err c = untaken c.args.self.now c.args.self.now.unidirectional c.args.side c.args.id c.args.bytes _ _ (record { each = λ q. refl }) refl c.of.ensures
 
 pub returns-in-Ok-Nothing-clause-ok : goal.returns-in-Ok-Nothing-clause-ok
 returns-in-Ok-Nothing-clause-ok c =
@@ -21,41 +21,35 @@ returns-in-Ok-Push-clause-ok c =
 pub returns-in-Ok-Control-clause-ok : goal.returns-in-Ok-Control-clause-ok
 returns-in-Ok-Control-clause-ok c =
     let receives = rw c.in-Ok-Control.field-0-is at c.in-Ok-Control.ensures.ok in
-    let may = rw (sym c.self.view_is) at (c.if-not-may_read.ensures refl) in
-    rw (sym c.self.view_is) (IfOk-weaker c.control_bytes.result _ _ (λ fault reads. role_read Control _ _ _ _ _ _ _ _ _ fault refl receives may reads) c.control_bytes.ensures.ok)
+    rw (sym c.self.view_is) (IfOk-weaker c.control_bytes.result _ _ (λ fault reads. role_read Control _ _ _ _ _ _ _ fault refl receives reads) c.control_bytes.ensures.ok)
 
 pub returns-in-Ok-Control-clause-err : goal.returns-in-Ok-Control-clause-err
 returns-in-Ok-Control-clause-err c =
     let receives = rw c.in-Ok-Control.field-0-is at c.in-Ok-Control.ensures.ok in
-    let may = rw (sym c.self.view_is) at (c.if-not-may_read.ensures refl) in
     let told = rw (sym c.self.view_is) at c.is_told-told.ensures in
-    rw (sym c.self.view_is) (IfErr-weaker c.control_bytes.result _ _ (λ left stops. role_stopped Control _ _ _ _ _ _ _ _ _ (left_arrivals left) refl receives may told stops) c.control_bytes.ensures.err)
+    rw (sym c.self.view_is) (IfErr-weaker c.control_bytes.result _ _ (λ left stops. role_stopped Control _ _ _ _ _ _ _ _ (left_arrivals left) refl receives told stops) c.control_bytes.ensures.err)
 
 pub returns-in-Ok-Encoder-clause-ok : goal.returns-in-Ok-Encoder-clause-ok
 returns-in-Ok-Encoder-clause-ok c =
     let receives = rw c.in-Ok-Encoder.field-0-is at c.in-Ok-Encoder.ensures.ok in
-    let may = rw (sym c.self.view_is) at (c.if-not-may_read.ensures refl) in
-    rw (sym c.self.view_is) (IfOk-weaker c.encoder_bytes.result _ _ (λ fault reads. role_read Encoder _ _ _ _ _ _ _ _ _ fault refl receives may (λ s e. reads s e c.args.side)) c.encoder_bytes.ensures.ok)
+    rw (sym c.self.view_is) (IfOk-weaker c.encoder_bytes.result _ _ (λ fault reads. role_read Encoder _ _ _ _ _ _ _ fault refl receives (λ s e. reads s e c.args.side)) c.encoder_bytes.ensures.ok)
 
 pub returns-in-Ok-Encoder-clause-err : goal.returns-in-Ok-Encoder-clause-err
 returns-in-Ok-Encoder-clause-err c =
     let receives = rw c.in-Ok-Encoder.field-0-is at c.in-Ok-Encoder.ensures.ok in
-    let may = rw (sym c.self.view_is) at (c.if-not-may_read.ensures refl) in
     let told = rw (sym c.self.view_is) at c.is_told-told.ensures in
-    rw (sym c.self.view_is) (IfErr-weaker c.encoder_bytes.result _ _ (λ left stops. role_stopped Encoder _ _ _ _ _ _ _ _ _ (left_arrivals left) refl receives may told (λ s e. stops s e c.args.side)) c.encoder_bytes.ensures.err)
+    rw (sym c.self.view_is) (IfErr-weaker c.encoder_bytes.result _ _ (λ left stops. role_stopped Encoder _ _ _ _ _ _ _ _ (left_arrivals left) refl receives told (λ s e. stops s e c.args.side)) c.encoder_bytes.ensures.err)
 
 pub returns-in-Ok-Decoder-clause-ok : goal.returns-in-Ok-Decoder-clause-ok
 returns-in-Ok-Decoder-clause-ok c =
     let receives = rw c.in-Ok-Decoder.field-0-is at c.in-Ok-Decoder.ensures.ok in
-    let may = rw (sym c.self.view_is) at (c.if-not-may_read.ensures refl) in
-    rw (sym c.self.view_is) (IfOk-weaker c.decoder_bytes.result _ _ (λ fault reads. role_read Decoder _ _ _ _ _ _ _ _ _ fault refl receives may (λ s e. reads s e c.args.side)) c.decoder_bytes.ensures.ok)
+    rw (sym c.self.view_is) (IfOk-weaker c.decoder_bytes.result _ _ (λ fault reads. role_read Decoder _ _ _ _ _ _ _ fault refl receives (λ s e. reads s e c.args.side)) c.decoder_bytes.ensures.ok)
 
 pub returns-in-Ok-Decoder-clause-err : goal.returns-in-Ok-Decoder-clause-err
 returns-in-Ok-Decoder-clause-err c =
     let receives = rw c.in-Ok-Decoder.field-0-is at c.in-Ok-Decoder.ensures.ok in
-    let may = rw (sym c.self.view_is) at (c.if-not-may_read.ensures refl) in
     let told = rw (sym c.self.view_is) at c.is_told-told.ensures in
-    rw (sym c.self.view_is) (IfErr-weaker c.decoder_bytes.result _ _ (λ left stops. role_stopped Decoder _ _ _ _ _ _ _ _ _ (left_arrivals left) refl receives may told (λ s e. stops s e c.args.side)) c.decoder_bytes.ensures.err)
+    rw (sym c.self.view_is) (IfErr-weaker c.decoder_bytes.result _ _ (λ left stops. role_stopped Decoder _ _ _ _ _ _ _ _ (left_arrivals left) refl receives told (λ s e. stops s e c.args.side)) c.decoder_bytes.ensures.err)
 
 pub returns-in-Err-clause-err : goal.returns-in-Err-clause-err
 returns-in-Err-clause-err c = rw (sym c.self.view_is) (untaken _ _ _ _ _ _ _ c.in-Err.ensures.err.1 c.in-Err.ensures.err.0 c.of-in-Err.ensures)

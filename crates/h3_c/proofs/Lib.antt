@@ -1,0 +1,5 @@
+pub mod Cuts
+pub mod HandleValues
+pub mod Heads
+pub mod Making
+pub mod Values

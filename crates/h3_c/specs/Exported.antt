@@ -1,0 +1,110 @@
+-- What the exports promise: the contract of the call that each makes, of the endpoint that the handle owned and the one that the handle
+-- for the next call owns, with the numbers that C gets.
+use Rattle.std.specs.Prelude.{◌≡◌, ◌⊎◌, ◌<◌, ◌≤◌, ◌^◌, ◌++◌, ◌==◌, ◌&&◌, ℕ, nat_le, if◌then◌else◌, Bool, List, length, take, drop, min, slice_get, Option, Some, None, Result}
+use Rattle.h3_field.specs.Field.{Field}
+use Rattle.h3_header.specs.Head.{Head}
+use Rattle.h3_header.specs.HeadRead.{HeadRead, IsHead, IsNone}
+use Rattle.h3_connection.specs.Endpoint.{EndpointHistory, bytes_waiting}
+use Rattle.h3_connection.specs.Shown.{is_finished}
+use Rattle.h3_connection.specs.ReceivingContracts.{PullsNext}
+use Rattle.h3_connection.specs.SendingContracts.{Advances, Opens}
+use Rattle.h3_connection.specs.State.{StandsFor}
+use Rattle.h3_connection.specs.declared.event.Refusal.{Refusal}
+use Rattle.h3_c.specs.declared.items.PulledItem.{PulledItem}
+use Rattle.h3_c.specs.declared.numbers.Told.{Told}
+use Rattle.h3_c.specs.Items.{bytes_of, fields_of, shown}
+use Rattle.h3_c.specs.Numbers.{ok, none, room, argument, memory, call_told, head_told}
+use Rattle.h3_c.specs.Seen.{Seen}
+use Rattle.h3_c.specs.Showing.{bit}
+
+-- From what the handle owned to what the handle for the next call owns.
+abbrev pub Steps : Option Seen → Option Seen → (Seen → Seen → Type 0) → Type 0
+Steps before after goes = (v w : Seen) → before ≡ Some v → after ≡ Some w → goes v w
+
+-- The call answered a result, which this number tells, and did this with it. The item that was pulled last stays.
+pub record Calls {R : Type 0} (told : R → Told) (n : Told) (v w : Seen) (does : R → Type 0) : Type 0 where
+  pub answer : R
+  pub is : n ≡ told answer
+  pub done : does answer
+  pub last : w.last ≡ v.last
+
+-- A call on a stream: an id of 2^62 or more is refused, with nothing changed.
+pub record OnStream (id : ℕ) (n : Told) (v w : Seen) (goes : Type 0) : Type 0 where
+  pub known : id < 2 ^ 62 → goes
+  pub unknown : 2 ^ 62 ≤ id → (n ≡ argument) × (w ≡ v)
+
+abbrev pub CallsOn : {R : Type 0} → (R → Told) → ℕ → Told → Seen → Seen → (R → Type 0) → Type 0
+CallsOn told id n v w does = OnStream id n v w (Calls told n v w does)
+
+-- A call that takes memory first: where that is refused, nothing has changed.
+abbrev pub OrMemory : Told → Seen → Seen → Type 0 → Type 0
+OrMemory n v w goes = ((n ≡ memory) × (w ≡ v)) ⊎ goes
+
+-- A head is sent that was made of what C gave; or that was none.
+abbrev pub SendsGiven : Option HeadRead → Told → Seen → Seen → (Head → Result Unit Refusal → Type 0) → Type 0
+SendsGiven None n v w does = (n ≡ argument) × (w ≡ v)
+SendsGiven (Some (IsNone why)) n v w does = (n ≡ head_told why) × (w ≡ v)
+SendsGiven (Some (IsHead h)) n v w does = Calls call_told n v w (does h)
+
+-- A pull: its answer stays until the next one, and C gets what it is.
+pub record Pulls (id : ℕ) (n : Told) (v w : Seen) (given : PulledItem) : Type 0 where
+  pub done : n ≡ ok
+  pub pulled : PullsNext v.endpoint w.endpoint id w.last
+  pub given_so : given ≡ shown w.last
+
+-- The bytes of an item from one on, as many as fit.
+pub record ReadsBytes (v : Seen) (from : ℕ) (n : Told) (before after : List ℕ) (count : ℕ) : Type 0 where
+  pub past : length (bytes_of v.last) ≤ from → (n ≡ none) × (after ≡ before)
+  pub inside : from < length (bytes_of v.last) → (n ≡ ok) × (count ≡ min (length (drop from (bytes_of v.last))) (length before))
+      × (after ≡ take (length before) (drop from (bytes_of v.last)) ++ drop (length (drop from (bytes_of v.last))) before)
+
+-- Some of the bytes that wait, at the front of C's buffer.
+pub record CopiesOut (v : Seen) (id : ℕ) (n : Told) (after : List ℕ) (count fin : ℕ) : Type 0 where
+  pub done : n ≡ ok
+  pub last : (e : EndpointHistory) → StandsFor v.endpoint e → fin ≡ bit (is_finished e id && (length (bytes_waiting e id) == count))
+  pub front : (e : EndpointHistory) → StandsFor v.endpoint e → take count after ≡ take count (bytes_waiting e id)
+  pub fits : count ≤ length after
+
+-- Bytes were taken; not more than wait.
+pub record Takes (v w : Seen) (id count : ℕ) (n : Told) : Type 0 where
+  pub few : (e : EndpointHistory) → StandsFor v.endpoint e → count ≤ length (bytes_waiting e id) → (n ≡ ok) × Advances v.endpoint w.endpoint id count
+  pub many : (e : EndpointHistory) → StandsFor v.endpoint e → length (bytes_waiting e id) < count → (n ≡ argument) × (w ≡ v)
+  pub last : w.last ≡ v.last
+
+-- bytes wait on a stream from that id on
+pub record Waits (v : Seen) (from id : ℕ) : Type 0 where
+  pub from_there : from ≤ id
+  pub bytes : (e : EndpointHistory) → StandsFor v.endpoint e → 0 < length (bytes_waiting e id)
+
+-- `h3_next_waiting`: bytes wait on the stream that is answered
+abbrev pub IsNextFound : Told → Seen → ℕ → ℕ → Type 0
+IsNextFound n v from id = n ≡ ok → Waits v from id
+
+pub record WaitsNext (v : Seen) (from : ℕ) (n : Told) (id : ℕ) : Type 0 where
+  pub told : (n ≡ ok) ⊎ (n ≡ none)
+  pub found : IsNextFound n v from id
+
+-- `h3_open_request`: the id is the next one
+pub record OpensRequest (n : Told) (v w : Seen) (id : ℕ) : Type 0 where
+  pub calls : Calls call_told n v w (λ call. Opens v.endpoint w.endpoint call)
+  pub id_is : n ≡ ok → id ≡ v.endpoint.next_id
+
+-- the first bytes, as many as fit, at the front of C's buffer
+abbrev pub put : List ℕ → List ℕ → List ℕ
+put bytes before = take (length before) bytes ++ drop (length bytes) before
+
+-- `H3_ROOM` where a buffer is too small
+abbrev pub room_told : Bool → Told
+room_told fits = if fits then ok else room
+
+-- A field's name and value, and how long both are.
+abbrev pub GivesField : Option Field → Told → List ℕ → List ℕ → ℕ → List ℕ → List ℕ → ℕ → Type 0
+GivesField None n name name_after name_len value value_after value_len = n ≡ none
+GivesField (Some f) n name name_after name_len value value_after value_len =
+    (n ≡ room_told (nat_le (length f.name) (length name) && nat_le (length f.value) (length value)))
+    × (name_len ≡ length f.name) × (name_after ≡ put f.name name) × (value_len ≡ length f.value) × (value_after ≡ put f.value value)
+
+-- A field of the head or trailer that was pulled last, where memory was not refused.
+abbrev pub ReadsField : Seen → ℕ → Told → List ℕ → List ℕ → ℕ → List ℕ → List ℕ → ℕ → Type 0
+ReadsField v index n name name_after name_len value value_after value_len =
+    (n ≡ memory) ⊎ GivesField (slice_get (fields_of v.last) index) n name name_after name_len value value_after value_len

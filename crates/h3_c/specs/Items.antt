@@ -1,0 +1,75 @@
+-- What C gets of the item that was pulled last.
+use Rattle.std.specs.Prelude.{◌≡◌, ℕ, ◌-◌, ◌^◌, List, [], length, min, unwrap_or, Option, Some, None}
+use Rattle.h3_field.specs.Field.{Field}
+use Rattle.h3_header.specs.Head.{Head, head_fields}
+use Rattle.h3_connection.specs.declared.event.Fault.TheVariants as fault
+use Rattle.h3_connection.specs.declared.event.Item.TheVariants as item
+use Rattle.h3_connection.specs.declared.event.Malformation.{Malformation}
+use Rattle.h3_connection.specs.declared.event.Malformation.TheVariants as malformation
+use Rattle.h3_connection.specs.declared.event.Pull.{Pull}
+use Rattle.h3_connection.specs.declared.event.Pull.TheVariants as pull
+use Rattle.h3_connection.specs.declared.event.StreamFault.{StreamFault}
+use Rattle.h3_connection.specs.declared.event.StreamFault.TheVariants as stream_fault
+use Rattle.h3_c.specs.declared.items.PulledItem.{PulledItem}
+
+-- the fields of a head or trailer, and none of anything else
+abbrev pub fields_of : Pull → List Field
+fields_of (pull.Item (item.Interim h)) = head_fields h
+fields_of (pull.Item (item.Head h)) = head_fields h
+fields_of (pull.Item (item.Trailer h)) = head_fields h
+fields_of _ = []
+
+-- the bytes of a body or of a session
+abbrev pub bytes_of : Pull → List ℕ
+bytes_of (pull.Item (item.Body bytes)) = bytes
+bytes_of (pull.Item (item.Raw bytes)) = bytes
+bytes_of _ = []
+
+-- what is kept for later is these fields
+abbrev pub AreFields : Option (List Field) → Pull → Type 0
+AreFields None last = Unit {0}
+AreFields (Some fields) last = fields ≡ fields_of last
+
+-- `h3_kind` alone, or with a number
+abbrev pub plain : ℕ → PulledItem
+plain kind = record { kind = kind; status = 0; number = 0; fields = 0; len = 0 }
+
+abbrev pub numbered : ℕ → ℕ → PulledItem
+numbered kind n = record { kind = kind; status = 0; number = n; fields = 0; len = 0 }
+
+-- a head: its status, and how many fields it has
+abbrev pub head_shown : ℕ → Head → PulledItem
+head_shown kind h = record { kind = kind; status = unwrap_or h.status 0; number = 0; fields = min (length (head_fields h)) (2 ^ 64 - 1); len = 0 }
+
+abbrev pub bytes_shown : ℕ → List ℕ → PulledItem
+bytes_shown kind bytes = record { kind = kind; status = 0; number = 0; fields = 0; len = length bytes }
+
+abbrev pub malformation_number : Malformation → ℕ
+malformation_number malformation.Name = 0
+malformation_number malformation.Value = 1
+malformation_number malformation.TooMany = 2
+malformation_number malformation.WrongSide = 3
+malformation_number malformation.PseudoInTrailer = 4
+malformation_number malformation.NoHead = 5
+
+abbrev pub fault_shown : StreamFault → PulledItem
+fault_shown (stream_fault.Malformed why) = numbered 13 (malformation_number why)
+fault_shown (stream_fault.Reset code) = numbered 14 code
+fault_shown stream_fault.Canceled = plain 15
+
+-- `h3_item`
+abbrev pub shown : Pull → PulledItem
+shown (pull.Item (item.Interim h)) = head_shown 1 h
+shown (pull.Item (item.Head h)) = head_shown 2 h
+shown (pull.Item (item.Body bytes)) = bytes_shown 3 bytes
+shown (pull.Item (item.Trailer h)) = head_shown 4 h
+shown (pull.Item (item.TooLarge size)) = numbered 5 size
+shown (pull.Item (item.Session id)) = numbered 6 id
+shown (pull.Item (item.Raw bytes)) = bytes_shown 7 bytes
+shown (pull.Item item.End) = plain 8
+shown pull.Pending = plain 9
+shown (pull.Waiting count) = numbered 10 count
+shown pull.NoMessages = plain 11
+shown (pull.Fault (fault.Connection code)) = numbered 12 code
+shown (pull.Fault (fault.Stream f)) = fault_shown f
+shown (pull.Fault fault.Memory) = plain 16

@@ -1,0 +1,9 @@
+pub mod Configs
+pub mod Exported
+pub mod Given
+pub mod Giving
+pub mod Held
+pub mod Items
+pub mod Numbers
+pub mod Seen
+pub mod Showing

@@ -1,0 +1,79 @@
+//! What a handle owns.
+ghost use Rattle.std.specs.Prelude.{◌≡◌, ◌<◌, ◌≤◌, IfOk, IfErr, Ok};
+ghost use Rattle.h3_connection.specs.SendingContracts.{Creates};
+ghost use Rattle.h3_c.specs.Configs.{side_of, announced_of, Unmakes};
+ghost use Rattle.h3_c.specs.Numbers.{argument};
+
+use crate::config::{GivenConfig, endpoint_of};
+use crate::numbers::{ARGUMENT, MEMORY, Told, unmade};
+use h3_connection::event::Pull;
+use h3_field::HeaderField;
+use h3_session::endpoint::Endpoint;
+use std::alloc::Global;
+use std::marker::Model;
+
+mod heads;
+mod items;
+mod outgoing;
+mod receiving;
+mod sending;
+mod showing;
+
+/// An endpoint, and what the last pull answered. A contract sees both as they are.
+#[derive(Drop)]
+pub struct Connection {
+    endpoint: Endpoint,
+    last: Pull,
+    // the fields of the head or trailer that was pulled, once they were asked for
+    fields: Option<Vec<HeaderField>>,
+    // the request streams on which something was sent that may still wait
+    filled: Vec<u64>,
+}
+
+impl Model for Connection {
+    ghost use Rattle.h3_c.specs.Seen.{Seen};
+    ghost use Rattle.h3_c.specs.Items.{AreFields};
+    ghost use Rattle.std.specs.Prelude.{option_map};
+
+    ghost Value = { Seen };
+
+    ghost view = { λ c. record { endpoint = c.endpoint; last = c.last } };
+
+    ghost invariant = { λ c. AreFields (option_map (λ f. f.items) c.fields) c.last };
+}
+
+impl Connection {
+    /// Nothing was pulled yet.
+    pub(crate) fn of(alloc: Global, endpoint: Endpoint) -> Connection
+        ensures { result ≡ record { endpoint = endpoint; last = Pull.Pending } }
+    {
+        Connection {
+            endpoint,
+            last: Pull::Pending,
+            fields: None,
+            filled: Vec::new(alloc),
+        }
+    }
+}
+
+/// The connection that is asked for.
+#[tactic(auto, using(crate::proofs::Making::lacks_memory, crate::proofs::Making::refused))]
+pub(crate) fn made(alloc: Global, given: &GivenConfig) -> Result<Box<Connection>, Told>
+    ensures near { IfOk result (λ b. given.now.grease < 0x210842108421083) }
+    ensures made { IfOk result (λ b. Creates (side_of given.now) (announced_of given.now) (Ok b.value.endpoint)) }
+    ensures last { IfOk result (λ b. b.value.last ≡ Pull.Pending) }
+    ensures far { IfErr result (λ told. 0x210842108421083 ≤ given.now.grease → told ≡ argument) }
+    ensures refused { IfErr result (λ told. given.now.grease < 0x210842108421083 → Unmakes given.now told) }
+{
+    if given.grease >= 0x210842108421083 {
+        return Err(ARGUMENT);
+    }
+    let endpoint = match endpoint_of(alloc, given) {
+        Ok(endpoint) => endpoint,
+        Err(e) => return Err(unmade(&e)),
+    };
+    let Ok(connection) = Box::new(alloc, Connection::of(alloc, endpoint)) else {
+        return Err(MEMORY);
+    };
+    Ok(connection)
+}

@@ -1,0 +1,84 @@
+//! What is pulled.
+ghost use Rattle.std.specs.Prelude.{◌≡◌, slice_get};
+ghost use Rattle.h3_c.specs.Exported.{GivesField, OnStream, Pulls, ReadsBytes, ReadsField};
+
+use super::Connection;
+use crate::items::{PulledItem, bytes_of, copy_front, fields_of, shown};
+use crate::numbers::{ARGUMENT, MEMORY, NONE, OK, ROOM, Told};
+use h3_field::HeaderField;
+use h3_proto::stream::StreamId;
+use std::alloc::Global;
+
+impl Connection {
+    /// What comes next on a stream: it takes the place of what was pulled before.
+    pub(crate) fn pull(&mut self, id: u64, item: &mut PulledItem) -> Told
+        ensures { OnStream id result self.old self.new (Pulls id result self.old self.new item.new) }
+    {
+        let Ok(id) = StreamId::try_from(id) else {
+            return ARGUMENT;
+        };
+        self.fields = None;
+        self.last = self.endpoint.pull(id);
+        *item = shown(&self.last);
+        OK
+    }
+
+    /// A field of the head or trailer that was pulled last. Its list is made once, and kept.
+    pub(crate) fn item_field(
+        &mut self,
+        alloc: Global,
+        index: usize,
+        name: &mut [u8],
+        name_len: &mut usize,
+        value: &mut [u8],
+        value_len: &mut usize,
+    ) -> Told
+        ensures same { self.new ≡ self.old }
+        ensures field { ReadsField self.old index result name.old name.new name_len.new value.old value.new value_len.new }
+    {
+        let fields = match self.fields.take() {
+            Some(fields) => fields,
+            None => match fields_of(alloc, &self.last) {
+                Ok(fields) => fields,
+                Err(_) => return MEMORY,
+            },
+        };
+        let told = field_at(fields.as_slice(), index, name, name_len, value, value_len);
+        self.fields = Some(fields);
+        told
+    }
+
+    /// The bytes of the item that was pulled last, from `from` on.
+    pub(crate) fn item_bytes(&self, from: usize, out: &mut [u8], count: &mut usize) -> Told
+        ensures { ReadsBytes self.now from result out.old out.new count.new }
+    {
+        let bytes = bytes_of(&self.last);
+        if bytes.len() <= from {
+            return NONE;
+        }
+        *count = copy_front(&bytes[from..], out);
+        OK
+    }
+}
+
+// Hands out a field: as much of its name and value as fits, and how long both are.
+fn field_at(
+    fields: &[HeaderField],
+    index: usize,
+    name: &mut [u8],
+    name_len: &mut usize,
+    value: &mut [u8],
+    value_len: &mut usize,
+) -> Told
+    ensures { GivesField (slice_get fields.now index) result name.old name.new name_len.new value.old value.new value_len.new }
+{
+    let Some(field) = fields.get(index) else {
+        return NONE;
+    };
+    let fits = field.name().len() <= name.len() && field.value().len() <= value.len();
+    *name_len = field.name().len();
+    *value_len = field.value().len();
+    copy_front(field.name(), name);
+    copy_front(field.value(), value);
+    if fits { OK } else { ROOM }
+}

@@ -1,0 +1,86 @@
+//! What C sends, heads and trailers aside.
+ghost use Rattle.std.specs.Prelude.{◌≡◌};
+ghost use Rattle.h3_connection.specs.SendingContracts.{Opens, SendsBody, Finishes, Resets, Cancels, GoesAway};
+ghost use Rattle.h3_c.specs.Exported.{Calls, CallsOn, OnStream, OpensRequest, OrMemory};
+ghost use Rattle.h3_c.specs.Numbers.{call_told, body_told};
+
+use super::Connection;
+use crate::filled::note;
+use crate::numbers::{ARGUMENT, MEMORY, OK, Told, called, refused, sent};
+use bytes::Bytes;
+use h3_coding::varint::VarInt;
+use h3_proto::stream::StreamId;
+use std::alloc::Global;
+
+impl Connection {
+    /// Opens the next request stream, whose id goes to `id`.
+    pub(crate) fn open_request(&mut self, id: &mut u64) -> Told
+        ensures { OpensRequest result self.old self.new id.new }
+    {
+        match self.endpoint.open_request() {
+            Ok(opened) => {
+                *id = opened.into_inner();
+                OK
+            }
+            Err(refusal) => refused(refusal),
+        }
+    }
+
+    /// A piece of a body goes out on a stream.
+    pub(crate) fn send_body(&mut self, alloc: Global, id: u64, body: &[u8]) -> Told
+        ensures { OnStream id result self.old self.new (OrMemory result self.old self.new (Calls body_told result self.old self.new (λ call. SendsBody self.old.endpoint self.new.endpoint id body.now call))) }
+    {
+        let Ok(stream) = StreamId::try_from(id) else {
+            return ARGUMENT;
+        };
+        let Ok(body) = Bytes::copy_from_slice(alloc, body) else {
+            return MEMORY;
+        };
+        if self.filled.reserve(1).is_err() {
+            return MEMORY;
+        }
+        let told = sent(&self.endpoint.send_body(stream, body));
+        note(&mut self.filled, id);
+        told
+    }
+
+    /// The message on a stream is whole.
+    pub(crate) fn finish(&mut self, id: u64) -> Told
+        ensures { CallsOn call_told id result self.old self.new (λ call. Finishes self.old.endpoint self.new.endpoint id call) }
+    {
+        let Ok(id) = StreamId::try_from(id) else {
+            return ARGUMENT;
+        };
+        called(self.endpoint.finish(id))
+    }
+
+    /// Sending on a stream ends here.
+    pub(crate) fn reset(&mut self, id: u64) -> Told
+        ensures { CallsOn call_told id result self.old self.new (λ call. Resets self.old.endpoint self.new.endpoint id call) }
+    {
+        let Ok(id) = StreamId::try_from(id) else {
+            return ARGUMENT;
+        };
+        called(self.endpoint.reset(id))
+    }
+
+    /// Nothing more is wanted of a stream.
+    pub(crate) fn cancel(&mut self, id: u64) -> Told
+        ensures { CallsOn call_told id result self.old self.new (λ call. Cancels self.old.endpoint self.new.endpoint id call) }
+    {
+        let Ok(id) = StreamId::try_from(id) else {
+            return ARGUMENT;
+        };
+        called(self.endpoint.cancel(id))
+    }
+
+    /// No request, or no push, is taken from this id on.
+    pub(crate) fn goaway(&mut self, id: u64) -> Told
+        ensures { CallsOn call_told id result self.old self.new (λ call. GoesAway self.old.endpoint self.new.endpoint id call) }
+    {
+        let Ok(id) = VarInt::from_u64(id) else {
+            return ARGUMENT;
+        };
+        called(self.endpoint.goaway(id))
+    }
+}

@@ -1,0 +1,9 @@
+//! What C calls (`include/h3.h`). Each call but the first takes a handle that an earlier one wrote, and writes the handle for the next.
+
+mod heads;
+mod items;
+mod making;
+mod outgoing;
+mod receiving;
+mod sending;
+mod showing;

@@ -1,0 +1,54 @@
+//! What C calls: heads and trailers.
+ghost use Rattle.std.specs.Prelude.{IsSome};
+ghost use Rattle.h3_connection.specs.SendingContracts.{SendsHead, SendsTrailer};
+ghost use Rattle.h3_c.specs.Exported.{OnStream, OrMemory, SendsGiven, Steps};
+ghost use Rattle.h3_c.specs.Given.{head_given};
+ghost use Rattle.h3_c.specs.Numbers.{number};
+
+use crate::fields::FieldSize;
+use crate::handle::{Handle, kept, opened};
+use std::alloc::Global;
+
+/// A head goes out on a stream.
+#[unsafe(no_mangle)]
+pub extern "C" fn h3_raw_send_head(
+    alloc: Global,
+    handle: Handle,
+    id: u64,
+    sizes: &[FieldSize],
+    bytes: &[u8],
+    detail: &mut u64,
+    out: &mut Handle,
+) -> u32
+    requires { IsSome handle.value }
+    ensures there { IsSome out.new.value }
+    ensures goes { Steps handle.value out.new.value (λ v w. OnStream id (number result detail.new) v w (OrMemory (number result detail.new) v w (SendsGiven (head_given sizes.now bytes.now) (number result detail.new) v w (λ head call. SendsHead v.endpoint w.endpoint id head call)))) }
+{
+    let mut connection = opened(alloc, handle);
+    let told = connection.send_head(alloc, id, sizes, bytes);
+    *out = kept(connection);
+    *detail = told.detail;
+    told.number
+}
+
+/// A trailer goes out on a stream.
+#[unsafe(no_mangle)]
+pub extern "C" fn h3_raw_send_trailer(
+    alloc: Global,
+    handle: Handle,
+    id: u64,
+    sizes: &[FieldSize],
+    bytes: &[u8],
+    detail: &mut u64,
+    out: &mut Handle,
+) -> u32
+    requires { IsSome handle.value }
+    ensures there { IsSome out.new.value }
+    ensures goes { Steps handle.value out.new.value (λ v w. OnStream id (number result detail.new) v w (OrMemory (number result detail.new) v w (SendsGiven (head_given sizes.now bytes.now) (number result detail.new) v w (λ head call. SendsTrailer v.endpoint w.endpoint id head call)))) }
+{
+    let mut connection = opened(alloc, handle);
+    let told = connection.send_trailer(alloc, id, sizes, bytes);
+    *out = kept(connection);
+    *detail = told.detail;
+    told.number
+}

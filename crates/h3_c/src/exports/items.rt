@@ -1,0 +1,69 @@
+//! What C calls: items.
+ghost use Rattle.std.specs.Prelude.{◌≡◌, IsSome};
+ghost use Rattle.h3_c.specs.Exported.{OnStream, Pulls, ReadsBytes, ReadsField, Steps};
+ghost use Rattle.h3_c.specs.Numbers.{number};
+
+use crate::handle::{Handle, kept, opened};
+use crate::items::PulledItem;
+use std::alloc::Global;
+
+/// What comes next on a stream.
+#[unsafe(no_mangle)]
+pub extern "C" fn h3_raw_pull(
+    alloc: Global,
+    handle: Handle,
+    id: u64,
+    item: &mut PulledItem,
+    out: &mut Handle,
+) -> u32
+    requires { IsSome handle.value }
+    ensures there { IsSome out.new.value }
+    ensures goes { Steps handle.value out.new.value (λ v w. OnStream id (number result 0) v w (Pulls id (number result 0) v w item.new)) }
+{
+    let mut connection = opened(alloc, handle);
+    let told = connection.pull(id, item);
+    *out = kept(connection);
+    told.number
+}
+
+/// A field of the head or trailer that was pulled last.
+#[unsafe(no_mangle)]
+pub extern "C" fn h3_raw_item_field(
+    alloc: Global,
+    handle: Handle,
+    index: usize,
+    name: &mut [u8],
+    name_len: &mut usize,
+    value: &mut [u8],
+    value_len: &mut usize,
+    out: &mut Handle,
+) -> u32
+    requires { IsSome handle.value }
+    ensures there { IsSome out.new.value }
+    ensures goes { Steps handle.value out.new.value (λ v w. (w ≡ v) × ReadsField v index (number result 0) name.old name.new name_len.new value.old value.new value_len.new) }
+{
+    let mut connection = opened(alloc, handle);
+    let told = connection.item_field(alloc, index, name, name_len, value, value_len);
+    *out = kept(connection);
+    told.number
+}
+
+/// The bytes of the item that was pulled last, from `from` on.
+#[unsafe(no_mangle)]
+pub extern "C" fn h3_raw_item_bytes(
+    alloc: Global,
+    handle: Handle,
+    from: usize,
+    buffer: &mut [u8],
+    count: &mut usize,
+    out: &mut Handle,
+) -> u32
+    requires { IsSome handle.value }
+    ensures there { IsSome out.new.value }
+    ensures goes { Steps handle.value out.new.value (λ v w. (w ≡ v) × ReadsBytes v from (number result 0) buffer.old buffer.new count.new) }
+{
+    let connection = opened(alloc, handle);
+    let told = connection.item_bytes(from, buffer, count);
+    *out = kept(connection);
+    told.number
+}

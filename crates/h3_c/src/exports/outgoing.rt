@@ -1,0 +1,66 @@
+//! What C calls: what waits to be sent.
+ghost use Rattle.std.specs.Prelude.{◌≡◌, IsSome};
+ghost use Rattle.h3_c.specs.Exported.{CopiesOut, OnStream, Steps, Takes, WaitsNext};
+ghost use Rattle.h3_c.specs.Numbers.{number};
+
+use crate::handle::{Handle, kept, opened};
+use std::alloc::Global;
+
+/// The lowest id from `from` on of a stream on which bytes wait.
+#[unsafe(no_mangle)]
+pub extern "C" fn h3_raw_next_waiting(
+    alloc: Global,
+    handle: Handle,
+    from: u64,
+    id: &mut u64,
+    out: &mut Handle,
+) -> u32
+    requires { IsSome handle.value }
+    ensures there { IsSome out.new.value }
+    ensures goes { Steps handle.value out.new.value (λ v w. (w ≡ v) × WaitsNext v from (number result 0) id.new) }
+{
+    let connection = opened(alloc, handle);
+    let told = connection.next_waiting(from, id);
+    *out = kept(connection);
+    told.number
+}
+
+/// Copies the first bytes that wait on a stream.
+#[unsafe(no_mangle)]
+pub extern "C" fn h3_raw_outgoing(
+    alloc: Global,
+    handle: Handle,
+    id: u64,
+    buffer: &mut [u8],
+    count: &mut usize,
+    fin: &mut u32,
+    out: &mut Handle,
+) -> u32
+    requires { IsSome handle.value }
+    ensures there { IsSome out.new.value }
+    ensures goes { Steps handle.value out.new.value (λ v w. (w ≡ v) × OnStream id (number result 0) v w (CopiesOut v id (number result 0) buffer.new count.new fin.new)) }
+{
+    let connection = opened(alloc, handle);
+    let told = connection.outgoing(alloc, id, buffer, count, fin);
+    *out = kept(connection);
+    told.number
+}
+
+/// Takes the first bytes away that wait on a stream.
+#[unsafe(no_mangle)]
+pub extern "C" fn h3_raw_advance(
+    alloc: Global,
+    handle: Handle,
+    id: u64,
+    count: usize,
+    out: &mut Handle,
+) -> u32
+    requires { IsSome handle.value }
+    ensures there { IsSome out.new.value }
+    ensures goes { Steps handle.value out.new.value (λ v w. OnStream id (number result 0) v w (Takes v w id count (number result 0))) }
+{
+    let mut connection = opened(alloc, handle);
+    let told = connection.advance(id, count);
+    *out = kept(connection);
+    told.number
+}

@@ -1,0 +1,129 @@
+//! What C calls: sending.
+ghost use Rattle.std.specs.Prelude.{IsSome};
+ghost use Rattle.h3_connection.specs.SendingContracts.{SendsBody, Finishes, Resets, Cancels, GoesAway};
+ghost use Rattle.h3_c.specs.Exported.{Calls, CallsOn, OnStream, OpensRequest, OrMemory, Steps};
+ghost use Rattle.h3_c.specs.Numbers.{number, call_told, body_told};
+
+use crate::handle::{Handle, kept, opened};
+use std::alloc::Global;
+
+/// Opens the next request stream, whose id goes to `id`.
+#[unsafe(no_mangle)]
+pub extern "C" fn h3_raw_open_request(
+    alloc: Global,
+    handle: Handle,
+    id: &mut u64,
+    detail: &mut u64,
+    out: &mut Handle,
+) -> u32
+    requires { IsSome handle.value }
+    ensures there { IsSome out.new.value }
+    ensures goes { Steps handle.value out.new.value (λ v w. OpensRequest (number result detail.new) v w id.new) }
+{
+    let mut connection = opened(alloc, handle);
+    let told = connection.open_request(id);
+    *out = kept(connection);
+    *detail = told.detail;
+    told.number
+}
+
+/// A piece of a body goes out on a stream.
+#[unsafe(no_mangle)]
+pub extern "C" fn h3_raw_send_body(
+    alloc: Global,
+    handle: Handle,
+    id: u64,
+    bytes: &[u8],
+    detail: &mut u64,
+    out: &mut Handle,
+) -> u32
+    requires { IsSome handle.value }
+    ensures there { IsSome out.new.value }
+    ensures goes { Steps handle.value out.new.value (λ v w. OnStream id (number result detail.new) v w (OrMemory (number result detail.new) v w (Calls body_told (number result detail.new) v w (λ call. SendsBody v.endpoint w.endpoint id bytes.now call)))) }
+{
+    let mut connection = opened(alloc, handle);
+    let told = connection.send_body(alloc, id, bytes);
+    *out = kept(connection);
+    *detail = told.detail;
+    told.number
+}
+
+/// The message on a stream is whole.
+#[unsafe(no_mangle)]
+pub extern "C" fn h3_raw_finish(
+    alloc: Global,
+    handle: Handle,
+    id: u64,
+    detail: &mut u64,
+    out: &mut Handle,
+) -> u32
+    requires { IsSome handle.value }
+    ensures there { IsSome out.new.value }
+    ensures goes { Steps handle.value out.new.value (λ v w. CallsOn call_told id (number result detail.new) v w (λ call. Finishes v.endpoint w.endpoint id call)) }
+{
+    let mut connection = opened(alloc, handle);
+    let told = connection.finish(id);
+    *out = kept(connection);
+    *detail = told.detail;
+    told.number
+}
+
+/// Sending on a stream ends here.
+#[unsafe(no_mangle)]
+pub extern "C" fn h3_raw_reset(
+    alloc: Global,
+    handle: Handle,
+    id: u64,
+    detail: &mut u64,
+    out: &mut Handle,
+) -> u32
+    requires { IsSome handle.value }
+    ensures there { IsSome out.new.value }
+    ensures goes { Steps handle.value out.new.value (λ v w. CallsOn call_told id (number result detail.new) v w (λ call. Resets v.endpoint w.endpoint id call)) }
+{
+    let mut connection = opened(alloc, handle);
+    let told = connection.reset(id);
+    *out = kept(connection);
+    *detail = told.detail;
+    told.number
+}
+
+/// Nothing more is wanted of a request stream.
+#[unsafe(no_mangle)]
+pub extern "C" fn h3_raw_cancel(
+    alloc: Global,
+    handle: Handle,
+    id: u64,
+    detail: &mut u64,
+    out: &mut Handle,
+) -> u32
+    requires { IsSome handle.value }
+    ensures there { IsSome out.new.value }
+    ensures goes { Steps handle.value out.new.value (λ v w. CallsOn call_told id (number result detail.new) v w (λ call. Cancels v.endpoint w.endpoint id call)) }
+{
+    let mut connection = opened(alloc, handle);
+    let told = connection.cancel(id);
+    *out = kept(connection);
+    *detail = told.detail;
+    told.number
+}
+
+/// No request, or no push, is taken from this id on.
+#[unsafe(no_mangle)]
+pub extern "C" fn h3_raw_goaway(
+    alloc: Global,
+    handle: Handle,
+    id: u64,
+    detail: &mut u64,
+    out: &mut Handle,
+) -> u32
+    requires { IsSome handle.value }
+    ensures there { IsSome out.new.value }
+    ensures goes { Steps handle.value out.new.value (λ v w. CallsOn call_told id (number result detail.new) v w (λ call. GoesAway v.endpoint w.endpoint id call)) }
+{
+    let mut connection = opened(alloc, handle);
+    let told = connection.goaway(id);
+    *out = kept(connection);
+    *detail = told.detail;
+    told.number
+}

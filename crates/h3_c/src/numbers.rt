@@ -1,0 +1,158 @@
+//! The numbers that C sees: `enum h3_answer` of the header.
+ghost use Rattle.std.specs.Prelude.{◌≡◌};
+ghost use Rattle.h3_c.specs.Giving.{error_told};
+ghost use Rattle.h3_c.specs.Numbers.{refusal_told, call_told, body_told, delivery_told, setting_of, new_told};
+
+use bytes::Bytes;
+use h3_connection::event::{DeliverError, Refusal};
+use h3_connection::setup::NewError;
+use h3_header::HeaderError;
+use h3_proto::frame::SettingsError;
+
+/// What a call answers: a number, and the code, id or size that it names, else 0.
+#[derive(Clone, Copy)]
+pub(crate) struct Told {
+    pub(crate) number: u32,
+    pub(crate) detail: u64,
+}
+
+/// `H3_OK`.
+pub(crate) const OK: Told = Told {
+    number: 0,
+    detail: 0,
+};
+
+/// `H3_MEMORY`.
+pub(crate) const MEMORY: Told = Told {
+    number: 18,
+    detail: 0,
+};
+
+/// `H3_NONE`.
+pub(crate) const NONE: Told = Told {
+    number: 25,
+    detail: 0,
+};
+
+/// `H3_ROOM`.
+pub(crate) const ROOM: Told = Told {
+    number: 26,
+    detail: 0,
+};
+
+/// `H3_ARGUMENT`.
+pub(crate) const ARGUMENT: Told = Told {
+    number: 32,
+    detail: 0,
+};
+
+fn with(number: u32, detail: u64) -> Told
+    ensures { result ≡ record { number = number; detail = detail } }
+{
+    Told { number, detail }
+}
+
+fn plain(number: u32) -> Told
+    ensures { result ≡ record { number = number; detail = 0 } }
+{
+    with(number, 0)
+}
+
+/// A refusal.
+pub(crate) fn refused(refusal: Refusal) -> Told
+    ensures { result ≡ refusal_told refusal }
+{
+    match refusal {
+        Refusal::Closed(code) => with(1, code.value()),
+        Refusal::Connection(code) => with(2, code.value()),
+        Refusal::NotReceiving => plain(3),
+        Refusal::AfterEnd => plain(4),
+        Refusal::Kept => plain(5),
+        Refusal::NotClient => plain(6),
+        Refusal::GoingAway(id) => with(7, id.into_inner()),
+        Refusal::IdsUsedUp => plain(8),
+        Refusal::NotOpen => plain(9),
+        Refusal::OutOfOrder => plain(10),
+        Refusal::WrongSide => plain(11),
+        Refusal::PseudoInTrailer => plain(12),
+        Refusal::TooLarge(size) => with(13, size),
+        Refusal::Critical => plain(14),
+        Refusal::Ended => plain(15),
+        Refusal::NotRequestId => plain(16),
+        Refusal::Raised(id) => with(17, id),
+        Refusal::OutOfMemory => plain(18),
+    }
+}
+
+/// What a call tells that hands out nothing.
+pub(crate) fn called(call: Result<(), Refusal>) -> Told
+    ensures { result ≡ call_told call }
+{
+    match call {
+        Ok(()) => OK,
+        Err(refusal) => refused(refusal),
+    }
+}
+
+/// What a call tells that hands its bytes back.
+pub(crate) fn sent(call: &Result<(), (Refusal, Bytes)>) -> Told
+    ensures { result ≡ body_told call.now }
+{
+    match call {
+        Ok(()) => OK,
+        Err((refusal, _)) => refused(*refusal),
+    }
+}
+
+/// What a delivery tells.
+pub(crate) fn delivered(call: &Result<(), DeliverError>) -> Told
+    ensures { result ≡ delivery_told call.now }
+{
+    match call {
+        Ok(()) => OK,
+        Err(DeliverError::Refused(refusal)) => refused(*refusal),
+        Err(DeliverError::OutOfMemory(_)) => MEMORY,
+        Err(DeliverError::Kept) => plain(5),
+    }
+}
+
+/// Why no endpoint was made.
+pub(crate) fn unmade(e: &NewError) -> Told
+    ensures { result ≡ new_told e.now }
+{
+    match e {
+        NewError::TableLimit => plain(19),
+        NewError::BlockedLimit => plain(20),
+        NewError::Settings(e) => with(21, setting_of(e)),
+        NewError::OutOfMemory => MEMORY,
+    }
+}
+
+fn setting_of(e: &SettingsError) -> u64
+    ensures { result ≡ setting_of e.now }
+{
+    match e {
+        SettingsError::Exceeded => 0,
+        SettingsError::Malformed => 0,
+        SettingsError::Repeated(id) => id.0,
+        SettingsError::InvalidSettingId(id) => *id,
+        SettingsError::InvalidSettingValue(id, _) => id.0,
+    }
+}
+
+/// Why a list of fields is no head.
+pub(crate) fn unread(e: &HeaderError) -> Told
+    ensures { result ≡ error_told e.now }
+{
+    match e {
+        HeaderError::InvalidHeaderName(_) => plain(22),
+        HeaderError::InvalidHeaderValue(_) => plain(23),
+        HeaderError::TooManyFields => plain(24),
+        HeaderError::InvalidRequest
+        | HeaderError::MissingMethod
+        | HeaderError::MissingStatus
+        | HeaderError::MissingAuthority
+        | HeaderError::ContradictedAuthority
+        | HeaderError::OutOfMemory => MEMORY,
+    }
+}

@@ -1,0 +1,37 @@
+//! Lines of what is printed.
+use h3_qpack::HeaderField;
+use std::alloc::{AllocError, Global};
+
+/// A line of text.
+pub fn words(text: &mut String, line: &str) -> Result<(), AllocError> {
+    text.push_str(line)?;
+    text.push('\n')
+}
+
+/// A line of a number.
+pub fn number(
+    alloc: Global,
+    text: &mut String,
+    what: &str,
+    number: usize,
+) -> Result<(), AllocError> {
+    let line = format!(in alloc; "{what}: {number}\n")?;
+    text.push_str(line.as_str())
+}
+
+/// A line of bytes.
+pub fn bytes(alloc: Global, text: &mut String, what: &str, bytes: &[u8]) -> Result<(), AllocError> {
+    let line = format!(in alloc; "{what}: {bytes:?}\n")?;
+    text.push_str(line.as_str())
+}
+
+/// A line a field.
+pub fn fields(text: &mut String, fields: &[HeaderField]) -> Result<(), AllocError> {
+    for field in fields {
+        text.push_str("  ")?;
+        text.push_str(str::from_utf8(field.name()).unwrap_or("?"))?;
+        text.push_str(" = ")?;
+        words(text, str::from_utf8(field.value()).unwrap_or("?"))?;
+    }
+    Ok(())
+}

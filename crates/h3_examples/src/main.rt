@@ -1,0 +1,37 @@
+//! Short callers of the crates, which the gate proves and runs: what they print is the file `stdout`.
+#![tactic(auto)]
+
+mod frames;
+mod log;
+mod reading;
+mod refusals;
+mod schedule;
+mod session;
+mod stateless;
+mod table;
+
+use std::alloc::{AllocError, Global};
+use std::io;
+
+fn main(rt: HostRuntime) -> io::Result<()> {
+    let mut text = String::new(rt.alloc());
+    all(rt.alloc(), &mut text)?;
+    print!(rt; "{text}")?;
+    Ok(())
+}
+
+/// Every example in turn.
+fn all(alloc: Global, text: &mut String) -> Result<(), AllocError> {
+    frames::decode_in_pieces(alloc, text)?;
+    frames::count_tries(alloc, text)?;
+    stateless::response(alloc, text)?;
+    session::round_trip(alloc, text)?;
+    reading::in_pieces(alloc, text)?;
+    refusals::of_limits(alloc, text)?;
+    refusals::of_an_acknowledgment(alloc, text)?;
+    table::inserts_in_the_shortest_way(alloc, text)?;
+    table::finds(alloc, text)?;
+    schedule::decodes_what_came(alloc, text)?;
+    schedule::gives_a_stream_up(alloc, text)?;
+    schedule::refuses_limits(alloc, text)
+}

@@ -1,0 +1,25 @@
+use Rattle.std.proofs.Common.{◌≡◌, ◌∙◌, sym, ap, List, ℕ, Some, Option}
+use Rattle.std.specs.Ordering.{nat_cmp}
+use Rattle.std.specs.BTreeMap.{is_at}
+use Rattle.std.specs.Map.{lookup, set_value, remove_entry}
+use Rattle.std.proofs.lemmas.Map.Steps.{set_value_same}
+use Rattle.h3_table.proofs.Streams.{oldest_of_map, no_oldest, only_one, oldest_only}
+use Rattle.h3_table.proofs.sections.take_oldest.Goals as goal
+
+pub returns-in_default : goal.returns-in_default
+returns-in_default c = rw c.get_mut.follows.holds-at-none (no_oldest c.args.stream c.args.streams.now.entries (sym c.in_default.ensures.value))
+
+pub returns-in-Some-take_first : goal.returns-in-Some-take_first
+returns-in-Some-take_first c =
+    let found = sym c.in-Some.ensures.value ∙ ap {A = List ℕ} {B = Option (List ℕ)} Some c.in-Some-take_first.ensures.some in
+    rw (c.get_mut.follows.holds _).0 (oldest_of_map c.args.stream c.in-Some-take_first.oldest c.args.streams.now.entries c.take_first.new.self found)
+
+pub returns : goal.returns
+returns c =
+    let es = c.args.streams.now.entries in
+    let same : (c.get_mut.follows.lender c.take_first.new.self).entries ≡ es =
+    (c.get_mut.follows.holds _).0 ∙ ap (λ (ns : List ℕ). set_value (is_at (nat_cmp c.args.stream)) es ns) c.in_default-take_first.ensures.none.1 ∙ set_value_same (is_at (nat_cmp c.args.stream)) es c.in-Some.entries.now (sym c.in-Some.ensures.value) in
+    let one = only_one c.in-Some.entries.now c.in_default-take_first.ensures.none.0 in
+    let found = sym c.in-Some.ensures.value ∙ ap {A = List ℕ} {B = Option (List ℕ)} Some one.1 in
+    oldest_only c.args.stream one.0 c.args.streams.now.entries c.take_only.new.streams.entries c.take_only.result found
+    (c.take_only.ensures.only one.0 (ap (lookup (is_at (nat_cmp c.args.stream))) same ∙ found)) (c.take_only.ensures.after ∙ ap (remove_entry (is_at (nat_cmp c.args.stream))) same)

@@ -1,0 +1,17 @@
+pub mod Table
+pub mod TableState
+pub mod Slots
+pub mod Matches
+pub mod Index
+pub mod EntriesInside
+pub mod Tracking
+pub mod TrackingInside
+pub mod InOrder
+pub mod Sections
+pub mod Blocking
+pub mod Alone
+pub mod ByteRow
+pub mod ByteQueueInside
+pub mod FieldRow
+pub mod Records
+pub mod FieldQueueInside

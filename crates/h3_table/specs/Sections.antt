@@ -1,0 +1,42 @@
+-- Sections by their streams.
+use Rattle.std.specs.Prelude.{◌≡◌, ℕ, List, [], ◌∷◌, ◌++◌, length, map, Option, is_some, IfSome, IfNone}
+use Rattle.std.specs.List.{list_any}
+use Rattle.h3_table.specs.Tracking.{is_of, without_oldest_of, without_newest_of}
+use Rattle.h3_table.specs.declared.tracking.TrackedSection.{TrackedSection}
+use Rattle.h3_table.specs.declared.sections.Sections.TheInside.{Inside}
+
+-- the sections of a stream, by the oldest entry of each
+abbrev pub sections_on : ℕ → List ℕ → List TrackedSection
+sections_on stream entries = map (λ n. record { stream = stream; oldest = n }) entries
+
+-- the sections of all streams
+abbrev pub sections_of : List (ℕ × List ℕ) → List TrackedSection
+sections_of [] = []
+sections_of (one ∷ rest) = sections_on one.0 one.1 ++ sections_of rest
+
+-- One section was taken away, whose oldest entry this is.
+pub record IsWithoutOne (oldest : ℕ) (before after : List TrackedSection) : Type 0 where
+  pub front : List TrackedSection
+  pub back : List TrackedSection
+  pub taken : TrackedSection
+  pub names : taken.oldest ≡ oldest
+  pub was : before ≡ front ++ taken ∷ back
+  pub is : after ≡ front ++ back
+
+-- The oldest section of the stream was taken away, and names this; none was where there is none.
+pub record IsOldestTaken (stream : ℕ) (before after : List TrackedSection) (named : Option ℕ) : Type 0 where
+  pub found : is_some named ≡ list_any (is_of stream) before
+  pub rest : after ≡ without_oldest_of stream before
+  pub one : IfSome named (λ n. IsWithoutOne n before after)
+  pub none : IfNone named (after ≡ before)
+
+-- The same of the newest.
+pub record IsNewestTaken (stream : ℕ) (before after : List TrackedSection) (named : Option ℕ) : Type 0 where
+  pub found : is_some named ≡ list_any (is_of stream) before
+  pub rest : after ≡ without_newest_of stream before
+  pub one : IfSome named (λ n. IsWithoutOne n before after)
+  pub none : IfNone named (after ≡ before)
+
+-- The count is that of the sections.
+abbrev pub IsCounted : Inside → Type 0
+IsCounted s = s.count ≡ length (sections_of s.streams.entries)

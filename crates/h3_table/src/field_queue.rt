@@ -1,0 +1,190 @@
+//! Fields in the order of their insertion, whose bytes lie end to end.
+ghost use Rattle.std.specs.Prelude.{◌≡◌, ℕ, ◌+◌, ◌-◌, ◌*◌, ◌^◌, ◌<◌, ◌≤◌, ◌++◌, ◌∷◌, [], List, length, slice_get, slice_index_or, min, Some, None, IfSome, IfNone, IfOk, OnErr, OnOk};
+ghost use Rattle.h3_field.specs.Field.{Field, field_size, section_size};
+
+use crate::byte_queue::ByteQueue;
+use h3_field::HeaderField;
+use std::alloc::{AllocError, Global};
+use std::borrow::CowSlice;
+use std::collections::VecDeque;
+use std::marker::Model;
+
+/// Where the bytes of a field lie.
+#[derive(Clone, Copy)]
+pub(crate) struct Record {
+    // how many bytes were ever put in before its name
+    place: u128,
+    name_len: usize,
+    value_len: usize,
+    // the name, where it is static
+    static_name: Option<&'static [u8]>,
+}
+
+/// An entry of a table, whose bytes lie there.
+#[derive(Drop)]
+pub struct Entry<'t> {
+    name: &'t [u8],
+    value: &'t [u8],
+    static_name: Option<&'static [u8]>,
+}
+
+impl<'t> Model for Entry<'t> {
+    ghost use Rattle.h3_field.specs.Field.{Field};
+    ghost use Rattle.std.specs.Prelude.{◌≡◌, IfSome};
+
+    ghost Value = { Field };
+
+    ghost view = { λ e. record { name = e.name.now; value = e.value.now } };
+
+    ghost invariant = { λ e. IfSome e.static_name (λ name. name.now ≡ e.name.now) };
+}
+
+impl<'t> Entry<'t> {
+    pub fn name(&self) -> &[u8]
+        ensures { result.now ≡ self.now.name }
+    {
+        self.name
+    }
+
+    pub fn value(&self) -> &[u8]
+        ensures { result.now ≡ self.now.value }
+    {
+        self.value
+    }
+
+    /// The size of the entry, stopping at the greatest number (RFC 9204, section 3.2.1).
+    pub fn mem_size(&self) -> usize
+        ensures { result ≡ min (2 ^ 64 - 1) (field_size self.now) }
+    {
+        self.name
+            .len()
+            .saturating_add(self.value.len())
+            .saturating_add(32)
+    }
+
+    /// A field of the entry's name and another value. A static name is not copied.
+    pub fn with_value(&self, alloc: Global, value: Vec<u8>) -> Result<HeaderField, AllocError>
+        ensures { IfOk result (λ f. f ≡ record { name = self.now.name; value = value.items }) }
+    {
+        if let Some(name) = self.static_name {
+            return Ok(HeaderField::with_static_name(name, value));
+        }
+        let name = Vec::from_slice(alloc, self.name)?;
+        Ok(HeaderField::new(CowSlice::Owned(name), CowSlice::Owned(value)))
+    }
+
+    /// A copy. A static name is not copied.
+    pub fn copy(&self, alloc: Global) -> Result<HeaderField, AllocError>
+        ensures { IfOk result (λ f. f ≡ self.now) }
+    {
+        let value = Vec::from_slice(alloc, self.value)?;
+        self.with_value(alloc, value)
+    }
+}
+
+/// The fields, the oldest first. A record of each says where its bytes lie.
+#[derive(Drop)]
+pub(crate) struct FieldQueue {
+    records: VecDeque<Record>,
+    bytes: ByteQueue,
+    // the place of the first byte that is there
+    first: u128,
+}
+
+impl Model for FieldQueue {
+    ghost use Rattle.h3_table.specs.FieldRow.{FieldRow};
+
+    ghost Value = { FieldRow };
+
+    ghost use Rattle.h3_table.specs.FieldQueueInside.{field_row_inside, IsFieldQueue};
+
+    ghost view = { field_row_inside };
+
+    ghost invariant = { IsFieldQueue };
+}
+
+impl FieldQueue {
+    pub(crate) fn new(alloc: Global) -> FieldQueue
+        ensures { result ≡ record { fields = []; written = 0 } }
+    {
+        FieldQueue {
+            records: VecDeque::new(alloc),
+            bytes: ByteQueue::new(alloc),
+            first: 0,
+        }
+    }
+
+    pub(crate) fn len(&self) -> usize
+        ensures { result ≡ length self.now.fields }
+    {
+        self.records.len()
+    }
+
+    /// How many bytes of names and values there are.
+    pub(crate) fn byte_count(&self) -> usize
+        ensures { result + 32 * length self.now.fields ≡ section_size self.now.fields }
+    {
+        self.bytes.len()
+    }
+
+    /// The field at a place, the oldest at 0.
+    pub(crate) fn get(&self, place: usize) -> Option<Entry<'_>>
+        ensures value { result ≡ slice_get self.now.fields place }
+        ensures lookup { IfSome result (λ e. e ≡ slice_index_or self.now.fields place e) }
+        ensures inside { IfSome result (λ e. place < length self.now.fields) }
+        ensures none { IfNone result (length self.now.fields ≤ place) }
+    {
+        let Some(record) = self.records.get(place) else {
+            return None;
+        };
+        let at = (record.place - self.first) as usize;
+        Some(Entry {
+            name: self.bytes.get(at, record.name_len),
+            value: self.bytes.get(at + record.name_len, record.value_len),
+            static_name: record.static_name,
+        })
+    }
+
+    /// Puts a field in as the newest one. Where memory is refused nothing changes.
+    pub(crate) fn push(
+        &mut self,
+        name: &[u8],
+        value: &[u8],
+        static_name: Option<&'static [u8]>,
+    ) -> Result<(), AllocError>
+        requires same { IfSome static_name (λ given. given.now ≡ name.now) }
+        requires small { length name.now + length value.now < 2 ^ 32 }
+        requires few { section_size self.old.fields < 2 ^ 32 }
+        requires written { self.old.written + 2 ^ 32 < 2 ^ 128 }
+        ensures ok { OnOk result (self.new ≡ record { fields = self.old.fields ++ record { name = name.now; value = value.now } ∷ []; written = self.old.written + (length name.now + length value.now) }) }
+        ensures err { OnErr result (self.new ≡ self.old) }
+    {
+        let there = self.bytes.len();
+        self.records.reserve(1)?;
+        self.bytes.reserve(name.len() + value.len())?;
+        self.records.push_back_reserved(Record {
+            place: self.first + there as u128,
+            name_len: name.len(),
+            value_len: value.len(),
+            static_name,
+        });
+        self.bytes.push(name);
+        self.bytes.push(value);
+        Ok(())
+    }
+
+    /// Takes the oldest field out, and answers how many bytes it had.
+    pub(crate) fn pop(&mut self) -> Option<usize>
+        ensures some { IfSome result (λ n. (f : Field) × (self.old.fields ≡ f ∷ self.new.fields) × (n + 32 ≡ field_size f)) }
+        ensures none { IfNone result ((self.old.fields ≡ []) × (self.new ≡ self.old)) }
+        ensures written { self.new.written ≡ self.old.written }
+    {
+        let Some(record) = self.records.pop_front() else {
+            return None;
+        };
+        let count = record.name_len + record.value_len;
+        self.bytes.drop_front(count);
+        self.first += count as u128;
+        Some(count)
+    }
+}

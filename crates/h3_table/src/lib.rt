@@ -1,0 +1,12 @@
+//! The parts of a dynamic table (RFC 9204, section 3.2), the lower layer of `h3_qpack`: its entries, the indexes that find
+//! them, and the sections that hold them. Their joint rules stand in `h3_qpack`.
+#![tactic(auto)]
+
+pub mod alone;
+pub mod blocking;
+mod byte_queue;
+pub mod entries;
+mod field_queue;
+pub mod index;
+pub mod sections;
+pub mod tracking;

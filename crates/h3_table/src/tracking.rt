@@ -1,0 +1,168 @@
+//! Sections that are sent and neither acknowledged nor canceled (RFC 9204, sections 2.1.1 and 2.1.2), and how many of
+//! them hold each entry.
+ghost use Rattle.std.specs.Prelude.{◌≡◌, ◌+◌, ◌-◌, ◌^◌, ◌<◌, ◌≤◌, [], length, true, drop, slice_set, slice_index_or, OnErr, OnOk};
+ghost use Rattle.std.specs.List.{list_any, AllByRecursion};
+ghost use Rattle.h3_table.specs.InOrder.{put_last};
+ghost use Rattle.h3_table.specs.Tracking.{TrackingState, is_of, reference_count, is_free_to, without_oldest_of, without_newest_of, without_all_of};
+
+use crate::alone::TrackedSections;
+use std::alloc::{AllocError, Global};
+use std::collections::VecDeque;
+use std::marker::Model;
+
+/// A section that names entries, and the oldest of them.
+#[derive(Clone, Copy, Debug)]
+pub struct TrackedSection {
+    pub stream: u64,
+    pub oldest: usize,
+}
+
+/// The tracked sections in the order of their streams, and those of one stream in the order of sending, over the entries that
+/// are there.
+#[derive(Drop)]
+pub struct Tracking {
+    // of each entry, how many sections have it as their oldest
+    references: VecDeque<usize>,
+    evicted: usize,
+    sections: TrackedSections,
+}
+
+impl Model for Tracking {
+    ghost use Rattle.h3_table.specs.Tracking.{TrackingState};
+
+    ghost Value = { TrackingState };
+
+    ghost use Rattle.h3_table.specs.TrackingInside.{tracking_state_inside, IsTracking};
+
+    ghost view = { tracking_state_inside };
+
+    ghost invariant = { IsTracking };
+}
+
+/// Drops so many items from the front.
+pub(crate) fn drop_front(items: &mut VecDeque<usize>, count: usize)
+    ensures { items.new.items ≡ drop count items.old.items }
+{
+    for _done in 0..count {
+        items.pop_front();
+    }
+}
+
+/// A number is one less.
+fn take_one(references: &mut VecDeque<usize>, place: usize)
+    requires inside { place < length references.old.items }
+    requires above { 0 < slice_index_or references.old.items place 0 }
+    ensures { references.new.items ≡ slice_set references.old.items place (slice_index_or references.old.items place 0 - 1) }
+{
+    references[place] -= 1;
+}
+
+impl Tracking {
+    pub fn new(alloc: Global) -> Tracking
+        ensures { result ≡ record { evicted = 0; made = 0; sections = [] } }
+    {
+        Tracking {
+            references: VecDeque::new(alloc),
+            evicted: 0,
+            sections: TrackedSections::new(alloc),
+        }
+    }
+
+    /// The oldest entry of each section has a number from 1. It does nothing: a proof that needs the fact calls it.
+    pub fn names_entries(&self)
+        ensures { AllByRecursion (λ t. 0 < t.oldest) self.now.sections }
+    {
+        self.references.len();
+    }
+
+    /// Whether no section names an entry up to that number.
+    pub fn is_free_to(&self, number: usize) -> bool
+        requires from { self.now.evicted ≤ number }
+        requires to { number ≤ self.now.made }
+        ensures { result ≡ is_free_to number self.now.sections }
+    {
+        let count = number - self.evicted;
+        let mut place = 0;
+        while place < count {
+            if self.references[place] != 0 {
+                return false;
+            }
+            place += 1;
+        }
+        true
+    }
+
+    /// One entry more is there, which no section names.
+    pub fn add_entry(&mut self) -> Result<(), AllocError>
+        requires { self.old.made + 1 < 2 ^ 62 }
+        ensures ok { OnOk result (self.new ≡ record self.old { made = self.old.made + 1 }) }
+        ensures unnamed { OnOk result (reference_count (self.old.made + 1) self.old.sections ≡ 0) }
+        ensures err { OnErr result (self.new ≡ self.old) }
+    {
+        self.references.reserve(1)?;
+        self.references.push_back_reserved(0);
+        Ok(())
+    }
+
+    /// The newest entry, which no section names, is not there after all.
+    pub fn remove_entry(&mut self)
+        requires some { self.old.evicted < self.old.made }
+        requires unnamed { reference_count self.old.made self.old.sections ≡ 0 }
+        ensures { self.new ≡ record self.old { made = self.old.made - 1 } }
+    {
+        self.references.pop_back();
+    }
+
+    /// The entries up to that number, which no section names, are no longer there.
+    pub fn drop_to(&mut self, number: usize)
+        requires from { self.old.evicted ≤ number }
+        requires to { number ≤ self.old.made }
+        requires free { is_free_to number self.old.sections ≡ true }
+        ensures { self.new ≡ record self.old { evicted = number } }
+    {
+        drop_front(&mut self.references, number - self.evicted);
+        self.evicted = number;
+    }
+
+    /// Tracks a section whose oldest entry is there.
+    pub fn track(&mut self, section: TrackedSection) -> Result<(), AllocError>
+        requires from { self.old.evicted < section.oldest }
+        requires to { section.oldest ≤ self.old.made }
+        ensures ok { OnOk result (self.new ≡ record self.old { sections = put_last (λ t. t.stream) section self.old.sections }) }
+        ensures err { OnErr result (self.new ≡ self.old) }
+    {
+        self.sections.add(section)?;
+        let place = section.oldest - self.evicted - 1;
+        self.references[place] += 1;
+        Ok(())
+    }
+
+    /// Releases the oldest section of a stream, and tells whether there was one.
+    pub fn release(&mut self, stream: u64) -> bool
+        ensures found { result ≡ list_any (is_of stream) self.old.sections }
+        ensures after { self.new ≡ record self.old { sections = without_oldest_of stream self.old.sections } }
+    {
+        let Some(oldest) = self.sections.take_oldest(stream) else {
+            return false;
+        };
+        take_one(&mut self.references, oldest - self.evicted - 1);
+        true
+    }
+
+    /// Releases all sections of a stream.
+    pub fn release_all(&mut self, stream: u64)
+        ensures { self.new ≡ record self.old { sections = without_all_of stream self.old.sections } }
+    {
+        while self.release(stream) {}
+    }
+
+    /// Releases the newest section of a stream, if there is one.
+    pub fn release_newest(&mut self, stream: u64)
+        ensures { self.new ≡ record self.old { sections = without_newest_of stream self.old.sections } }
+    {
+        let Some(oldest) = self.sections.take_newest(stream) else {
+            return;
+        };
+        take_one(&mut self.references, oldest - self.evicted - 1);
+    }
+}

@@ -1,0 +1,23 @@
+/* What is sent on one stream, kept until QUIC has acknowledged it. */
+#ifndef EXAMPLES_BUFFER_H
+#define EXAMPLES_BUFFER_H
+#include <ngtcp2/ngtcp2.h>
+#include <stdbool.h>
+
+struct piece;
+
+/* Bytes of a stream by their offsets: those before `kept` are acknowledged and freed, those before `taken` were taken by QUIC. */
+typedef struct {
+  struct piece *first, *last;
+  uint64_t kept, taken, given;
+  bool ended, end_taken;
+} buffer;
+
+/* Copies bytes to the end. false: no memory, nothing has changed. */
+bool buffer_give(buffer *, const uint8_t *bytes, size_t count);
+/* The bytes that QUIC has not taken, as at most `limit` pieces. Answers how many pieces there are; `total` is the bytes in them. */
+size_t buffer_untaken(const buffer *, ngtcp2_vec *pieces, size_t limit, size_t *total);
+/* All before this offset is acknowledged. */
+void buffer_acknowledge(buffer *, uint64_t offset);
+void buffer_free(buffer *);
+#endif

@@ -1,0 +1,64 @@
+/* HTTP/3 for the examples: an h3_endpoint (include/h3.h) over a QUIC connection (quic.h). All that is HTTP/3 of serve and fetch
+ * goes through here. A program gives `http3_over_quic` to quic_listen or quic_connect, with an http3_setup as `user`. */
+#ifndef EXAMPLES_HTTP3_H
+#define EXAMPLES_HTTP3_H
+#include "quic.h"
+#include <h3.h>
+
+typedef struct http3 http3;
+
+/* A request and its response: one bidirectional stream. `data` is the program's own. */
+typedef struct http3_request {
+  struct http3_request *next;
+  http3 *connection;
+  uint64_t id;
+  void *data;
+  size_t unread;  /* bytes that came, for which the peer has got no further credit */
+  bool waiting;   /* its head needs what the peer's encoder stream has not brought yet */
+  bool sending;   /* the head was sent, the end was not */
+  bool finishing; /* FIN goes behind what waits */
+  bool settled;   /* the end or a fault was told: nothing more comes */
+  bool closed;    /* QUIC has forgotten the stream */
+} http3_request;
+
+/* What a program is told. Each may send, finish or give up any request. */
+typedef struct {
+  void (*ready)(http3 *, void *user);                              /* the connection is there */
+  void (*head)(http3_request *, const h3_item *);                  /* H3_HEAD, read by http3_value; H3_INTERIM; H3_TOO_LARGE_HEAD */
+  void (*body)(http3_request *, const uint8_t *bytes, size_t count);
+  void (*end)(http3_request *);                                    /* the peer's message is whole */
+  void (*failed)(http3_request *, const h3_item *);                /* it is not, and nothing more of it comes: an item of a fault */
+  void (*room)(http3_request *);                                   /* http3_room bytes of the body may be sent */
+  void (*freed)(http3_request *);                                  /* the last call: free `data` */
+  void (*over)(void *user, const quic_ending *);                   /* the connection has ended */
+} http3_events;
+
+typedef struct {
+  bool server;
+  const http3_events *events;
+  void *user;
+} http3_setup;
+
+typedef struct {
+  const char *name, *value;
+} http3_field;
+
+extern const quic_events http3_over_quic;
+
+/* Opens a client's request. NULL: no more can be opened now, or (*going_away) ever. */
+http3_request *http3_open(http3 *, bool *going_away);
+/* Sends a head, at most 16 fields. false: refused, as one that is larger than the peer takes. */
+bool http3_head(http3_request *, const http3_field *fields, size_t count);
+/* How many bytes of the body may be given now. */
+size_t http3_room(http3_request *);
+/* Sends a piece of the body. false: refused. */
+bool http3_body(http3_request *, const uint8_t *bytes, size_t count);
+/* The message is whole. */
+void http3_finish(http3_request *);
+/* Sends nothing more, and wants nothing more, with a code of RFC 9114, section 8.1. The other side's message is not told any further. */
+void http3_give_up(http3_request *, uint64_t code);
+/* The value of a field of the head that was told last, ended by NUL. false: it has none, or one that is too long or has a NUL. */
+bool http3_value(http3 *, const h3_item *head, const char *name, char *value, size_t room);
+/* Takes no further request; the connection is closed when those that came are done. */
+void http3_leave(void *http3);
+#endif

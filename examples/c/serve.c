@@ -1,0 +1,240 @@
+/* serve ADDRESS PORT CERTIFICATE KEY FOLDER: the files below a folder, over HTTP/3. GET and HEAD give a file (of a folder its
+ * index.html); POST is answered with the count and the SHA-256 of its body, which is stored nowhere. SIGTERM and SIGINT let what was
+ * begun end, at most five seconds. */
+#include "http3.h"
+#include <fcntl.h>
+#include <gnutls/crypto.h>
+#include <signal.h>
+#include <stdio.h>
+#include <stdlib.h>
+#include <string.h>
+#include <strings.h>
+#include <sys/stat.h>
+#include <time.h>
+#include <unistd.h>
+
+enum { LAST_SECONDS = 5 }; /* how long what was begun may go on after the signal */
+
+static volatile sig_atomic_t asked_to_end;
+static int root; /* the folder */
+
+/* One request: the file that is sent, or the hash of what came. */
+typedef struct {
+  bool head_only; /* of HEAD: no body goes out */
+  int file;       /* -1: none */
+  off_t left;
+  gnutls_hash_hd_t hash; /* NULL: none */
+  unsigned long long count;
+} work;
+
+/* ---- names of files ---- */
+
+static int hex(char digit) {
+  const char *digits = "0123456789abcdef", *at = digit ? strchr(digits, digit | 0x20) : NULL;
+  return at ? (int)(at - digits) : -1;
+}
+
+/* The segments of a path, with its %XX read and its query cut off, at `text`. false: it is no path of a file here. */
+static bool read_path(const char *path, char *text, size_t room) {
+  size_t count = 0;
+  if (*path != '/') return false;
+  for (; *path && *path != '?' && *path != '#'; path++) {
+    int byte = (unsigned char)*path;
+    if (byte == '%') {
+      int high = hex(path[1]), low = high < 0 ? -1 : hex(path[2]);
+      if (low < 0) return false;
+      byte = 16 * high + low;
+      path += 2;
+    }
+    if (byte == 0 || count + 1 >= room) return false;
+    text[count++] = (char)byte;
+  }
+  text[count] = 0;
+  return true;
+}
+
+/* Opens a path below the folder, segment by segment, so that neither `..` nor a link leads out of it. -1: there is none. */
+static int open_below(char *path) {
+  int at = dup(root);
+  char *rest, *segment = strtok_r(path, "/", &rest);
+  while (at >= 0 && segment) {
+    int found = strcmp(segment, "..") == 0 || strcmp(segment, ".") == 0
+                    ? -1
+                    : openat(at, segment, O_RDONLY | O_NOFOLLOW | O_CLOEXEC | O_NONBLOCK);
+    close(at);
+    at = found;
+    segment = strtok_r(NULL, "/", &rest);
+  }
+  return at;
+}
+
+/* Opens the file that a path names, or the index of a folder. -1: there is none. */
+static int open_file(const char *path, struct stat *status) {
+  char text[4096];
+  int file = read_path(path, text, sizeof text) ? open_below(text) : -1;
+  if (file >= 0 && fstat(file, status) == 0 && S_ISDIR(status->st_mode)) {
+    int index = openat(file, "index.html", O_RDONLY | O_NOFOLLOW | O_CLOEXEC);
+    close(file);
+    file = index;
+  }
+  if (file >= 0 && fstat(file, status) == 0 && S_ISREG(status->st_mode)) return file;
+  if (file >= 0) close(file);
+  return -1;
+}
+
+static const char *type_of(const char *path) {
+  static const char *const types[][2] = {{".html", "text/html; charset=utf-8"}, {".txt", "text/plain; charset=utf-8"},
+                                         {".css", "text/css"},                  {".js", "text/javascript"},
+                                         {".png", "image/png"},                 {".svg", "image/svg+xml"}};
+  size_t count = strcspn(path, "?#");
+  if (count > 0 && path[count - 1] == '/') return types[0][1];
+  for (size_t i = 0; i < sizeof types / sizeof *types; i++) {
+    size_t end = strlen(types[i][0]);
+    if (count >= end && strncasecmp(path + count - end, types[i][0], end) == 0) return types[i][1];
+  }
+  return "application/octet-stream";
+}
+
+/* ---- answers ---- */
+
+/* A head with a type and a length, and where it is refused the end of the stream. */
+static bool answer(http3_request *request, const char *status, const char *type, unsigned long long length) {
+  char digits[24];
+  snprintf(digits, sizeof digits, "%llu", length);
+  http3_field fields[] = {{":status", status}, {"content-type", type}, {"content-length", digits}, {"server", "h3-serve"}};
+  if (http3_head(request, fields, 4)) return true;
+  http3_give_up(request, H3_CODE_INTERNAL_ERROR);
+  return false;
+}
+
+/* A short text is the whole answer. */
+static void answer_text(http3_request *request, const char *status, const char *text) {
+  const work *work = request->data;
+  if (!answer(request, status, "text/plain; charset=utf-8", strlen(text))) return;
+  if (work->head_only || http3_body(request, (const uint8_t *)text, strlen(text))) http3_finish(request);
+  else http3_give_up(request, H3_CODE_INTERNAL_ERROR);
+}
+
+static void answer_file(http3_request *request, const char *path) {
+  work *work = request->data;
+  struct stat status;
+  work->file = open_file(path, &status);
+  if (work->file < 0) return answer_text(request, "404", "no such file\n");
+  if (!answer(request, "200", type_of(path), (unsigned long long)status.st_size)) return;
+  work->left = status.st_size;
+  if (work->head_only || work->left == 0) http3_finish(request);
+}
+
+static void on_head(http3_request *request, const h3_item *head) {
+  char method[16], path[4096];
+  if (request->data) return; /* a trailer that is too large, which is passed over */
+  work *work = request->data = calloc(1, sizeof *work);
+  if (!work) return http3_give_up(request, H3_CODE_INTERNAL_ERROR);
+  work->file = -1;
+  if (head->kind == H3_TOO_LARGE_HEAD) return answer_text(request, "431", "the fields are too large\n");
+  if (!http3_value(request->connection, head, ":method", method, sizeof method) ||
+      !http3_value(request->connection, head, ":path", path, sizeof path))
+    return answer_text(request, "400", "no method or path, or one that is too long\n");
+  work->head_only = strcmp(method, "HEAD") == 0;
+  if (work->head_only || strcmp(method, "GET") == 0) return answer_file(request, path);
+  if (strcmp(method, "POST") != 0) return answer_text(request, "405", "GET, HEAD and POST are known\n");
+  if (gnutls_hash_init(&work->hash, GNUTLS_DIG_SHA256) == 0) return;
+  work->hash = NULL;
+  answer_text(request, "500", "no hash\n");
+}
+
+static void on_body(http3_request *request, const uint8_t *bytes, size_t count) {
+  work *work = request->data;
+  if (!work || !work->hash) return;
+  gnutls_hash(work->hash, bytes, count);
+  work->count += count;
+}
+
+/* The body of a POST is whole. */
+static void on_end(http3_request *request) {
+  work *work = request->data;
+  uint8_t hash[32];
+  char text[128];
+  if (!work || !work->hash) return;
+  gnutls_hash_deinit(work->hash, hash);
+  work->hash = NULL;
+  int count = snprintf(text, sizeof text, "%llu ", work->count);
+  for (int i = 0; i < 32; i++) count += snprintf(text + count, sizeof text - (size_t)count, "%02x", hash[i]);
+  strcat(text, "\n");
+  answer_text(request, "200", text);
+}
+
+static void on_failed(http3_request *request, const h3_item *item) {
+  fprintf(stderr, "stream %llu failed: kind %u, %llu\n", (unsigned long long)request->id, item->kind, (unsigned long long)item->number);
+}
+
+/* The next pieces of a file. */
+static void on_room(http3_request *request) {
+  work *work = request->data;
+  uint8_t bytes[16 * 1024];
+  if (!work || work->file < 0) return;
+  while (work->left > 0 && http3_room(request) >= sizeof bytes) {
+    ssize_t count = read(work->file, bytes, sizeof bytes);
+    if (count > work->left) count = work->left; /* the file has grown behind its length */
+    if (count <= 0 || !http3_body(request, bytes, (size_t)count)) return http3_give_up(request, H3_CODE_INTERNAL_ERROR);
+    work->left -= count;
+  }
+  if (work->left == 0) http3_finish(request);
+}
+
+static void on_freed(http3_request *request) {
+  work *work = request->data;
+  if (!work) return;
+  if (work->file >= 0) close(work->file);
+  if (work->hash) gnutls_hash_deinit(work->hash, NULL);
+  free(work);
+}
+
+static void on_ready(http3 *h, void *user) { (void)h, (void)user; }
+
+static void on_over(void *user, const quic_ending *ending) {
+  (void)user;
+  if (ending->code != 0 && ending->code != H3_CODE_NO_ERROR)
+    fprintf(stderr, "connection closed by the %s with %s code 0x%llx\n", ending->by == QUIC_CLOSED_HERE ? "server" : "client",
+            ending->application ? "HTTP/3" : "QUIC", (unsigned long long)ending->code);
+}
+
+static void on_signal(int signal) {
+  (void)signal;
+  asked_to_end = 1;
+}
+
+/* Serves until a signal comes, and then what was begun. */
+static void run(quic_socket *socket) {
+  while (!asked_to_end) quic_turn(socket, 1000);
+  quic_refuse_more(socket);
+  quic_each(socket, http3_leave);
+  for (time_t end = time(NULL) + LAST_SECONDS; quic_count(socket) > 0 && time(NULL) < end;) quic_turn(socket, 100);
+}
+
+int main(int count, char **arguments) {
+  static const http3_events events = {on_ready, on_head, on_body, on_end, on_failed, on_room, on_freed, on_over};
+  http3_setup setup = {.server = true, .events = &events};
+  struct sigaction action = {.sa_handler = on_signal};
+  if (count != 6) {
+    fprintf(stderr, "serve ADDRESS PORT CERTIFICATE KEY FOLDER\n");
+    return 2;
+  }
+  root = open(arguments[5], O_RDONLY | O_DIRECTORY | O_CLOEXEC);
+  if (root < 0) {
+    perror(arguments[5]);
+    return 1;
+  }
+  sigaction(SIGTERM, &action, NULL);
+  sigaction(SIGINT, &action, NULL);
+  quic_identity identity = {.certificate = arguments[3], .key = arguments[4]};
+  quic_socket *socket = quic_listen(arguments[1], arguments[2], &identity, &http3_over_quic, &setup);
+  if (socket) {
+    printf("serving %s at %s port %s\n", arguments[5], arguments[1], arguments[2]);
+    fflush(stdout);
+    run(socket);
+    quic_free(socket);
+  }
+  close(root);
+  return socket ? 0 : 1;
+}

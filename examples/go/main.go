@@ -1,0 +1,181 @@
+// h3go holds HTTP/3 connections with the library behind include/h3.h, over quic-go (Debian's golang-github-lucas-clemente-quic-go-dev).
+//
+//	h3go serve ADDRESS CERTIFICATE KEY FOLDER            files below a folder; POST is answered with the count and SHA-256 of its body
+//	h3go fetch [-post FILE] [-count N] [-parallel N] [-cancel BYTES] TRUSTED URL    the bodies to standard output
+package main
+
+import (
+	"crypto/tls"
+	"crypto/x509"
+	"errors"
+	"flag"
+	"fmt"
+	"io"
+	"net/url"
+	"os"
+	"time"
+
+	"github.com/lucas-clemente/quic-go"
+)
+
+var settings = &quic.Config{MaxIncomingStreams: 100, MaxIncomingUniStreams: 16, MaxIdleTimeout: 30 * time.Second}
+
+func fail(err error) {
+	if err != nil {
+		fmt.Fprintln(os.Stderr, "h3go:", err)
+		os.Exit(1)
+	}
+}
+
+// ask sends a request, with a file as its body where there is one.
+func ask(request *Request, place *url.URL, file string) error {
+	fields := []Field{{":method", "GET"}, {":scheme", "https"}, {":authority", place.Host}, {":path", place.RequestURI()}}
+	if file == "" {
+		if err := request.SendHead(fields); err != nil {
+			return err
+		}
+		return request.Finish()
+	}
+	body, err := os.Open(file)
+	if err != nil {
+		return err
+	}
+	defer body.Close()
+	fields[0].Value = "POST"
+	if err := request.SendHead(fields); err != nil {
+		return err
+	}
+	if _, err := io.Copy(request, body); err != nil {
+		return err
+	}
+	return request.Finish()
+}
+
+var errGivenUp = errors.New("given up")
+
+// answer gives the body of the response, or gives it up behind so many bytes (0: never).
+func answer(request *Request, cancel int) ([]byte, error) {
+	var body []byte
+	for {
+		item, err := request.Next()
+		var fault Fault
+		if errors.As(err, &fault) {
+			request.GiveUp(quic.StreamErrorCode(fault.Code(false)))
+		}
+		if err != nil {
+			return nil, err
+		}
+		switch item.Kind {
+		case Head:
+			if item.Status/100 != 2 {
+				request.GiveUp(RequestCancelled)
+				return nil, fmt.Errorf("status %d", item.Status)
+			}
+		case Body:
+			body = append(body, item.Bytes...)
+			if cancel > 0 && len(body) >= cancel {
+				request.GiveUp(RequestCancelled)
+				return nil, errGivenUp
+			}
+		case End:
+			return body, nil
+		}
+	}
+}
+
+func exchange(connection *Connection, place *url.URL, file string, cancel int) ([]byte, error) {
+	request, err := connection.Open()
+	if err != nil {
+		return nil, err
+	}
+	sent := make(chan error, 1)
+	go func() { sent <- ask(request, place, file) }()
+	body, err := answer(request, cancel)
+	if err == nil {
+		err = <-sent
+	}
+	return body, err
+}
+
+type answered struct {
+	body []byte
+	err  error
+}
+
+// several makes so many requests, of which so many at once, and hands each answer to the channel of its number.
+func several(connection *Connection, place *url.URL, file string, parallel, cancel int, answers []chan answered) {
+	places := make(chan bool, parallel)
+	for i := range answers {
+		places <- true
+		go func(i int) {
+			limit := 0
+			if i == 0 {
+				limit = cancel
+			}
+			body, err := exchange(connection, place, file, limit)
+			answers[i] <- answered{body, err}
+			<-places
+		}(i)
+	}
+}
+
+// connect opens a connection to a server whose certificate one of a file's vouches for.
+func connect(trusted string, place *url.URL) (*Connection, error) {
+	text, err := os.ReadFile(trusted)
+	if err != nil {
+		return nil, err
+	}
+	pool := x509.NewCertPool()
+	pool.AppendCertsFromPEM(text)
+	session, err := quic.DialAddr(place.Host, &tls.Config{RootCAs: pool, NextProtos: []string{"h3"}}, settings)
+	if err != nil {
+		return nil, err
+	}
+	return NewConnection(session, false)
+}
+
+func fetch(words []string) error {
+	options := flag.NewFlagSet("fetch", flag.ExitOnError)
+	post := options.String("post", "", "a file that is posted")
+	count := options.Int("count", 1, "how many requests on the connection")
+	parallel := options.Int("parallel", 1, "how many at once")
+	cancel := options.Int("cancel", 0, "give the first request up behind so many bytes")
+	options.Parse(words)
+	if options.NArg() != 2 {
+		return errors.New("fetch [OPTION..] TRUSTED URL")
+	}
+	place, err := url.Parse(options.Arg(1))
+	if err != nil {
+		return err
+	}
+	connection, err := connect(options.Arg(0), place)
+	if err != nil {
+		return err
+	}
+	defer connection.Close()
+	answers := make([]chan answered, *count)
+	for i := range answers {
+		answers[i] = make(chan answered, 1)
+	}
+	go several(connection, place, *post, *parallel, *cancel, answers)
+	for i := range answers {
+		got := <-answers[i]
+		if got.err != nil && got.err != errGivenUp {
+			return got.err
+		}
+		if _, err := os.Stdout.Write(got.body); err != nil {
+			return err
+		}
+	}
+	return nil
+}
+
+func main() {
+	if len(os.Args) == 6 && os.Args[1] == "serve" {
+		fail(serve(os.Args[2], os.Args[3], os.Args[4], os.Args[5]))
+	} else if len(os.Args) > 2 && os.Args[1] == "fetch" {
+		fail(fetch(os.Args[2:]))
+	} else {
+		fail(errors.New("serve ADDRESS CERTIFICATE KEY FOLDER, or fetch [OPTION..] TRUSTED URL"))
+	}
+}

@@ -1,0 +1,503 @@
+/* h3.h: one endpoint of an HTTP/3 connection (RFC 9114 framing, RFC 9204 QPACK), for programs that have a QUIC library.
+ *
+ * The library is a proved core (crates/h3_session) behind C functions (crates/h3_c). It reads no socket, starts no thread, keeps no
+ * clock, blocks nowhere, ends no process and prints nothing. It asks malloc and realloc for memory, and every call says where these
+ * answer NULL. Link with libh3.a and libh3_shim.a (h3.pc names both).
+ *
+ * IN SHORT
+ *
+ *   h3_endpoint e = H3_NONE_YET;                               // no endpoint
+ *   h3_config c; h3_config_default(&c);                        // a client; c.server = 1 for a server
+ *   if (h3_new(&e, &c, NULL)) return 1;
+ *   uint64_t id; h3_open_request(&e, &id, NULL);               // then: a head, a body, the end
+ *   h3_field_size f[4] = {{7,3},{7,5},{10,9},{5,1}};           // sizes of names and values, all their bytes in one row
+ *   h3_send_head(&e, id, f, 4, ":methodGET:schemehttps:authoritylocalhost:path/", 47, NULL);
+ *   h3_finish(&e, id, NULL);
+ *   for (uint64_t s = 0; !h3_next_waiting(&e, s, &s); s++) .. // h3_outgoing, hand to QUIC, h3_advance
+ *   .. h3_deliver(&e, s, bytes, len, NULL); h3_pull(&e, id, &item);
+ *   h3_free(&e);
+ *
+ * OWNERSHIP
+ *
+ * h3_endpoint is one pointer, owned by the caller. H3_NONE_YET (all bytes zero) is none. h3_new makes an endpoint, and h3_free lets
+ * it go; each h3_new needs one h3_free, or memory leaks. A copy of the struct is the same endpoint: keep one, and move it at will.
+ * Bytes that go in are copied within the call: the caller may free or change them as soon as it returns. Bytes that come out are
+ * copied into the caller's buffer. No pointer into the library is ever handed out, and none of the caller's is kept. What does not
+ * fit into a buffer is not lost: outgoing bytes wait until h3_advance, and a pulled item stays until the next h3_pull.
+ * Buffers and results of one call must not overlap each other, nor the h3_endpoint.
+ *
+ * THREADS
+ *
+ * One call at a time on one endpoint (the caller's lock). Different endpoints are independent: nothing is shared between them, so
+ * they may be used on different threads at once. An endpoint may move from thread to thread between calls. Never call from a signal
+ * handler, nor from the forked child of a process with threads.
+ *
+ * ANSWERS
+ *
+ * Every call but h3_free answers a number: H3_OK (0), or why it was refused. A refused call changed nothing, with these exceptions:
+ * H3_CONNECTION of a delivery (the connection has its fault now), H3_KEPT (the bytes were taken), and H3_MEMORY of h3_send_head and
+ * h3_send_trailer (some instructions may stand on the own encoder stream; the request stream is as it was, and the call may be made again).
+ * Where a call refuses for several reasons, it answers the first in the order that its comment gives. Many calls have a last argument
+ * `detail`, which may be NULL: it gets the number that the reason names (below), else 0.
+ * On H3_NO_ENDPOINT nothing is written; on any other refusal `detail` is, and no other result unless its comment says so.
+ *
+ * MEMORY
+ *
+ * H3_MEMORY: malloc or realloc answered NULL. Nothing is lost and nothing leaks; the same call may be made again. A sum of bytes past
+ * 2^56 counts as want of memory too. After H3_KEPT what was taken is read by the next h3_pull of any stream (of h3_control_id, which hands out
+ * nothing, if no other is at hand) or by the next delivery on a stream that is open; until then a delivery on a request stream that is not
+ * open yet answers H3_MEMORY. h3_finish, h3_reset, h3_advance, h3_outgoing, h3_next_waiting, the states and h3_free take no memory.
+ *
+ * HOW QUIC'S CALLBACKS MAP TO CALLS
+ *
+ *   connection is there      h3_new; open three unidirectional streams before anything else, so that QUIC gives them the ids of the
+ *                            control, encoder and decoder stream: 2, 6, 10 of a client, 3, 7, 11 of a server (h3_control_id and so on).
+ *                            Let the peer open at least three unidirectional streams (RFC 9114, section 6.2).
+ *   a request is to be sent  open a bidirectional stream of QUIC and call h3_open_request: both give 0, 4, 8, .. in turn
+ *   stream data came         h3_deliver(id, bytes), in order of the stream's bytes; then pull that stream until a pause (H3_PENDING,
+ *                            H3_WAITING, H3_NO_MESSAGES) or H3_END or a fault. After data on a stream of the peer's that is
+ *                            unidirectional (id % 4 is 2 or 3) also pull every stream whose last pull answered H3_WAITING.
+ *   the stream's FIN came    h3_deliver_end(id), behind its data
+ *   RESET_STREAM came        h3_deliver_reset(id, code); data of that stream that comes later is dropped by the caller
+ *   STOP_SENDING came        h3_reset(id), and RESET_STREAM goes out (RFC 9000, section 3.5)
+ *   data can be sent         h3_outgoing(id, buffer, ..): hand these bytes to QUIC, and call h3_advance(id, n) with the n bytes that
+ *                            QUIC took. Where `fin` came as 1 and all n bytes were taken, send FIN with them.
+ *   data is acknowledged     nothing to call. The library forgets bytes at h3_advance. A QUIC library that keeps no copy of what it
+ *                            sends (ngtcp2, msquic) needs the bytes until they are acknowledged: keep the buffer that h3_outgoing
+ *                            filled until then. One that copies (quic-go) needs nothing.
+ *   the stream is closed     nothing to call
+ *   the connection closes    h3_free
+ *
+ * Each pull asks the same way for a client and for a server. A server learns of a request by data on a new stream with id % 4 == 0.
+ *
+ * WHICH CALL CAN FILL WHICH STREAM (so that the caller knows where to look; h3_next_waiting finds them all)
+ *
+ *   h3_new                                  the own control, encoder and decoder stream
+ *   h3_send_head, h3_send_trailer           that stream, and the own encoder stream
+ *   h3_send_body                            that stream
+ *   h3_finish                               no bytes; the end of that stream (h3_outgoing then says fin, with 0 bytes where none wait)
+ *   h3_goaway                               the own control stream
+ *   h3_deliver, h3_deliver_end,             the own encoder stream (the peer's settings came), the own decoder stream (the peer's encoder
+ *   h3_deliver_reset, h3_pull               stream was read, a head was decoded, a stream was given up)
+ *   h3_cancel                               the own decoder stream
+ *   all others                              none
+ *
+ * Send what waits on the own control, encoder and decoder stream before request streams where QUIC has no room for all: the peer's
+ * heads may wait for it.
+ *
+ * HOW A FAULT ENDS A STREAM OR THE CONNECTION
+ *
+ *   H3_CONNECTION of a delivery, or an item of kind H3_FAULT_CONNECTION: close the QUIC connection with the application error code that
+ *     stands in `detail` or in `number`. Every later call answers H3_CLOSED, H3_CONNECTION or H3_FAULT_CONNECTION with that code.
+ *   H3_FAULT_MALFORMED: the message on this stream is none (RFC 9114, section 4.1.2). Send STOP_SENDING with 0x10e (H3_MESSAGE_ERROR), and
+ *     reset the own half with it (h3_reset, RESET_STREAM), or send a response with status 400. The connection goes on.
+ *   H3_FAULT_RESET: the peer cut the stream off with the code in `number`. The own half goes on, or is ended by h3_reset.
+ *   H3_FAULT_CANCELED: the caller gave the stream up by h3_cancel.
+ *   H3_FAULT_MEMORY: nothing is lost: pull again later.
+ *   H3_TOO_LARGE_HEAD: a head or trailer above the own max_field_section_size, whose size is `number`, was passed over. A server may answer
+ *     431, a client may cancel.
+ *
+ * WHAT IS PROVED, TESTED, TRUSTED: see crates/h3_c/README.md. Trusted of the caller: pointers and lengths are right, a handle is used as said
+ * above, malloc and realloc align to 16 bytes and belong to one free. */
+#ifndef H3_H
+#define H3_H
+#include <stddef.h>
+#include <stdint.h>
+#ifdef __cplusplus
+extern "C" {
+#endif
+
+/* An endpoint, or none. Only h3_new and the calls below read or write `at`. */
+typedef struct {
+  void *at;
+} h3_endpoint;
+
+#define H3_NONE_YET {0}
+
+/* Why a call was refused. The numbers from 1 to 18 stand in the order of the core's refusals. */
+enum h3_answer {
+  H3_OK = 0,
+  H3_CLOSED = 1,             /* the connection had this fault before; detail: its code */
+  H3_CONNECTION = 2,         /* what was delivered is a fault of the connection, or there was one before; detail: its code */
+  H3_NOT_RECEIVING = 3,      /* the peer sends nothing on this stream */
+  H3_AFTER_END = 4,          /* the stream's end or reset came before */
+  H3_KEPT = 5,               /* the bytes (end, reset) were taken: do not deliver them again. Memory was refused in reading what came; the
+                                next delivery or pull reads on */
+  H3_NOT_CLIENT = 6,         /* only a client opens request streams */
+  H3_GOING_AWAY = 7,         /* the peer takes no request from this id on; detail: the id */
+  H3_IDS_USED_UP = 8,        /* there are no further ids below 2^62 */
+  H3_NOT_OPEN = 9,           /* the stream is not open at this side */
+  H3_OUT_OF_ORDER = 10,      /* not at this place of the message: a head first, then bodies, then a trailer, then the end */
+  H3_WRONG_SIDE = 11,        /* a client sends heads of requests (:method), a server those of responses (:status) */
+  H3_PSEUDO_IN_TRAILER = 12, /* a trailer has no pseudo-header field */
+  H3_TOO_LARGE = 13,         /* the field section is larger than the peer takes; detail: its size (RFC 9114, section 4.2.2) */
+  H3_CRITICAL = 14,          /* the connection needs this stream */
+  H3_ENDED = 15,             /* the stream has ended */
+  H3_NOT_REQUEST_ID = 16,    /* a server's GOAWAY names a request stream: a multiple of 4 */
+  H3_RAISED = 17,            /* an earlier GOAWAY had a lower id; detail: that id */
+  H3_MEMORY = 18,            /* memory was refused */
+  /* of h3_new */
+  H3_TABLE_LIMIT = 19,       /* `table` is above 2^30 - 1 */
+  H3_BLOCKED_LIMIT = 20,     /* `blocked` is above 65535 */
+  H3_SETTING = 21,           /* a setting cannot be announced, as one of 2^62 or more; detail: the setting's id */
+  /* of a list of fields that is handed in: the first field that is refused decides */
+  H3_FIELD_NAME = 22,        /* a name is empty, not in lower case, or an unknown one that begins with ':' */
+  H3_FIELD_VALUE = 23,       /* a value is not one of its name's grammar */
+  H3_FIELD_COUNT = 24,       /* there are more different names than fit (24,576) */
+  /* of what is read */
+  H3_NONE = 25,              /* there is no such stream, field or setting */
+  H3_ROOM = 26,              /* the buffer is too small; its front was filled, and the sizes say how much there is */
+  /* the caller's slips */
+  H3_ARGUMENT = 32,          /* an argument is out of the range that the call's comment gives; nothing was done */
+  H3_NO_ENDPOINT = 33        /* the h3_endpoint holds none */
+};
+
+/* Codes of faults that a program may want by name (RFC 9114, section 8.1). */
+#define H3_CODE_NO_ERROR UINT64_C(0x100)
+#define H3_CODE_INTERNAL_ERROR UINT64_C(0x102)
+#define H3_CODE_REQUEST_REJECTED UINT64_C(0x10b)
+#define H3_CODE_REQUEST_CANCELLED UINT64_C(0x10c)
+#define H3_CODE_REQUEST_INCOMPLETE UINT64_C(0x10d)
+#define H3_CODE_MESSAGE_ERROR UINT64_C(0x10e)
+
+/* ---- making and freeing ---- */
+
+/* What an endpoint is and announces. A number other than 0 means yes. */
+typedef struct {
+  uint64_t max_field_section_size;    /* the greatest field section that is taken, below 2^62 (RFC 9114, section 4.2.2) */
+  uint64_t max_webtransport_sessions; /* below 2^62 */
+  uint64_t table;                     /* capacity of the own decoder's dynamic table in bytes, at most 2^30 - 1; 0: none */
+  uint64_t blocked;                   /* how many streams may wait for its insertions, at most 65535 */
+  uint64_t grease;                    /* which reserved setting is sent, below 0x210842108421083; any random number */
+  uint32_t server;                    /* this side accepted the connection */
+  uint32_t send_grease;               /* whether a reserved setting is sent (RFC 9114, section 7.2.4.1) */
+  uint32_t webtransport;
+  uint32_t extended_connect;          /* RFC 9220 */
+  uint32_t datagram;                  /* RFC 9297 */
+} h3_config;
+
+/* A client that takes field sections of any size and has no dynamic table. */
+static inline void h3_config_default(h3_config *config) {
+  h3_config c = {(UINT64_C(1) << 62) - 1, 0, 0, 0, 0, 0, 0, 0, 0, 0};
+  *config = c;
+}
+
+/* Makes an endpoint in *endpoint, which is overwritten: what it held before is not freed. Its control stream begins with the settings.
+ * Refused, in this order: H3_ARGUMENT (grease out of range), H3_TABLE_LIMIT, H3_BLOCKED_LIMIT, H3_SETTING, H3_MEMORY. On a refusal
+ * *endpoint holds none. */
+static inline uint32_t h3_new(h3_endpoint *endpoint, const h3_config *config, uint64_t *detail);
+
+/* Frees an endpoint and all that it keeps; *endpoint holds none then. Of none it does nothing. */
+static inline void h3_free(h3_endpoint *endpoint);
+
+/* ---- sending ---- */
+
+/* Opens the next request stream of a client: 0, 4, 8, .. Refused, in this order: H3_CLOSED, H3_NOT_CLIENT, H3_GOING_AWAY, H3_IDS_USED_UP,
+ * H3_MEMORY. */
+static inline uint32_t h3_open_request(h3_endpoint *endpoint, uint64_t *id, uint64_t *detail);
+
+/* How long a name and a value are, in bytes. */
+typedef struct {
+  uint32_t name, value;
+} h3_field_size;
+
+/* Sends a head on a stream: `count` fields, whose names and values stand in `bytes` one behind another (name, value, name, value, ..), with
+ * `len` the sum of all sizes. Pseudo-header fields may stand anywhere; they are sent first, in the order :method, :scheme, :authority,
+ * :path, :status, :protocol (of a repeated one the last), then the others by name in the order of their first coming. Names are in
+ * lower case. A response's head with a status from 100 to 199 is an interim one, behind which another head goes.
+ * Refused, in this order: H3_ARGUMENT (id not below 2^62; len is not the sum), H3_FIELD_NAME, H3_FIELD_VALUE and H3_FIELD_COUNT (the first
+ * field that is refused decides), H3_MEMORY of making the list, then H3_CLOSED, H3_NOT_OPEN, H3_OUT_OF_ORDER, H3_WRONG_SIDE, H3_TOO_LARGE, H3_MEMORY. */
+static inline uint32_t h3_send_head(h3_endpoint *endpoint, uint64_t id, const h3_field_size *sizes, size_t count, const void *bytes, size_t len,
+                                    uint64_t *detail);
+
+/* Sends a trailer, which ends the message's fields and bodies. Refused as a head, but behind H3_OUT_OF_ORDER: H3_PSEUDO_IN_TRAILER, H3_TOO_LARGE,
+ * H3_MEMORY. */
+static inline uint32_t h3_send_trailer(h3_endpoint *endpoint, uint64_t id, const h3_field_size *sizes, size_t count, const void *bytes, size_t len,
+                                       uint64_t *detail);
+
+/* Sends a piece of a body, as one DATA frame; no bytes write nothing. Refused, in this order: H3_ARGUMENT (id not below 2^62), H3_CLOSED,
+ * H3_NOT_OPEN, H3_OUT_OF_ORDER, H3_MEMORY. (Where the copy of the bytes itself is refused memory, H3_MEMORY comes before H3_CLOSED.) */
+static inline uint32_t h3_send_body(h3_endpoint *endpoint, uint64_t id, const void *bytes, size_t len, uint64_t *detail);
+
+/* The message is whole: FIN goes behind what waits (h3_outgoing says when). Takes no memory. Refused, in this order: H3_ARGUMENT, H3_CLOSED,
+ * H3_NOT_OPEN, H3_OUT_OF_ORDER. */
+static inline uint32_t h3_finish(h3_endpoint *endpoint, uint64_t id, uint64_t *detail);
+
+/* Sending on a stream ends here, and what waits is dropped: send RESET_STREAM with a code of the caller's choice. Takes no memory. Refused, in
+ * this order: H3_ARGUMENT, H3_CLOSED, H3_CRITICAL, H3_NOT_OPEN, H3_ENDED (nothing is left to be sent). */
+static inline uint32_t h3_reset(h3_endpoint *endpoint, uint64_t id, uint64_t *detail);
+
+/* Nothing more is wanted of a request stream: what came on it is thrown away; send STOP_SENDING. Every later pull of it answers H3_FAULT_CANCELED.
+ * Refused, in this order: H3_ARGUMENT, H3_CLOSED, H3_CRITICAL, H3_NOT_OPEN, H3_ENDED (its end was handed out, or it was given up), H3_MEMORY. */
+static inline uint32_t h3_cancel(h3_endpoint *endpoint, uint64_t id, uint64_t *detail);
+
+/* Sends GOAWAY: a server takes no request from this id on (a multiple of 4), a client no push (RFC 9114, section 5.2). Refused, in this order:
+ * H3_ARGUMENT (id not below 2^62), H3_CLOSED, H3_NOT_REQUEST_ID, H3_RAISED, H3_MEMORY. */
+static inline uint32_t h3_goaway(h3_endpoint *endpoint, uint64_t id, uint64_t *detail);
+
+/* ---- what waits to be sent ---- */
+
+/* The lowest stream id, from `from` on, on which bytes wait, own unidirectional streams among them. H3_NONE where there is none (*id is not
+ * written then). A finished stream on which nothing waits is not among them: its FIN is due at once at h3_finish. To see all:
+ *   for (uint64_t id = 0; h3_next_waiting(&e, id, &id) == H3_OK; id++) .. */
+static inline uint32_t h3_next_waiting(h3_endpoint *endpoint, uint64_t from, uint64_t *id);
+
+/* Copies the first bytes that wait on a stream, as many as are there and fit, and says how many (*n); they go on waiting until h3_advance. *fin
+ * is 1 where the stream is finished and these bytes are its last ones (0 of them where nothing waits), else 0. Of a stream that is not open
+ * nothing waits. Refused: H3_ARGUMENT (id not below 2^62). */
+static inline uint32_t h3_outgoing(h3_endpoint *endpoint, uint64_t id, void *buffer, size_t room, size_t *n, uint32_t *fin);
+
+/* Takes the first n bytes away that wait on a stream: QUIC has them. Refused: H3_ARGUMENT (id not below 2^62, or n is more than wait). */
+static inline uint32_t h3_advance(h3_endpoint *endpoint, uint64_t id, size_t n);
+
+/* ---- what came ---- */
+
+/* Bytes came on a stream, behind those that came before. Refused, in this order: H3_ARGUMENT (id not below 2^62), H3_CONNECTION (of an earlier
+ * fault), H3_NOT_RECEIVING, H3_NOT_OPEN, H3_AFTER_END, H3_MEMORY (nothing was taken: deliver again), H3_KEPT (all was taken), H3_CONNECTION
+ * (what came is a fault). (Where the copy of the bytes itself is refused memory, H3_MEMORY comes first.) */
+static inline uint32_t h3_deliver(h3_endpoint *endpoint, uint64_t id, const void *bytes, size_t len, uint64_t *detail);
+
+/* The end of a stream came (FIN). Refused as bytes are. */
+static inline uint32_t h3_deliver_end(h3_endpoint *endpoint, uint64_t id, uint64_t *detail);
+
+/* RESET_STREAM came with this application error code. Refused as bytes are. What came on the stream and was not pulled is thrown away. */
+static inline uint32_t h3_deliver_reset(h3_endpoint *endpoint, uint64_t id, uint64_t code, uint64_t *detail);
+
+/* What a pull hands out. Kinds below H3_PENDING are items; H3_PENDING, H3_WAITING and H3_NO_MESSAGES are pauses; those above are faults. */
+enum h3_kind {
+  H3_INTERIM = 1,           /* a response's head with a status from 100 to 199: `fields`, `status` */
+  H3_HEAD = 2,              /* the head: `fields`, and of a response `status` */
+  H3_BODY = 3,              /* a piece of the body: `len` bytes */
+  H3_TRAILER = 4,           /* the trailer: `fields` */
+  H3_TOO_LARGE_HEAD = 5,    /* in the place of a head or trailer above the own limit; number: its size */
+  H3_SESSION = 6,           /* a WebTransport session begins; number: its id */
+  H3_RAW = 7,               /* `len` bytes of a session */
+  H3_END = 8,               /* the stream has ended, and all of it was handed out */
+  H3_PENDING = 9,           /* the next item is not there yet */
+  H3_WAITING = 10,          /* the next head or trailer needs insertions from the peer's encoder stream; number: how many in all */
+  H3_NO_MESSAGES = 11,      /* the stream has no messages for this side */
+  H3_FAULT_CONNECTION = 12, /* number: the code to close the connection with */
+  H3_FAULT_MALFORMED = 13,  /* number: an h3_malformation */
+  H3_FAULT_RESET = 14,      /* number: the peer's code */
+  H3_FAULT_CANCELED = 15,
+  H3_FAULT_MEMORY = 16      /* nothing is lost: pull again */
+};
+
+/* Why a message is none, in the order in which it is judged. */
+enum h3_malformation {
+  H3_BAD_NAME = 0,
+  H3_BAD_VALUE = 1,
+  H3_TOO_MANY = 2,
+  H3_HEAD_OF_WRONG_SIDE = 3,
+  H3_PSEUDO_FIELD_IN_TRAILER = 4,
+  H3_NO_HEAD = 5
+};
+
+typedef struct {
+  uint32_t kind;   /* an h3_kind */
+  uint32_t status; /* of a head with :status: its number, else 0 */
+  uint64_t number; /* what the kind says, else 0 */
+  size_t fields;   /* of a head or trailer: how many fields, else 0 */
+  size_t len;      /* of a body or raw bytes: how many, else 0 */
+} h3_item;
+
+/* What comes next on a stream. The item stays in the endpoint until the next h3_pull: read it by h3_item_field and h3_item_bytes. A fault of the
+ * connection closes it. Refused: H3_ARGUMENT (id not below 2^62); *item is not written and the item before stays. */
+static inline uint32_t h3_pull(h3_endpoint *endpoint, uint64_t id, h3_item *item);
+
+/* Field `index` of the head or trailer that was pulled last: its name and value, as many bytes as fit, and how long both are. Fields come in the
+ * order :method, :scheme, :authority, :path, :status, :protocol, then the others. Refused: H3_NONE (no such field), H3_MEMORY (call again: nothing
+ * is lost; no result is written), H3_ROOM (a buffer is too small). */
+static inline uint32_t h3_item_field(h3_endpoint *endpoint, size_t index, void *name, size_t name_room, size_t *name_len, void *value,
+                                     size_t value_room, size_t *value_len);
+
+/* The bytes of the body or of the session that were pulled last, from `from` on, as many as fit; *n says how many were copied. H3_NONE where `from`
+ * is past their end or the item has no bytes. */
+static inline uint32_t h3_item_bytes(h3_endpoint *endpoint, size_t from, void *buffer, size_t room, size_t *n);
+
+/* ---- what can be read ---- */
+
+typedef struct {
+  uint64_t waiting;      /* bytes that wait to be sent */
+  uint32_t has_outgoing; /* 1 where something can be sent: an own unidirectional stream, or a request stream that was opened */
+  uint32_t is_finished;  /* 1 where its message was finished */
+  uint32_t is_reset;     /* 1 where sending was cut off */
+  uint32_t tries;        /* how often the field section that is next was tried, else the last one: at most 2 */
+} h3_stream_state;
+
+/* The state of a stream. Refused: H3_ARGUMENT (id not below 2^62). */
+static inline uint32_t h3_stream(h3_endpoint *endpoint, uint64_t id, h3_stream_state *state);
+
+typedef struct {
+  uint64_t sending_table;    /* size of the dynamic table that this side writes, in bytes (RFC 9204, section 3.2.1) */
+  uint64_t receiving_table;  /* of the one that the peer writes */
+  uint64_t waiting_heads;    /* how many streams wait for insertions */
+  uint64_t sent;             /* bytes of names, values and bodies that were sent, and 64 for each field and each call */
+  uint64_t goaway;           /* the id of the peer's last GOAWAY, where has_goaway is 1 */
+  uint64_t peer_table;       /* what the peer's settings allow, where has_settings is 1: the capacity of its table, */
+  uint64_t peer_blocked;     /* how many of its streams may wait, */
+  uint64_t peer_section;     /* and the greatest size of a field section */
+  uint32_t has_goaway;
+  uint32_t has_settings;
+} h3_state;
+
+/* The state of the connection. */
+static inline uint32_t h3_connection(h3_endpoint *endpoint, h3_state *state);
+
+/* The value of a setting that the peer announced (RFC 9114, section 7.2.4). H3_NONE before its settings came, or where it is not among them. */
+static inline uint32_t h3_peer_setting(h3_endpoint *endpoint, uint64_t setting, uint64_t *value);
+
+/* The ids of the own unidirectional streams. */
+static inline uint64_t h3_control_id(int server) { return server ? 3 : 2; }
+static inline uint64_t h3_encoder_id(int server) { return server ? 7 : 6; }
+static inline uint64_t h3_decoder_id(int server) { return server ? 11 : 10; }
+
+/* ---- the exports of libh3.a ----
+ *
+ * Programs in C call the functions above, which test for none and for NULL, and hand the endpoint over and back. A program in another language may
+ * call these: each takes the handle by value and writes the handle for the next call through its last argument, on every answer. The handle
+ * must hold an endpoint. No pointer may be NULL, also beside a length of 0. */
+uint32_t h3_raw_new(const h3_config *config, uint64_t *detail, h3_endpoint *out); /* *out is written on H3_OK alone */
+void h3_raw_free(h3_endpoint endpoint);
+uint32_t h3_raw_open_request(h3_endpoint endpoint, uint64_t *id, uint64_t *detail, h3_endpoint *out);
+uint32_t h3_raw_send_head(h3_endpoint endpoint, uint64_t id, const h3_field_size *sizes, size_t count, const uint8_t *bytes, size_t len,
+                          uint64_t *detail, h3_endpoint *out);
+uint32_t h3_raw_send_trailer(h3_endpoint endpoint, uint64_t id, const h3_field_size *sizes, size_t count, const uint8_t *bytes, size_t len,
+                             uint64_t *detail, h3_endpoint *out);
+uint32_t h3_raw_send_body(h3_endpoint endpoint, uint64_t id, const uint8_t *bytes, size_t len, uint64_t *detail, h3_endpoint *out);
+uint32_t h3_raw_finish(h3_endpoint endpoint, uint64_t id, uint64_t *detail, h3_endpoint *out);
+uint32_t h3_raw_reset(h3_endpoint endpoint, uint64_t id, uint64_t *detail, h3_endpoint *out);
+uint32_t h3_raw_cancel(h3_endpoint endpoint, uint64_t id, uint64_t *detail, h3_endpoint *out);
+uint32_t h3_raw_goaway(h3_endpoint endpoint, uint64_t id, uint64_t *detail, h3_endpoint *out);
+uint32_t h3_raw_next_waiting(h3_endpoint endpoint, uint64_t from, uint64_t *id, h3_endpoint *out);
+uint32_t h3_raw_outgoing(h3_endpoint endpoint, uint64_t id, uint8_t *buffer, size_t room, size_t *n, uint32_t *fin, h3_endpoint *out);
+uint32_t h3_raw_advance(h3_endpoint endpoint, uint64_t id, size_t n, h3_endpoint *out);
+uint32_t h3_raw_deliver(h3_endpoint endpoint, uint64_t id, const uint8_t *bytes, size_t len, uint64_t *detail, h3_endpoint *out);
+uint32_t h3_raw_deliver_end(h3_endpoint endpoint, uint64_t id, uint64_t *detail, h3_endpoint *out);
+uint32_t h3_raw_deliver_reset(h3_endpoint endpoint, uint64_t id, uint64_t code, uint64_t *detail, h3_endpoint *out);
+uint32_t h3_raw_pull(h3_endpoint endpoint, uint64_t id, h3_item *item, h3_endpoint *out);
+uint32_t h3_raw_item_field(h3_endpoint endpoint, size_t index, uint8_t *name, size_t name_room, size_t *name_len, uint8_t *value, size_t value_room,
+                           size_t *value_len, h3_endpoint *out);
+uint32_t h3_raw_item_bytes(h3_endpoint endpoint, size_t from, uint8_t *buffer, size_t room, size_t *n, h3_endpoint *out);
+uint32_t h3_raw_stream(h3_endpoint endpoint, uint64_t id, h3_stream_state *state, h3_endpoint *out);
+uint32_t h3_raw_connection(h3_endpoint endpoint, h3_state *state, h3_endpoint *out);
+uint32_t h3_raw_peer_setting(h3_endpoint endpoint, uint64_t setting, uint64_t *value, h3_endpoint *out);
+
+/* ---- the functions above, over the exports ---- */
+
+static inline const uint8_t *h3_in_(const void *bytes) { return bytes ? (const uint8_t *)bytes : (const uint8_t *)""; }
+
+static inline uint32_t h3_new(h3_endpoint *endpoint, const h3_config *config, uint64_t *detail) {
+  uint64_t none;
+  endpoint->at = NULL;
+  return h3_raw_new(config, detail ? detail : &none, endpoint);
+}
+static inline void h3_free(h3_endpoint *endpoint) {
+  if (endpoint->at) h3_raw_free(*endpoint);
+  endpoint->at = NULL;
+}
+static inline uint32_t h3_open_request(h3_endpoint *endpoint, uint64_t *id, uint64_t *detail) {
+  uint64_t none;
+  if (!endpoint->at) return H3_NO_ENDPOINT;
+  return h3_raw_open_request(*endpoint, id, detail ? detail : &none, endpoint);
+}
+static inline uint32_t h3_send_head(h3_endpoint *endpoint, uint64_t id, const h3_field_size *sizes, size_t count, const void *bytes, size_t len,
+                                    uint64_t *detail) {
+  uint64_t none;
+  h3_field_size no_size = {0, 0};
+  if (!endpoint->at) return H3_NO_ENDPOINT;
+  return h3_raw_send_head(*endpoint, id, sizes ? sizes : &no_size, count, h3_in_(bytes), len, detail ? detail : &none, endpoint);
+}
+static inline uint32_t h3_send_trailer(h3_endpoint *endpoint, uint64_t id, const h3_field_size *sizes, size_t count, const void *bytes, size_t len,
+                                       uint64_t *detail) {
+  uint64_t none;
+  h3_field_size no_size = {0, 0};
+  if (!endpoint->at) return H3_NO_ENDPOINT;
+  return h3_raw_send_trailer(*endpoint, id, sizes ? sizes : &no_size, count, h3_in_(bytes), len, detail ? detail : &none, endpoint);
+}
+static inline uint32_t h3_send_body(h3_endpoint *endpoint, uint64_t id, const void *bytes, size_t len, uint64_t *detail) {
+  uint64_t none;
+  if (!endpoint->at) return H3_NO_ENDPOINT;
+  return h3_raw_send_body(*endpoint, id, h3_in_(bytes), len, detail ? detail : &none, endpoint);
+}
+static inline uint32_t h3_finish(h3_endpoint *endpoint, uint64_t id, uint64_t *detail) {
+  uint64_t none;
+  if (!endpoint->at) return H3_NO_ENDPOINT;
+  return h3_raw_finish(*endpoint, id, detail ? detail : &none, endpoint);
+}
+static inline uint32_t h3_reset(h3_endpoint *endpoint, uint64_t id, uint64_t *detail) {
+  uint64_t none;
+  if (!endpoint->at) return H3_NO_ENDPOINT;
+  return h3_raw_reset(*endpoint, id, detail ? detail : &none, endpoint);
+}
+static inline uint32_t h3_cancel(h3_endpoint *endpoint, uint64_t id, uint64_t *detail) {
+  uint64_t none;
+  if (!endpoint->at) return H3_NO_ENDPOINT;
+  return h3_raw_cancel(*endpoint, id, detail ? detail : &none, endpoint);
+}
+static inline uint32_t h3_goaway(h3_endpoint *endpoint, uint64_t id, uint64_t *detail) {
+  uint64_t none;
+  if (!endpoint->at) return H3_NO_ENDPOINT;
+  return h3_raw_goaway(*endpoint, id, detail ? detail : &none, endpoint);
+}
+static inline uint32_t h3_next_waiting(h3_endpoint *endpoint, uint64_t from, uint64_t *id) {
+  if (!endpoint->at) return H3_NO_ENDPOINT;
+  return h3_raw_next_waiting(*endpoint, from, id, endpoint);
+}
+static inline uint32_t h3_outgoing(h3_endpoint *endpoint, uint64_t id, void *buffer, size_t room, size_t *n, uint32_t *fin) {
+  uint8_t nothing;
+  uint32_t none;
+  if (!endpoint->at) return H3_NO_ENDPOINT;
+  return h3_raw_outgoing(*endpoint, id, buffer ? (uint8_t *)buffer : &nothing, buffer ? room : 0, n, fin ? fin : &none, endpoint);
+}
+static inline uint32_t h3_advance(h3_endpoint *endpoint, uint64_t id, size_t n) {
+  if (!endpoint->at) return H3_NO_ENDPOINT;
+  return h3_raw_advance(*endpoint, id, n, endpoint);
+}
+static inline uint32_t h3_deliver(h3_endpoint *endpoint, uint64_t id, const void *bytes, size_t len, uint64_t *detail) {
+  uint64_t none;
+  if (!endpoint->at) return H3_NO_ENDPOINT;
+  return h3_raw_deliver(*endpoint, id, h3_in_(bytes), len, detail ? detail : &none, endpoint);
+}
+static inline uint32_t h3_deliver_end(h3_endpoint *endpoint, uint64_t id, uint64_t *detail) {
+  uint64_t none;
+  if (!endpoint->at) return H3_NO_ENDPOINT;
+  return h3_raw_deliver_end(*endpoint, id, detail ? detail : &none, endpoint);
+}
+static inline uint32_t h3_deliver_reset(h3_endpoint *endpoint, uint64_t id, uint64_t code, uint64_t *detail) {
+  uint64_t none;
+  if (!endpoint->at) return H3_NO_ENDPOINT;
+  return h3_raw_deliver_reset(*endpoint, id, code, detail ? detail : &none, endpoint);
+}
+static inline uint32_t h3_pull(h3_endpoint *endpoint, uint64_t id, h3_item *item) {
+  if (!endpoint->at) return H3_NO_ENDPOINT;
+  return h3_raw_pull(*endpoint, id, item, endpoint);
+}
+static inline uint32_t h3_item_field(h3_endpoint *endpoint, size_t index, void *name, size_t name_room, size_t *name_len, void *value,
+                                     size_t value_room, size_t *value_len) {
+  uint8_t no_name, no_value;
+  if (!endpoint->at) return H3_NO_ENDPOINT;
+  return h3_raw_item_field(*endpoint, index, name ? (uint8_t *)name : &no_name, name ? name_room : 0, name_len,
+      value ? (uint8_t *)value : &no_value, value ? value_room : 0, value_len, endpoint);
+}
+static inline uint32_t h3_item_bytes(h3_endpoint *endpoint, size_t from, void *buffer, size_t room, size_t *n) {
+  uint8_t nothing;
+  if (!endpoint->at) return H3_NO_ENDPOINT;
+  return h3_raw_item_bytes(*endpoint, from, buffer ? (uint8_t *)buffer : &nothing, buffer ? room : 0, n, endpoint);
+}
+static inline uint32_t h3_stream(h3_endpoint *endpoint, uint64_t id, h3_stream_state *state) {
+  if (!endpoint->at) return H3_NO_ENDPOINT;
+  return h3_raw_stream(*endpoint, id, state, endpoint);
+}
+static inline uint32_t h3_connection(h3_endpoint *endpoint, h3_state *state) {
+  if (!endpoint->at) return H3_NO_ENDPOINT;
+  return h3_raw_connection(*endpoint, state, endpoint);
+}
+static inline uint32_t h3_peer_setting(h3_endpoint *endpoint, uint64_t setting, uint64_t *value) {
+  if (!endpoint->at) return H3_NO_ENDPOINT;
+  return h3_raw_peer_setting(*endpoint, setting, value, endpoint);
+}
+#ifdef __cplusplus
+}
+#endif
+#endif

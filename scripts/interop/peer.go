@@ -1,0 +1,173 @@
+// peer is quic-go's own HTTP/3 (Debian's golang-github-lucas-clemente-quic-go-dev), for `make interop` to talk to:
+//
+//	peer serve ADDRESS CERTIFICATE KEY FOLDER      files below a folder; POST is answered with the count and SHA-256 of its body
+//	peer fetch TRUSTED URL                         the body to standard output
+//	peer post TRUSTED FILE URL                     POSTs a file, the answer's body to standard output
+//	peer many TRUSTED COUNT PARALLEL URL           COUNT requests on one connection; "COUNT bodies of N bytes, one SHA-256"
+//	peer cancel TRUSTED URL COUNT                  COUNT times: takes a piece of the body, gives the request up; then one whole
+package main
+
+import (
+	"bytes"
+	"context"
+	"crypto/sha256"
+	"crypto/tls"
+	"crypto/x509"
+	"fmt"
+	"io"
+	"net/http"
+	"os"
+	"strconv"
+	"sync"
+	"time"
+
+	"github.com/lucas-clemente/quic-go/http3"
+)
+
+func fail(err error) {
+	if err != nil {
+		fmt.Fprintln(os.Stderr, "peer:", err)
+		os.Exit(1)
+	}
+}
+
+func serve(address, certificate, key, folder string) {
+	files := http.FileServer(http.Dir(folder))
+	handler := http.HandlerFunc(func(w http.ResponseWriter, r *http.Request) {
+		if r.Method != http.MethodPost {
+			files.ServeHTTP(w, r)
+			return
+		}
+		hash := sha256.New()
+		count, err := io.Copy(hash, r.Body)
+		if err != nil {
+			fmt.Fprintln(os.Stderr, "peer: a body ended with", err)
+			return
+		}
+		fmt.Fprintf(w, "%d %x\n", count, hash.Sum(nil))
+	})
+	pair, err := tls.LoadX509KeyPair(certificate, key)
+	fail(err)
+	server := http3.Server{Addr: address, Handler: handler, TLSConfig: &tls.Config{Certificates: []tls.Certificate{pair}}}
+	fmt.Println("serving", folder, "at", address)
+	fail(server.ListenAndServe())
+}
+
+// a client on one connection, which trusts the certificate in a file
+func newClient(trusted string) (*http.Client, func() error) {
+	text, err := os.ReadFile(trusted)
+	fail(err)
+	pool := x509.NewCertPool()
+	if !pool.AppendCertsFromPEM(text) {
+		fail(fmt.Errorf("no certificate in %s", trusted))
+	}
+	tripper := &http3.RoundTripper{TLSClientConfig: &tls.Config{RootCAs: pool}, DisableCompression: true}
+	return &http.Client{Transport: tripper, Timeout: time.Minute}, tripper.Close
+}
+
+// the whole body of an answer with status 200
+func body(answer *http.Response, err error) ([]byte, error) {
+	if err != nil {
+		return nil, err
+	}
+	defer answer.Body.Close()
+	text, err := io.ReadAll(answer.Body)
+	if err == nil && answer.StatusCode != 200 {
+		err = fmt.Errorf("status %d", answer.StatusCode)
+	}
+	return text, err
+}
+
+func many(client *http.Client, count, parallel int, url string) error {
+	first, err := body(client.Get(url))
+	if err != nil {
+		return err
+	}
+	var done sync.WaitGroup
+	places := make(chan bool, parallel)
+	errors := make(chan error, count)
+	for i := 1; i < count; i++ {
+		done.Add(1)
+		places <- true
+		go func() {
+			defer func() { <-places; done.Done() }()
+			text, err := body(client.Get(url))
+			if err == nil && !bytes.Equal(text, first) {
+				err = fmt.Errorf("a body of %d bytes differs from the first", len(text))
+			}
+			if err != nil {
+				errors <- err
+			}
+		}()
+	}
+	done.Wait()
+	if len(errors) > 0 {
+		return <-errors
+	}
+	fmt.Printf("%d bodies of %d bytes, %x\n", count, len(first), sha256.Sum256(first))
+	return nil
+}
+
+func cancel(client *http.Client, url string, count int) error {
+	for i := 0; i < count; i++ {
+		context, giveUp := context.WithCancel(context.Background())
+		request, err := http.NewRequestWithContext(context, http.MethodGet, url, nil)
+		if err != nil {
+			giveUp()
+			return err
+		}
+		answer, err := client.Do(request)
+		if err == nil {
+			_, err = io.ReadFull(answer.Body, make([]byte, 10000))
+			giveUp()
+			answer.Body.Close()
+		}
+		giveUp()
+		if err != nil {
+			return err
+		}
+	}
+	text, err := body(client.Get(url))
+	if err == nil {
+		fmt.Printf("%d given up, then %d bytes, %x\n", count, len(text), sha256.Sum256(text))
+	}
+	return err
+}
+
+func number(text string) int {
+	value, err := strconv.Atoi(text)
+	fail(err)
+	return value
+}
+
+func main() {
+	words := os.Args[1:]
+	if len(words) == 5 && words[0] == "serve" {
+		serve(words[1], words[2], words[3], words[4])
+		return
+	}
+	if len(words) < 3 {
+		fail(fmt.Errorf("serve, fetch, post, many or cancel, and their words"))
+	}
+	client, leave := newClient(words[1])
+	var err error
+	var text []byte
+	switch {
+	case words[0] == "fetch" && len(words) == 3:
+		text, err = body(client.Get(words[2]))
+	case words[0] == "post" && len(words) == 4:
+		var file *os.File
+		file, err = os.Open(words[2])
+		fail(err)
+		text, err = body(client.Post(words[3], "application/octet-stream", file))
+	case words[0] == "many" && len(words) == 5:
+		err = many(client, number(words[2]), number(words[3]), words[4])
+	case words[0] == "cancel" && len(words) == 4:
+		err = cancel(client, words[2], number(words[3]))
+	default:
+		err = fmt.Errorf("no such words")
+	}
+	os.Stdout.Write(text)
+	leave()
+	fail(err)
+}

@@ -1,0 +1,359 @@
+#!/usr/bin/env bash
+# The examples in C, Go and Rust against HTTP/3 peers over QUIC that Debian has: gtlsclient and gtlsserver (ngtcp2), quic-go, Caddy and
+# Chromium. Only loopback addresses, each command within a time, each server ended at the end. Prints 'ok NAME' or 'failed NAME' for
+# each check; where a package is missing it says which, and fails. It makes the library first (`make lib`), or takes it from the folder LIB.
+set -uo pipefail
+cd "$(dirname "$0")/.."
+top=$PWD
+lib=${LIB:-$top/build/c}
+work=$(mktemp -d)
+failed=0
+pids=()
+
+leave() {
+  for pid in "${pids[@]}"; do kill "$pid" 2>/dev/null && wait "$pid" 2>/dev/null; done
+  rm -rf "$work"
+}
+trap leave EXIT
+
+good() { echo "ok $1"; }
+bad() {
+  echo "failed $1"
+  failed=$((failed + 1))
+  [ ! -s "$work/log" ] || tail -n 5 "$work/log" | sed 's/^/  /' >&2
+}
+# check NAME COMMAND..
+check() {
+  local name=$1
+  shift
+  : > "$work/log"
+  if "$@"; then good "$name"; else bad "$name"; fi
+}
+within() { timeout -k 5 "$@" 2>> "$work/log"; }
+hash_of() { sha256sum "$1" | cut -d' ' -f1; }
+# gives FILE COMMAND..: the command ends well within a minute and prints the bytes of the file
+gives() {
+  local file=$1
+  shift
+  within 60 "$@" > "$work/got" && [ "$(hash_of "$work/got")" = "$(hash_of "$file")" ]
+}
+# works COMMAND..: the command ends well within a minute
+works() { within 60 "$@" > "$work/got"; }
+# refuses TEXT COMMAND..: the command ends with 1, and says this
+refuses() {
+  local text=$1
+  shift
+  within 60 "$@" > "$work/got"
+  [ $? -eq 1 ] && grep -q -- "$text" "$work/log"
+}
+
+# ---- packages ----
+
+need() { # PACKAGE, and a command or file of it
+  if [ "${2#/}" = "$2" ] && command -v "$2" >/dev/null; then return; fi
+  if [ -e "$2" ]; then return; fi
+  : > "$work/log"
+  bad "the package $1 is missing"
+}
+GO_SOURCE=/usr/share/gocode
+need gcc gcc
+need make make
+need pkg-config pkg-config
+need openssl openssl
+need python3 python3
+need rustc rustc
+need valgrind valgrind
+need libgnutls28-dev /usr/include/gnutls/gnutls.h
+need libngtcp2-dev /usr/include/ngtcp2/ngtcp2.h
+need libngtcp2-crypto-gnutls-dev /usr/include/ngtcp2/ngtcp2_crypto_gnutls.h
+need ngtcp2-server gtlsserver
+need ngtcp2-client gtlsclient
+need golang-go go
+need golang-github-lucas-clemente-quic-go-dev $GO_SOURCE/src/github.com/lucas-clemente/quic-go
+need caddy caddy
+need chromium chromium
+[ "$failed" -eq 0 ] || exit 1
+
+# ---- programs ----
+
+export PKG_CONFIG_PATH=$lib GO111MODULE=off GOPATH=$GO_SOURCE GOCACHE=${GOCACHE:-$work/go}
+SANITIZERS="-O1 -g -fsanitize=address,undefined -fno-sanitize-recover=undefined"
+build() {
+  : > "$work/log"
+  if "$@" >> "$work/log" 2>&1; then return; fi
+  bad "build: $*"
+  exit 1
+}
+[ -n "${LIB:-}" ] || build make -s lib
+build make -s -C examples/c LIB="$lib" OUT="$work/checked" CFLAGS="$SANITIZERS"
+build make -s -C examples/c LIB="$lib" OUT="$work/plain"
+build gcc -O1 -g -c -o "$work/refuse.o" scripts/interop/refuse.c
+build make -s -C examples/c LIB="$lib" OUT="$work/refusing" CFLAGS="$SANITIZERS" \
+  LDFLAGS="$work/refuse.o -Wl,--wrap=malloc,--wrap=calloc,--wrap=realloc"
+build make -s -C examples/go LIB="$lib" OUT="$work"
+build make -s -C examples/rust LIB="$lib" OUT="$work"
+build go build -o "$work/peer" scripts/interop/peer.go
+build go build -o "$work/violate" scripts/interop/violate.go
+serve=$work/checked/serve
+peer=$work/peer
+
+# ---- what is served ----
+
+folder=$work/folder
+cert=$work/cert.pem
+key=$work/key.pem
+build openssl req -x509 -newkey ec -pkeyopt ec_paramgen_curve:P-256 -nodes -keyout "$key" -out "$cert" -days 13 -subj /CN=localhost \
+  -addext 'subjectAltName=DNS:localhost,IP:127.0.0.1'
+ours=("$work/checked/fetch" --address 127.0.0.1 --trust "$cert")
+go_ours=("$work/h3go" fetch)
+under_valgrind=(valgrind -q --leak-check=full --error-exitcode=9)
+build python3 scripts/interop/folder.py "$folder"
+big=$folder/big.bin
+echo "10000000 $(hash_of "$big")" > "$work/posted"
+for _ in $(seq 1000); do cat "$folder/hello.txt"; done > "$work/thousand"
+cat "$big" "$big" > "$work/twice"
+echo secret > "$work/secret.txt"
+ln -s ../secret.txt "$folder/link.txt"
+
+# ---- servers ----
+
+mapfile -t ports < <(python3 scripts/interop/ports.py 13)
+listens() { grep -qi ":$(printf %04X "$1") " /proc/net/udp /proc/net/udp6 2>/dev/null; }
+# A server for ten minutes at most, and ten seconds after the signal that ends it. In the foreground, since `timeout` would else signal its
+# whole group, twice, and LeakSanitizer, which looks for leaks at a program's end from a process of its own, may then never end.
+limited() { exec timeout --foreground -k 10 600 "$@"; }
+# start PORT LOG COMMAND..: a server in the background, until it listens; `last` is its process
+start() {
+  local port=$1 log=$2
+  shift 2
+  limited "$@" > "$work/$log" 2>&1 &
+  last=$!
+  pids+=("$last")
+  for _ in $(seq 100); do
+    if listens "$port"; then return; fi
+    sleep 0.1
+  done
+  cp "$work/$log" "$work/log"
+  bad "a server that listens: $*"
+}
+# stop PROCESS: ends a server, and answers as it ended
+stop() {
+  kill -TERM "$1" && wait "$1"
+}
+# relay PORT TO: a way to a server on which packets are lost, and come in another order
+relay() { start "$1" "relay$1.log" python3 scripts/interop/relay.py "$1" "$2"; }
+url() { echo "https://localhost:$1$2"; }
+
+# ---- our server ----
+
+gtls() { # PORT, options and URLs: what gtlsclient downloads stands in $work/down
+  local port=$1
+  shift
+  rm -rf "$work/down"
+  mkdir "$work/down"
+  within 60 gtlsclient -q --exit-on-all-streams-close --download="$work/down" "${options[@]}" 127.0.0.1 "$port" "$@" > /dev/null
+}
+gtls_file() {
+  options=()
+  gtls "$1" "$(url "$1" /big.bin)" && cmp -s "$work/down/big.bin" "$big"
+}
+gtls_post() {
+  options=(-m POST -d "$big")
+  gtls "$1" "$(url "$1" /answer)" && cmp -s "$work/down/answer" "$work/posted"
+}
+gtls_many() {
+  local urls=()
+  for i in $(seq 0 99); do urls+=("$(url "$1" "/small/$i.txt")"); done
+  options=()
+  gtls "$1" "${urls[@]}" && diff -rq "$work/down" "$folder/small" >> "$work/log"
+}
+browse() {
+  local spki
+  spki=$(openssl x509 -in "$cert" -pubkey -noout | openssl pkey -pubin -outform der | openssl dgst -sha256 -binary | base64)
+  within 60 env HOME="$work" chromium --headless=new --no-sandbox --user-data-dir="$work/profile$1" --origin-to-force-quic-on="localhost:$1" \
+    --ignore-certificate-errors-spki-list="$spki" --host-resolver-rules="MAP * 127.0.0.1" --disable-background-networking \
+    --disable-gpu --virtual-time-budget=20000 --dump-dom "$(url "$1" /)" > "$work/page" || return 1
+  sed -n '/id="seen"/,/<\/pre>/p' "$work/page" > "$work/seen"
+  cat "$work/seen" > "$work/log"
+  grep -q "image 64 x 48" "$work/seen" && grep -q "^post 1000000 $(hash_of "$folder/letters.txt")$" "$work/seen" &&
+    grep -q "^small 100$" "$work/seen" && grep -q "^protocols h3 of " "$work/seen"
+}
+# The server is told to end while a client has read a part of a body: the rest comes, and no further request is taken.
+going_away() { # PORT, PROCESS of the server
+  mkfifo "$work/pipe$1"
+  timeout -k 5 60 "$work/checked/fetch" --address 127.0.0.1 --trust "$cert" --count 2 "$(url "$1" /big.bin)" > "$work/pipe$1" 2>> "$work/log" &
+  local client=$!
+  exec 3< "$work/pipe$1"
+  head -c 1000 <&3 > "$work/got"
+  kill -TERM "$2"
+  sleep 1
+  cat <&3 >> "$work/got"
+  exec 3<&-
+  wait "$client"
+  [ $? -eq 1 ] || return 1
+  wait "$2" || return 1
+  cmp -s "$work/got" "$big" && grep -q "takes no more requests" "$work/log"
+}
+is_silent() { ! grep -qE "Sanitizer|runtime error|panic|DATA RACE" "$work/$1"; }
+
+# A client that breaks rules: a line of ours for each of its cases.
+violations() { # what the server is called, PORT
+  : > "$work/log"
+  within 120 "$work/violate" client "$cert" "127.0.0.1:$2" > "$work/cases"
+  while read -r word case; do
+    if [ "$word" = ok ]; then good "$1, a client that breaks a rule: $case"; else bad "$1, a client that breaks a rule: $case"; fi
+  done < "$work/cases"
+  [ -s "$work/cases" ] || bad "$1, a client that breaks a rule"
+}
+# A server that breaks rules: what the client says of the code with which it closes the connection, or of a message that is none.
+broken_server() { # what the client is called, PORT, what stands before a code, what it says of a message, the client
+  local name=$1 port=$2 before=$3 message=$4
+  shift 4
+  start "$port" violate.log "$work/violate" serve "127.0.0.1:$port" "$cert" "$key"
+  while read -r code case; do
+    local text=$message
+    [ "$code" -eq 0 ] || text="$before $code"
+    check "$name, a server that breaks a rule: $case" refuses "$text" "$@" "$(url "$port" /)"
+  done < <("$work/violate" cases)
+}
+
+our_server() { # what it is called, PORT, PORT of a relay to it
+  check "$1, gtlsclient: 10 MB" gtls_file "$2"
+  check "$1, gtlsclient: POST of 10 MB" gtls_post "$2"
+  check "$1, gtlsclient: 100 requests" gtls_many "$2"
+  check "$1, quic-go: 10 MB" gives "$big" "$peer" fetch "$cert" "$(url "$2" /big.bin)"
+  check "$1, quic-go: POST of 10 MB" gives "$work/posted" "$peer" post "$cert" "$big" "$(url "$2" /answer)"
+  check "$1, quic-go: 1,000 requests on one connection" works "$peer" many "$cert" 1000 100 "$(url "$2" /hello.txt)"
+  check "$1, quic-go: a client that gives 3 requests up" works "$peer" cancel "$cert" "$(url "$2" /big.bin)" 3
+  check "$1, Chromium: a page with an image, a POST, 100 requests at once" browse "$2"
+  check "$1, fetch: 1,000 requests on one connection" gives "$work/thousand" "${ours[@]}" --count 1000 --parallel 100 "$(url "$2" /hello.txt)"
+  check "$1, fetch: a response that is given up" gives "$work/twice" "${ours[@]}" --count 3 --cancel 100000 "$(url "$2" /big.bin)"
+  cat "$work/posted" "$work/posted" > "$work/posted_twice"
+  check "$1, fetch: a request that is reset" gives "$work/posted_twice" "${ours[@]}" --count 3 --cancel 100000 --post "$big" "$(url "$2" /answer)"
+  check "$1, gtlsclient, packets lost: 10 MB" gtls_file "$3"
+  check "$1, Chromium, packets lost: a page with an image, a POST, 100 requests at once" browse "$3"
+  check "$1, fetch, packets lost: 1,000 requests on one connection" gives "$work/thousand" "${ours[@]}" --count 1000 --parallel 100 \
+    "$(url "$3" /hello.txt)"
+  check "$1, fetch, packets lost: POST of 10 MB" gives "$work/posted" "${ours[@]}" --post "$big" "$(url "$3" /answer)"
+  check "$1, fetch: no such file" refuses "status 404" "${ours[@]}" "$(url "$2" /none)"
+  for path in /../secret.txt /%2e%2e/secret.txt /small/../../secret.txt //../secret.txt; do
+    check "$1, fetch: $path climbs out" refuses "status 40" "${ours[@]}" "$(url "$2" "$path")"
+  done
+}
+
+start "${ports[0]}" serve.log "$serve" 127.0.0.1 "${ports[0]}" "$cert" "$key" "$folder"
+c_server=$last
+relay "${ports[6]}" "${ports[0]}"
+our_server serve "${ports[0]}" "${ports[6]}"
+violations serve "${ports[0]}"
+check "serve, fetch: a link climbs out" refuses "status 404" "${ours[@]}" "$(url "${ports[0]}" /link.txt)"
+check "serve: GOAWAY at its end" going_away "${ports[0]}" "$c_server"
+check "serve: no leak and no error of memory" is_silent serve.log
+
+start "${ports[1]}" h3go.log "$work/h3go" serve "127.0.0.1:${ports[1]}" "$cert" "$key" "$folder"
+go_server=$last
+relay "${ports[7]}" "${ports[1]}"
+our_server "Go server" "${ports[1]}" "${ports[7]}"
+violations "Go server" "${ports[1]}"
+check "Go server, Go client: 10 MB" gives "$big" "${go_ours[@]}" "$cert" "$(url "${ports[1]}" /big.bin)"
+check "Go server: GOAWAY at its end" going_away "${ports[1]}" "$go_server"
+check "Go server: no panic" is_silent h3go.log
+
+# ---- our clients ----
+
+cat > "$work/Caddyfile" <<CADDY
+{
+	admin off
+	auto_https off
+	default_bind 127.0.0.1
+}
+https://localhost:${ports[4]} {
+	tls $cert $key
+	root * $folder
+	file_server
+}
+CADDY
+start "${ports[2]}" gtlsserver.log gtlsserver -q -d "$folder" 127.0.0.1 "${ports[2]}" "$key" "$cert"
+start "${ports[3]}" quic-go.log "$peer" serve "127.0.0.1:${ports[3]}" "$cert" "$key" "$folder"
+start "${ports[4]}" caddy.log env HOME="$work" caddy run --config "$work/Caddyfile" --adapter caddyfile
+our_clients() { # the server's name, PORT
+  check "fetch, $1: 10 MB" gives "$big" "${ours[@]}" "$(url "$2" /big.bin)"
+  check "fetch, $1: 1,000 requests on one connection" gives "$work/thousand" "${ours[@]}" --count 1000 --parallel 100 "$(url "$2" /hello.txt)"
+  check "fetch, $1: a response that is given up" gives "$work/twice" "${ours[@]}" --count 3 --cancel 100000 "$(url "$2" /big.bin)"
+  check "fetch, $1: no such file" refuses "status 404" "${ours[@]}" "$(url "$2" /none)"
+  check "Go client, $1: 10 MB" gives "$big" "${go_ours[@]}" "$cert" "$(url "$2" /big.bin)"
+  check "Go client, $1: 1,000 requests on one connection" gives "$work/thousand" "${go_ours[@]}" -count 1000 -parallel 100 "$cert" \
+    "$(url "$2" /hello.txt)"
+}
+relay "${ports[8]}" "${ports[2]}"
+relay "${ports[9]}" "${ports[3]}"
+our_clients gtlsserver "${ports[2]}"
+our_clients "gtlsserver, packets lost" "${ports[8]}"
+our_clients quic-go "${ports[3]}"
+our_clients "quic-go, packets lost" "${ports[9]}"
+our_clients Caddy "${ports[4]}"
+check "fetch, quic-go: POST of 10 MB" gives "$work/posted" "${ours[@]}" --post "$big" "$(url "${ports[3]}" /answer)"
+check "Go client, quic-go: POST of 10 MB" gives "$work/posted" "${go_ours[@]}" -post "$big" "$cert" "$(url "${ports[3]}" /answer)"
+check "fetch: a server whose certificate is not trusted" refuses "closed with QUIC code" "$work/checked/fetch" --address 127.0.0.1 \
+  "$(url "${ports[3]}" /hello.txt)"
+
+broken_server fetch "${ports[10]}" "closed with HTTP/3 code" "the response is malformed" "${ours[@]}"
+broken_server "Go client" "${ports[11]}" "detail" "the message is none" "${go_ours[@]}" "$cert"
+
+# ---- memory, and two endpoints ----
+
+start "${ports[5]}" valgrind.log "${under_valgrind[@]}" "$work/plain/serve" 127.0.0.1 "${ports[5]}" "$cert" "$key" "$folder"
+head -c 500000 "$big" > "$folder/half.bin"
+head -n 50 "$work/thousand" > "$work/fifty"
+check "valgrind, fetch and serve: 500 kB" gives "$folder/half.bin" "${under_valgrind[@]}" "$work/plain/fetch" --address 127.0.0.1 --trust "$cert" \
+  "$(url "${ports[5]}" /half.bin)"
+check "valgrind, fetch and serve: 50 requests" gives "$work/fifty" "${under_valgrind[@]}" "$work/plain/fetch" --address 127.0.0.1 --trust "$cert" \
+  --count 50 --parallel 10 "$(url "${ports[5]}" /hello.txt)"
+check "valgrind, fetch and serve: a request that is reset" works "${under_valgrind[@]}" "$work/plain/fetch" \
+  --address 127.0.0.1 --trust "$cert" --count 1 --cancel 100000 --post "$folder/half.bin" "$(url "${ports[5]}" /answer)"
+check "valgrind, serve: no leak and no error of memory" stop "$last"
+# ---- each allocation of the C programs refused in turn: they end with 0 or 1, no error of memory, and no leak ----
+
+refused_client() {
+  local count=0 status
+  while [ "$count" -lt 300 ]; do
+    : > "$work/log"
+    REFUSE_AT=$count within 20 "$work/refusing/fetch" --address 127.0.0.1 --trust "$cert" --count 2 --parallel 2 "$(url "$1" /hello.txt)" > "$work/got"
+    status=$?
+    [ "$status" -le 1 ] && is_silent log || return 1
+    if ! grep -q "allocation is refused" "$work/log"; then break; fi
+    count=$((count + 1))
+  done
+  [ "$status" -eq 0 ] && [ "$count" -gt 20 ]
+}
+refused_server() {
+  local count=0 status
+  while [ "$count" -lt 300 ]; do
+    REFUSE_AT=$count limited "$work/refusing/serve" 127.0.0.1 "$1" "$cert" "$key" "$folder" > "$work/refused.log" 2>&1 &
+    local server=$!
+    pids+=("$server")
+    for _ in $(seq 100); do
+      if listens "$1" || ! kill -0 "$server" 2>/dev/null; then break; fi
+      sleep 0.05
+    done
+    if listens "$1"; then
+      within 20 "${ours[@]}" --seconds 3 --count 2 --parallel 2 "$(url "$1" /hello.txt)" > "$work/got"
+      # the server goes on: where this allocation was refused before, all is as ever
+      if grep -q "allocation is refused" "$work/refused.log" && ! works "${ours[@]}" "$(url "$1" /hello.txt)"; then return 1; fi
+      kill -TERM "$server"
+    fi
+    wait "$server"
+    status=$?
+    cp "$work/refused.log" "$work/log"
+    [ "$status" -le 1 ] && is_silent log || return 1
+    if ! grep -q "allocation is refused" "$work/log"; then break; fi
+    count=$((count + 1))
+  done
+  [ "$status" -eq 0 ] && [ "$count" -gt 20 ]
+}
+check "fetch: each allocation refused in turn" refused_client "${ports[3]}"
+check "serve: each allocation refused in turn" refused_server "${ports[12]}"
+
+check "Rust: two endpoints" works "$work/two_endpoints"
+check "Rust: two endpoints, under valgrind" works "${under_valgrind[@]}" "$work/two_endpoints"
+[ "$failed" -eq 0 ]

@@ -1,0 +1,71 @@
+#!/usr/bin/env bash
+# C programs over build/c (scripts/lib.sh), by the machine's C compiler alone: the rows of crates/h3_calls and hostile lists of calls through the header,
+# each allocation refused in turn, two endpoints under random schedules, and wrong arguments. Once as they are, and once with the sanitizers of
+# addresses, leaks and undefined behaviour where the compiler has them. One line 'ok NAME' or 'failed NAME' for each.
+set -uo pipefail
+cd "$(dirname "$0")/.."
+
+if ! bash scripts/lib.sh >&2; then
+  echo "failed libh3.a: it was not built"
+  exit 1
+fi
+cc=${CC:-cc}
+out=build/c/tests
+mkdir -p "$out"
+bad=0
+libs=(-Ibuild/c -Lbuild/c -lh3 -lh3_shim)
+
+compile() { # NAME OUT FLAGS..
+  local name=$1 to=$2
+  shift 2
+  if ! "$cc" -std=c11 -O1 -g -Wall -Wextra -Werror "$@" -o "$out/$to" "tests/c/$name.c" "${libs[@]}"; then
+    echo "failed $to: it was not compiled"
+    bad=1
+  fi
+}
+
+# the rows of h3_calls, without the lines that ask for what the header does not show
+rows() { # PROGRAM
+  paste -d $'\001' crates/h3_calls/stdin crates/h3_calls/stdout | grep -avE '^(lends |goaways)' > "$out/rows"
+  cut -d$'\001' -f1 "$out/rows" > "$out/rows.in"
+  cut -d$'\001' -f2- "$out/rows" > "$out/rows.out"
+  if "$1" < "$out/rows.in" | cmp -s - "$out/rows.out"; then
+    echo "ok $2: $(grep -vc '^#' "$out/rows.in") calls answer as the rows of h3_calls say"
+  else
+    echo "failed $2: $("$1" < "$out/rows.in" | diff - "$out/rows.out" | head -n 6 | tr '\n' ' ')"
+    bad=1
+  fi
+}
+
+run() { # NAME PROGRAM ARGUMENTS..
+  local name=$1
+  shift
+  if ! "$@"; then
+    echo "failed $name: status $?"
+    bad=1
+  fi
+}
+
+compile calls calls
+compile memory memory -Wl,--wrap=malloc,--wrap=realloc,--wrap=free
+compile schedules schedules
+compile arguments arguments
+if [ "$bad" -eq 0 ]; then
+  rows "$out/calls" "rows"
+  run "hostile calls" python3 scripts/hostile_calls.py "$out/calls" 400
+  run memory "$out/memory"
+  run schedules "$out/schedules" 0 1000
+  run arguments "$out/arguments"
+fi
+if [ "$bad" -eq 0 ] && echo 'int main(void){return 0;}' | "$cc" -x c -fsanitize=address,undefined -o "$out/probe" - 2> "$out/probe.log"; then
+  flags=(-fsanitize=address,undefined -fno-sanitize-recover=all)
+  compile calls calls_checked "${flags[@]}"
+  compile schedules schedules_checked "${flags[@]}"
+  compile arguments arguments_checked "${flags[@]}"
+  if [ "$bad" -eq 0 ]; then
+    rows "$out/calls_checked" "rows with sanitizers"
+    run "schedules with sanitizers" "$out/schedules_checked" 1000 100
+    run "arguments with sanitizers" "$out/arguments_checked"
+  fi
+fi
+exit "$bad"

@@ -1,0 +1,237 @@
+/* Wrong arguments of every kind: each is answered, and nothing is done. */
+#include "h3.h"
+#include <stdio.h>
+#include <stdlib.h>
+#include <string.h>
+
+static int bad;
+#define IS(call, wanted) \
+  do { \
+    uint32_t n_ = (call); \
+    if (n_ != (wanted)) { \
+      printf("failed arguments: line %d: %s answers %u\n", __LINE__, #call, n_); \
+      bad = 1; \
+    } \
+  } while (0)
+#define HOLDS(test) IS((test) ? 1u : 0u, 1u)
+
+static const uint64_t FAR = UINT64_C(1) << 62;
+
+static void of_none(h3_endpoint *e) {
+  uint64_t id = 5, detail = 6;
+  size_t n = 7, m;
+  uint32_t fin;
+  uint8_t b[4];
+  h3_item item;
+  h3_stream_state s;
+  h3_state c;
+  h3_field_size f = {1, 1};
+  IS(h3_open_request(e, &id, &detail), H3_NO_ENDPOINT);
+  IS(h3_send_head(e, 0, &f, 1, "ab", 2, &detail), H3_NO_ENDPOINT);
+  IS(h3_send_trailer(e, 0, &f, 1, "ab", 2, &detail), H3_NO_ENDPOINT);
+  IS(h3_send_body(e, 0, "ab", 2, &detail), H3_NO_ENDPOINT);
+  IS(h3_finish(e, 0, &detail), H3_NO_ENDPOINT);
+  IS(h3_reset(e, 0, &detail), H3_NO_ENDPOINT);
+  IS(h3_cancel(e, 0, &detail), H3_NO_ENDPOINT);
+  IS(h3_goaway(e, 0, &detail), H3_NO_ENDPOINT);
+  IS(h3_next_waiting(e, 0, &id), H3_NO_ENDPOINT);
+  IS(h3_outgoing(e, 0, b, 4, &n, &fin), H3_NO_ENDPOINT);
+  IS(h3_advance(e, 0, 0), H3_NO_ENDPOINT);
+  IS(h3_deliver(e, 0, "ab", 2, &detail), H3_NO_ENDPOINT);
+  IS(h3_deliver_end(e, 0, &detail), H3_NO_ENDPOINT);
+  IS(h3_deliver_reset(e, 0, 0, &detail), H3_NO_ENDPOINT);
+  IS(h3_pull(e, 0, &item), H3_NO_ENDPOINT);
+  IS(h3_item_field(e, 0, b, 4, &n, b, 4, &m), H3_NO_ENDPOINT);
+  IS(h3_item_bytes(e, 0, b, 4, &n), H3_NO_ENDPOINT);
+  IS(h3_stream(e, 0, &s), H3_NO_ENDPOINT);
+  IS(h3_connection(e, &c), H3_NO_ENDPOINT);
+  IS(h3_peer_setting(e, 6, &id), H3_NO_ENDPOINT);
+  HOLDS(id == 5 && detail == 6 && n == 7);
+  h3_free(e);
+  h3_free(e);
+}
+
+static void of_new(void) {
+  h3_endpoint e = H3_NONE_YET;
+  h3_config c;
+  uint64_t detail = 9;
+  h3_config_default(&c);
+  c.grease = UINT64_C(0x210842108421083);
+  IS(h3_new(&e, &c, &detail), H3_ARGUMENT);
+  HOLDS(!e.at && detail == 0);
+  c.grease--;
+  c.send_grease = 1;
+  IS(h3_new(&e, &c, NULL), H3_OK);
+  h3_free(&e);
+  HOLDS(!e.at);
+  c.table = UINT64_C(1) << 30;
+  c.blocked = 65536;
+  IS(h3_new(&e, &c, &detail), H3_TABLE_LIMIT);
+  HOLDS(!e.at);
+  c.table--;
+  IS(h3_new(&e, &c, &detail), H3_BLOCKED_LIMIT);
+  c.blocked--;
+  c.max_field_section_size = FAR;
+  IS(h3_new(&e, &c, &detail), H3_SETTING);
+  HOLDS(!e.at && detail == 6);
+  c.max_field_section_size--;
+  c.max_webtransport_sessions = FAR;
+  IS(h3_new(&e, &c, &detail), H3_SETTING);
+  HOLDS(detail == UINT64_C(0x2b603743));
+  c.max_webtransport_sessions = 0;
+  IS(h3_new(&e, &c, &detail), H3_OK);
+  HOLDS(detail == 0);
+  h3_free(&e);
+}
+
+static void of_ids(h3_endpoint *e) {
+  uint64_t detail, ids[3] = {FAR, FAR + 1, UINT64_MAX};
+  size_t n = 7;
+  uint8_t b[4];
+  h3_item item;
+  h3_stream_state s;
+  h3_field_size f = {7, 3};
+  for (int i = 0; i < 3; i++) {
+    IS(h3_send_head(e, ids[i], &f, 1, ":methodGET", 10, &detail), H3_ARGUMENT);
+    IS(h3_send_trailer(e, ids[i], &f, 1, ":methodGET", 10, &detail), H3_ARGUMENT);
+    IS(h3_send_body(e, ids[i], "ab", 2, &detail), H3_ARGUMENT);
+    IS(h3_finish(e, ids[i], &detail), H3_ARGUMENT);
+    IS(h3_reset(e, ids[i], &detail), H3_ARGUMENT);
+    IS(h3_cancel(e, ids[i], &detail), H3_ARGUMENT);
+    IS(h3_goaway(e, ids[i], &detail), H3_ARGUMENT);
+    IS(h3_outgoing(e, ids[i], b, 4, &n, NULL), H3_ARGUMENT);
+    IS(h3_advance(e, ids[i], 0), H3_ARGUMENT);
+    IS(h3_deliver(e, ids[i], "ab", 2, &detail), H3_ARGUMENT);
+    IS(h3_deliver_end(e, ids[i], &detail), H3_ARGUMENT);
+    IS(h3_deliver_reset(e, ids[i], 0, &detail), H3_ARGUMENT);
+    IS(h3_pull(e, ids[i], &item), H3_ARGUMENT);
+    IS(h3_stream(e, ids[i], &s), H3_ARGUMENT);
+    uint64_t next;
+    IS(h3_next_waiting(e, ids[i], &next), H3_NONE);
+    HOLDS(detail == 0 && n == 7);
+  }
+}
+
+static void of_fields(h3_endpoint *e, uint64_t id) {
+  h3_field_size sizes[2] = {{7, 3}, {3, 1}}, empty = {0, 0}, upper = {3, 1}, huge = {UINT32_MAX, UINT32_MAX};
+  static const char row[] = ":methodGETx-ab";
+  IS(h3_send_head(e, id, sizes, 2, row, 13, NULL), H3_ARGUMENT);
+  IS(h3_send_head(e, id, sizes, 2, row, 15, NULL), H3_ARGUMENT);
+  IS(h3_send_head(e, id, sizes, 1, row, 14, NULL), H3_ARGUMENT);
+  IS(h3_send_head(e, id, &huge, 1, row, 14, NULL), H3_ARGUMENT);
+  IS(h3_send_head(e, id, &empty, 1, NULL, 0, NULL), H3_FIELD_NAME);
+  IS(h3_send_head(e, id, &upper, 1, "X-ab", 4, NULL), H3_FIELD_NAME);
+  IS(h3_send_head(e, id, &upper, 1, ":-ab", 4, NULL), H3_FIELD_NAME);
+  IS(h3_send_head(e, id, &upper, 1, "x-a\n", 4, NULL), H3_FIELD_VALUE);
+  IS(h3_send_head(e, id, &(h3_field_size){7, 3}, 1, ":methodG T", 10, NULL), H3_FIELD_VALUE);
+  IS(h3_send_head(e, id, NULL, 0, NULL, 0, NULL), H3_WRONG_SIDE);
+  IS(h3_send_head(e, id, &(h3_field_size){7, 3}, 1, ":status200", 10, NULL), H3_WRONG_SIDE);
+  IS(h3_send_trailer(e, id, NULL, 0, NULL, 0, NULL), H3_OUT_OF_ORDER);
+  IS(h3_send_head(e, id, sizes, 2, row, 14, NULL), H3_OK);
+  IS(h3_send_head(e, id, sizes, 2, row, 14, NULL), H3_OUT_OF_ORDER);
+  IS(h3_send_trailer(e, id, sizes, 1, row, 10, NULL), H3_PSEUDO_IN_TRAILER);
+  IS(h3_send_trailer(e, id, NULL, 0, NULL, 0, NULL), H3_OK);
+}
+
+static void of_counts(h3_endpoint *e, uint64_t id) {
+  h3_stream_state s;
+  size_t n = 0, m = 0;
+  uint8_t b[64], c[64];
+  IS(h3_stream(e, id, &s), H3_OK);
+  HOLDS(s.waiting > 4);
+  IS(h3_advance(e, id, s.waiting + 1), H3_ARGUMENT);
+  IS(h3_advance(e, id, SIZE_MAX), H3_ARGUMENT);
+  /* a buffer of no bytes gets none, and what waits goes on waiting */
+  IS(h3_outgoing(e, id, NULL, 64, &n, NULL), H3_OK);
+  HOLDS(n == 0);
+  IS(h3_outgoing(e, id, b, 0, &n, NULL), H3_OK);
+  HOLDS(n == 0);
+  IS(h3_outgoing(e, id, b, 3, &n, NULL), H3_OK);
+  HOLDS(n == 3);
+  memset(c, 0xee, sizeof c);
+  IS(h3_outgoing(e, id, c, 64, &m, NULL), H3_OK);
+  HOLDS(m == s.waiting && !memcmp(b, c, 3) && c[m] == 0xee);
+  /* what was advanced over is gone, and no more */
+  IS(h3_advance(e, id, 3), H3_OK);
+  IS(h3_outgoing(e, id, b, 64, &n, NULL), H3_OK);
+  HOLDS(n == m - 3 && !memcmp(b, c + 3, n));
+}
+
+static void of_items(void) {
+  h3_endpoint e = H3_NONE_YET;
+  h3_config config;
+  h3_item item, same;
+  size_t n = 7, m = 7;
+  uint8_t b[64], c[64];
+  /* HEADERS with :method GET, :scheme https, :authority "a", :path / (RFC 9204, appendix A and section 4.5.4), then DATA "hi" */
+  static const uint8_t request[] = {1, 7, 0, 0, 0xd1, 0xd7, 0x50, 1, 'a', 0, 2, 'h', 'i'};
+  h3_config_default(&config);
+  config.server = 1;
+  IS(h3_new(&e, &config, NULL), H3_OK);
+  IS(h3_item_field(&e, 0, b, 64, &n, c, 64, &m), H3_NONE);
+  IS(h3_item_bytes(&e, 0, b, 64, &n), H3_NONE);
+  HOLDS(n == 7 && m == 7);
+  IS(h3_deliver(&e, 0, request, sizeof request, NULL), H3_OK);
+  IS(h3_pull(&e, 0, &item), H3_OK);
+  HOLDS(item.kind == H3_HEAD && item.fields == 3);
+  IS(h3_item_field(&e, 3, b, 64, &n, c, 64, &m), H3_NONE);
+  IS(h3_item_field(&e, SIZE_MAX, b, 64, &n, c, 64, &m), H3_NONE);
+  memset(b, 0xee, sizeof b);
+  IS(h3_item_field(&e, 0, b, 3, &n, c, 64, &m), H3_ROOM);
+  HOLDS(n == 7 && m == 3 && !memcmp(b, ":me\xee", 4));
+  IS(h3_item_field(&e, 0, b, 7, &n, c, 2, &m), H3_ROOM);
+  HOLDS(!memcmp(b, ":method\xee", 8) && !memcmp(c, "GE", 2));
+  IS(h3_item_field(&e, 0, b, 7, &n, c, 3, &m), H3_OK);
+  HOLDS(!memcmp(c, "GET", 3));
+  /* a refused pull leaves the item */
+  memset(&same, 0x55, sizeof same);
+  IS(h3_pull(&e, FAR, &same), H3_ARGUMENT);
+  HOLDS(same.kind == 0x55555555);
+  IS(h3_item_field(&e, 1, b, 64, &n, c, 64, &m), H3_OK);
+  HOLDS(n == 7 && !memcmp(b, ":scheme", 7) && m == 5 && !memcmp(c, "https", 5));
+  IS(h3_item_bytes(&e, 0, b, 64, &n), H3_NONE);
+  IS(h3_pull(&e, 0, &item), H3_OK);
+  HOLDS(item.kind == H3_BODY && item.len == 2);
+  IS(h3_item_field(&e, 0, b, 64, &n, c, 64, &m), H3_NONE);
+  IS(h3_item_bytes(&e, 0, b, 1, &n), H3_OK);
+  HOLDS(n == 1 && b[0] == 'h');
+  IS(h3_item_bytes(&e, 1, b, 64, &n), H3_OK);
+  HOLDS(n == 1 && b[0] == 'i');
+  IS(h3_item_bytes(&e, 2, b, 64, &n), H3_NONE);
+  IS(h3_item_bytes(&e, SIZE_MAX, b, 64, &n), H3_NONE);
+  /* an own stream, one of the other side, and one behind its end */
+  uint64_t detail = 1;
+  IS(h3_deliver(&e, 3, "x", 1, &detail), H3_NOT_RECEIVING);
+  IS(h3_deliver(&e, 1, "x", 1, &detail), H3_NOT_OPEN);
+  IS(h3_deliver_end(&e, 0, &detail), H3_OK);
+  IS(h3_deliver(&e, 0, "x", 1, &detail), H3_AFTER_END);
+  /* a fault of the connection: DATA on the control stream before SETTINGS (RFC 9114, section 6.2.1) */
+  IS(h3_deliver(&e, 2, "\0\0", 3, &detail), H3_CONNECTION);
+  HOLDS(detail == 0x10a);
+  IS(h3_deliver(&e, 2, "x", 1, &detail), H3_CONNECTION);
+  HOLDS(detail == 0x10a);
+  IS(h3_goaway(&e, 0, &detail), H3_CLOSED);
+  HOLDS(detail == 0x10a);
+  IS(h3_pull(&e, 0, &item), H3_OK);
+  HOLDS(item.kind == H3_FAULT_CONNECTION && item.number == 0x10a);
+  h3_free(&e);
+}
+
+int main(void) {
+  h3_endpoint e = H3_NONE_YET;
+  h3_config c;
+  uint64_t id;
+  of_none(&e);
+  of_new();
+  h3_config_default(&c);
+  IS(h3_new(&e, &c, NULL), H3_OK);
+  of_ids(&e);
+  IS(h3_open_request(&e, &id, NULL), H3_OK);
+  of_fields(&e, id);
+  of_counts(&e, id);
+  h3_free(&e);
+  of_none(&e);
+  of_items();
+  if (!bad) puts("ok arguments: wrong arguments of every kind are answered, and nothing is done");
+  return bad;
+}

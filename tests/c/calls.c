@@ -1,0 +1,297 @@
+/* Makes calls of an endpoint through h3.h, a line each, and prints what they answer: the language of crates/h3_calls, whose rows have their
+ * answers beside them. Lines that ask for what the header does not show (`lends`, `goaways`) are left out of the answers. */
+#include "h3.h"
+#include <stdio.h>
+#include <stdlib.h>
+#include <string.h>
+
+static h3_endpoint endpoint = H3_NONE_YET;
+
+static const struct {
+  uint64_t code;
+  const char *name;
+} codes[] = {{0x33, "H3_DATAGRAM_ERROR"}, {0x100, "H3_NO_ERROR"}, {0x101, "H3_GENERAL_PROTOCOL_ERROR"}, {0x102, "H3_INTERNAL_ERROR"},
+             {0x103, "H3_STREAM_CREATION_ERROR"}, {0x104, "H3_CLOSED_CRITICAL_STREAM"}, {0x105, "H3_FRAME_UNEXPECTED"}, {0x106, "H3_FRAME_ERROR"},
+             {0x107, "H3_EXCESSIVE_LOAD"}, {0x108, "H3_ID_ERROR"}, {0x109, "H3_SETTINGS_ERROR"}, {0x10a, "H3_MISSING_SETTINGS"},
+             {0x10b, "H3_REQUEST_REJECTED"}, {0x10c, "H3_REQUEST_CANCELLED"}, {0x10d, "H3_REQUEST_INCOMPLETE"}, {0x10e, "H3_MESSAGE_ERROR"},
+             {0x10f, "H3_CONNECT_ERROR"}, {0x110, "H3_VERSION_FALLBACK"}, {0x200, "QPACK_DECOMPRESSION_FAILED"},
+             {0x201, "QPACK_ENCODER_STREAM_ERROR"}, {0x202, "QPACK_DECODER_STREAM_ERROR"}};
+
+static const char *code_name(uint64_t code) {
+  for (size_t i = 0; i < sizeof codes / sizeof *codes; i++)
+    if (codes[i].code == code) return codes[i].name;
+  return "unknown";
+}
+
+static const char *const refusals[] = {"ok", "Closed", "Connection", "NotReceiving", "AfterEnd", "Kept", "NotClient", "GoingAway", "IdsUsedUp", "NotOpen",
+                                       "OutOfOrder", "WrongSide", "PseudoInTrailer", "TooLarge", "Critical", "Ended", "NotRequestId", "Raised",
+                                       "OutOfMemory", "TableLimit", "BlockedLimit", "Settings"};
+static const char *const malformations[] = {"Name", "Value", "TooMany", "WrongSide", "PseudoInTrailer", "NoHead"};
+
+static void answer(uint32_t n, uint64_t detail) {
+  if (n == H3_OK)
+    puts("ok");
+  else if (n == H3_CLOSED || n == H3_CONNECTION)
+    printf("refused %s %s\n", refusals[n], code_name(detail));
+  else if (n == H3_GOING_AWAY || n == H3_TOO_LARGE || n == H3_RAISED)
+    printf("refused %s %llu\n", refusals[n], (unsigned long long)detail);
+  else if (n <= H3_SETTING)
+    printf("refused %s\n", refusals[n]);
+  else if (n >= H3_FIELD_NAME && n <= H3_FIELD_COUNT)
+    puts("no such call");
+  else
+    printf("answer %u\n", n);
+}
+
+static int digit(int c) { return c >= '0' && c <= '9' ? c - '0' : c >= 'a' && c <= 'f' ? c - 'a' + 10 : c >= 'A' && c <= 'F' ? c - 'A' + 10 : -1; }
+
+/* the bytes of hex digits, or none of them for a '-' */
+static size_t from_hex(const char *word, uint8_t *out) {
+  size_t n = 0;
+  if (!strcmp(word, "-")) return 0;
+  for (; word[0] && word[1]; word += 2) out[n++] = (uint8_t)(digit(word[0]) * 16 + digit(word[1]));
+  return n;
+}
+
+static void print_hex(const char *name, const uint8_t *bytes, size_t len) {
+  printf("%s ", name);
+  if (!len) putchar('-');
+  for (size_t i = 0; i < len; i++) printf("%02x", bytes[i]);
+  putchar('\n');
+}
+
+/* bytes with escapes for what is no letter, digit or sign */
+static void print_escaped(const uint8_t *bytes, size_t len) {
+  for (size_t i = 0; i < len; i++)
+    if (bytes[i] > 32 && bytes[i] < 127 && bytes[i] != '%')
+      putchar(bytes[i]);
+    else
+      printf("%%%02X", bytes[i]);
+}
+
+static void *room_for(size_t n) {
+  void *p = malloc(n ? n : 1);
+  if (!p) exit(2);
+  return p;
+}
+
+static void print_fields(const char *name, size_t fields) {
+  printf("%s", name);
+  for (size_t i = 0; i < fields; i++) {
+    size_t nl, vl;
+    uint32_t n = h3_item_field(&endpoint, i, NULL, 0, &nl, NULL, 0, &vl);
+    if (n != H3_OK && n != H3_ROOM) exit(3);
+    uint8_t *field = room_for(nl + vl);
+    if (h3_item_field(&endpoint, i, field, nl, &nl, field + nl, vl, &vl) != H3_OK) exit(3);
+    putchar(' ');
+    print_escaped(field, nl);
+    putchar('=');
+    print_escaped(field + nl, vl);
+    free(field);
+  }
+  putchar('\n');
+}
+
+static void print_bytes(const char *name, size_t len) {
+  uint8_t *bytes = room_for(len);
+  size_t from = 0, n;
+  /* in pieces of 7, so that `from` is asked for too */
+  while (from < len) {
+    if (h3_item_bytes(&endpoint, from, bytes + from, len - from < 7 ? len - from : 7, &n) != H3_OK) exit(3);
+    from += n;
+  }
+  if (h3_item_bytes(&endpoint, len, bytes, len, &n) != H3_NONE) exit(3);
+  printf("%s ", name);
+  print_escaped(bytes, len);
+  putchar('\n');
+  free(bytes);
+}
+
+static void pull(uint64_t id) {
+  h3_item item;
+  uint32_t n = h3_pull(&endpoint, id, &item);
+  if (n) {
+    answer(n, 0);
+    return;
+  }
+  unsigned long long number = item.number;
+  switch (item.kind) {
+  case H3_INTERIM: print_fields("interim", item.fields); break;
+  case H3_HEAD: print_fields("head", item.fields); break;
+  case H3_TRAILER: print_fields("trailer", item.fields); break;
+  case H3_BODY: print_bytes("body", item.len); break;
+  case H3_RAW: print_bytes("raw", item.len); break;
+  case H3_TOO_LARGE_HEAD: printf("too large %llu\n", number); break;
+  case H3_SESSION: printf("session %llu\n", number); break;
+  case H3_END: puts("end"); break;
+  case H3_PENDING: puts("pending"); break;
+  case H3_WAITING: printf("waiting %llu\n", number); break;
+  case H3_NO_MESSAGES: puts("no messages"); break;
+  case H3_FAULT_CONNECTION: printf("fault %s\n", code_name(item.number)); break;
+  case H3_FAULT_MALFORMED: printf("fault malformed %s\n", malformations[item.number]); break;
+  case H3_FAULT_RESET: printf("fault reset %llu\n", number); break;
+  case H3_FAULT_CANCELED: puts("fault canceled"); break;
+  default: printf("kind %u\n", item.kind);
+  }
+}
+
+static void waits(uint64_t id) {
+  h3_stream_state state;
+  size_t n = 0;
+  if (h3_stream(&endpoint, id, &state)) exit(3);
+  uint8_t *bytes = room_for(state.waiting);
+  if (h3_outgoing(&endpoint, id, bytes, state.waiting, &n, NULL) || n != state.waiting) exit(3);
+  print_hex("waits", bytes, n);
+  free(bytes);
+}
+
+static void sends(uint64_t id) {
+  h3_stream_state s;
+  if (h3_stream(&endpoint, id, &s)) exit(3);
+  puts(!s.has_outgoing ? "no stream" : s.is_finished ? "finished" : s.is_reset ? "reset" : "sends");
+}
+
+static void show(void) {
+  h3_state s;
+  if (h3_connection(&endpoint, &s)) exit(3);
+  if (s.has_settings)
+    printf("show %llu %llu %llu", (unsigned long long)s.peer_table, (unsigned long long)s.peer_blocked, (unsigned long long)s.peer_section);
+  else
+    printf("show - - -");
+  printf(" %llu %llu %llu\n", (unsigned long long)s.sending_table, (unsigned long long)s.receiving_table, (unsigned long long)s.waiting_heads);
+}
+
+static void begin(char **words) {
+  h3_config c;
+  uint64_t detail;
+  h3_config_default(&c);
+  c.server = words[1][0] == 's';
+  c.max_field_section_size = strtoull(words[2], NULL, 10);
+  c.table = strtoull(words[3], NULL, 10);
+  c.blocked = strtoull(words[4], NULL, 10);
+  h3_endpoint made = H3_NONE_YET;
+  uint32_t n = h3_new(&made, &c, &detail);
+  answer(n, detail);
+  if (n) return;
+  h3_free(&endpoint);
+  endpoint = made;
+}
+
+/* takes at most what waits */
+static void advance(uint64_t id, uint64_t count) {
+  h3_stream_state s;
+  if (h3_stream(&endpoint, id, &s)) exit(3);
+  if (count > s.waiting) {
+    if (h3_advance(&endpoint, id, s.waiting + 1) != H3_ARGUMENT) exit(3);
+    count = s.waiting;
+  }
+  answer(h3_advance(&endpoint, id, count), 0);
+}
+
+static void section(uint64_t id, int trailer, char **words, size_t count) {
+  h3_field_size sizes[512];
+  static uint8_t bytes[1 << 20];
+  size_t len = 0, fields = 0;
+  uint64_t detail;
+  for (size_t i = 0; i < count; i++) {
+    const char *at = words[i];
+    if (!strchr(at, '=') || fields == 512) {
+      puts("no such call");
+      return;
+    }
+    for (int part = 0; part < 2; part++) {
+      size_t begin = len;
+      for (; *at && (part || *at != '='); at++) {
+        if (*at == '%' && digit(at[1]) >= 0 && digit(at[2]) >= 0) {
+          bytes[len++] = (uint8_t)(digit(at[1]) * 16 + digit(at[2]));
+          at += 2;
+        } else
+          bytes[len++] = (uint8_t)*at;
+      }
+      if (part)
+        sizes[fields].value = (uint32_t)(len - begin);
+      else {
+        sizes[fields].name = (uint32_t)(len - begin);
+        at++;
+      }
+    }
+    fields++;
+  }
+  uint32_t n = trailer ? h3_send_trailer(&endpoint, id, sizes, fields, bytes, len, &detail) : h3_send_head(&endpoint, id, sizes, fields, bytes, len, &detail);
+  answer(n, detail);
+}
+
+static void on_stream(char **words, size_t count) {
+  static uint8_t bytes[1 << 20];
+  const char *command = words[0];
+  uint64_t id = strtoull(words[1], NULL, 10), detail = 0;
+  const char *word = count > 2 ? words[2] : "";
+  if (!strcmp(command, "head") || !strcmp(command, "trailer")) section(id, command[0] == 't', words + 2, count - 2);
+  else if (!strcmp(command, "body")) {
+    uint32_t n = h3_send_body(&endpoint, id, bytes, from_hex(word, bytes), &detail);
+    answer(n, detail);
+  } else if (!strcmp(command, "deliver")) {
+    uint32_t n = h3_deliver(&endpoint, id, bytes, from_hex(word, bytes), &detail);
+    answer(n, detail);
+  } else if (!strcmp(command, "finish")) {
+    uint32_t n = h3_finish(&endpoint, id, &detail);
+    answer(n, detail);
+  } else if (!strcmp(command, "reset")) {
+    uint32_t n = h3_reset(&endpoint, id, &detail);
+    answer(n, detail);
+  } else if (!strcmp(command, "cancel")) {
+    uint32_t n = h3_cancel(&endpoint, id, &detail);
+    answer(n, detail);
+  } else if (!strcmp(command, "goaway")) {
+    uint32_t n = h3_goaway(&endpoint, id, &detail);
+    answer(n, detail);
+  } else if (!strcmp(command, "end")) {
+    uint32_t n = h3_deliver_end(&endpoint, id, &detail);
+    answer(n, detail);
+  } else if (!strcmp(command, "gone")) {
+    uint32_t n = h3_deliver_reset(&endpoint, id, strtoull(word, NULL, 10), &detail);
+    answer(n, detail);
+  } else if (!strcmp(command, "advance")) advance(id, strtoull(word, NULL, 10));
+  else if (!strcmp(command, "pull")) pull(id);
+  else if (!strcmp(command, "waits")) waits(id);
+  else if (!strcmp(command, "sends")) sends(id);
+  else if (!strcmp(command, "tries")) {
+    h3_stream_state s;
+    if (h3_stream(&endpoint, id, &s)) exit(3);
+    printf("tries %u\n", s.tries);
+  } else if (strcmp(command, "lends")) puts("no such call");
+}
+
+static void call(char *line) {
+  char *words[600] = {""};
+  size_t count = 0;
+  if (!line[0] || line[0] == '#') {
+    puts(line);
+    return;
+  }
+  for (char *word = strtok(line, " "); word && count < 600; word = strtok(NULL, " ")) words[count++] = word;
+  uint64_t id, detail;
+  if (!strcmp(words[0], "new") && count == 5) begin(words);
+  else if (!strcmp(words[0], "open")) {
+    uint32_t n = h3_open_request(&endpoint, &id, &detail);
+    if (n) answer(n, detail);
+    else printf("stream %llu\n", (unsigned long long)id);
+  } else if (!strcmp(words[0], "show")) show();
+  else if (!strcmp(words[0], "sent")) {
+    h3_state s;
+    if (h3_connection(&endpoint, &s)) exit(3);
+    printf("sent %llu\n", (unsigned long long)s.sent);
+  } else if (!strcmp(words[0], "goaways")) return;
+  else if (count >= 2) on_stream(words, count);
+  else puts("no such call");
+}
+
+int main(void) {
+  static char line[1 << 21];
+  while (fgets(line, sizeof line, stdin)) {
+    line[strcspn(line, "\n")] = 0;
+    call(line);
+  }
+  h3_free(&endpoint);
+  return 0;
+}

@@ -1,0 +1,217 @@
+/* Each allocation of an exchange between two endpoints is refused in turn: the call says so, is made again, and in the end the same items come
+ * out. Nothing is left allocated. Linked with --wrap for malloc, realloc and free. */
+#include "h3.h"
+#include <stdio.h>
+#include <stdlib.h>
+#include <string.h>
+
+void *__real_malloc(size_t);
+void *__real_realloc(void *, size_t);
+void __real_free(void *);
+
+static long left = -1; /* allocations until one is refused; -1: none is */
+static long live;      /* blocks that are allocated */
+static long refused;
+
+static int refuse(void) {
+  if (left < 0 || left-- != 0) return 0;
+  refused++;
+  return 1;
+}
+void *__wrap_malloc(size_t n) {
+  if (refuse()) return NULL;
+  void *p = __real_malloc(n);
+  live += p != NULL;
+  return p;
+}
+void *__wrap_realloc(void *p, size_t n) {
+  if (refuse()) return NULL;
+  void *q = __real_realloc(p, n);
+  if (!p && q) live++;
+  return q;
+}
+void __wrap_free(void *p) {
+  live -= p != NULL;
+  __real_free(p);
+}
+
+static long run_number;
+
+static void fail(const char *what, uint32_t n) {
+  printf("failed memory: allocation %ld refused: %s, %u\n", run_number, what, n);
+  exit(1);
+}
+
+/* reads what was taken and not read: a pull of an own stream hands out nothing */
+static void read_kept(h3_endpoint *end, int side) {
+  h3_item item;
+  if (h3_pull(end, h3_control_id(side), &item)) fail("pull of an own stream", 0);
+}
+
+/* a call that may be refused memory, made until it is not */
+#define AGAIN(call, what) \
+  do { \
+    uint32_t n_; \
+    int tries_ = 0; \
+    while ((n_ = (call)) == H3_MEMORY) \
+      if (++tries_ > 2) fail(what, n_); \
+    if (n_ != H3_OK) fail(what, n_); \
+  } while (0)
+
+static h3_endpoint ends[2];
+static char story[8192]; /* what came out, as text */
+static size_t told;
+
+static void tell(const char *word, const uint8_t *bytes, size_t len) {
+  told += (size_t)snprintf(story + told, sizeof story - told, "%s:", word);
+  for (size_t i = 0; i < len && told < sizeof story - 4; i++) told += (size_t)snprintf(story + told, sizeof story - told, "%02x", bytes[i]);
+  told += (size_t)snprintf(story + told, sizeof story - told, "\n");
+}
+
+static void make(void) {
+  for (int side = 0; side < 2; side++) {
+    h3_config c;
+    h3_config_default(&c);
+    c.server = (uint32_t)side;
+    c.table = 4096;
+    c.blocked = 100;
+    AGAIN(h3_new(&ends[side], &c, NULL), "new");
+  }
+}
+
+static void head(int side, uint64_t id) {
+  static const h3_field_size request[] = {{7, 3}, {7, 5}, {10, 9}, {5, 11}, {4, 20}, {3, 1}}, response[] = {{7, 3}, {12, 9}, {4, 20}};
+  static const char *const asked = ":methodGET:schemehttps:authoritylocalhost:path/index.htmlx-ab01234567890123456789x-c1";
+  static const char *const given = ":status200content-typetext/htmlx-ab01234567890123456789";
+  if (side)
+    AGAIN(h3_send_head(&ends[1], id, response, 3, given, strlen(given), NULL), "send_head of a response");
+  else
+    AGAIN(h3_send_head(&ends[0], id, request, 6, asked, strlen(asked), NULL), "send_head of a request");
+}
+
+static void carry_all(int side) {
+  uint64_t id;
+  while (h3_next_waiting(&ends[side], 0, &id) == H3_OK) {
+    uint8_t buffer[48];
+    size_t n;
+    uint32_t fin, answer;
+    if (h3_outgoing(&ends[side], id, buffer, sizeof buffer, &n, &fin)) fail("outgoing", 0);
+    if (!n) fail("outgoing gives nothing", 0);
+    int tries = 0;
+    while ((answer = h3_deliver(&ends[!side], id, buffer, n, NULL)) == H3_MEMORY) {
+      read_kept(&ends[!side], !side);
+      if (++tries > 2) fail("deliver", answer);
+    }
+    /* taken, and read by the next delivery or pull */
+    if (answer != H3_OK && answer != H3_KEPT) fail("deliver", answer);
+    if (h3_advance(&ends[side], id, n)) fail("advance", 0);
+    /* where memory is refused the end may come by itself */
+    h3_stream_state s;
+    if (h3_stream(&ends[side], id, &s)) fail("stream", 0);
+    if (s.is_finished && !s.waiting) {
+      tries = 0;
+      while ((answer = h3_deliver_end(&ends[!side], id, NULL)) == H3_MEMORY) {
+        read_kept(&ends[!side], !side);
+        if (++tries > 2) fail("deliver_end", answer);
+      }
+      if (answer != H3_OK && answer != H3_KEPT) fail("deliver_end", answer);
+    }
+  }
+}
+
+/* pulls until a pause; what came out goes into the story */
+static void pull_all(int side, uint64_t id) {
+  for (int faults = 0;;) {
+    h3_item item;
+    static uint8_t body[4096];
+    static size_t gathered;
+    if (h3_pull(&ends[side], id, &item)) fail("pull", 0);
+    if (item.kind == H3_FAULT_MEMORY) {
+      if (++faults > 3) fail("pull has no memory", 0);
+      continue;
+    }
+    if (item.kind == H3_BODY) {
+      size_t n;
+      if (h3_item_bytes(&ends[side], 0, body + gathered, sizeof body - gathered, &n) || n != item.len) fail("item_bytes", 0);
+      gathered += n;
+      continue;
+    }
+    if (gathered) tell("body", body, gathered);
+    gathered = 0;
+    if (item.kind == H3_HEAD || item.kind == H3_TRAILER) {
+      tell(item.kind == H3_HEAD ? "head" : "trailer", NULL, 0);
+      for (size_t i = 0; i < item.fields; i++) {
+        uint8_t name[64], value[64];
+        size_t nl, vl;
+        AGAIN(h3_item_field(&ends[side], i, name, 64, &nl, value, 64, &vl), "item_field");
+        tell("name", name, nl);
+        tell("value", value, vl);
+      }
+      continue;
+    }
+    if (item.kind == H3_END) {
+      tell("end", NULL, 0);
+      return;
+    }
+    if (item.kind == H3_PENDING || item.kind == H3_WAITING) return;
+    fail("an item of another kind", item.kind);
+  }
+}
+
+static void exchange(void) {
+  uint64_t id;
+  uint8_t body[500];
+  static const h3_field_size trailer[] = {{3, 2}};
+  for (size_t i = 0; i < sizeof body; i++) body[i] = (uint8_t)(i * 7);
+  told = 0;
+  make();
+  carry_all(0);
+  carry_all(1);
+  for (int round = 0; round < 3; round++) {
+    AGAIN(h3_open_request(&ends[0], &id, NULL), "open_request");
+    head(0, id);
+    AGAIN(h3_send_body(&ends[0], id, body, sizeof body, NULL), "send_body");
+    AGAIN(h3_finish(&ends[0], id, NULL), "finish");
+    carry_all(0);
+    pull_all(1, id);
+    head(1, id);
+    AGAIN(h3_send_body(&ends[1], id, body, 100, NULL), "send_body");
+    AGAIN(h3_send_trailer(&ends[1], id, trailer, 1, "x-tyz", 5, NULL), "send_trailer");
+    AGAIN(h3_finish(&ends[1], id, NULL), "finish");
+    carry_all(1);
+    pull_all(0, id);
+    carry_all(0);
+  }
+  AGAIN(h3_open_request(&ends[0], &id, NULL), "open_request");
+  head(0, id);
+  carry_all(0);
+  AGAIN(h3_cancel(&ends[0], id, NULL), "cancel");
+  AGAIN(h3_goaway(&ends[1], 40, NULL), "goaway");
+  carry_all(0);
+  carry_all(1);
+  h3_free(&ends[0]);
+  h3_free(&ends[1]);
+}
+
+int main(void) {
+  static char expected[sizeof story];
+  long before = live;
+  exchange();
+  if (live != before) fail("something is left allocated with no refusal", (uint32_t)(live - before));
+  memcpy(expected, story, sizeof story);
+  if (told < 4000) fail("the story is too short", (uint32_t)told);
+  for (run_number = 0;; run_number++) {
+    refused = 0;
+    left = run_number;
+    exchange();
+    int all = left >= 0;
+    left = -1;
+    if (live != before) fail("something is left allocated", (uint32_t)(live - before));
+    if (strcmp(expected, story)) fail("other items came out", 0);
+    if (all) break;
+    if (refused != 1) fail("the refusals were not one", (uint32_t)refused);
+  }
+  if (run_number < 100) fail("there were too few allocations", (uint32_t)run_number);
+  printf("ok memory: %ld allocations refused in turn, each call made again, the same items came out, nothing left allocated\n", run_number);
+  return 0;
+}

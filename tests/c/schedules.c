@@ -1,0 +1,331 @@
+/* A client and a server in one program under random schedules: opens, heads, bodies, trailers, ends, resets, cancellations, bytes carried in random
+ * pieces, pulls. Every item is compared with what was sent; no call may answer a fault of the connection. At the end everything that was
+ * neither reset nor canceled has come out whole.
+ *
+ *     schedules FIRST_SEED COUNT */
+#include "h3.h"
+#include <stdio.h>
+#include <stdlib.h>
+#include <string.h>
+
+enum { REQUESTS = 12, BODY = 6000, FIELDS = 10 };
+
+static uint64_t seed, state;
+
+static uint32_t rnd(uint32_t below) {
+  state = state * UINT64_C(6364136223846793005) + UINT64_C(1442695040888963407);
+  return (uint32_t)(state >> 33) % below;
+}
+
+static void fail(const char *what, uint64_t id, uint64_t number) {
+  printf("failed schedules: seed %llu: %s, stream %llu, %llu\n", (unsigned long long)seed, what, (unsigned long long)id, (unsigned long long)number);
+  exit(1);
+}
+#define WANT(test, what, id, number) \
+  do { \
+    if (!(test)) fail(what, id, number); \
+  } while (0)
+
+/* fields as h3_send_head takes them */
+typedef struct {
+  h3_field_size sizes[FIELDS];
+  size_t count, len;
+  uint8_t bytes[1024];
+} list;
+
+static void add(list *l, const char *name, const char *value) {
+  size_t n = strlen(name), v = strlen(value);
+  memcpy(l->bytes + l->len, name, n);
+  memcpy(l->bytes + l->len + n, value, v);
+  l->len += n + v;
+  l->sizes[l->count++] = (h3_field_size){(uint32_t)n, (uint32_t)v};
+}
+
+static void add_random(list *l, unsigned count) {
+  char name[32], value[64];
+  for (unsigned i = 0; i < count; i++) {
+    snprintf(name, sizeof name, "x-%c%u", (int)('a' + rnd(3)), i);
+    snprintf(value, sizeof value, "%0*u", (int)(1 + rnd(30)), rnd(4));
+    add(l, name, value);
+  }
+}
+
+/* one direction of an exchange: what was sent, and what came out */
+typedef struct {
+  list head, trailer;
+  uint8_t body[BODY];
+  size_t body_len, body_out;
+  int head_sent, trailer_sent, finished, reset;      /* at the sender */
+  int head_out, trailer_out, end_out, fin_given, reset_given, canceled, faulty; /* at the receiver */
+} flow;
+
+static h3_endpoint ends[2]; /* the client, the server */
+static flow flows[REQUESTS][2];
+static int opened, seen[REQUESTS];
+
+static int is_memory_aside(uint32_t n) { return n == H3_OK; }
+
+static void open_one(void) {
+  uint64_t id;
+  if (opened == REQUESTS) return;
+  WANT(h3_open_request(&ends[0], &id, NULL) == H3_OK && id == 4u * (unsigned)opened, "open", id, 0);
+  opened++;
+}
+
+static void send_some(int side) {
+  if (!opened) return;
+  int i = (int)rnd((uint32_t)opened);
+  uint64_t id = 4u * (unsigned)i, detail;
+  flow *f = &flows[i][side];
+  if ((side && !seen[i]) || f->finished || f->reset) return;
+  uint32_t n;
+  if (!f->head_sent) {
+    list *l = &f->head;
+    if (side) add(l, ":status", rnd(2) ? "200" : "404");
+    else {
+      add(l, ":method", rnd(2) ? "GET" : "POST");
+      add(l, ":scheme", "https");
+      add(l, ":authority", rnd(2) ? "localhost" : "www.example.com");
+      add(l, ":path", rnd(2) ? "/" : "/index.html");
+    }
+    add_random(l, rnd(5));
+    n = h3_send_head(&ends[side], id, l->sizes, l->count, l->bytes, l->len, &detail);
+    WANT(is_memory_aside(n), "send_head", id, n);
+    f->head_sent = 1;
+  } else if (rnd(4) && !f->trailer_sent) {
+    size_t len = rnd(1200);
+    if (len > BODY - f->body_len) len = BODY - f->body_len;
+    for (size_t k = 0; k < len; k++) f->body[f->body_len + k] = (uint8_t)rnd(256);
+    n = h3_send_body(&ends[side], id, f->body + f->body_len, len, &detail);
+    WANT(n == H3_OK, "send_body", id, n);
+    f->body_len += len;
+  } else if (rnd(3) == 0 && !f->trailer_sent) {
+    add_random(&f->trailer, 1 + rnd(3));
+    n = h3_send_trailer(&ends[side], id, f->trailer.sizes, f->trailer.count, f->trailer.bytes, f->trailer.len, &detail);
+    WANT(n == H3_OK, "send_trailer", id, n);
+    f->trailer_sent = 1;
+  } else {
+    n = h3_finish(&ends[side], id, &detail);
+    WANT(n == H3_OK, "finish", id, n);
+    f->finished = 1;
+  }
+}
+
+static void reset_one(int side) {
+  if (!opened) return;
+  int i = (int)rnd((uint32_t)opened);
+  flow *f = &flows[i][side];
+  if ((side && !seen[i]) || f->reset || f->fin_given) return;
+  uint32_t n = h3_reset(&ends[side], 4u * (unsigned)i, NULL);
+  /* refused only where all of it was sent */
+  WANT(n == H3_OK || (n == H3_ENDED && f->finished), "reset", 4u * (unsigned)i, n);
+  if (n == H3_OK) f->reset = 1;
+}
+
+static void cancel_one(int side) {
+  if (!opened) return;
+  int i = (int)rnd((uint32_t)opened);
+  flow *f = &flows[i][!side];
+  if (side && !seen[i]) return;
+  uint32_t n = h3_cancel(&ends[side], 4u * (unsigned)i, NULL);
+  WANT(n == H3_OK || (n == H3_ENDED && (f->end_out || f->canceled || f->faulty || f->reset_given)), "cancel", 4u * (unsigned)i, n);
+  if (n == H3_OK) f->canceled = 1;
+}
+
+/* hands on what waits on a stream of a side, some of it, and its end */
+static void carry(int side, uint64_t id, size_t most) {
+  static uint8_t buffer[4096];
+  size_t n;
+  uint32_t fin, told;
+  uint64_t detail = 0;
+  int request = id % 4 == 0;
+  flow *f = request ? &flows[id / 4][side] : NULL;
+  if (request && f->reset) {
+    if (!f->reset_given) {
+      told = h3_deliver_reset(&ends[!side], id, 77, &detail);
+      WANT(told == H3_OK, "deliver_reset", id, told);
+      f->reset_given = 1;
+      if (!side) seen[id / 4] = 1;
+    }
+    return;
+  }
+  if (most > sizeof buffer) most = sizeof buffer;
+  WANT(h3_outgoing(&ends[side], id, buffer, most, &n, &fin) == H3_OK, "outgoing", id, 0);
+  h3_stream_state before, after;
+  WANT(h3_stream(&ends[side], id, &before) == H3_OK, "stream", id, 0);
+  WANT(n == (before.waiting < most ? before.waiting : most), "outgoing gives fewer than fit", id, n);
+  if (n) {
+    told = h3_deliver(&ends[!side], id, buffer, n, &detail);
+    WANT(told == H3_OK, "deliver", id, told == H3_CONNECTION ? detail : told);
+    if (request && !side) seen[id / 4] = 1;
+  }
+  WANT(h3_advance(&ends[side], id, n) == H3_OK, "advance", id, n);
+  WANT(h3_stream(&ends[side], id, &after) == H3_OK && after.waiting == before.waiting - n, "advance takes another count", id, n);
+  if (fin) {
+    WANT(request && f->finished && after.waiting == 0, "fin", id, 0);
+    if (!f->fin_given) {
+      told = h3_deliver_end(&ends[!side], id, &detail);
+      WANT(told == H3_OK, "deliver_end", id, told);
+      f->fin_given = 1;
+      if (!side) seen[id / 4] = 1;
+    }
+  }
+}
+
+static void carry_some(int side) {
+  uint64_t id, from = rnd(4u * REQUESTS);
+  if (h3_next_waiting(&ends[side], from, &id) == H3_OK || h3_next_waiting(&ends[side], 0, &id) == H3_OK) carry(side, id, 1 + rnd(rnd(2) ? 40 : 4000));
+  if (opened) {
+    uint64_t other = 4u * rnd((uint32_t)opened);
+    if (flows[other / 4][side].finished || flows[other / 4][side].reset) carry(side, other, 1 + rnd(4000));
+  }
+}
+
+/* what h3_next_waiting answers is what the streams' states say */
+static void check_waiting(int side) {
+  uint64_t next = 0, id = 0;
+  for (id = 0; id < 4u * REQUESTS + 12; id++) {
+    h3_stream_state s;
+    WANT(h3_stream(&ends[side], id, &s) == H3_OK, "stream", id, 0);
+    if (!s.waiting) continue;
+    uint64_t found = 0;
+    uint32_t n = h3_next_waiting(&ends[side], next, &found);
+    WANT(n == H3_OK && found == id, "next_waiting", id, found);
+    next = id + 1;
+  }
+  WANT(h3_next_waiting(&ends[side], next, &id) == H3_NONE, "next_waiting finds one too many", next, id);
+}
+
+static void same_fields(int side, uint64_t id, const h3_item *item, const list *l) {
+  const uint8_t *at = l->bytes;
+  WANT(item->fields == l->count, "another number of fields", id, item->fields);
+  for (size_t i = 0; i < l->count; i++) {
+    uint8_t name[64], value[64];
+    size_t nl, vl;
+    uint32_t n = h3_item_field(&ends[side], i, name, sizeof name, &nl, value, sizeof value, &vl);
+    WANT(n == H3_OK && nl == l->sizes[i].name && vl == l->sizes[i].value, "a field's sizes", id, i);
+    WANT(!memcmp(name, at, nl) && !memcmp(value, at + nl, vl), "a field's bytes", id, i);
+    at += nl + vl;
+  }
+  uint8_t b;
+  size_t nl, vl;
+  WANT(h3_item_field(&ends[side], l->count, &b, 1, &nl, &b, 0, &vl) == H3_NONE, "a field too many", id, l->count);
+}
+
+static int pull_one(int side, int i) {
+  static uint8_t bytes[BODY];
+  uint64_t id = 4u * (unsigned)i;
+  flow *f = &flows[i][!side];
+  h3_item item;
+  WANT(h3_pull(&ends[side], id, &item) == H3_OK, "pull", id, 0);
+  size_t n;
+  if (f->canceled && !f->faulty) {
+    WANT(item.kind == H3_FAULT_CANCELED, "a canceled stream", id, item.kind);
+    return 0;
+  }
+  switch (item.kind) {
+  case H3_HEAD:
+    WANT(!f->head_out && f->head_sent, "a head", id, 0);
+    same_fields(side, id, &item, &f->head);
+    WANT(item.status == (side ? 0u : f->head.bytes[7] == '2' ? 200u : 404u), "a status", id, item.status);
+    f->head_out = 1;
+    return 1;
+  case H3_BODY:
+    WANT(f->head_out && !f->trailer_out && item.len && item.len <= f->body_len - f->body_out, "a body", id, item.len);
+    WANT(h3_item_bytes(&ends[side], 0, bytes, sizeof bytes, &n) == H3_OK && n == item.len, "a body's bytes", id, n);
+    WANT(!memcmp(bytes, f->body + f->body_out, n), "another body", id, f->body_out);
+    f->body_out += n;
+    return 1;
+  case H3_TRAILER:
+    WANT(f->head_out && f->trailer_sent && !f->trailer_out && f->body_out == f->body_len, "a trailer", id, 0);
+    same_fields(side, id, &item, &f->trailer);
+    f->trailer_out = 1;
+    return 1;
+  case H3_END:
+    WANT(f->fin_given && f->head_out && f->body_out == f->body_len && f->trailer_out == f->trailer_sent, "an end", id, 0);
+    f->end_out = 1;
+    return 0;
+  case H3_PENDING:
+  case H3_WAITING: return 0;
+  case H3_FAULT_RESET:
+    WANT(f->reset_given && item.number == 77, "a reset", id, item.number);
+    f->faulty = 1;
+    return 0;
+  default: fail("an item of another kind", id, item.kind);
+  }
+  return 0;
+}
+
+static void run(uint64_t of) {
+  static const uint32_t tables[] = {0, 220, 4096}, blocked[] = {0, 1, 100};
+  seed = of;
+  state = of * 977 + 1;
+  memset(flows, 0, sizeof flows);
+  memset(seen, 0, sizeof seen);
+  opened = 0;
+  for (int side = 0; side < 2; side++) {
+    h3_config c;
+    h3_config_default(&c);
+    c.server = (uint32_t)side;
+    c.table = tables[rnd(3)];
+    c.blocked = blocked[rnd(3)];
+    c.send_grease = rnd(2);
+    c.grease = rnd(1000);
+    WANT(h3_new(&ends[side], &c, NULL) == H3_OK, "new", 0, 0);
+  }
+  for (int step = 0; step < 600; step++) {
+    int side = (int)rnd(2);
+    switch (rnd(12)) {
+    case 0: open_one(); break;
+    case 1: case 2: case 3: send_some(side); break;
+    case 4: case 5: case 6: case 7: carry_some(side); break;
+    case 8: case 9: case 10:
+      if (opened) {
+        int i = (int)rnd((uint32_t)opened);
+        if (!side || seen[i]) pull_one(side, i);
+      }
+      break;
+    default:
+      if (rnd(12) == 0) reset_one(side);
+      else if (rnd(12) == 0) cancel_one(side);
+      else if (rnd(4) == 0) check_waiting(side);
+    }
+  }
+  /* the rest of what was sent goes over, and comes out */
+  for (int i = 0; i < opened; i++)
+    for (int side = 0; side < 2; side++) {
+      flow *f = &flows[i][side];
+      if ((side && !seen[i]) || !f->head_sent || f->finished || f->reset) continue;
+      WANT(h3_finish(&ends[side], 4u * (unsigned)i, NULL) == H3_OK, "finish", 4u * (unsigned)i, 0);
+      f->finished = 1;
+    }
+  for (int round = 0; round < 4; round++) {
+    for (int side = 0; side < 2; side++) {
+      uint64_t id;
+      while (h3_next_waiting(&ends[side], 0, &id) == H3_OK) carry(side, id, 4096);
+      for (int i = 0; i < opened; i++)
+        if (flows[i][side].finished || flows[i][side].reset) carry(side, 4u * (unsigned)i, 4096);
+    }
+    for (int side = 0; side < 2; side++)
+      for (int i = 0; i < opened; i++)
+        if (!side || seen[i])
+          while (pull_one(side, i)) {
+          }
+  }
+  for (int i = 0; i < opened; i++)
+    for (int side = 0; side < 2; side++) {
+      flow *f = &flows[i][side];
+      if (f->finished && !f->reset && !f->canceled) WANT(f->end_out, "not all came out", 4u * (unsigned)i, (uint64_t)side);
+    }
+  for (int side = 0; side < 2; side++) {
+    h3_free(&ends[side]);
+    h3_free(&ends[side]);
+  }
+}
+
+int main(int argc, char **argv) {
+  uint64_t first = argc > 1 ? strtoull(argv[1], NULL, 10) : 0, count = argc > 2 ? strtoull(argv[2], NULL, 10) : 200;
+  for (uint64_t s = first; s < first + count; s++) run(s);
+  printf("ok schedules: %llu random schedules of two endpoints, every item as it was sent\n", (unsigned long long)count);
+  return 0;
+}
