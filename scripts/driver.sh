@@ -8,7 +8,7 @@ bash scripts/peer.sh
 log=$(mktemp)
 trap 'rm -f "$log"' EXIT
 echo "proving and building crates/h3_bench and what it stands on: some minutes the first time" >&2
-(cd crates/h3_bench && rt lib) >"$log" 2>&1 &
+python3 scripts/archive.py h3_bench >"$log" 2>&1 &
 proof=$!
 while kill -0 "$proof" 2>/dev/null; do
   for _ in {1..30}; do

@@ -1,12 +1,12 @@
 #!/usr/bin/env bash
-# Proves and builds the static library for C (over the proofs that earlier runs kept), and leaves in build/c what a program needs: libh3.a, the
-# kit's C shims of malloc and free as libh3_shim.a, h3.h, and h3.pc for pkg-config.
+# Proves and builds the static library for C (scripts/archive.py: over the libraries that rt ci left, or the proofs that earlier runs kept), and
+# leaves in build/c what a program needs: libh3.a, the kit's C shims of malloc and free as libh3_shim.a, h3.h, and h3.pc for pkg-config.
 set -euo pipefail
 cd "$(dirname "$0")/.."
 
 log=$(mktemp)
 trap 'rm -f "$log"' EXIT
-if ! (cd crates/h3_c && rt lib) >"$log" 2>&1; then
+if ! python3 scripts/archive.py h3_c >"$log" 2>&1; then
   tail -n 40 "$log" >&2
   echo "h3_c was not built" >&2
   exit 1

@@ -1,14 +1,17 @@
 #!/usr/bin/env bash
 # C programs over build/c (scripts/lib.sh), by the machine's C compiler alone: the rows of crates/h3_calls and hostile lists of calls through the header,
 # each allocation refused in turn, two endpoints under random schedules, and wrong arguments. Once as they are, and once with the sanitizers of
-# addresses, leaks and undefined behaviour where the compiler has them. One line 'ok NAME' or 'failed NAME' for each.
+# addresses, leaks and undefined behaviour where the compiler has them. One line 'ok NAME' or 'failed NAME' for each; the last is the sum.
 set -uo pipefail
 cd "$(dirname "$0")/.."
 
 if ! bash scripts/lib.sh >&2; then
   echo "failed libh3.a: it was not built"
+  echo "0 passed, 1 failed"
   exit 1
 fi
+log=$(mktemp)
+trap 'rm -f "$log"' EXIT
 cc=${CC:-cc}
 out=build/c/tests
 mkdir -p "$out"
@@ -46,26 +49,36 @@ run() { # NAME PROGRAM ARGUMENTS..
   fi
 }
 
-compile calls calls
-compile memory memory -Wl,--wrap=malloc,--wrap=realloc,--wrap=free
-compile schedules schedules
-compile arguments arguments
-if [ "$bad" -eq 0 ]; then
-  rows "$out/calls" "rows"
-  run "hostile calls" python3 scripts/hostile_calls.py "$out/calls" 400
-  run memory "$out/memory"
-  run schedules "$out/schedules" 0 1000
-  run arguments "$out/arguments"
-fi
-if [ "$bad" -eq 0 ] && echo 'int main(void){return 0;}' | "$cc" -x c -fsanitize=address,undefined -o "$out/probe" - 2> "$out/probe.log"; then
-  flags=(-fsanitize=address,undefined -fno-sanitize-recover=all)
-  compile calls calls_checked "${flags[@]}"
-  compile schedules schedules_checked "${flags[@]}"
-  compile arguments arguments_checked "${flags[@]}"
+checks() {
+  compile calls calls
+  compile memory memory -Wl,--wrap=malloc,--wrap=realloc,--wrap=free
+  compile schedules schedules
+  compile arguments arguments
   if [ "$bad" -eq 0 ]; then
-    rows "$out/calls_checked" "rows with sanitizers"
-    run "schedules with sanitizers" "$out/schedules_checked" 1000 100
-    run "arguments with sanitizers" "$out/arguments_checked"
+    rows "$out/calls" "rows"
+    run "hostile calls" python3 scripts/hostile_calls.py "$out/calls" 400
+    run memory "$out/memory"
+    run schedules "$out/schedules" 0 1000
+    run arguments "$out/arguments"
   fi
-fi
-exit "$bad"
+  if [ "$bad" -eq 0 ] && echo 'int main(void){return 0;}' | "$cc" -x c -fsanitize=address,undefined -o "$out/probe" - 2> "$out/probe.log"; then
+    flags=(-fsanitize=address,undefined -fno-sanitize-recover=all)
+    compile calls calls_checked "${flags[@]}"
+    compile schedules schedules_checked "${flags[@]}"
+    compile arguments arguments_checked "${flags[@]}"
+    if [ "$bad" -eq 0 ]; then
+      rows "$out/calls_checked" "rows with sanitizers"
+      run "schedules with sanitizers" "$out/schedules_checked" 1000 100
+      run "arguments with sanitizers" "$out/arguments_checked"
+    fi
+  fi
+  return "$bad"
+}
+
+checks | tee "$log"
+status=${PIPESTATUS[0]}
+passed=$(grep -cE '^ok ' "$log")
+failed=$(grep -cE '^failed ' "$log")
+if [ "$status" -ne 0 ] && [ "$failed" -eq 0 ]; then failed=1; fi
+echo "$passed passed, $failed failed"
+[ "$failed" -eq 0 ] && [ "$passed" -gt 0 ]

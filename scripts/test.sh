@@ -2,7 +2,7 @@
 # The gate: the checks of this repository (scripts/check-*.sh), which take about a minute and each print one line 'ok NAME' or
 # 'failed NAME' for each thing that they check, then `rt ci`, and then the programs that it built: a large exchange, scripts with
 # memory refused, input and output that fail, and hostile calls of an endpoint. Where one of these fails the gate ends there. The last line is
-# the sum. The C programs of tests/c have a command of their own (make test-c): rt ci leaves no archive, and rt lib would prove all crates anew.
+# the sum. The C programs of tests/c have a command of their own (make test-c), which CI runs next: it builds the library over what rt ci has proved.
 set -uo pipefail
 cd "$(dirname "$0")/.."
 
