@@ -2,10 +2,7 @@ pub mod Integers
 pub mod Strings
 pub mod StaticEntries
 pub mod Prefixes
-pub mod Sections
 pub mod Standing
 pub mod SectionWriting
-pub mod ReadBack
 pub mod SectionReadBack
 pub mod Decodings
-pub mod PrefixReadBack

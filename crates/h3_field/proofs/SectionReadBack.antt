@@ -11,9 +11,11 @@ use Rattle.h3_field.specs.Line.{FieldLine, line_bytes}
 use Rattle.h3_field.specs.LineAnswer.{IsWritable}
 use Rattle.h3_field.specs.Section.{HasLine, line_field, literal_line, line_or_literal, static_line, static_lines, section_bytes, Answer, Fields, TooLong, Refused, Answers, End, Next, Passes, BadLine, AnswersSection, Lines, NoPrefix, add_size}
 use Rattle.h3_field.specs.ReadBack.{IsFieldOfBytes, IsLineOfBytes, answer_from}
-use Rattle.h3_field.proofs.StaticEntries.{table_length, same_field, two_ways}
-use Rattle.h3_field.proofs.Sections.{line_one, whole_same}
-use Rattle.h3_field.proofs.ReadBack.{line_reads_back}
+use Rattle.h3_field.specs.StaticTableLaws.{table_length}
+use Rattle.h3_field.specs.FieldLaws.{same_field}
+use Rattle.h3_field.proofs.StaticEntries.{two_ways}
+use Rattle.h3_field.specs.SectionLaws.{line_one, whole_same}
+use Rattle.h3_field.specs.ReadBackLaws.{line_reads_back}
 use Rattle.h3_huffman.specs.PayloadLaws.{bytes_same}
 
 get_next : {X : Type 0} (x : X) (xs : List X) (n : ℕ) → slice_get (x ∷ xs) (1 + n) ≡ slice_get xs n

@@ -5,7 +5,9 @@ use Rattle.std.proofs.lemmas.Bool.{and_parts, eqb-true, leb-true, ltb-true, case
 use Rattle.std.proofs.lemmas.Slice.Eq.{bytes_eq-Decides}
 use Rattle.h3_huffman.specs.PayloadLaws.{bytes_same}
 use Rattle.h3_field.specs.Field.{Field, field_eq}
+use Rattle.h3_field.specs.FieldLaws.{same_field}
 use Rattle.h3_field.specs.StaticTable.{static_name, static_field, static_table, NamesEntry}
+use Rattle.h3_field.specs.StaticTableLaws.{table_length}
 use Rattle.h3_field.specs.StaticHash.{name_hash, field_hash, slot_of_field, is_some_of, is_name_found, are_names_found, all_names, is_field_found, are_fields_found, all_fields, are_entries}
 use Rattle.h3_field.specs.StaticSlots.{name_slot, name_of, name_start, name_part, field_slot, value_of, value_start, value_part, are_places}
 
@@ -28,10 +30,6 @@ fields_found = refl
 table_is : are_entries name_of value_of 0 static_table ≡ true
 unfolding name_of name_start name_part value_of value_start value_part static_table
 table_is = refl
-
-pub table_length : length static_table ≡ 99
-unfolding static_table
-table_length = refl
 
 some_of : (n : ℕ) (o : Option ℕ) → is_some_of n o ≡ true → o ≡ Some n
 some_of n (Some m) h = let e = eqb-true n m h in rw e refl
@@ -104,11 +102,6 @@ look_up (entry ∷ rows) name h some =
 
 field_parts : (name other value more : List ℕ) → name ≡ other → value ≡ more → ◌≡◌ {A = Field} (record { name = name; value = value }) (record { name = other; value = more })
 field_parts name other value more e f = rw (e, f) refl
-
-pub same_field : (e f : Field) → field_eq e f ≡ true → e ≡ f
-same_field e f h =
-    let parts = and_parts (bytes_eq e.name f.name) (bytes_eq e.value f.value) h in
-    field_parts e.name f.name e.value f.value (bytes_same e.name f.name parts.0) (bytes_same e.value f.value parts.1)
 
 look_up_field : (rows : List Field) (f : Field) → are_fields_found field_slot name_of value_of rows ≡ true → position_or_len (λ entry. field_eq entry f) rows < length rows → HasField f
 look_up_field [] f h some = absurd (omega arith)

@@ -38,3 +38,9 @@ pub mod Values
 pub mod ValueLaws
 pub mod Ends
 pub mod EndLaws
+pub mod PrefixLaws
+pub mod SectionLaws
+pub mod ReadBackLaws
+pub mod StaticTableLaws
+pub mod IntegerWritingLaws
+pub mod FieldLaws

@@ -27,7 +27,7 @@ use crate::field::HeaderField;
 use std::hash::Hash;
 
 /// A written field line is read back, whatever follows.
-#[tactic(auto, using(crate::proofs::ReadBack::line_reads_back))]
+#[tactic(auto, using(crate::specs::ReadBackLaws::line_reads_back))]
 pub fn line_reads_back()
     ensures { (l : FieldLine) (rest : List ℕ) → IsWritable l → IsLineOfBytes l → length (line_bytes l) < 2 ^ 63 → HasLine (line_bytes l ++ rest) l rest }
 {}
@@ -38,13 +38,13 @@ pub fn one_line()
 {}
 
 /// A written encoder instruction is read back, whatever follows.
-#[tactic(auto, using(crate::proofs::ReadBack::instruction_reads_back))]
+#[tactic(auto, using(crate::specs::ReadBackLaws::instruction_reads_back))]
 pub fn instruction_reads_back()
     ensures { (i : EncoderInstruction) (rest : List ℕ) → IsSendable i → IsInstructionOfBytes i → length (encoder_bytes i) < 2 ^ 63 → HasInstruction (encoder_bytes i ++ rest) i rest }
 {}
 
 /// A written decoder instruction is read back, whatever follows.
-#[tactic(auto, using(crate::proofs::ReadBack::reply_reads_back))]
+#[tactic(auto, using(crate::specs::ReadBackLaws::reply_reads_back))]
 pub fn reply_reads_back()
     ensures { (i : DecoderInstruction) (rest : List ℕ) → IsReply i → decoder_instruction (decoder_bytes i ++ rest) ≡ Whole i rest }
 {}

@@ -5,7 +5,7 @@ use Rattle.std.proofs.lemmas.Grind.{common_steps, flat_map-append}
 use Rattle.std.proofs.lemmas.List.{take-append-drop}
 use Rattle.std.proofs.Math.Seq.{take-append-add}
 use Rattle.h3_field.specs.Instruction.{EncoderInstruction, encoder_bytes}
-use Rattle.h3_field.proofs.ReadBack.{instruction_reads_back}
+use Rattle.h3_field.specs.ReadBackLaws.{instruction_reads_back}
 use Rattle.h3_qpack.specs.Encodings.{IsWrittenInstruction}
 use Rattle.h3_qpack.specs.Session.{Session}
 use Rattle.h3_qpack.specs.Exchange.{ExchangeHistory, opening}

@@ -2,7 +2,7 @@
 use Rattle.std.proofs.Common.{◌≡◌, ℕ, List, [], ◌∷◌, ◌++◌, Option, Some, None, refl, ◌∙◌, ap, append_assoc}
 use Rattle.std.specs.List.{AllByRecursion, flat_map}
 use Rattle.h3_field.specs.Instruction.{encoder_bytes}
-use Rattle.h3_field.proofs.ReadBack.{instruction_reads_back}
+use Rattle.h3_field.specs.ReadBackLaws.{instruction_reads_back}
 use Rattle.h3_qpack.specs.Encodings.{IsWrittenInstruction}
 use Rattle.h3_field.specs.Instruction.{EncoderInstruction}
 use Rattle.h3_field.specs.InstructionLaws.{instruction_stable}

@@ -11,8 +11,8 @@ use Rattle.h3_field.specs.Instruction.DecoderInstruction.{Acknowledge, CancelStr
 use Rattle.h3_field.specs.InstructionReading.{decoder_instruction}
 use Rattle.h3_field.specs.InstructionAnswer.{IsReply}
 use Rattle.h3_field.specs.InstructionLaws.{decoder_instruction_stable}
-use Rattle.h3_field.proofs.ReadBack.{reply_reads_back}
-use Rattle.h3_field.proofs.Sections.{whole_same}
+use Rattle.h3_field.specs.ReadBackLaws.{reply_reads_back}
+use Rattle.h3_field.specs.SectionLaws.{whole_same}
 use Rattle.h3_qpack.specs.EncoderHistory.{EncoderHistory, UnacknowledgedSection, encoder_after_all, is_refused}
 use Rattle.h3_qpack.specs.Instructions.{AreDecoderInstructions, NoDecoderInstruction, NextDecoderInstruction, BeginsRefused}
 use Rattle.h3_qpack.specs.Session.{Session, IsSound, tracked_references, acknowledgments, after_decoder_instruction}

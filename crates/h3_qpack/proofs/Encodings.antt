@@ -7,7 +7,7 @@ use Rattle.h3_field.specs.Line.{FieldLine, line_bytes}
 use Rattle.h3_field.specs.Line.FieldLine.{StaticField, RelativeField, PostBaseField, StaticName, RelativeName, PostBaseName, Literal}
 use Rattle.h3_field.specs.Section.{AreLines, NoLine, NextLine}
 use Rattle.h3_field.specs.StaticTable.{static_field, static_name}
-use Rattle.h3_field.proofs.ReadBack.{line_reads_back}
+use Rattle.h3_field.specs.ReadBackLaws.{line_reads_back}
 use Rattle.h3_table.specs.Table.{evictions}
 use Rattle.h3_qpack.specs.EncoderHistory.{EncoderHistory}
 use Rattle.h3_table.specs.TableState.{TableState, entry_at}
@@ -27,7 +27,7 @@ use Rattle.h3_field.specs.Prefix.{most_entries, prefix_bytes}
 use Rattle.h3_field.specs.PrefixReading.{EncodedPrefix, prefix, IsPrefix}
 use Rattle.h3_field.specs.PrefixWriting.{written_prefix}
 use Rattle.h3_field.specs.Section.{with_value}
-use Rattle.h3_field.proofs.PrefixReadBack.{prefix_is_written, prefix_reads_back, prefix_is_read}
+use Rattle.h3_field.specs.PrefixLaws.{prefix_is_written, prefix_reads_back, prefix_is_read}
 use Rattle.h3_qpack.specs.Meaning.{HasPrefix, MeansFields}
 use Rattle.h3_qpack.specs.DecoderState.{DecoderState, count_capacity}
 use Rattle.h3_qpack.specs.SectionEncoding.{encoded_section}

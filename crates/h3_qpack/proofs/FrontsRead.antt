@@ -6,7 +6,7 @@ use Rattle.h3_field.specs.Instruction.{EncoderInstruction, encoder_bytes}
 use Rattle.h3_field.specs.InstructionReading.{Says}
 use Rattle.h3_field.specs.InstructionLaws.{instruction_stable}
 use Rattle.h3_field.specs.ReadBack.{HasInstruction}
-use Rattle.h3_field.proofs.ReadBack.{instruction_reads_back, instruction_one}
+use Rattle.h3_field.specs.ReadBackLaws.{instruction_reads_back, instruction_one}
 use Rattle.h3_qpack.specs.Encodings.{IsWrittenInstruction}
 use Rattle.h3_qpack.specs.DecoderState.{DecoderState, decoder_after}
 use Rattle.h3_qpack.specs.Instructions.{AreInstructions, NoInstruction, NextInstruction, BeginsBad}

@@ -10,7 +10,7 @@ use Rattle.h3_field.specs.InstructionAnswer.{AnswersInstruction}
 use Rattle.h3_field.specs.ShapeAnswer.{Place, error_at}
 use Rattle.h3_qpack.proofs.LinesAt.{bad_at}
 use Rattle.h3_field.specs.Shapes.{begins}
-use Rattle.h3_field.proofs.Sections.{stands_one}
+use Rattle.h3_field.specs.SectionLaws.{stands_one}
 use Rattle.h3_field.specs.Errors.{decoder_parse}
 use Rattle.h3_field.specs.declared.prefix_int.Error.TheVariants.{Overflow}
 use Rattle.h3_field.specs.declared.prefix_string.Error as string

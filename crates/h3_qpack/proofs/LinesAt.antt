@@ -1,32 +1,22 @@
 -- A line at the front of some bytes, and the field that it is of.
 use Rattle.std.proofs.Common.{◌≡◌, ℕ, zero, suc, ◌<◌, ◌≤◌, nat_le, true, List, [], ◌∷◌, length, Some, None, Ok, Err, refl, sym, ◌∙◌, arith}
-use Rattle.std.specs.List.{slice_get}
-use Rattle.std.proofs.lemmas.Bool.{and_parts, leb-true, lt-leb}
 use Rattle.h3_field.specs.Field.{Field}
 use Rattle.h3_field.specs.Reading.{Reading, Whole, Unfinished, Bad}
 use Rattle.h3_field.specs.Line.{FieldLine}
-use Rattle.h3_field.specs.LineReading.{LineForm, SaysLine, line, post_base, post_base_named}
+use Rattle.h3_field.specs.LineReading.{LineForm, SaysLine, line}
 use Rattle.h3_field.specs.LineAnswer.{AnswersLine}
 use Rattle.h3_field.specs.ShapeAnswer.{Place, AtInteger, AtString, error_at}
 use Rattle.h3_field.specs.declared.prefix_int.Error as integer
-use Rattle.h3_field.specs.Shapes.{begins}
 use Rattle.h3_field.specs.Section.{HasLine}
-use Rattle.h3_field.specs.StaticTable.{static_table}
 use Rattle.h3_field.specs.Errors.{decoder_parse}
 use Rattle.h3_field.specs.declared.prefix_int.Error.TheVariants.{Overflow, UnexpectedEnd}
 use Rattle.h3_field.specs.declared.prefix_string.Error as string
 use Rattle.h3_field.specs.declared.parse_error.ParseError.{ParseError}
 use Rattle.h3_field.specs.declared.parse_error.ParseError.TheVariants.{Integer, String, InvalidPrefix, InvalidBase, OutOfMemory}
-use Rattle.h3_field.proofs.Sections.{line_one, whole_same}
-use Rattle.h3_field.proofs.StaticEntries.{table_length}
+use Rattle.h3_field.specs.SectionLaws.{has_line, line_one, whole_same}
 use Rattle.h3_table.specs.TableState.{TableState}
 use Rattle.h3_qpack.specs.Meaning.{field_at}
 use Rattle.h3_qpack.specs.SectionAnswers.{BeginsWith, BeginsWithNone, IsReasonFor}
-
-has_line : {L : Type 0} (place : Place) (line_of : L → FieldLine) (r : Reading LineForm) (old new : List ℕ) (l : L) → line old ≡ r → AnswersLine line_of place r old new (Ok l) → HasLine old (line_of l) new
-has_line place line_of (Whole form rest) old new l e h = record { form = form; whole = rw h.1 e; says = h.0 }
-has_line place line_of Unfinished old new l e h = absurd (cc)
-has_line place line_of Bad old new l e h = absurd (cc)
 
 -- the field of a line that was read
 pub begins_with : {L : Type 0} (place : Place) (h : TableState) (base : ℕ) (line_of : L → FieldLine) (read : List ℕ → Reading LineForm) (old new : List ℕ) (l : L) (f : Field)
@@ -77,25 +67,3 @@ refused_line place h base line_of Unfinished old new e is k =
 refused_line place h base line_of Bad old new e is k =
     let same : e ≡ error_at place Overflow = cc in
     rw same (bad_at (BeginsWithNone h base old) place Overflow (not_read h base old Bad is (λ form rest x. absurd (cc))))
-
-pub line_post_base : (bytes : List ℕ) → 0 < length bytes → begins 16 31 bytes ≡ true → line bytes ≡ post_base bytes
-line_post_base [] some h = absurd (omega arith)
-line_post_base (first ∷ rest) some h =
-    let parts = and_parts (nat_le 16 first) (nat_le first 31) h in
-    let most = leb-true first 31 parts.1 in
-    rw (lt-leb 128 first (omega (arith, most)), lt-leb 64 first (omega (arith, most)), lt-leb 32 first (omega (arith, most)), parts.0) refl
-
-pub line_post_base_named : (bytes : List ℕ) → 0 < length bytes → begins 0 15 bytes ≡ true → line bytes ≡ post_base_named bytes
-line_post_base_named [] some h = absurd (omega arith)
-line_post_base_named (first ∷ rest) some h =
-    let parts = and_parts (nat_le 0 first) (nat_le first 15) h in
-    let most = leb-true first 15 parts.1 in
-    rw (lt-leb 128 first (omega (arith, most)), lt-leb 64 first (omega (arith, most)), lt-leb 32 first (omega (arith, most)), lt-leb 16 first (omega (arith, most))) refl
-
-pub static_none : (index : ℕ) → 99 ≤ index → slice_get static_table index ≡ None
-static_none index le = get_none static_table index (rw table_length le)
-  where
-    get_none : (fields : List Field) (i : ℕ) → length fields ≤ i → slice_get fields i ≡ None
-    get_none [] i h = refl
-    get_none (f ∷ fields) zero h = absurd (omega arith)
-    get_none (f ∷ fields) (suc i) h = get_none fields i (omega arith)

@@ -12,7 +12,7 @@ use Rattle.h3_field.specs.Instruction.{encoder_bytes}
 use Rattle.h3_field.specs.Prefix.{prefix_bytes}
 use Rattle.h3_field.specs.PrefixReading.{EncodedPrefix}
 use Rattle.h3_field.specs.PrefixWriting.{written_prefix, encoded_bytes}
-use Rattle.h3_field.proofs.PrefixReadBack.{prefix_is_written}
+use Rattle.h3_field.specs.PrefixLaws.{prefix_is_written}
 use Rattle.h3_qpack.specs.EncoderHistory.{EncoderHistory, UnacknowledgedSection, writing_on}
 use Rattle.h3_qpack.specs.EncoderState.{EncoderState, encoder_state, tracked_section, encoder_state_sent, least}
 use Rattle.h3_qpack.specs.SectionEncoding.{Draft, draft_of, required_insert_count, encoded_section, instructions_for}

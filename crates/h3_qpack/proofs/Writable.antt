@@ -11,7 +11,7 @@ use Rattle.h3_field.specs.Line.{FieldLine as line}
 use Rattle.h3_field.specs.LineAnswer.{IsWritable}
 use Rattle.h3_field.specs.Instruction.{EncoderInstruction, encoder_bytes}
 use Rattle.h3_field.specs.InstructionAnswer.{IsSendable}
-use Rattle.h3_field.proofs.StaticEntries.{table_length}
+use Rattle.h3_field.specs.StaticTableLaws.{table_length}
 use Rattle.h3_qpack.specs.EncoderHistory.{EncoderHistory}
 use Rattle.h3_qpack.specs.SectionEncoding.{Draft, found, found_name, is_insertable, remaining, insertion, add_line, add_inserted, add_literal, add_field, draft_of, entry_name_line}
 use Rattle.h3_qpack.specs.Encodings.{IsWrittenLine, IsWrittenInstruction}

@@ -10,7 +10,7 @@ use Rattle.h3_field.specs.Reading.{Reading, Whole, Unfinished, Bad, Stays, IsSta
 use Rattle.h3_field.specs.InstructionReading.{instruction, decoder_instruction}
 use Rattle.h3_field.specs.InstructionAnswer.{IsReply}
 use Rattle.h3_field.specs.InstructionLaws.{instruction_stable, decoder_instruction_stable}
-use Rattle.h3_field.proofs.ReadBack.{instruction_reads_back, reply_reads_back}
+use Rattle.h3_field.specs.ReadBackLaws.{instruction_reads_back, reply_reads_back}
 use Rattle.h3_qpack.specs.DecoderState.{DecoderState, decoder_after_all}
 use Rattle.h3_qpack.specs.EncoderHistory.{EncoderHistory, encoder_after_all}
 use Rattle.h3_qpack.specs.Encodings.{IsWrittenInstruction}

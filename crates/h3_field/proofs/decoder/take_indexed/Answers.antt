@@ -2,7 +2,7 @@ use Rattle.std.proofs.Common.{refl}
 use Rattle.h3_field.specs.LineReading.{indexed}
 use Rattle.h3_field.specs.LineAnswer.{indexed_line}
 use Rattle.h3_field.specs.ShapeAnswer.{AtInteger}
-use Rattle.h3_field.proofs.Sections.{has_field, no_static, line_indexed, indexed_shortens}
+use Rattle.h3_field.specs.SectionLaws.{has_field, no_static, line_indexed, indexed_shortens}
 use Rattle.h3_field.proofs.decoder.take_indexed.Goals as goal
 
 pub returns-in-Ok : goal.returns-in-Ok

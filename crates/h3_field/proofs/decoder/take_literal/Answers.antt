@@ -2,7 +2,7 @@ use Rattle.std.proofs.Common.{refl}
 use Rattle.h3_field.specs.LineReading.{literal}
 use Rattle.h3_field.specs.LineAnswer.{literal_line}
 use Rattle.h3_field.specs.ShapeAnswer.{AtString}
-use Rattle.h3_field.proofs.Sections.{has_field, line_literal, literal_shortens, refused_line}
+use Rattle.h3_field.specs.SectionLaws.{has_field, line_literal, literal_shortens, refused_line}
 use Rattle.h3_field.proofs.decoder.take_literal.Goals as goal
 
 pub returns-in-Ok : goal.returns-in-Ok

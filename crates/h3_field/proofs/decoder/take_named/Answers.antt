@@ -3,7 +3,7 @@ use Rattle.h3_field.specs.LineReading.{named}
 use Rattle.h3_field.specs.LineAnswer.{named_line}
 use Rattle.h3_field.specs.ShapeAnswer.{behind}
 use Rattle.h3_field.specs.IntegerReading.{integer}
-use Rattle.h3_field.proofs.Sections.{has_field, no_static_name, named_entry, line_named, named_shortens, refused_line}
+use Rattle.h3_field.specs.SectionLaws.{has_field, no_static_name, named_entry, line_named, named_shortens, refused_line}
 use Rattle.h3_field.proofs.decoder.take_named.Goals as goal
 
 pub returns-in-Ok : goal.returns-in-Ok

@@ -1,4 +1,4 @@
-use Rattle.h3_field.proofs.ReadBack.{instruction_one}
+use Rattle.h3_field.specs.ReadBackLaws.{instruction_one}
 use Rattle.h3_field.proofs.laws.one_instruction.Goals as goal
 
 pub returns : goal.returns

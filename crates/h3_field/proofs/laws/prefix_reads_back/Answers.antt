@@ -1,4 +1,4 @@
-use Rattle.h3_field.proofs.PrefixReadBack.{prefix_is_written, prefix_reads_back, prefix_is_read}
+use Rattle.h3_field.specs.PrefixLaws.{prefix_is_written, prefix_reads_back, prefix_is_read}
 use Rattle.h3_field.proofs.laws.prefix_reads_back.Goals as goal
 
 pub returns-clause-written : goal.returns-clause-written

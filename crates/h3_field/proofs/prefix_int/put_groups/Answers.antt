@@ -1,5 +1,5 @@
 use Rattle.std.proofs.Common.{arith, ◌∷◌, [], append_assoc}
-use Rattle.h3_field.proofs.Integers.{left_more}
+use Rattle.h3_field.specs.IntegerWritingLaws.{left_more}
 use Rattle.h3_field.proofs.prefix_int.put_groups.Goals as goal
 
 pub loop-left-init : goal.loop-left-init

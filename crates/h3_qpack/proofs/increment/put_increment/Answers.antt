@@ -1,5 +1,5 @@
 use Rattle.std.proofs.Common.{◌≡◌, ◌*◌, ◌/◌, ◌^◌, ◌<◌, ◌≤◌, refl, ℕ, zero, suc, [], ◌∷◌, arith, append_assoc}
-use Rattle.h3_field.proofs.Integers.{left_more}
+use Rattle.h3_field.specs.IntegerWritingLaws.{left_more}
 use Rattle.h3_qpack.proofs.increment.put_increment.Goals as goal
 
 pub loop-left-init : goal.loop-left-init

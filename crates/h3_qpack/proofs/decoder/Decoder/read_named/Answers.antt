@@ -4,8 +4,8 @@ use Rattle.h3_field.specs.ShapeAnswer.{behind}
 use Rattle.h3_field.specs.IntegerReading.{integer}
 use Rattle.h3_field.specs.InstructionReading.{name_reference}
 use Rattle.h3_field.specs.InstructionAnswer.{named_insertion}
-use Rattle.h3_field.proofs.Sections.{named_entry}
-use Rattle.h3_qpack.proofs.LinesAt.{static_none}
+use Rattle.h3_field.specs.SectionLaws.{named_entry}
+use Rattle.h3_field.specs.StaticTableLaws.{static_none}
 use Rattle.h3_qpack.proofs.Shortening.{name_reference_less}
 use Rattle.h3_qpack.proofs.InsertionsAt.{begins_insertion, begins_no_insertion, refused, is_named}
 use Rattle.h3_qpack.proofs.decoder.Decoder.read_named.Goals as goal

@@ -2,8 +2,9 @@ use Rattle.std.proofs.Common.{sym, ◌∙◌, ap, Some}
 use Rattle.h3_field.specs.ShapeAnswer.{AtInteger}
 use Rattle.h3_field.specs.LineReading.{indexed}
 use Rattle.h3_field.specs.LineAnswer.{indexed_line}
-use Rattle.h3_field.proofs.Sections.{line_indexed, indexed_shortens}
-use Rattle.h3_qpack.proofs.LinesAt.{begins_with, begins_with_none, static_none}
+use Rattle.h3_field.specs.SectionLaws.{line_indexed, indexed_shortens}
+use Rattle.h3_field.specs.StaticTableLaws.{static_none}
+use Rattle.h3_qpack.proofs.LinesAt.{begins_with, begins_with_none}
 use Rattle.h3_qpack.proofs.lines.Lines.take_indexed.Goals as goal
 
 pub returns-in-Ok : goal.returns-in-Ok

@@ -2,7 +2,7 @@ use Rattle.std.proofs.Common.{refl}
 use Rattle.h3_field.specs.ShapeAnswer.{AtString}
 use Rattle.h3_field.specs.LineReading.{literal}
 use Rattle.h3_field.specs.LineAnswer.{literal_line}
-use Rattle.h3_field.proofs.Sections.{line_literal, literal_shortens}
+use Rattle.h3_field.specs.SectionLaws.{line_literal, literal_shortens}
 use Rattle.h3_qpack.proofs.LinesAt.{begins_with, refused_line}
 use Rattle.h3_qpack.proofs.lines.Lines.take_literal.Goals as goal
 

@@ -3,8 +3,9 @@ use Rattle.h3_field.specs.ShapeAnswer.{behind}
 use Rattle.h3_field.specs.IntegerReading.{integer}
 use Rattle.h3_field.specs.LineReading.{named}
 use Rattle.h3_field.specs.LineAnswer.{named_line}
-use Rattle.h3_field.proofs.Sections.{named_entry, line_named, named_shortens}
-use Rattle.h3_qpack.proofs.LinesAt.{begins_with, begins_with_none, static_none, refused_line}
+use Rattle.h3_field.specs.SectionLaws.{named_entry, line_named, named_shortens}
+use Rattle.h3_field.specs.StaticTableLaws.{static_none}
+use Rattle.h3_qpack.proofs.LinesAt.{begins_with, begins_with_none, refused_line}
 use Rattle.h3_qpack.proofs.lines.Lines.take_named.Goals as goal
 
 pub returns-in-Ok : goal.returns-in-Ok

@@ -3,7 +3,8 @@ use Rattle.h3_field.specs.ShapeAnswer.{AtInteger}
 use Rattle.h3_field.specs.LineReading.{post_base}
 use Rattle.h3_field.specs.LineAnswer.{post_base_line}
 use Rattle.h3_qpack.proofs.Shortening.{post_base_less}
-use Rattle.h3_qpack.proofs.LinesAt.{begins_with, line_post_base}
+use Rattle.h3_field.specs.SectionLaws.{line_post_base}
+use Rattle.h3_qpack.proofs.LinesAt.{begins_with}
 use Rattle.h3_qpack.proofs.lines.Lines.take_post_base.Goals as goal
 
 pub returns-in-Ok-post_base : goal.returns-in-Ok-post_base

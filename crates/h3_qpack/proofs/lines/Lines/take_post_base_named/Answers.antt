@@ -4,7 +4,8 @@ use Rattle.h3_field.specs.IntegerReading.{integer}
 use Rattle.h3_field.specs.LineReading.{post_base_named}
 use Rattle.h3_field.specs.LineAnswer.{post_base_named_line}
 use Rattle.h3_qpack.proofs.Shortening.{post_base_named_less}
-use Rattle.h3_qpack.proofs.LinesAt.{begins_with, line_post_base_named, refused_line}
+use Rattle.h3_field.specs.SectionLaws.{line_post_base_named}
+use Rattle.h3_qpack.proofs.LinesAt.{begins_with, refused_line}
 use Rattle.h3_qpack.proofs.lines.Lines.take_post_base_named.Goals as goal
 
 pub returns-in-Ok-post_base : goal.returns-in-Ok-post_base

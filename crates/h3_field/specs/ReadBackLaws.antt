@@ -11,7 +11,7 @@ use Rattle.h3_field.specs.Reading.{Whole}
 use Rattle.h3_field.specs.Shapes.{begins}
 use Rattle.h3_field.specs.Line.{FieldLine, line_bytes}
 use Rattle.h3_field.specs.Line.FieldLine.{StaticField, RelativeField, PostBaseField, StaticName, RelativeName, PostBaseName, Literal}
-use Rattle.h3_field.specs.LineReading.{Indexed, PostBase, Named, PostBaseNamed, LiteralField, line, post_base, post_base_named}
+use Rattle.h3_field.specs.LineReading.{Indexed, PostBase, Named, PostBaseNamed, LiteralField}
 use Rattle.h3_field.specs.LineLaws.{indexed_read, post_base_read, named_read, post_base_named_read, literal_read}
 use Rattle.h3_field.specs.LineAnswer.{IsWritable}
 use Rattle.h3_field.specs.Section.{HasLine}
@@ -21,7 +21,7 @@ use Rattle.h3_field.specs.Instruction.{EncoderInstruction as to_decoder, Decoder
 use Rattle.h3_field.specs.InstructionReading.{InstructionForm, Says, Capacity, NameReference, LiteralName, Repeat, name_reference, literal_name, capacity, repeat, instruction, acknowledgment, cancellation, increment, decoder_instruction}
 use Rattle.h3_field.specs.InstructionLaws.{name_reference_read, literal_name_read, capacity_read, repeat_read, acknowledgment_read, cancellation_read, increment_read}
 use Rattle.h3_field.specs.InstructionAnswer.{IsSendable, IsReply}
-use Rattle.h3_field.proofs.Sections.{line_indexed, line_named, line_literal, stands_one, whole_same}
+use Rattle.h3_field.specs.SectionLaws.{line_indexed, line_named, line_literal, line_post_base, line_post_base_named, stands_one, whole_same}
 
 -- the first byte of a prefixed integer has its flags
 first_in : (low high first : ℕ) (rest : List ℕ) → low ≤ first → first ≤ high → begins low high (first ∷ rest) ≡ true
@@ -58,20 +58,6 @@ begins_string : (size flags low high : ℕ) (bytes more rest : List ℕ) → low
 begins_string size flags low high bytes more rest a b =
     let p = prefixed (size - 1) (2 * flags + 1) (length (huffman bytes)) in
     rw (append_assoc p (huffman bytes) more) (begins_pair (size - 1) (2 * flags + 1) (length (huffman bytes)) low high (huffman bytes ++ more) rest a b)
-
-line_post_base : (bytes : List ℕ) → 0 < length bytes → begins 16 31 bytes ≡ true → line bytes ≡ post_base bytes
-line_post_base [] some h = absurd (omega arith)
-line_post_base (first ∷ rest) some h =
-    let parts = and_parts (nat_le 16 first) (nat_le first 31) h in
-    let most = leb-true first 31 parts.1 in
-    rw (lt-leb 128 first (omega (arith, most)), lt-leb 64 first (omega (arith, most)), lt-leb 32 first (omega (arith, most)), parts.0) refl
-
-line_post_base_named : (bytes : List ℕ) → 0 < length bytes → begins 0 15 bytes ≡ true → line bytes ≡ post_base_named bytes
-line_post_base_named [] some h = absurd (omega arith)
-line_post_base_named (first ∷ rest) some h =
-    let parts = and_parts (nat_le 0 first) (nat_le first 15) h in
-    let most = leb-true first 15 parts.1 in
-    rw (lt-leb 128 first (omega (arith, most)), lt-leb 64 first (omega (arith, most)), lt-leb 32 first (omega (arith, most)), lt-leb 16 first (omega (arith, most))) refl
 
 pub line_reads_back : (l : FieldLine) (rest : List ℕ) → IsWritable l → IsLineOfBytes l → length (line_bytes l) < 2 ^ 63 → HasLine (line_bytes l ++ rest) l rest
 line_reads_back (StaticField index) rest w b fits =

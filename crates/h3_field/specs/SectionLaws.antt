@@ -1,21 +1,16 @@
 -- The steps of reading a field section.
-use Rattle.std.proofs.Common.{◌≡◌, ℕ, zero, suc, ◌+◌, ◌-◌, ◌*◌, ◌/◌, ◌%◌, ◌^◌, ◌<◌, ◌≤◌, nat_le, Bool, true, false, if◌then◌else◌, List, [], ◌∷◌, length, take, drop, Some, None, Ok, Err, refl, ap, sym, ◌∙◌, arith, inl, inr}
-use Rattle.std.specs.List.{AllByRecursion, slice_get}
-use Rattle.std.proofs.lemmas.Bool.{and_parts, leb-true, le-leb, lt-leb, lt-ltb, le-ltb, cases_lt}
-use Rattle.std.proofs.lemmas.List.{length-drop}
-use Rattle.h3_huffman.specs.Huffman.{huffman}
-use Rattle.h3_huffman.specs.Payload.{IsByte}
-use Rattle.h3_field.specs.Integer.{ones}
+use Rattle.std.proofs.Common.{◌≡◌, ℕ, ◌<◌, ◌≤◌, nat_le, true, List, [], ◌∷◌, length, Some, None, Ok, Err, refl, sym, ◌∙◌, arith}
+use Rattle.std.specs.List.{slice_get}
+use Rattle.std.proofs.lemmas.Bool.{and_parts, leb-true, lt-leb}
 use Rattle.h3_field.specs.Field.{Field}
-use Rattle.h3_field.specs.Reading.{Reading, Whole, Unfinished, Bad, then_read}
-use Rattle.h3_field.specs.IntegerReading.{integer, integer_limit, groups_reading}
-use Rattle.h3_field.specs.StringReading.{Payload, StandsFor, string, bytes_reading}
-use Rattle.h3_field.specs.Shapes.{begins, index_and_string, two_strings}
+use Rattle.h3_field.specs.Reading.{Reading, Whole, Unfinished, Bad}
+use Rattle.h3_field.specs.StringReading.{Payload, StandsFor}
+use Rattle.h3_field.specs.Shapes.{begins}
 use Rattle.h3_field.specs.Line.{FieldLine}
 use Rattle.h3_field.specs.Line.FieldLine.{StaticField, StaticName}
 use Rattle.h3_field.specs.StaticTable.{static_table, NamesEntry}
-use Rattle.h3_field.proofs.StaticEntries.{table_length}
-use Rattle.h3_field.specs.LineReading.{LineForm, Indexed, PostBase, Named, PostBaseNamed, LiteralField, SaysLine, line, indexed, named, literal}
+use Rattle.h3_field.specs.StaticTableLaws.{static_none}
+use Rattle.h3_field.specs.LineReading.{LineForm, SaysLine, line, indexed, named, literal, post_base, post_base_named}
 use Rattle.h3_field.specs.LineAnswer.{AnswersLine}
 use Rattle.h3_field.specs.ShapeAnswer.{Place, AtInteger, AtString, error_at}
 use Rattle.h3_field.specs.declared.prefix_int.Error as integer
@@ -72,8 +67,22 @@ line_literal (first ∷ rest) some h =
     let most = leb-true first 63 parts.1 in
     rw (lt-leb 128 first (omega (arith, most)), lt-leb 64 first (omega (arith, most)), parts.0) refl
 
+pub line_post_base : (bytes : List ℕ) → 0 < length bytes → begins 16 31 bytes ≡ true → line bytes ≡ post_base bytes
+line_post_base [] some h = absurd (omega arith)
+line_post_base (first ∷ rest) some h =
+    let parts = and_parts (nat_le 16 first) (nat_le first 31) h in
+    let most = leb-true first 31 parts.1 in
+    rw (lt-leb 128 first (omega (arith, most)), lt-leb 64 first (omega (arith, most)), lt-leb 32 first (omega (arith, most)), parts.0) refl
+
+pub line_post_base_named : (bytes : List ℕ) → 0 < length bytes → begins 0 15 bytes ≡ true → line bytes ≡ post_base_named bytes
+line_post_base_named [] some h = absurd (omega arith)
+line_post_base_named (first ∷ rest) some h =
+    let parts = and_parts (nat_le 0 first) (nat_le first 15) h in
+    let most = leb-true first 15 parts.1 in
+    rw (lt-leb 128 first (omega (arith, most)), lt-leb 64 first (omega (arith, most)), lt-leb 32 first (omega (arith, most)), lt-leb 16 first (omega (arith, most))) refl
+
 -- a line that was read
-has_line : {L : Type 0} (place : Place) (line_of : L → FieldLine) (r : Reading LineForm) (old new : List ℕ) (l : L) → line old ≡ r → AnswersLine line_of place r old new (Ok l) → HasLine old (line_of l) new
+pub has_line : {L : Type 0} (place : Place) (line_of : L → FieldLine) (r : Reading LineForm) (old new : List ℕ) (l : L) → line old ≡ r → AnswersLine line_of place r old new (Ok l) → HasLine old (line_of l) new
 has_line place line_of (Whole form rest) old new l e h = record { form = form; whole = rw h.1 e; says = h.0 }
 has_line place line_of Unfinished old new l e h = absurd (cc)
 has_line place line_of Bad old new l e h = absurd (cc)
@@ -123,14 +132,6 @@ refused_line place line_of Unfinished old new e is h =
 refused_line place line_of Bad old new e is h =
     let same : e ≡ error_at place Overflow = cc in
     rw same (bad_at (BeginsWithString old) (HasNoField old) place Overflow (not_read old Bad is (λ form rest x. absurd (cc))))
-
-static_none : (index : ℕ) → 99 ≤ index → slice_get static_table index ≡ None
-static_none index le = get_none static_table index (rw table_length le)
-  where
-    get_none : (fields : List Field) (i : ℕ) → length fields ≤ i → slice_get fields i ≡ None
-    get_none [] i h = refl
-    get_none (f ∷ fields) zero h = absurd (omega arith)
-    get_none (f ∷ fields) (suc i) h = get_none fields i (omega arith)
 
 -- a line that names a static entry that there is not
 pub no_static : {L : Type 0} (place : Place) (line_of : L → FieldLine) (r : Reading LineForm) (old new : List ℕ) (l : L) → line old ≡ r → AnswersLine line_of place r old new (Ok l) → (index : ℕ) → 99 ≤ index → line_of l ≡ StaticField index → HasNoField old
