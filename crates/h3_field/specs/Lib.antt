@@ -44,3 +44,4 @@ pub mod ReadBackLaws
 pub mod StaticTableLaws
 pub mod IntegerWritingLaws
 pub mod FieldLaws
+pub mod ShorterLaws

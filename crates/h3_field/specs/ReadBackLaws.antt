@@ -21,7 +21,8 @@ use Rattle.h3_field.specs.Instruction.{EncoderInstruction as to_decoder, Decoder
 use Rattle.h3_field.specs.InstructionReading.{InstructionForm, Says, Capacity, NameReference, LiteralName, Repeat, name_reference, literal_name, capacity, repeat, instruction, acknowledgment, cancellation, increment, decoder_instruction}
 use Rattle.h3_field.specs.InstructionLaws.{name_reference_read, literal_name_read, capacity_read, repeat_read, acknowledgment_read, cancellation_read, increment_read}
 use Rattle.h3_field.specs.InstructionAnswer.{IsSendable, IsReply}
-use Rattle.h3_field.specs.SectionLaws.{line_indexed, line_named, line_literal, line_post_base, line_post_base_named, stands_one, whole_same}
+use Rattle.h3_field.specs.SectionLaws.{line_indexed, line_named, line_literal, line_post_base, line_post_base_named, whole_same}
+use Rattle.h3_field.specs.ValueLaws.{one_instruction_said}
 
 -- the first byte of a prefixed integer has its flags
 first_in : (low high first : ℕ) (rest : List ℕ) → low ≤ first → first ≤ high → begins low high (first ∷ rest) ≡ true
@@ -134,17 +135,17 @@ instruction_reads_back (to_decoder.Duplicate index) rest w b fits =
     let begin = begins_prefixed 5 0 index 0 31 rest (omega arith) (omega arith) in
     record { form = Repeat index; whole = instruction_repeat _ begin.1 begin.0 ∙ repeat_read 0 index rest (omega (arith, w)); says = refl }
 
-reply_acknowledgment : (bytes : List ℕ) → 0 < length bytes → begins 128 255 bytes ≡ true → decoder_instruction bytes ≡ acknowledgment bytes
+pub reply_acknowledgment : (bytes : List ℕ) → 0 < length bytes → begins 128 255 bytes ≡ true → decoder_instruction bytes ≡ acknowledgment bytes
 reply_acknowledgment [] some h = absurd (omega arith)
 reply_acknowledgment (first ∷ rest) some h = rw (and_parts (nat_le 128 first) (nat_le first 255) h).0 refl
 
-reply_cancellation : (bytes : List ℕ) → 0 < length bytes → begins 64 127 bytes ≡ true → decoder_instruction bytes ≡ cancellation bytes
+pub reply_cancellation : (bytes : List ℕ) → 0 < length bytes → begins 64 127 bytes ≡ true → decoder_instruction bytes ≡ cancellation bytes
 reply_cancellation [] some h = absurd (omega arith)
 reply_cancellation (first ∷ rest) some h =
     let parts = and_parts (nat_le 64 first) (nat_le first 127) h in
     rw (lt-leb 128 first (omega (arith, leb-true first 127 parts.1)), parts.0) refl
 
-reply_increment : (bytes : List ℕ) → 0 < length bytes → begins 0 63 bytes ≡ true → decoder_instruction bytes ≡ increment bytes
+pub reply_increment : (bytes : List ℕ) → 0 < length bytes → begins 0 63 bytes ≡ true → decoder_instruction bytes ≡ increment bytes
 reply_increment [] some h = absurd (omega arith)
 reply_increment (first ∷ rest) some h =
     let parts = and_parts (nat_le 0 first) (nat_le first 63) h in
@@ -162,16 +163,9 @@ reply_reads_back (to_encoder.Increment count) rest w =
     let begin = begins_prefixed 6 0 count 0 63 rest (omega arith) (omega arith) in
     reply_increment _ begin.1 begin.0 ∙ increment_read 0 count rest (omega (arith, w))
 
-form_one : (form : InstructionForm) (i j : EncoderInstruction) → Says form i → Says form j → i ≡ j
-form_one (Capacity n) i j a b = a ∙ sym b
-form_one (Repeat n) i j a b = a ∙ sym b
-form_one (NameReference true index p) i j a b = rw (a.2, b.2, stands_one p a.0 b.0 a.1 b.1) refl
-form_one (NameReference false index p) i j a b = rw (a.2, b.2, stands_one p a.0 b.0 a.1 b.1) refl
-form_one (LiteralName p q) i j a b = rw (a.4, b.4, stands_one p a.0 b.0 a.2 b.2, stands_one q a.1 b.1 a.3 b.3) refl
-
 -- bytes begin with one instruction
 pub instruction_one : (bytes rest more : List ℕ) (i j : EncoderInstruction) → HasInstruction bytes i rest → HasInstruction bytes j more → (i ≡ j) × (rest ≡ more)
 instruction_one bytes rest more i j a b =
     let same = whole_same a.form b.form rest more (sym a.whole ∙ b.whole) in
     let says : Says a.form j = rw (← same.0) at b.says in
-    (form_one a.form i j a.says says, same.1)
+    (one_instruction_said a.form i j a.says says, same.1)

@@ -17,16 +17,11 @@ use Rattle.h3_field.specs.declared.prefix_int.Error as integer
 use Rattle.h3_field.specs.Section.{HasLine, line_field, with_value}
 use Rattle.h3_field.specs.SectionAnswer.{HasField, HasNoField, BeginsWithString, IsReason}
 use Rattle.h3_field.specs.ValueLaws.{one_string_stood_for, one_line_said}
-use Rattle.h3_field.specs.EndLaws.{shortens, indexed_leaves, named_leaves, literal_leaves}
 use Rattle.h3_field.specs.Errors.{decoder_parse}
 use Rattle.h3_field.specs.declared.prefix_int.Error.TheVariants.{Overflow, UnexpectedEnd}
 use Rattle.h3_field.specs.declared.prefix_string.Error as string
 use Rattle.h3_field.specs.declared.parse_error.ParseError.{ParseError}
 use Rattle.h3_field.specs.declared.parse_error.ParseError.TheVariants.{Integer, String, InvalidPrefix, InvalidBase, OutOfMemory}
-
--- a payload is one string
-pub stands_one : (p : Payload) (s t : List ℕ) → StandsFor p s → StandsFor p t → s ≡ t
-stands_one = one_string_stood_for
 
 pub whole_same : {A : Type 0} (v w : A) (r s : List ℕ) → Whole v r ≡ Whole w s → (v ≡ w) × (r ≡ s)
 whole_same v w r s e = (cc, cc)
@@ -37,15 +32,6 @@ line_one bytes rest more l k a b =
     let same = whole_same a.form b.form rest more (sym a.whole ∙ b.whole) in
     let says : SaysLine a.form k = rw (← same.0) at b.says in
     (one_line_said a.form l k a.says says, same.1)
-
-pub indexed_shortens : (bytes rest : List ℕ) (form : LineForm) → indexed bytes ≡ Whole form rest → length rest < length bytes
-indexed_shortens bytes rest form e = shortens indexed bytes rest form indexed_leaves e
-
-pub named_shortens : (bytes rest : List ℕ) (form : LineForm) → named bytes ≡ Whole form rest → length rest < length bytes
-named_shortens bytes rest form e = shortens named bytes rest form named_leaves e
-
-pub literal_shortens : (bytes rest : List ℕ) (form : LineForm) → literal bytes ≡ Whole form rest → length rest < length bytes
-literal_shortens bytes rest form e = shortens literal bytes rest form literal_leaves e
 
 -- which line the first byte begins
 pub line_indexed : (bytes : List ℕ) → 0 < length bytes → begins 128 255 bytes ≡ true → line bytes ≡ indexed bytes

@@ -2,6 +2,7 @@
 use Rattle.std.proofs.Common.{◌≡◌, ℕ, ◌+◌, ◌-◌, ◌^◌, ◌<◌, ◌≤◌, Bool, true, false, ◌&&◌, ◌||◌, List, [], ◌∷◌, ◌++◌, length, min, max, refl, sym, ◌∙◌, ap, arith, length-append, nat_le, nat_lt, bytes_eq, if◌then◌else◌, map, fold}
 use Rattle.std.specs.List.{AllByRecursion, list_all, flat_map}
 use Rattle.std.proofs.lemmas.Grind.{common_steps}
+use Rattle.std.proofs.lemmas.Bool.{and_parts}
 use Rattle.h3_field.specs.Field.{Field, field_eq, field_size}
 use Rattle.h3_table.specs.Table.{table, evictions}
 use Rattle.h3_table.specs.TableState.{evicted, newest_in, with_entry}
@@ -10,9 +11,9 @@ use Rattle.h3_qpack.specs.SectionEncoding.{Draft, is_usable, found, found_name, 
 use Rattle.h3_table.specs.Tracking.{is_free_to}
 use Rattle.h3_table.specs.declared.tracking.TrackedSection.{TrackedSection}
 use Rattle.h3_table.specs.InOrder.{in_order}
-use Rattle.h3_table.proofs.InOrders.{all_in_order}
+use Rattle.h3_table.specs.InOrderLaws.{all_in_order}
 use Rattle.h3_qpack.specs.EncoderState.{EncoderState, tracked_section, least, MayInsertInto}
-use Rattle.h3_table.proofs.Tables.{evictions-append}
+use Rattle.h3_table.specs.TableLaws.{evictions-append}
 use Rattle.h3_qpack.proofs.TableStates.{table_state_of, with_entry-held, search_held}
 
 -- the greatest number that may be named, of those up to a number
@@ -174,10 +175,6 @@ insertable_held s d f t table known tracked named small waits h =
     drafted_free (evictions_by s d f) d.references (omega (arith, small, length-append d.inserted (f ∷ []))) ∙ lt_true (evictions_by s d f) (oldest_of d.references) (omega (arith, h.own, after)) in
     rw (few, waits, room, received, list_all-append (evictions_by s d f) (referenced_entries s) d.references, free, own) refl
 
-both : (a b : Bool) → (a && b) ≡ true → (a ≡ true) × (b ≡ true)
-both true b h = (refl, h)
-both false b h = cc
-
 is_le : (a b : ℕ) → nat_le a b ≡ true → a ≤ b
 is_le a b h = grind (arith, common_steps)
 
@@ -191,11 +188,11 @@ pub record Insertable (s : EncoderHistory) (t : EncoderState) (f : Field) (oldes
 pub held_insertable : (s : EncoderHistory) (d : Draft) (f : Field) (t : EncoderState) → t.table ≡ table_state_of s.capacity d.inserted → t.known_received ≡ s.known_received → t.tracked ≡ in_order (λ u. u.stream) (map tracked_section s.tracked)
     → NameEntries s → length d.inserted < 2 ^ 62 → is_insertable s d f ≡ true → Insertable s t f (oldest_of d.references)
 held_insertable s d f t table known tracked named small h =
-    let a = both _ (list_all (λ number. nat_lt (evictions_by s d f) number) (referenced_entries s ++ d.references)) h in
-    let b = both _ (nat_le (evictions_by s d f) (max s.known_received (evictions s.capacity d.inserted))) a.0 in
-    let c = both (nat_lt (length d.inserted + 1) (2 ^ 62) && nat_lt (blocks_out s) s.limit) (nat_le (field_size f) s.capacity) b.0 in
-    let room = both (nat_lt (length d.inserted + 1) (2 ^ 62)) (nat_lt (blocks_out s) s.limit) c.0 in
-    let named_all = both _ _ (sym (list_all-append (evictions_by s d f) (referenced_entries s) d.references) ∙ a.1) in
+    let a = and_parts _ (list_all (λ number. nat_lt (evictions_by s d f) number) (referenced_entries s ++ d.references)) h in
+    let b = and_parts _ (nat_le (evictions_by s d f) (max s.known_received (evictions s.capacity d.inserted))) a.0 in
+    let c = and_parts (nat_lt (length d.inserted + 1) (2 ^ 62) && nat_lt (blocks_out s) s.limit) (nat_le (field_size f) s.capacity) b.0 in
+    let room = and_parts (nat_lt (length d.inserted + 1) (2 ^ 62)) (nat_lt (blocks_out s) s.limit) c.0 in
+    let named_all = and_parts _ _ (sym (list_all-append (evictions_by s d f) (referenced_entries s) d.references) ∙ a.1) in
     let fits = is_le (field_size f) s.capacity c.1 in
     let after : evicted (with_entry t.table f) ≡ evictions_by s d f = ap (λ k. evicted (with_entry k f)) table ∙ ap evicted (with_entry-held s.capacity d.inserted f fits) in
     let before : evicted t.table ≡ evictions s.capacity d.inserted = ap evicted table in

@@ -18,7 +18,7 @@ use Rattle.h3_qpack.proofs.Counts.{one_residue}
 use Rattle.h3_field.specs.Values.{line_of}
 use Rattle.h3_qpack.specs.DecodedSection.{DecodedSection, Fields, Missing, BadSection, field_of, then_fields, fields_from, fields_within, fields_in, checked_count, near_count, count_of, with_base, count_and_base, with_fields, decoded_at, decoded_from, decode_section, IsDecodedAs, IsRefusalOf}
 use Rattle.h3_field.specs.ValueLaws.{line_some, line_is}
-use Rattle.h3_qpack.proofs.Shorter.{line_less}
+use Rattle.h3_field.specs.ShorterLaws.{line_less}
 use Rattle.h3_qpack.specs.SectionAnswers.{IsRefusal}
 use Rattle.h3_field.specs.PrefixAnswer.{AnswersPrefix}
 use Rattle.h3_field.specs.Errors.{decoder_parse}

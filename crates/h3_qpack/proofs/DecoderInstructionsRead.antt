@@ -1,14 +1,11 @@
 -- An instruction of a decoder at the front of some bytes, and instructions one behind the other.
 use Rattle.std.proofs.Common.{◌≡◌, ℕ, ◌<◌, ◌≤◌, ◌^◌, ◌-◌, nat_le, not, Bool, true, false, List, [], ◌∷◌, ◌++◌, length, Option, Some, None, Ok, Err, refl, ap, sym, ◌∙◌, subst, arith}
 use Rattle.std.specs.List.{list_any}
-use Rattle.std.proofs.lemmas.Bool.{and_parts, leb-true, lt-leb}
 use Rattle.h3_field.specs.Reading.{Reading, Whole, Unfinished, Bad}
-use Rattle.h3_field.specs.IntegerReading.{integer}
-use Rattle.h3_field.specs.Shapes.{begins}
 use Rattle.h3_field.specs.Errors.{encoder_parse}
 use Rattle.h3_field.specs.Instruction.{DecoderInstruction}
 use Rattle.h3_field.specs.Instruction.DecoderInstruction.{Acknowledge, Increment}
-use Rattle.h3_field.specs.InstructionReading.{acknowledgment, cancellation, increment, decoder_instruction}
+use Rattle.h3_field.specs.InstructionReading.{decoder_instruction}
 use Rattle.h3_field.specs.InstructionAnswer.{AnswersReply}
 use Rattle.h3_field.specs.declared.prefix_int.Error.TheVariants.{Overflow}
 use Rattle.h3_field.specs.declared.parse_error.ParseError.{ParseError}
@@ -18,43 +15,7 @@ use Rattle.h3_table.specs.Tracking.{is_of}
 use Rattle.h3_qpack.specs.EncoderState.{EncoderState, encoder_state, encoder_state_after}
 use Rattle.h3_qpack.specs.Instructions.{AreDecoderInstructions, NoDecoderInstruction, NextDecoderInstruction, AreAccepted}
 use Rattle.h3_qpack.specs.EncoderAnswers.{HasReadDecoderInstructions, HasReadDecoderInstruction, IsDecoderInstructionRefusal}
-use Rattle.h3_qpack.proofs.Shortening.{parts_of, rest_is, integer_less}
 use Rattle.h3_qpack.proofs.EncoderStates.{encoder_after_state, tracked_state}
-
--- which instruction the first byte begins
-pub is_acknowledgment : (bytes : List ℕ) → 0 < length bytes → begins 128 255 bytes ≡ true → decoder_instruction bytes ≡ acknowledgment bytes
-is_acknowledgment [] some h = absurd (omega arith)
-is_acknowledgment (first ∷ rest) some h =
-    let parts = and_parts (nat_le 128 first) (nat_le first 255) h in
-    rw parts.0 refl
-
-pub is_cancellation : (bytes : List ℕ) → 0 < length bytes → begins 64 127 bytes ≡ true → decoder_instruction bytes ≡ cancellation bytes
-is_cancellation [] some h = absurd (omega arith)
-is_cancellation (first ∷ rest) some h =
-    let parts = and_parts (nat_le 64 first) (nat_le first 127) h in
-    rw (lt-leb 128 first (omega (arith, leb-true first 127 parts.1)), parts.0) refl
-
-pub is_increment : (bytes : List ℕ) → 0 < length bytes → begins 0 63 bytes ≡ true → decoder_instruction bytes ≡ increment bytes
-is_increment [] some h = absurd (omega arith)
-is_increment (first ∷ rest) some h =
-    let parts = and_parts (nat_le 0 first) (nat_le first 63) h in
-    let most = leb-true first 63 parts.1 in
-    rw (lt-leb 128 first (omega (arith, most)), lt-leb 64 first (omega (arith, most))) refl
-
-pub acknowledgment_less : (bytes rest : List ℕ) (i : DecoderInstruction) → acknowledgment bytes ≡ Whole i rest → length rest < length bytes
-acknowledgment_less bytes rest i e =
-    let p = parts_of (integer 7 bytes) _ i rest e in
-    omega (arith, integer_less 7 bytes p.middle p.first p.whole, ap length (rest_is _ i p.middle rest p.later))
-
-pub cancellation_less : (bytes rest : List ℕ) (i : DecoderInstruction) → cancellation bytes ≡ Whole i rest → length rest < length bytes
-cancellation_less bytes rest i e =
-    let p = parts_of (integer 6 bytes) _ i rest e in
-    omega (arith, integer_less 6 bytes p.middle p.first p.whole, ap length (rest_is _ i p.middle rest p.later))
-
-pub increment_less : (bytes rest : List ℕ) (i : DecoderInstruction) → increment bytes ≡ Whole i rest → length rest < length bytes
-increment_less bytes rest i e =
-    let p = parts_of (integer 6 bytes) _ i rest e in
-    omega (arith, integer_less 6 bytes p.middle p.first p.whole, ap length (rest_is _ i p.middle rest p.later))
 
 -- what was read at the front
 pub reply_here : {I : Type 0} (says : I → DecoderInstruction) (r : Reading DecoderInstruction) (old new : List ℕ) (o : Option I) (i : I) → o ≡ Some i

@@ -4,6 +4,7 @@ use Rattle.std.specs.Prelude.{◌==◌}
 use Rattle.std.specs.List.{AllByRecursion, flat_map}
 use Rattle.std.proofs.lemmas.Grind.{common_steps}
 use Rattle.std.proofs.lemmas.List.{take-append-drop}
+use Rattle.std.proofs.lemmas.Bool.{and_parts}
 use Rattle.h3_field.specs.Field.{Field}
 use Rattle.h3_field.specs.Line.{FieldLine}
 use Rattle.h3_field.specs.Line.FieldLine.{StaticField, RelativeField, PostBaseField, StaticName, RelativeName, PostBaseName, Literal}
@@ -15,11 +16,10 @@ use Rattle.h3_qpack.specs.EncoderHistory.{EncoderHistory, UnacknowledgedSection}
 use Rattle.h3_qpack.specs.NamedFields.{insertion_at, named_field, StandFor, entry_number}
 use Rattle.h3_qpack.specs.SectionEncoding.{Draft, found, found_name, is_insertable, add_line, add_literal, add_inserted, add_field, draft_of, required_insert_count}
 use Rattle.h3_qpack.specs.Session.{Session, UndecodedSection, oldest, without_oldest, count_of, references_of, undecoded_references, tracked_references, acknowledgments, is_canceled, IsWrittenOver, IsSound, DecodesTo}
-use Rattle.h3_table.proofs.Tables.{evictions-append}
+use Rattle.h3_table.specs.TableLaws.{evictions-append}
 use Rattle.h3_qpack.proofs.Newest.{chosen, newest_from-passes}
 use Rattle.h3_qpack.proofs.Drafts.{either_way, All-first}
-use Rattle.h3_table.proofs.Releasing.{All-join}
-use Rattle.h3_table.proofs.Equals.{both}
+use Rattle.h3_table.specs.ReleasingLaws.{All-join}
 use Rattle.h3_qpack.proofs.NamedFieldsOf.{section_stands, StandFor-append, with_value-more}
 use Rattle.h3_qpack.proofs.Sessions.{taken_names}
 
@@ -84,8 +84,8 @@ le_is a b e = grind (arith, common_steps)
 pub found_back : (s : EncoderHistory) (d : Draft) (f : Field) (number : ℕ) → found s d f ≡ Some number → (length s.inserted - (length s.inserted - number) ≡ number) × (0 < number) × (number ≤ length d.inserted)
 found_back s d f number h =
     let p = newest_from-passes _ 1 d.inserted number h in
-    let a = both _ _ p.test_is in
-    let b = both _ (nat_le number (length s.inserted)) a.0 in
+    let a = and_parts _ _ p.test_is in
+    let b = and_parts _ (nat_le number (length s.inserted)) a.0 in
     let le = le_is number (length s.inserted) b.1 in
     (omega (arith, le), omega (arith, p.above), omega (arith, p.below))
 

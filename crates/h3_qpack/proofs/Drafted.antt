@@ -10,7 +10,7 @@ use Rattle.h3_field.specs.Instruction.{encoder_bytes}
 use Rattle.h3_table.specs.TableState.{evicted, with_entry}
 use Rattle.h3_qpack.specs.EncoderHistory.{EncoderHistory, UnacknowledgedSection}
 use Rattle.h3_table.specs.declared.tracking.TrackedSection.{TrackedSection}
-use Rattle.h3_table.proofs.InOrders.{All_in_order}
+use Rattle.h3_table.specs.InOrderLaws.{All_in_order}
 use Rattle.h3_qpack.specs.EncoderState.{EncoderState, encoder_state, tracked_section, least}
 use Rattle.h3_qpack.specs.SectionEncoding.{Draft, add_line, add_inserted, add_field, entry_name_line, evictions_by, insertion}
 use Rattle.h3_qpack.specs.Drafting.{IsDraftState, IsDrafted, IsSmall, IsChosen, IsPossible, line_for, section_after, encoder_state_with, instructions_after, naming, oldest_of}

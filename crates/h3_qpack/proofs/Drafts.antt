@@ -2,15 +2,15 @@
 use Rattle.std.proofs.Common.{◌^◌, ◌≡◌, ℕ, ◌+◌, ◌<◌, ◌≤◌, Bool, true, false, ◌&&◌, ◌||◌, List, [], ◌∷◌, ◌++◌, length, refl, sym, ◌∙◌, ap, arith, length-append, append_assoc, append-nil, max, Some, nat_le, nat_lt, bytes_eq, if◌then◌else◌, fold}
 use Rattle.std.specs.List.{AllByRecursion, list_all}
 use Rattle.std.proofs.lemmas.Grind.{common_steps}
+use Rattle.std.proofs.lemmas.Bool.{and_parts}
 use Rattle.h3_field.specs.Field.{Field, field_eq, field_size}
 use Rattle.h3_field.specs.Line.{FieldLine}
 use Rattle.h3_table.specs.Table.{evictions}
 use Rattle.h3_qpack.specs.EncoderHistory.{EncoderHistory, blocks_out, referenced_entries}
 use Rattle.h3_qpack.specs.SectionEncoding.{Draft, is_usable, found, evictions_by, is_insertable, found_name, add_line, add_literal, add_inserted, add_field, draft_of}
 use Rattle.h3_field.specs.StaticTable.{static_field, static_name}
-use Rattle.h3_table.proofs.Equals.{both}
-use Rattle.h3_table.proofs.Releasing.{All-join}
-use Rattle.h3_table.proofs.Tables.{length-table}
+use Rattle.h3_table.specs.ReleasingLaws.{All-join}
+use Rattle.h3_table.specs.TableLaws.{length-table}
 use Rattle.h3_qpack.proofs.Newest.{chosen, newest_from-passes}
 
 -- the entry is there, and the decoder has it or one more section may be blocked
@@ -33,7 +33,7 @@ All-map P Q (x ∷ xs) f h = (f x h.0, All-map P Q xs f h.1)
 
 All-tested : (d : ℕ) (xs : List ℕ) → list_all (λ number. nat_lt d number) xs ≡ true → AllByRecursion (λ number. d < number) xs
 All-tested d [] h = tt
-All-tested d (x ∷ xs) h = let e = both (nat_lt d x) (list_all (λ number. nat_lt d number) xs) h in (lt_true d x e.0, All-tested d xs e.1)
+All-tested d (x ∷ xs) h = let e = and_parts (nat_lt d x) (list_all (λ number. nat_lt d number) xs) h in (lt_true d x e.0, All-tested d xs e.1)
   where
     lt_true : (a b : ℕ) → nat_lt a b ≡ true → a < b
     lt_true a b e = grind (arith, common_steps)
@@ -73,10 +73,10 @@ lt_true a b e = grind (arith, common_steps)
 
 pub may_insert : (s : EncoderHistory) (d : Draft) (f : Field) → is_insertable s d f ≡ true → MayInsert s d f
 may_insert s d f h =
-    let a = both _ (list_all (λ number. nat_lt (evictions_by s d f) number) (referenced_entries s ++ d.references)) h in
-    let b = both _ (nat_le (evictions_by s d f) (max s.known_received (evictions s.capacity d.inserted))) a.0 in
-    let c = both (nat_lt (length d.inserted + 1) (2 ^ 62) && nat_lt (blocks_out s) s.limit) (nat_le (field_size f) s.capacity) b.0 in
-    let room = both (nat_lt (length d.inserted + 1) (2 ^ 62)) (nat_lt (blocks_out s) s.limit) c.0 in
+    let a = and_parts _ (list_all (λ number. nat_lt (evictions_by s d f) number) (referenced_entries s ++ d.references)) h in
+    let b = and_parts _ (nat_le (evictions_by s d f) (max s.known_received (evictions s.capacity d.inserted))) a.0 in
+    let c = and_parts (nat_lt (length d.inserted + 1) (2 ^ 62) && nat_lt (blocks_out s) s.limit) (nat_le (field_size f) s.capacity) b.0 in
+    let room = and_parts (nat_lt (length d.inserted + 1) (2 ^ 62)) (nat_lt (blocks_out s) s.limit) c.0 in
     let all = All-tested (evictions_by s d f) (referenced_entries s ++ d.references) a.1 in
     record {
       few = lt_true _ _ room.0;
@@ -122,9 +122,9 @@ inserted_is_draft s d f h m =
 found_is_named : (s : EncoderHistory) (d : Draft) (f : Field) (number : ℕ) → found s d f ≡ Some number → IsNamed s d.inserted number
 found_is_named s d f number h =
     let p = newest_from-passes _ 1 d.inserted number h in
-    let a = both _ (is_usable s number) p.test_is in
-    let b = both _ (nat_le number (length s.inserted)) a.0 in
-    let c = both (field_eq p.entry f) (nat_lt (evictions s.capacity d.inserted) number) b.0 in
+    let a = and_parts _ (is_usable s number) p.test_is in
+    let b = and_parts _ (nat_le number (length s.inserted)) a.0 in
+    let c = and_parts (field_eq p.entry f) (nat_lt (evictions s.capacity d.inserted) number) b.0 in
     record { there = lt_is _ _ c.1; made = omega (arith, p.below); usable = a.1 }
   where
     lt_is : (a b : ℕ) → nat_lt a b ≡ true → a < b
@@ -133,8 +133,8 @@ found_is_named s d f number h =
 found_name_is_named : (s : EncoderHistory) (d : Draft) (f : Field) (number : ℕ) → found_name s d f ≡ Some number → IsNamed s d.inserted number
 found_name_is_named s d f number h =
     let p = newest_from-passes _ 1 d.inserted number h in
-    let a = both _ (is_usable s number) p.test_is in
-    let b = both (bytes_eq p.entry.name f.name) (nat_lt (evictions s.capacity d.inserted) number) a.0 in
+    let a = and_parts _ (is_usable s number) p.test_is in
+    let b = and_parts (bytes_eq p.entry.name f.name) (nat_lt (evictions s.capacity d.inserted) number) a.0 in
     record { there = lt_is _ _ b.1; made = omega (arith, p.below); usable = a.1 }
   where
     lt_is : (a b : ℕ) → nat_lt a b ≡ true → a < b

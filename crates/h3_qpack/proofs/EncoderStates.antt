@@ -11,7 +11,7 @@ use Rattle.std.specs.Ordering.{nat_cmp}
 use Rattle.std.specs.BTreeSet.{insert_key}
 use Rattle.h3_table.specs.declared.tracking.TrackedSection.{TrackedSection}
 use Rattle.h3_table.specs.InOrder.{in_order}
-use Rattle.h3_table.proofs.InOrders.{any_in_order, oldest_in_order, filter_in_order, length_in_order}
+use Rattle.h3_table.specs.InOrderLaws.{any_in_order, oldest_in_order, filter_in_order, length_in_order}
 use Rattle.h3_table.specs.Tracking.{is_of, without_oldest_of, without_all_of}
 use Rattle.h3_qpack.specs.EncoderState.{encoder_state, tracked_section, encoder_state_after}
 

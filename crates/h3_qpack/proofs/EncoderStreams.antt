@@ -12,7 +12,7 @@ use Rattle.h3_qpack.specs.DecoderState.{DecoderState, announcing, decoder_after_
 use Rattle.h3_qpack.specs.Instructions.{HasRead, BeginsBad}
 use Rattle.h3_qpack.specs.Exchange.{Stream, opening, unread, undelivered, arriving, reading}
 use Rattle.h3_qpack.proofs.Drafts.{All-second}
-use Rattle.h3_qpack.proofs.DecoderFronts.{decoder_after_all-append}
+use Rattle.h3_qpack.specs.InstructionLaws.{decoder_after_all-append}
 use Rattle.h3_qpack.proofs.TablesRead.{decoder_at, at_read}
 use Rattle.h3_qpack.proofs.FrontsRead.{front_read, no_bad}
 

@@ -18,7 +18,7 @@ use Rattle.h3_qpack.specs.SectionEncoding.{Draft, found, found_name, is_insertab
 use Rattle.h3_qpack.specs.Encodings.{IsWrittenLine}
 use Rattle.h3_qpack.proofs.Newest.{chosen, newest_from-passes}
 use Rattle.h3_qpack.proofs.Drafts.{either_way}
-use Rattle.h3_table.proofs.Releasing.{All-join}
+use Rattle.h3_table.specs.ReleasingLaws.{All-join}
 use Rattle.std.proofs.lemmas.List.{length-take-le}
 use Rattle.std.specs.Prelude.{◌==◌}
 use Rattle.h3_field.specs.Reading.{Whole}

@@ -11,7 +11,7 @@ use Rattle.h3_qpack.specs.SectionAnswers.{BeginsWith, BeginsWithNone}
 use Rattle.h3_field.specs.Values.{line_of}
 use Rattle.h3_qpack.specs.DecodedSection.{field_of, then_fields, fields_from, fields_within, fields_in}
 use Rattle.h3_field.specs.ValueLaws.{line_some}
-use Rattle.h3_qpack.proofs.Shorter.{line_less}
+use Rattle.h3_field.specs.ShorterLaws.{line_less}
 use Rattle.h3_qpack.proofs.DecodedLaws.{fields_are}
 
 from_same : (go other : List ℕ → Option (List Field)) (h : TableState) (base : ℕ) (x : Reading LineForm) → ((form : LineForm) (rest : List ℕ) → x ≡ Whole form rest → go rest ≡ other rest)

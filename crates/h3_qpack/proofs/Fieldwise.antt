@@ -16,8 +16,8 @@ use Rattle.h3_qpack.specs.Drafting.{IsDrafted, IsOver, IsSmall, IsChosen, IsPoss
 use Rattle.h3_qpack.specs.declared.section.Section.{Section}
 use Rattle.h3_qpack.specs.declared.section.Choice.{Choice}
 use Rattle.h3_qpack.specs.declared.section.Choice.TheVariants as choice
-use Rattle.h3_table.proofs.Rooms.{evicted_with_entry}
-use Rattle.h3_table.proofs.Releasing.{All-join}
+use Rattle.h3_table.specs.EvictionLaws.{evicted_with_entry}
+use Rattle.h3_table.specs.ReleasingLaws.{All-join}
 use Rattle.h3_qpack.proofs.Drafted.{field_drafted}
 
 -- what follows from two facts of an accepted call

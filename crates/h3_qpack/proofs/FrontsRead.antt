@@ -10,7 +10,7 @@ use Rattle.h3_field.specs.ReadBackLaws.{instruction_reads_back, instruction_one}
 use Rattle.h3_qpack.specs.Encodings.{IsWrittenInstruction}
 use Rattle.h3_qpack.specs.DecoderState.{DecoderState, decoder_after}
 use Rattle.h3_qpack.specs.Instructions.{AreInstructions, NoInstruction, NextInstruction, BeginsBad}
-use Rattle.h3_qpack.proofs.DecoderFronts.{longer_instruction}
+use Rattle.h3_qpack.specs.InstructionLaws.{longer_instruction}
 
 -- what was read of the front: some of the instructions, and what came of those behind them is left
 pub record ReadFront (all : List EncoderInstruction) (n : ℕ) (is : List EncoderInstruction) (left : List ℕ) : Type 0 where

@@ -10,7 +10,7 @@ use Rattle.h3_qpack.specs.TableInside.{IsIndexedBy}
 use Rattle.h3_table.specs.declared.index.Index.{Index}
 use Rattle.h3_table.specs.declared.entries.Match.{Match}
 use Rattle.h3_qpack.proofs.TableStates.{table-end}
-use Rattle.h3_table.proofs.Tables.{length-table}
+use Rattle.h3_table.specs.TableLaws.{length-table}
 
 -- `old` with the oldest of its entries dropped, so many, is `new`.
 abbrev pub IsDropped : Index → Index → ℕ → Type 0

@@ -1,9 +1,11 @@
 -- What an encoder's insertion names at the decoder: the field that was inserted.
 use Rattle.std.proofs.lemmas.List.{take-append-le}
 use Rattle.std.proofs.Math.Seq.{take-length}
+use Rattle.h3_field.specs.FieldLaws.{same_bytes, same_field}
 use Rattle.h3_field.specs.Line.{FieldLine}
 use Rattle.std.proofs.Common.{take, ◌≡◌, ℕ, ◌+◌, ◌-◌, ◌^◌, ◌<◌, ◌≤◌, Bool, true, false, ◌&&◌, List, [], ◌∷◌, ◌++◌, length, max, refl, sym, ◌∙◌, ap, subst, arith, length-append, Option, Some, None, nat_le, nat_lt, bytes_eq, fold, append-nil, append_assoc}
 use Rattle.std.proofs.lemmas.Grind.{common_steps}
+use Rattle.std.proofs.lemmas.Bool.{and_parts}
 use Rattle.h3_field.specs.Field.{Field, field_eq, field_size}
 use Rattle.h3_field.specs.Section.{with_value}
 use Rattle.h3_field.specs.StaticTable.{static_table, static_field, static_name}
@@ -12,18 +14,17 @@ use Rattle.h3_table.specs.Table.{evictions}
 use Rattle.h3_qpack.specs.EncoderHistory.{EncoderHistory}
 use Rattle.h3_qpack.specs.SectionEncoding.{Draft, found, evictions_by, is_insertable, remaining, insertion, add_line, add_literal, add_field, draft_of, found_name, instructions_for}
 use Rattle.h3_qpack.specs.TableHistory.{TableHistory, entry_still_at, field_inserted, table_after_insertion, table_after, table_after_all, table_of, IsReadAs}
-use Rattle.h3_table.proofs.Tables.{evictions-append}
+use Rattle.h3_table.specs.TableLaws.{evictions-append}
 use Rattle.h3_qpack.proofs.Newest.{chosen, newest_from-passes}
 use Rattle.h3_qpack.proofs.Drafts.{may_insert, either_way}
 use Rattle.h3_qpack.proofs.NamedFieldsOf.{insertion_found, name_at}
-use Rattle.h3_table.proofs.Equals.{both, same_bytes, same_field}
 
 -- an entry that remains after the insertion is there, and stands at its index
 remains : (s : EncoderHistory) (d : Draft) (f : Field) (test : Field → Bool) (number : ℕ) → remaining s d f test ≡ Some number
     → (g : Field) × (test g ≡ true) × (entry_still_at (table_of s.capacity d.inserted) (length d.inserted - (length d.inserted - number)) ≡ Some g)
 remains s d f test number h =
     let p = newest_from-passes _ 1 d.inserted number h in
-    let b = both (nat_lt (evictions_by s d f) number) (test p.entry) p.test_is in
+    let b = and_parts (nat_lt (evictions_by s d f) number) (test p.entry) p.test_is in
     let back : length d.inserted - (length d.inserted - number) ≡ number = omega (arith, p.below) in
     let there : nat_lt (evictions s.capacity d.inserted) number ≡ true = still (evictions s.capacity d.inserted) (evictions_by s d f) number (evictions-append s.capacity d.inserted (f ∷ [])) b.0 in
     (p.entry, b.1, ap (entry_still_at (table_of s.capacity d.inserted)) back ∙ rw there (insertion_found _ d.inserted number h))

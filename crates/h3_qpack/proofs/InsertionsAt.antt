@@ -1,16 +1,14 @@
 -- An instruction at the front of some bytes, and the field that it inserts.
 use Rattle.std.proofs.Common.{◌≡◌, inl, inr, ℕ, ◌<◌, ◌≤◌, nat_le, true, false, List, [], ◌∷◌, length, Option, Some, None, Ok, Err, refl, ap, sym, ◌∙◌, subst, arith}
-use Rattle.std.proofs.lemmas.Bool.{and_parts, leb-true, lt-leb}
 use Rattle.h3_field.specs.Field.{Field}
 use Rattle.h3_field.specs.Reading.{Reading, Whole, Unfinished, Bad}
 use Rattle.h3_field.specs.Instruction.{EncoderInstruction}
 use Rattle.h3_field.specs.ReadBack.{HasInstruction}
-use Rattle.h3_field.specs.InstructionReading.{InstructionForm, Capacity, NameReference, LiteralName, Repeat, Says, instruction, name_reference, literal_name, capacity, repeat}
+use Rattle.h3_field.specs.InstructionReading.{InstructionForm, Says, instruction}
 use Rattle.h3_field.specs.InstructionAnswer.{AnswersInstruction}
 use Rattle.h3_field.specs.ShapeAnswer.{Place, error_at}
 use Rattle.h3_qpack.proofs.LinesAt.{bad_at}
-use Rattle.h3_field.specs.Shapes.{begins}
-use Rattle.h3_field.specs.SectionLaws.{stands_one}
+use Rattle.h3_field.specs.ValueLaws.{one_instruction_said}
 use Rattle.h3_field.specs.Errors.{decoder_parse}
 use Rattle.h3_field.specs.declared.prefix_int.Error.TheVariants.{Overflow}
 use Rattle.h3_field.specs.declared.prefix_string.Error as string
@@ -18,22 +16,12 @@ use Rattle.h3_field.specs.declared.parse_error.ParseError.{ParseError}
 use Rattle.h3_field.specs.declared.parse_error.ParseError.TheVariants.{Integer, String, InvalidPrefix, InvalidBase, OutOfMemory}
 use Rattle.std.proofs.lemmas.Grind.{common_steps}
 use Rattle.h3_field.specs.Instruction.EncoderInstruction.{SetCapacity, InsertWithStaticName, InsertWithEntryName, InsertLiteral, Duplicate}
-use Rattle.h3_field.specs.declared.decoder_error.DecoderError.{DecoderError}
-use Rattle.h3_field.specs.declared.decoder_error.DecoderError.TheVariants as error
 use Rattle.h3_table.specs.TableState.{TableState, has_room, with_entry, with_capacity}
 use Rattle.h3_qpack.specs.DecoderState.{DecoderState, insertion_of, inserting, decoder_after, greatest_capacity}
 use Rattle.h3_qpack.specs.WholeInstructions.{is_insertion}
 use Rattle.h3_qpack.specs.Instructions.{BeginsBad}
 use Rattle.h3_qpack.specs.SectionAnswers.{IsReasonFor}
 use Rattle.h3_qpack.specs.InstructionAnswers.{BeginsInsertion, BeginsNoInsertion, HasReadOne}
-
--- a form says one instruction
-pub says_one : (form : InstructionForm) (i j : EncoderInstruction) → Says form i → Says form j → i ≡ j
-says_one (Capacity n) i j a b = a ∙ sym b
-says_one (NameReference true index p) i j a b = rw (a.2, b.2, stands_one p a.0 b.0 a.1 b.1) refl
-says_one (NameReference false index p) i j a b = rw (a.2, b.2, stands_one p a.0 b.0 a.1 b.1) refl
-says_one (LiteralName p q) i j a b = rw (a.4, b.4, stands_one p a.0 b.0 a.2 b.2, stands_one q a.1 b.1 a.3 b.3) refl
-says_one (Repeat index) i j a b = a ∙ sym b
 
 pub has_instruction : {I : Type 0} (place : Place) (says : I → EncoderInstruction) (r : Reading InstructionForm) (old new : List ℕ) (o : Option I) (i : I) → instruction old ≡ r → o ≡ Some i
     → AnswersInstruction says place r old new (Ok o) → HasInstruction old (says i) new
@@ -57,7 +45,7 @@ pub begins_no_insertion : {I : Type 0} (place : Place) (h : TableState) (says : 
     → o ≡ Some i → AnswersInstruction says place read old new (Ok o) → is_insertion (says i) ≡ true → insertion_of h (says i) ≡ None → BeginsNoInsertion h old
 begins_no_insertion place h says read old new o i e is answer inserts none =
     let here = has_instruction place says read old new o i e is answer in
-    inr (here.form, new, here.whole, λ j s. let same = says_one here.form (says i) j here.says s in (rw (← same) inserts, rw (← same) none))
+    inr (here.form, new, here.whole, λ j s. let same = one_instruction_said here.form (says i) j here.says s in (rw (← same) inserts, rw (← same) none))
 
 pub not_whole : {I : Type 0} (place : Place) (says : I → EncoderInstruction) (r : Reading InstructionForm) (old new : List ℕ) → instruction old ≡ r → AnswersInstruction says place r old new (Ok None) → instruction old ≡ Unfinished
 not_whole place says (Whole form rest) old new e h = absurd h
@@ -85,33 +73,6 @@ refused place h says Bad old new e is k =
     let same : e ≡ error_at place Overflow = cc in
     rw same (bad_at (BeginsNoInsertion h old) place Overflow (inl is))
 
--- which instruction the first byte begins
-pub is_named : (bytes : List ℕ) → 0 < length bytes → begins 128 255 bytes ≡ true → instruction bytes ≡ name_reference bytes
-is_named [] some h = absurd (omega arith)
-is_named (first ∷ rest) some h =
-    let parts = and_parts (nat_le 128 first) (nat_le first 255) h in
-    rw parts.0 refl
-
-pub is_literal : (bytes : List ℕ) → 0 < length bytes → begins 64 127 bytes ≡ true → instruction bytes ≡ literal_name bytes
-is_literal [] some h = absurd (omega arith)
-is_literal (first ∷ rest) some h =
-    let parts = and_parts (nat_le 64 first) (nat_le first 127) h in
-    rw (lt-leb 128 first (omega (arith, leb-true first 127 parts.1)), parts.0) refl
-
-pub is_capacity : (bytes : List ℕ) → 0 < length bytes → begins 32 63 bytes ≡ true → instruction bytes ≡ capacity bytes
-is_capacity [] some h = absurd (omega arith)
-is_capacity (first ∷ rest) some h =
-    let parts = and_parts (nat_le 32 first) (nat_le first 63) h in
-    let most = leb-true first 63 parts.1 in
-    rw (lt-leb 128 first (omega (arith, most)), lt-leb 64 first (omega (arith, most)), parts.0) refl
-
-pub is_repeat : (bytes : List ℕ) → 0 < length bytes → begins 0 31 bytes ≡ true → instruction bytes ≡ repeat bytes
-is_repeat [] some h = absurd (omega arith)
-is_repeat (first ∷ rest) some h =
-    let parts = and_parts (nat_le 0 first) (nat_le first 31) h in
-    let most = leb-true first 31 parts.1 in
-    rw (lt-leb 128 first (omega (arith, most)), lt-leb 64 first (omega (arith, most)), lt-leb 32 first (omega (arith, most))) refl
-
 -- an insertion is no change of the capacity
 pub insertion_reads : (r : DecoderState) (i : EncoderInstruction) → is_insertion i ≡ true → decoder_after r i ≡ inserting r (insertion_of r.table i)
 insertion_reads r (SetCapacity n) e = absurd (cc)
@@ -131,7 +92,7 @@ no_room_bad r bytes rest f b none = inr (
   rest,
   b.here.whole,
   λ i s.
-      let same = says_one b.here.form i b.i s b.here.says in
+      let same = one_instruction_said b.here.form i b.i s b.here.says in
       ap (decoder_after r) same ∙ insertion_reads r b.i b.inserts ∙ ap (inserting r) b.names ∙ rw none refl,
 )
 
@@ -146,20 +107,6 @@ room_reads r bytes rest f b room =
       grows = omega arith;
     }
 
-pub reason_map : (a b : Type 0) (e : DecoderError) → (a → b) → IsReasonFor a (λ count. ⊥) e → IsReasonFor b (λ count. ⊥) e
-reason_map a b error.OutOfMemory f n = tt
-reason_map a b (error.HeaderTooLong sum) f n = absurd n
-reason_map a b (error.InvalidInteger x) f n = f n
-reason_map a b (error.InvalidString x) f n = f n
-reason_map a b (error.InvalidIndex x) f n = f n
-reason_map a b (error.DynamicTable x) f n = f n
-reason_map a b (error.InvalidStaticIndex x) f n = f n
-reason_map a b (error.UnknownPrefix x) f n = f n
-reason_map a b (error.MissingRefs x) f n = absurd n
-reason_map a b error.BadBaseIndex f n = f n
-reason_map a b error.UnexpectedEnd f n = f n
-reason_map a b error.BufSize f n = f n
-
 -- a capacity that is set, one that is too large, and one that is refused
 pub capacity_reads : (r : DecoderState) (bytes rest : List ℕ) (n : ℕ) → HasInstruction bytes (SetCapacity n) rest → length rest < length bytes → n ≤ greatest_capacity r
     → HasReadOne r (record r { table = with_capacity r.table n }) bytes rest
@@ -172,6 +119,6 @@ capacity_bad r bytes rest n here above = inr (
   rest,
   here.whole,
   λ i s.
-      let same = says_one here.form i (SetCapacity n) s here.says in
+      let same = one_instruction_said here.form i (SetCapacity n) s here.says in
       ap (decoder_after r) same ∙ (let no : nat_le n (greatest_capacity r) ≡ false = grind (arith, common_steps) in rw no refl),
 )

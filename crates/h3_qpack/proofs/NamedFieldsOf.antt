@@ -6,6 +6,8 @@ use Rattle.std.proofs.lemmas.List.Quantifiers.{position-Some}
 use Rattle.std.proofs.lemmas.Option.{slice_get-get_or}
 use Rattle.std.specs.List.{position}
 use Rattle.std.proofs.Common.{get_or}
+use Rattle.std.proofs.lemmas.Bool.{and_parts}
+use Rattle.h3_field.specs.FieldLaws.{same_bytes, same_field}
 use Rattle.h3_field.specs.Field.{Field, field_eq}
 use Rattle.h3_field.specs.Section.{with_value}
 use Rattle.h3_field.specs.Line.{FieldLine}
@@ -17,7 +19,6 @@ use Rattle.h3_qpack.specs.SectionEncoding.{Draft, is_usable, found, found_name, 
 use Rattle.h3_qpack.specs.NamedFields.{insertion_at, named_field, StandFor}
 use Rattle.h3_qpack.proofs.Newest.{chosen, newest_from-passes}
 use Rattle.h3_qpack.proofs.Drafts.{either_way}
-use Rattle.h3_table.proofs.Equals.{both, same_bytes, same_field}
 
 slice_get-append : {X : Type 0} (xs ys : List X) (i : ℕ) (x : X) → slice_get xs i ≡ Some x → slice_get (xs ++ ys) i ≡ Some x
 slice_get-append [] ys i x h = cc
@@ -108,9 +109,9 @@ found_line : (s : EncoderHistory) (d : Draft) (f : Field) (number : ℕ) → fou
     → named_field d.inserted (length s.inserted) (RelativeField (length s.inserted - number)) ≡ Some f
 found_line s d f number h =
     let p = newest_from-passes _ 1 d.inserted number h in
-    let a = both _ (is_usable s number) p.test_is in
-    let b = both _ (nat_le number (length s.inserted)) a.0 in
-    let c = both (field_eq p.entry f) _ b.0 in
+    let a = and_parts _ (is_usable s number) p.test_is in
+    let b = and_parts _ (nat_le number (length s.inserted)) a.0 in
+    let c = and_parts (field_eq p.entry f) _ b.0 in
     let le = le_is number (length s.inserted) b.1 in
     let back : length s.inserted - (length s.inserted - number) ≡ number = omega (arith, le) in
     ap (insertion_at d.inserted) back ∙ insertion_found _ d.inserted number h ∙ ap Some (same_field p.entry f c.0)
@@ -129,8 +130,8 @@ found_name_line : (s : EncoderHistory) (d : Draft) (f : Field) (number : ℕ) �
     → named_field d.inserted (length s.inserted) (entry_name_line (length s.inserted) number f.value) ≡ Some f
 found_name_line s d f number h =
     let p = newest_from-passes _ 1 d.inserted number h in
-    let a = both _ (is_usable s number) p.test_is in
-    let b = both (bytes_eq p.entry.name f.name) _ a.0 in
+    let a = and_parts _ (is_usable s number) p.test_is in
+    let b = and_parts (bytes_eq p.entry.name f.name) _ a.0 in
     let n = same_bytes p.entry.name f.name b.0 in
     named_line d.inserted (length s.inserted) number f (nat_le number (length s.inserted)) refl p.above
     (ap (with_value f.value) (insertion_found _ d.inserted number h) ∙ ap Some (λ i. record { name = n i; value = f.value }))

@@ -8,8 +8,8 @@ use Rattle.h3_table.specs.Tracking.{is_of, without_newest, without_newest_of}
 use Rattle.h3_qpack.specs.EncoderState.{encoder_state, tracked_section, encoder_state_withdrawn}
 use Rattle.h3_table.specs.declared.tracking.TrackedSection.{TrackedSection}
 use Rattle.h3_table.specs.InOrder.{in_order}
-use Rattle.h3_table.proofs.InOrders.{newest_in_order}
-use Rattle.h3_table.proofs.Releasing.{none_newest}
+use Rattle.h3_table.specs.InOrderLaws.{newest_in_order}
+use Rattle.h3_table.specs.ReleasingLaws.{none_newest}
 
 any_map : {X Y : Type 0} (f : X → Y) (test : Y → Bool) (xs : List X) → list_any (λ x. test (f x)) xs ≡ list_any test (map f xs)
 any_map f test [] = refl

@@ -7,7 +7,7 @@ use Rattle.h3_qpack.specs.Exchange.{ExchangeHistory, Exchange, start, opening}
 use Rattle.h3_qpack.specs.RunAnswers.{HasAnswered}
 use Rattle.h3_qpack.specs.declared.session.SessionEvent.{SessionEvent}
 use Rattle.h3_qpack.specs.declared.session.SessionAnswer.{SessionAnswer}
-use Rattle.h3_table.proofs.Tables.{section_size-table}
+use Rattle.h3_table.specs.TableLaws.{section_size-table}
 use Rattle.h3_qpack.proofs.TableStates.{table-end}
 use Rattle.h3_qpack.proofs.TablesRead.{decoder_at}
 use Rattle.h3_qpack.proofs.EncoderStreams.{encoder_stream_is}

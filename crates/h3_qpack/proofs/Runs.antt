@@ -37,7 +37,7 @@ use Rattle.h3_qpack.specs.declared.session.SessionEvent.{SessionEvent}
 use Rattle.h3_qpack.specs.declared.session.SessionEvent.TheVariants as event
 use Rattle.h3_qpack.specs.declared.session.SessionAnswer.{SessionAnswer}
 use Rattle.h3_qpack.specs.declared.session.SessionAnswer.TheVariants as answer
-use Rattle.h3_table.proofs.Releasing.{All-join}
+use Rattle.h3_table.specs.ReleasingLaws.{All-join}
 use Rattle.h3_qpack.proofs.Schedules.{beginning_is_sound}
 use Rattle.h3_qpack.proofs.Sessions.{section_written, insertions_kept, insertions_read, section_decoded, stream_abandoned}
 use Rattle.h3_qpack.proofs.Decoding.{oldest_holds}

@@ -20,7 +20,7 @@ use Rattle.h3_qpack.specs.Drafting.{IsDraftState, IsDrafted, IsOver, IsSmall, Is
 use Rattle.h3_qpack.specs.declared.section.Section.{Section}
 use Rattle.h3_table.specs.declared.tracking.TrackedSection.{TrackedSection}
 use Rattle.h3_table.specs.InOrder.{in_order, put_last}
-use Rattle.h3_table.proofs.InOrders.{in_order_more}
+use Rattle.h3_table.specs.InOrderLaws.{in_order_more}
 use Rattle.h3_qpack.proofs.EncoderStates.{blocking_counted}
 use Rattle.h3_qpack.proofs.Canceled.{sent_draft}
 

@@ -15,7 +15,7 @@ use Rattle.h3_qpack.specs.SectionEncoding.{Draft, draft_of, required_insert_coun
 use Rattle.h3_qpack.proofs.Canceled.{canceled_more, on_static, on_other, sent_draft}
 use Rattle.h3_qpack.proofs.Insertions.{section_read_as}
 use Rattle.h3_qpack.proofs.Drafts.{All-first, All-second, draft_is_draft, IsNamed}
-use Rattle.h3_table.proofs.Releasing.{All-join}
+use Rattle.h3_table.specs.ReleasingLaws.{All-join}
 use Rattle.h3_qpack.specs.Schedule.{without_section}
 use Rattle.h3_qpack.specs.Session.{Session, UndecodedSection, encoded, inserted, decoded, after_cancellation, after_decoder_instruction, increments, acknowledgments, tracked_references, references_of, undecoded_references, count_of, CancelsAreLast, is_canceled, oldest, without_oldest, IsWrittenOver, IsSound}
 

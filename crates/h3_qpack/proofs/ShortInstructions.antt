@@ -14,7 +14,7 @@ use Rattle.h3_qpack.specs.SectionEncoding.{Draft, add_field, add_literal, draft_
 use Rattle.h3_qpack.specs.ShortLaws.{prefixed_short, string_short}
 use Rattle.h3_qpack.proofs.Canceled.{on_inserted}
 use Rattle.h3_qpack.proofs.Drafts.{either_way}
-use Rattle.h3_table.proofs.Releasing.{All-join}
+use Rattle.h3_table.specs.ReleasingLaws.{All-join}
 use Rattle.h3_qpack.proofs.Newest.{chosen}
 use Rattle.h3_qpack.proofs.Writable.{draft_small, instructions_fit}
 

@@ -5,7 +5,7 @@ use Rattle.std.proofs.lemmas.List.{take-append-drop, length-take-le}
 use Rattle.h3_field.specs.Field.{Field, field_size, section_size}
 use Rattle.h3_table.specs.Table.{table, evictions, newest, newest_from, or_else}
 use Rattle.h3_table.specs.TableState.{TableState, in_range, newest_in, with_entry}
-use Rattle.h3_table.proofs.Tables.{length-table, table-one}
+use Rattle.h3_table.specs.TableLaws.{length-table, table-one}
 use Rattle.h3_qpack.proofs.Newest.{newest_from-none}
 
 -- the table of all these insertions, as it is held

@@ -3,6 +3,7 @@ use Rattle.std.proofs.Common.{◌≡◌, ◌⊎◌, inl, inr, ℕ, zero, suc, �
 use Rattle.std.specs.Prelude.{◌==◌}
 use Rattle.std.proofs.lemmas.Grind.{common_steps}
 use Rattle.std.proofs.lemmas.List.{take_more, length-take-le}
+use Rattle.std.proofs.lemmas.Bool.{and_parts}
 use Rattle.h3_field.specs.Field.{Field, field_size}
 use Rattle.h3_field.specs.Section.{with_value}
 use Rattle.h3_field.specs.Instruction.{EncoderInstruction}
@@ -16,8 +17,7 @@ use Rattle.h3_qpack.specs.Encodings.{HasInsertions}
 use Rattle.h3_qpack.specs.Exchange.{opening}
 use Rattle.h3_qpack.proofs.TableStates.{table_state_of, table-end, with_entry-held}
 use Rattle.h3_qpack.proofs.Insertions.{table_after_all-append}
-use Rattle.h3_qpack.proofs.DecoderFronts.{decoder_after_all-append}
-use Rattle.h3_table.proofs.Equals.{both}
+use Rattle.h3_qpack.specs.InstructionLaws.{decoder_after_all-append}
 use Rattle.h3_qpack.proofs.Encodings.{still_held}
 
 -- a decoder that has read these insertions, and the capacity before them
@@ -78,7 +78,7 @@ inserted_same : (capacity : ℕ) (fs gs : List Field) (i : EncoderInstruction) �
 inserted_same capacity fs gs i reads h =
     let l = longer_by capacity fs gs (field_inserted (table_of capacity fs) i) h in
     let named = names_same capacity fs i l.field l.is in
-    let fits : field_size l.field ≤ capacity = small (field_size l.field) capacity (both (nat_lt (length fs + 1) (2 ^ 62)) (nat_le (field_size l.field) capacity) l.room).1 in
+    let fits : field_size l.field ≤ capacity = small (field_size l.field) capacity (and_parts (nat_lt (length fs + 1) (2 ^ 62)) (nat_le (field_size l.field) capacity) l.room).1 in
     let made : inserting (decoder_at capacity fs) (Some l.field) ≡ Some (decoder_at capacity (fs ++ l.field ∷ [])) =
     rw l.room (ap (λ t. Some (record (decoder_at capacity fs) { table = t })) (entry_added capacity fs l.field fits)) in
     reads ∙ ap (inserting (decoder_at capacity fs)) named ∙ made ∙ ap (λ hs. Some (decoder_at capacity hs)) (sym l.more)

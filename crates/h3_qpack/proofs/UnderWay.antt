@@ -15,7 +15,7 @@ use Rattle.h3_qpack.specs.SectionEncoding.{draft_of, encoded_section, required_i
 use Rattle.h3_qpack.specs.Session.{Session, UndecodedSection, oldest, count_of, IsSound, IsWrittenOver}
 use Rattle.h3_qpack.proofs.Canceled.{on_capacity}
 use Rattle.h3_qpack.proofs.Decoding.{section_counted, count_holds, oldest_holds}
-use Rattle.h3_table.proofs.Releasing.{All-join}
+use Rattle.h3_table.specs.ReleasingLaws.{All-join}
 use Rattle.h3_qpack.proofs.Encodings.{section_longer}
 use Rattle.h3_qpack.proofs.Schedules.{beginning_is_sound, every_run_is_sound, step_is_sound}
 use Rattle.h3_qpack.proofs.Sessions.{kept_written, without_written}

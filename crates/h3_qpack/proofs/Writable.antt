@@ -17,7 +17,7 @@ use Rattle.h3_qpack.specs.SectionEncoding.{Draft, found, found_name, is_insertab
 use Rattle.h3_qpack.specs.Encodings.{IsWrittenLine, IsWrittenInstruction}
 use Rattle.h3_qpack.proofs.Newest.{chosen, newest_from-passes}
 use Rattle.h3_qpack.proofs.Drafts.{either_way, may_insert}
-use Rattle.h3_table.proofs.Releasing.{All-join}
+use Rattle.h3_table.specs.ReleasingLaws.{All-join}
 
 abbrev pub IsSmallLine : FieldLine → Type 0
 IsSmallLine l = IsWritable l × IsLineOfBytes l

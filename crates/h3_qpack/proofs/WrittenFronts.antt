@@ -17,7 +17,7 @@ use Rattle.h3_qpack.specs.Encodings.{IsWrittenInstruction}
 use Rattle.h3_qpack.specs.Instructions.{AreInstructions, NoInstruction, NextInstruction, AreDecoderInstructions, NoDecoderInstruction, NextDecoderInstruction, AreAccepted}
 use Rattle.h3_qpack.specs.WholeInstructions.{whole_in, rest_in}
 use Rattle.h3_qpack.specs.Hearing.{heard, hear, listened, listen}
-use Rattle.h3_qpack.proofs.HearingLaws.{heard_is, listened_is}
+use Rattle.h3_qpack.specs.HearingLaws.{heard_is, listened_is}
 
 none_behind : {A : Type 0} (v w : A) (rest : List ℕ) → Whole v rest ≡ Whole w [] → length rest ≡ 0
 none_behind v w rest e = let same : rest ≡ [] = cc in ap (λ l. length l) same

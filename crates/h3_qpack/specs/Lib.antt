@@ -29,3 +29,7 @@ pub mod LineFields
 pub mod Sizes
 pub mod Hearing
 pub mod ShortLaws
+pub mod ReasonLaws
+pub mod InstructionLaws
+pub mod HearingLaws
+pub mod StreamCutLaws

@@ -11,7 +11,7 @@ use Rattle.h3_wire.specs.declared.proto.frame.Frame.TheVariants as frame
 use Rattle.h3_connection.specs.PeerReading.{Peer, PeerFound, with_unread, read_max_push, read_frame, unless_fault, at_front, read_peer}
 use Rattle.h3_connection.specs.PeerReadingLaws.{peer_step, frame_keeps}
 use Rattle.h3_connection.specs.SkippingLaws.{rest_shorter}
-use Rattle.h3_unidirectional.proofs.PeerLaws.{peer_waits}
+use Rattle.h3_unidirectional.specs.PeerLaws.{peer_waits}
 
 -- what holds of both ways
 if_both : (P : PeerFound → Type 0) (b : Bool) (x y : PeerFound) → P x → P y → P (if b then x else y)

@@ -1,11 +1,6 @@
-pub mod Equals
-pub mod Tables
 pub mod Searches
-pub mod Rooms
 pub mod Chains
 pub mod ReferenceCounts
-pub mod Releasing
-pub mod InOrders
 pub mod Blockings
 pub mod Streams
 pub mod Taking

@@ -6,7 +6,7 @@ use Rattle.std.specs.Prelude.{◌==◌}
 use Rattle.std.specs.List.{AllByRecursion}
 use Rattle.std.proofs.lemmas.Grind.{common_steps}
 use Rattle.std.proofs.lemmas.List.Sums.{sum_by-cons, sum_by-append}
-use Rattle.h3_table.proofs.Equals.{both}
+use Rattle.std.proofs.lemmas.Bool.{and_parts}
 use Rattle.h3_table.specs.declared.tracking.TrackedSection.{TrackedSection}
 use Rattle.h3_table.specs.Tracking.{reference_count, reference_counts, is_free_to}
 
@@ -123,7 +123,7 @@ pub above_free : (evicted made last : ℕ) (ts : List TrackedSection) → is_fre
     → AllByRecursion (λ s. (last < s.oldest) × (s.oldest ≤ made)) ts
 above_free evicted made last [] free h = tt
 above_free evicted made last (t ∷ ts) free h =
-    let e = both (nat_lt last t.oldest) (is_free_to last ts) free in
+    let e = and_parts (nat_lt last t.oldest) (is_free_to last ts) free in
     ((grind (arith, common_steps), h.0.1), above_free evicted made last ts e.1 h.1)
 
 -- the count of an entry that is there

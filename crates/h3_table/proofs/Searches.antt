@@ -3,6 +3,7 @@ use Rattle.std.proofs.Common.{◌≡◌, ℕ, zero, suc, ◌+◌, ◌<◌, ◌�
 use Rattle.std.proofs.lemmas.Option.{slice_get-map, slice_get_within, get_or_from_slice_get}
 use Rattle.std.proofs.lemmas.List.{length-map}
 use Rattle.std.proofs.lemmas.Grind.{common_steps}
+use Rattle.h3_field.specs.FieldLaws.{same_bytes, same_field}
 use Rattle.h3_field.specs.Field.{Field}
 use Rattle.h3_table.specs.Table.{newest_from}
 use Rattle.h3_table.specs.TableState.{TableState, in_range, evicted, newest_in}
@@ -12,7 +13,6 @@ use Rattle.h3_table.specs.Index.{IsNewestBelow, IsIndexed}
 use Rattle.h3_table.specs.declared.index.Index.{Index}
 use Rattle.h3_table.specs.declared.entries.Match.{Match}
 use Rattle.h3_table.specs.declared.entries.Match.TheVariants as what
-use Rattle.h3_table.proofs.Equals.{same_bytes, same_field}
 
 -- what doesn't pass in a list is not found
 nothing : (test : ℕ → Field → Bool) (first : ℕ) (fs : List Field) → ((i : ℕ) (e : Field) → slice_get fs i ≡ Some e → test (first + i) e ≡ false) → newest_from test first fs ≡ None

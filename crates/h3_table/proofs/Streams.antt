@@ -18,8 +18,8 @@ use Rattle.h3_table.specs.declared.tracking.TrackedSection.{TrackedSection}
 use Rattle.h3_table.specs.InOrder.{put_last}
 use Rattle.h3_table.specs.Tracking.{is_of, without_newest, without_oldest_of}
 use Rattle.h3_table.specs.Sections.{sections_on, sections_of, IsWithoutOne, IsOldestTaken, IsNewestTaken}
-use Rattle.h3_table.proofs.Releasing.{none_newest, none_removed, other_stays, last_goes}
-use Rattle.h3_table.proofs.InOrders.{last_stays, last_behind}
+use Rattle.h3_table.specs.ReleasingLaws.{none_newest, none_removed, other_stays, last_goes}
+use Rattle.h3_table.specs.InOrderLaws.{last_stays, last_behind}
 
 -- each stream is below those behind it
 abbrev pub Climbs : List (ℕ × List ℕ) → Type 0

@@ -7,7 +7,7 @@ use Rattle.std.proofs.lemmas.List.Sums.{sum_by-cons}
 use Rattle.h3_table.specs.declared.tracking.TrackedSection.{TrackedSection}
 use Rattle.h3_table.specs.Tracking.{reference_count, reference_counts}
 use Rattle.h3_table.specs.Sections.{IsWithoutOne}
-use Rattle.h3_table.proofs.Releasing.{All-join}
+use Rattle.h3_table.specs.ReleasingLaws.{All-join}
 use Rattle.h3_table.proofs.ReferenceCounts.{held_at, held_set, reference_count-append}
 
 -- the sections name entries that are there

@@ -15,3 +15,7 @@ pub mod ByteQueueInside
 pub mod FieldRow
 pub mod Records
 pub mod FieldQueueInside
+pub mod TableLaws
+pub mod ReleasingLaws
+pub mod InOrderLaws
+pub mod EvictionLaws

@@ -7,12 +7,12 @@ use Rattle.h3_qpack.specs.Increments.{increment_for}
 use Rattle.h3_qpack.specs.Instructions.{AreInstructions, NoInstruction, NextInstruction, HasRead}
 use Rattle.h3_qpack.specs.DecoderState.{DecoderState}
 use Rattle.h3_qpack.specs.SectionAnswers.{IsReasonFor}
-use Rattle.h3_qpack.proofs.InsertionsAt.{reason_map}
+use Rattle.h3_qpack.specs.ReasonLaws.{reason_map}
 use Rattle.h3_qpack.specs.Hearing.{Heard, heard, hear, heard_then}
 use Rattle.h3_connection.specs.Codes.{encoder_stream_error}
 use Rattle.h3_connection.specs.Listeners.{Decoding, Hears, fault_if, heard_more, after_hearing, insertions_heard}
-use Rattle.h3_qpack.proofs.HearingLaws.{heard_is}
-use Rattle.h3_qpack.proofs.StreamCuts.{cuts_are_heard_alike}
+use Rattle.h3_qpack.specs.HearingLaws.{heard_is}
+use Rattle.h3_qpack.specs.StreamCutLaws.{cuts_are_heard_alike}
 use Rattle.h3_unidirectional.specs.Fronts.{HearsFront, StopsHearing}
 use Rattle.h3_unidirectional.proofs.InstructionFronts.{instruction_fronts}
 

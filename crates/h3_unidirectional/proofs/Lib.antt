@@ -1,4 +1,3 @@
-pub mod PeerLaws
 pub mod FrameFronts
 pub mod ControlFronts
 mod InstructionFronts

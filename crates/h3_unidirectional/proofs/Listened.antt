@@ -12,8 +12,8 @@ use Rattle.h3_qpack.specs.Instructions.{AreDecoderInstructions, NoDecoderInstruc
 use Rattle.h3_qpack.specs.Hearing.{Listened, listened, listen, listened_then, HasListened}
 use Rattle.h3_connection.specs.Codes.{decoder_stream_error}
 use Rattle.h3_connection.specs.Listeners.{Encoding, Listens, fault_if}
-use Rattle.h3_qpack.proofs.HearingLaws.{listened_is}
-use Rattle.h3_qpack.proofs.StreamCuts.{cuts_are_listened_alike}
+use Rattle.h3_qpack.specs.HearingLaws.{listened_is}
+use Rattle.h3_qpack.specs.StreamCutLaws.{cuts_are_listened_alike}
 use Rattle.h3_unidirectional.specs.Faults.{IsReplyFaultOf, UnlessMemory}
 use Rattle.h3_unidirectional.specs.Fronts.{StopsListening}
 use Rattle.h3_unidirectional.proofs.Heard.{dropped}

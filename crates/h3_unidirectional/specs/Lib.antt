@@ -6,3 +6,4 @@ pub mod Kinds
 pub mod Rows
 pub mod Learned
 pub mod OwnLaws
+pub mod PeerLaws

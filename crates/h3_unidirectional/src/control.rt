@@ -227,7 +227,7 @@ impl PeerControl {
     }
 
     /// Reads the next frame. Where memory is refused only unknown frames are passed.
-    #[tactic(auto, using(crate::proofs::PeerLaws::peer_waits, crate::proofs::ControlFronts::no_front, crate::proofs::ControlFronts::unknown_passed))]
+    #[tactic(auto, using(crate::specs::PeerLaws::peer_waits, crate::proofs::ControlFronts::no_front, crate::proofs::ControlFronts::unknown_passed))]
     fn read_one(&mut self, alloc: Global, side: Side) -> Result<Progress, AllocError>
         ensures ok { IfOk result (λ progress. ReadsOne side self.old self.new progress) }
         ensures refused { OnErr result (ReadsFront side self.old self.new) }

@@ -2,12 +2,13 @@ use Rattle.std.proofs.Common.{refl}
 use Rattle.h3_field.specs.LineReading.{literal}
 use Rattle.h3_field.specs.LineAnswer.{literal_line}
 use Rattle.h3_field.specs.ShapeAnswer.{AtString}
-use Rattle.h3_field.specs.SectionLaws.{has_field, line_literal, literal_shortens, refused_line}
+use Rattle.h3_field.specs.SectionLaws.{has_field, line_literal, refused_line}
+use Rattle.h3_field.specs.ShorterLaws.{literal_less}
 use Rattle.h3_field.proofs.decoder.take_literal.Goals as goal
 
 pub returns-in-Ok : goal.returns-in-Ok
 returns-in-Ok c =
-    has_field AtString literal_line literal _ _ _ _ literal_shortens (line_literal _ c.requires.some c.requires.own) (c.in-Ok.ensures.own c.requires.own) (rw (c.in-Ok.field-0-is, c.new.ensures) refl)
+    has_field AtString literal_line literal _ _ _ _ literal_less (line_literal _ c.requires.some c.requires.own) (c.in-Ok.ensures.own c.requires.own) (rw (c.in-Ok.field-0-is, c.new.ensures) refl)
 
 pub returns-in-Err : goal.returns-in-Err
 returns-in-Err c = rw c.from.ensures (refused_line AtString literal_line _ _ _ _ (line_literal _ c.requires.some c.requires.own) (c.in-Err.ensures.own c.requires.own))

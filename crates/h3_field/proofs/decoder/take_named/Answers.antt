@@ -3,12 +3,13 @@ use Rattle.h3_field.specs.LineReading.{named}
 use Rattle.h3_field.specs.LineAnswer.{named_line}
 use Rattle.h3_field.specs.ShapeAnswer.{behind}
 use Rattle.h3_field.specs.IntegerReading.{integer}
-use Rattle.h3_field.specs.SectionLaws.{has_field, no_static_name, named_entry, line_named, named_shortens, refused_line}
+use Rattle.h3_field.specs.SectionLaws.{has_field, no_static_name, named_entry, line_named, refused_line}
+use Rattle.h3_field.specs.ShorterLaws.{named_less}
 use Rattle.h3_field.proofs.decoder.take_named.Goals as goal
 
 pub returns-in-Ok : goal.returns-in-Ok
 returns-in-Ok c =
-    has_field (behind (integer 4 c.args.buf.now)) named_line named _ _ _ _ named_shortens (line_named _ c.requires.some c.requires.own) (c.in-Ok-Static.ensures.own c.requires.own)
+    has_field (behind (integer 4 c.args.buf.now)) named_line named _ _ _ _ named_less (line_named _ c.requires.some c.requires.own) (c.in-Ok-Static.ensures.own c.requires.own)
     (rw (c.in-Ok-Static.field-0-is, c.with_static_name.ensures) (named_entry _ _ _ c.in-Ok.ensures))
 
 pub returns-in-Ok-Static : goal.returns-in-Ok-Static

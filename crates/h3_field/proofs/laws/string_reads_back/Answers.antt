@@ -1,9 +1,9 @@
 use Rattle.h3_field.specs.StringLaws.{string_literal_read}
-use Rattle.h3_field.specs.SectionLaws.{stands_one}
+use Rattle.h3_field.specs.ValueLaws.{one_string_stood_for}
 use Rattle.h3_field.proofs.laws.string_reads_back.Goals as goal
 
 pub returns-clause-written : goal.returns-clause-written
 returns-clause-written c = string_literal_read
 
 pub returns-clause-one : goal.returns-clause-one
-returns-clause-one c = stands_one
+returns-clause-one c = one_string_stood_for

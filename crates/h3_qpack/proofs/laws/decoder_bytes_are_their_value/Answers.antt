@@ -1,5 +1,5 @@
-use Rattle.h3_qpack.proofs.HearingLaws.{listened_as_value, listened_is}
-use Rattle.h3_qpack.proofs.StreamCuts.{cuts_are_listened_alike}
+use Rattle.h3_qpack.specs.HearingLaws.{listened_as_value, listened_is}
+use Rattle.h3_qpack.specs.StreamCutLaws.{cuts_are_listened_alike}
 use Rattle.h3_qpack.proofs.laws.decoder_bytes_are_their_value.Goals as goal
 
 pub returns-clause-value : goal.returns-clause-value

@@ -1,5 +1,5 @@
-use Rattle.h3_qpack.proofs.HearingLaws.{heard_as_value, heard_is}
-use Rattle.h3_qpack.proofs.StreamCuts.{cuts_are_heard_alike}
+use Rattle.h3_qpack.specs.HearingLaws.{heard_as_value, heard_is}
+use Rattle.h3_qpack.specs.StreamCutLaws.{cuts_are_heard_alike}
 use Rattle.h3_qpack.proofs.laws.encoder_bytes_are_their_value.Goals as goal
 
 pub returns-clause-value : goal.returns-clause-value

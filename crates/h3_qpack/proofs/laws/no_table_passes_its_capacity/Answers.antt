@@ -1,4 +1,4 @@
-use Rattle.h3_table.proofs.Tables.{section_size-table}
+use Rattle.h3_table.specs.TableLaws.{section_size-table}
 use Rattle.h3_qpack.proofs.laws.no_table_passes_its_capacity.Goals as goal
 
 pub returns : goal.returns

@@ -1,4 +1,4 @@
-use Rattle.h3_qpack.proofs.DecoderFronts.{read_pieces}
+use Rattle.h3_qpack.specs.InstructionLaws.{read_pieces}
 use Rattle.h3_qpack.proofs.laws.pieces_do_not_matter.Goals as goal
 
 pub returns : goal.returns

@@ -2,8 +2,8 @@ use Rattle.std.proofs.Common.{[], refl, true, false}
 use Rattle.h3_qpack.specs.Instructions.{NoInstruction}
 use Rattle.h3_qpack.specs.Hearing.{heard}
 use Rattle.h3_qpack.proofs.Ends.{read_to_an_end}
-use Rattle.h3_qpack.proofs.HearingLaws.{heard_is}
-use Rattle.h3_qpack.proofs.InsertionsAt.{reason_map}
+use Rattle.h3_qpack.specs.HearingLaws.{heard_is}
+use Rattle.h3_qpack.specs.ReasonLaws.{reason_map}
 use Rattle.h3_qpack.proofs.decoder.Decoder.on_encoder_recv.Goals as goal
 
 pub returns-then-is_err-clause-read : goal.returns-then-is_err-clause-read

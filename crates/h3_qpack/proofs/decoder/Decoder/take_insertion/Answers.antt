@@ -2,7 +2,8 @@ use Rattle.std.proofs.Common.{◌≡◌, ◌+◌, ◌-◌, ◌^◌, ◌<◌, ◌
 use Rattle.std.proofs.lemmas.Grind.{common_steps}
 use Rattle.h3_field.specs.Field.{Field, field_size}
 use Rattle.h3_table.specs.TableState.{TableState, has_room}
-use Rattle.h3_qpack.proofs.InsertionsAt.{no_insertion_bad, no_room_bad, reason_map}
+use Rattle.h3_qpack.specs.ReasonLaws.{reason_map}
+use Rattle.h3_qpack.proofs.InsertionsAt.{no_insertion_bad, no_room_bad}
 use Rattle.h3_qpack.proofs.decoder.Decoder.take_insertion.Goals as goal
 
 too_many : (h : TableState) (f : Field) → 2 ^ 62 ≤ h.inserted + 1 → has_room h f ≡ false

@@ -3,14 +3,16 @@ use Rattle.std.specs.List.{list_any}
 use Rattle.h3_field.specs.InstructionReading.{acknowledgment}
 use Rattle.h3_field.specs.InstructionAnswer.{section_acknowledgment}
 use Rattle.h3_table.specs.Tracking.{is_of}
-use Rattle.h3_table.proofs.Releasing.{none_removed}
-use Rattle.h3_qpack.proofs.DecoderInstructionsRead.{is_acknowledgment, acknowledgment_less, reply_here, heard_one, acknowledged}
+use Rattle.h3_table.specs.ReleasingLaws.{none_removed}
+use Rattle.h3_field.specs.ReadBackLaws.{reply_acknowledgment}
+use Rattle.h3_field.specs.ShorterLaws.{acknowledgment_less}
+use Rattle.h3_qpack.proofs.DecoderInstructionsRead.{reply_here, heard_one, acknowledged}
 use Rattle.h3_qpack.proofs.encoder.Encoder.take_acknowledgment.Goals as goal
 
 pub returns-then-not-release : goal.returns-then-not-release
 returns-then-not-release c =
     let own = rw (c.new-ahead.ensures, c.chunk.ensures) at c.in-Ok-Some.ensures.own in
-    let whole = is_acknowledgment _ c.requires.some c.requires.own
+    let whole = reply_acknowledgment _ c.requires.some c.requires.own
     ∙ reply_here section_acknowledgment (acknowledgment c.args.buf.now) c.args.buf.now c.decode.new.buf c.in-Ok-Some.field-0 c.in-Ok-Some.field-0-0 c.in-Ok-Some.field-0-is (own c.requires.own) in
     let missing : false ≡ list_any (is_of c.in-Ok-Some.field-0-0.0) c.args.self.now.tracked = search rules in (
       λ s e. inl (inr (section_acknowledgment c.in-Ok-Some.field-0-0, c.decode.new.buf, whole, acknowledged c.args.self.now c.in-Ok-Some.field-0-0.0 false missing s e)),
@@ -25,7 +27,7 @@ returns-else-not-release c =
     let whole = reply_here section_acknowledgment (acknowledgment c.args.buf.now) c.args.buf.now c.decode.new.buf c.in-Ok-Some.field-0 c.in-Ok-Some.field-0-0 c.in-Ok-Some.field-0-is (own c.requires.own) in
     let there : true ≡ list_any (is_of c.in-Ok-Some.field-0-0.0) c.args.self.now.tracked = search rules in
     heard_one c.args.self.now c.release.new.self c.args.buf.now c.decode.new.buf (section_acknowledgment c.in-Ok-Some.field-0-0)
-    (is_acknowledgment _ c.requires.some c.requires.own ∙ whole) (acknowledgment_less _ _ _ whole)
+    (reply_acknowledgment _ c.requires.some c.requires.own ∙ whole) (acknowledgment_less _ _ _ whole)
     (rw (← c.self.view_is) c.release.ensures.after)
     (λ count e. absurd (cc))
     (λ s e. acknowledged c.args.self.now c.in-Ok-Some.field-0-0.0 true there s e)

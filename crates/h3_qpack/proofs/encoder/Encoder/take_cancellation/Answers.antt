@@ -2,7 +2,9 @@ use Rattle.std.proofs.Common.{false, inr, refl, sym, ◌∙◌}
 use Rattle.h3_field.specs.InstructionReading.{cancellation}
 use Rattle.h3_field.specs.InstructionAnswer.{stream_cancellation}
 use Rattle.h3_qpack.proofs.Canceled.{kept_id}
-use Rattle.h3_qpack.proofs.DecoderInstructionsRead.{is_cancellation, cancellation_less, reply_here, heard_one}
+use Rattle.h3_field.specs.ReadBackLaws.{reply_cancellation}
+use Rattle.h3_field.specs.ShorterLaws.{cancellation_less}
+use Rattle.h3_qpack.proofs.DecoderInstructionsRead.{reply_here, heard_one}
 use Rattle.h3_qpack.proofs.encoder.Encoder.take_cancellation.Goals as goal
 
 pub returns-in-Ok : goal.returns-in-Ok
@@ -10,7 +12,7 @@ returns-in-Ok c =
     let own = rw (c.new-ahead.ensures, c.chunk.ensures) at c.in-Ok-Some.ensures.own in
     let whole = reply_here stream_cancellation (cancellation c.args.buf.now) c.args.buf.now c.decode.new.buf c.in-Ok-Some.field-0 c.in-Ok-Some.field-0-0 c.in-Ok-Some.field-0-is (own c.requires.own) in
     heard_one c.args.self.now c.cancel.new.self c.args.buf.now c.decode.new.buf (stream_cancellation c.in-Ok-Some.field-0-0)
-    (is_cancellation _ c.requires.some c.requires.own ∙ whole) (cancellation_less _ _ _ whole)
+    (reply_cancellation _ c.requires.some c.requires.own ∙ whole) (cancellation_less _ _ _ whole)
     (rw (← c.self.view_is) c.in-Ok.ensures.ok)
     (λ count e. absurd (cc))
     (λ s e. refl)
@@ -18,7 +20,7 @@ returns-in-Ok c =
 pub returns-in_default : goal.returns-in_default
 returns-in_default c =
     let own = rw (c.new-ahead.ensures, c.chunk.ensures) at c.in-Ok-Some.ensures.own in
-    let whole = is_cancellation _ c.requires.some c.requires.own
+    let whole = reply_cancellation _ c.requires.some c.requires.own
     ∙ reply_here stream_cancellation (cancellation c.args.buf.now) c.args.buf.now c.decode.new.buf c.in-Ok-Some.field-0 c.in-Ok-Some.field-0-0 c.in-Ok-Some.field-0-is (own c.requires.own) in (
       λ s e. inr (record {
         memory = refl;

@@ -1,7 +1,7 @@
 use Rattle.std.proofs.Common.{[], ◌∷◌, ◌++◌, refl, ap, ◌∙◌}
 use Rattle.h3_qpack.specs.Sizes.{counted_on}
 use Rattle.h3_qpack.proofs.FieldsIn.{none_read, one_read, all_read, bad_read}
-use Rattle.h3_qpack.proofs.InsertionsAt.{reason_map}
+use Rattle.h3_qpack.specs.ReasonLaws.{reason_map}
 use Rattle.h3_qpack.proofs.Sizes.{counted_more}
 use Rattle.h3_qpack.proofs.lines.Lines.count.Goals as goal
 

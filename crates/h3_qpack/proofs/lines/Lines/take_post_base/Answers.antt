@@ -2,7 +2,7 @@ use Rattle.std.proofs.Common.{sym, ◌∙◌, ap, Some}
 use Rattle.h3_field.specs.ShapeAnswer.{AtInteger}
 use Rattle.h3_field.specs.LineReading.{post_base}
 use Rattle.h3_field.specs.LineAnswer.{post_base_line}
-use Rattle.h3_qpack.proofs.Shortening.{post_base_less}
+use Rattle.h3_field.specs.ShorterLaws.{post_base_less}
 use Rattle.h3_field.specs.SectionLaws.{line_post_base}
 use Rattle.h3_qpack.proofs.LinesAt.{begins_with}
 use Rattle.h3_qpack.proofs.lines.Lines.take_post_base.Goals as goal

@@ -3,7 +3,7 @@ use Rattle.h3_field.specs.ShapeAnswer.{behind}
 use Rattle.h3_field.specs.IntegerReading.{integer}
 use Rattle.h3_field.specs.LineReading.{post_base_named}
 use Rattle.h3_field.specs.LineAnswer.{post_base_named_line}
-use Rattle.h3_qpack.proofs.Shortening.{post_base_named_less}
+use Rattle.h3_field.specs.ShorterLaws.{post_base_named_less}
 use Rattle.h3_field.specs.SectionLaws.{line_post_base_named}
 use Rattle.h3_qpack.proofs.LinesAt.{begins_with, refused_line}
 use Rattle.h3_qpack.proofs.lines.Lines.take_post_base_named.Goals as goal

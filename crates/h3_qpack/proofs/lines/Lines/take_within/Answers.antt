@@ -1,6 +1,6 @@
 use Rattle.std.proofs.Common.{[], ◌∷◌, ◌++◌, refl}
 use Rattle.h3_qpack.proofs.FieldsIn.{one_read, all_read, bad_read}
-use Rattle.h3_qpack.proofs.InsertionsAt.{reason_map}
+use Rattle.h3_qpack.specs.ReasonLaws.{reason_map}
 use Rattle.h3_qpack.proofs.Sizes.{size_next, answers_large}
 use Rattle.h3_qpack.proofs.lines.Lines.take_within.Goals as goal
 

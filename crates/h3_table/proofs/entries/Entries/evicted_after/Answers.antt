@@ -1,7 +1,7 @@
 use Rattle.std.proofs.Common.{◌≡◌, ◌<◌, ◌≤◌, ◌-◌, ◌^◌, ℕ, min, ap, arith}
 use Rattle.h3_field.specs.Field.{Field, field_size}
 use Rattle.h3_table.specs.TableState.{TableState}
-use Rattle.h3_table.proofs.Rooms.{evicted_with_entry}
+use Rattle.h3_table.specs.EvictionLaws.{evicted_with_entry}
 use Rattle.h3_table.proofs.entries.Entries.evicted_after.Goals as goal
 
 room_is : (h : TableState) (f : Field) (capacity size : ℕ) → capacity ≡ h.capacity → capacity < 2 ^ 30 → field_size f ≤ h.capacity → size ≡ min (2 ^ 64 - 1) (field_size f) → capacity - size ≡ h.capacity - field_size f

@@ -1,7 +1,7 @@
 use Rattle.std.proofs.Common.{ap, arith, length}
 use Rattle.h3_table.specs.declared.tracking.TrackedSection.{TrackedSection}
 use Rattle.h3_table.specs.Sections.{sections_of}
-use Rattle.h3_table.proofs.InOrders.{length-put_last}
+use Rattle.h3_table.specs.InOrderLaws.{length-put_last}
 use Rattle.h3_table.proofs.sections.Sections.add.Goals as goal
 
 pub invariant_of-self-2 : goal.invariant_of-self-2

@@ -13,7 +13,7 @@ use Rattle.h3_field.specs.declared.encoder_error.EncoderError.TheVariants.{OutOf
 use Rattle.h3_qpack.specs.EncoderAnswers.{HasReadDecoderInstructions, IsLeft}
 use Rattle.h3_qpack.specs.Instructions.{AreInstructions, NoInstruction, NextInstruction, BeginsBad, AreDecoderInstructions, NoDecoderInstruction, NextDecoderInstruction, AreAccepted, BeginsRefused}
 use Rattle.h3_qpack.specs.Hearing.{Heard, heard, decoder_after_form, hear_next, hear_form, hear_within, hear, StopsAt, IsHeardAs, Listened, listened, listen_next, listen_form, listen_within, listen, StopsBefore, IsListenedAs, HasListened}
-use Rattle.h3_qpack.proofs.Shorter.{instruction_less, decoder_instruction_less}
+use Rattle.h3_field.specs.ShorterLaws.{instruction_less, decoder_instruction_less}
 
 some_same : {X : Type 0} (x y : X) → Some x ≡ Some y → x ≡ y
 some_same x y e = cc

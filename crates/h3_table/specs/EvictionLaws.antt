@@ -4,7 +4,7 @@ use Rattle.std.proofs.lemmas.Grind.{common_steps}
 use Rattle.h3_field.specs.Field.{Field, field_size, section_size}
 use Rattle.h3_table.specs.Table.{table}
 use Rattle.h3_table.specs.TableState.{TableState, evicted, with_entry}
-use Rattle.h3_table.proofs.Tables.{length-table, table-one, table-whole}
+use Rattle.h3_table.specs.TableLaws.{length-table, table-one, table-whole}
 
 length-with_entry : (h : TableState) (f : Field) → field_size f ≤ h.capacity → length (table h.capacity (h.entries ++ f ∷ [])) ≡ length (table (h.capacity - field_size f) h.entries) + 1
 length-with_entry h f fits = ap length (table-one h.capacity h.entries f fits) ∙ omega (arith, length-append (table (h.capacity - field_size f) h.entries) (f ∷ []))

@@ -6,8 +6,8 @@ use Rattle.h3_qpack.specs.DecoderState.{DecoderState}
 use Rattle.h3_qpack.specs.EncoderHistory.{EncoderHistory, encoder_after, encoder_after_all}
 use Rattle.h3_qpack.specs.Instructions.{NoInstruction, HasRead, BeginsBad, AreDecoderInstructions, NoDecoderInstruction, NextDecoderInstruction, AreAccepted, BeginsRefused}
 use Rattle.h3_qpack.specs.Hearing.{heard, hear, heard_with, heard_then, StopsAt, Listened, listened, listen, listened_with, listened_then, StopsBefore, IsListenedAs}
-use Rattle.h3_qpack.proofs.DecoderFronts.{read_pieces}
-use Rattle.h3_qpack.proofs.HearingLaws.{heard_is, heard_as_value, listened_is, listened_as_value}
+use Rattle.h3_qpack.specs.InstructionLaws.{read_pieces}
+use Rattle.h3_qpack.specs.HearingLaws.{heard_is, heard_as_value, listened_is, listened_as_value}
 
 longer_bad : (r : DecoderState) (left more : List ℕ) → BeginsBad r left → BeginsBad r (left ++ more)
 longer_bad r left more (inl bad) = let stays = instruction_stable left more in inl (rw bad at stays)
