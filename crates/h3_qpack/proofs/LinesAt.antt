@@ -1,5 +1,5 @@
 -- A line at the front of some bytes, and the field that it is of.
-use Rattle.std.proofs.Common.{◌≡◌, ℕ, zero, suc, ◌<◌, ◌≤◌, nat_le, true, List, [], ◌∷◌, length, Some, None, Ok, Err, refl, sym, ◌∙◌, arith}
+use Rattle.std.proofs.Common.{◌≡◌, ℕ, ◌<◌, List, length, Some, None, Ok, Err, sym, ◌∙◌}
 use Rattle.h3_field.specs.Field.{Field}
 use Rattle.h3_field.specs.Reading.{Reading, Whole, Unfinished, Bad}
 use Rattle.h3_field.specs.Line.{FieldLine}
@@ -7,7 +7,6 @@ use Rattle.h3_field.specs.LineReading.{LineForm, SaysLine, line}
 use Rattle.h3_field.specs.LineAnswer.{AnswersLine}
 use Rattle.h3_field.specs.ShapeAnswer.{Place, AtInteger, AtString, error_at}
 use Rattle.h3_field.specs.declared.prefix_int.Error as integer
-use Rattle.h3_field.specs.Section.{HasLine}
 use Rattle.h3_field.specs.Errors.{decoder_parse}
 use Rattle.h3_field.specs.declared.prefix_int.Error.TheVariants.{Overflow, UnexpectedEnd}
 use Rattle.h3_field.specs.declared.prefix_string.Error as string

@@ -1,5 +1,4 @@
 -- A reason for a refusal, by what it rests on.
-use Rattle.std.proofs.Common.{ℕ}
 use Rattle.h3_field.specs.declared.decoder_error.DecoderError.{DecoderError}
 use Rattle.h3_field.specs.declared.decoder_error.DecoderError.TheVariants as error
 use Rattle.h3_qpack.specs.SectionAnswers.{IsReasonFor}
