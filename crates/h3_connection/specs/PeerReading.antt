@@ -82,6 +82,8 @@ at_front go side p bytes (Refused e) = (with_unread p bytes, Some (refused_code 
 at_front go side p bytes (Unknown kind rest) = (with_unread p bytes, None)
 at_front go side p bytes (Unfinished least) = (with_unread p bytes, None)
 
+-- Frames of unknown types are passed over before the settings too: that SETTINGS comes first (RFC 9114, section 6.2.1) is not
+-- enforced against those.
 abbrev pub read_within : ℕ → Side → Peer → PeerFound
 read_within zero side p = (p, None)
 read_within (suc most) side p = at_front (read_within most side) side p (known p.unread) (frame_at (known p.unread))

@@ -126,7 +126,7 @@ past_section i = record (tried i) { waits_for = 0; section = None }
 abbrev pub begun_section : Incoming → List ℕ → Incoming
 begun_section i bytes = record i { section = Some bytes; waits_for = 0 }
 
--- the head of DATA was read
+-- the head of DATA was read. That bodies have the length that `content-length` says (RFC 9114, section 4.1.2) is not enforced
 abbrev pub begun_payload : Incoming → ℕ → Incoming
 begun_payload i size = record i { body_left = size }
 

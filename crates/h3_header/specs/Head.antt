@@ -49,7 +49,8 @@ pseudo_fields method scheme authority path status protocol =
 abbrev pub head_fields : Head → List Field
 head_fields h = pseudo_fields h.method h.scheme h.authority h.path h.status h.protocol ++ regular_fields h.regular
 
--- a request has a method and no status, a response the reverse
+-- a request has a method and no status, a response the reverse. That a response has no other pseudo-header field of requests
+-- (RFC 9114, section 4.3) is not enforced
 abbrev pub is_request : Head → Bool
 is_request h = is_some h.method && not (is_some h.status)
 

@@ -30,7 +30,7 @@ abbrev pub IsNameAt : FieldKind → List ℕ → Type 0
 IsNameAt Regular name = IsHeaderName name
 IsNameAt _ name = ⊤
 
--- the value may stand there
+-- the value may stand there. That an authority of http and https has no userinfo (RFC 9114, section 4.3.1) is not enforced
 abbrev pub IsValueAt : FieldKind → List ℕ → Type 0
 IsValueAt Method value = IsToken value
 IsValueAt Scheme value = IsScheme value

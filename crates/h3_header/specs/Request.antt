@@ -45,7 +45,8 @@ abbrev pub CanBeUri : Head → Type 0
 CanBeUri h = IfSome (request_parts h).authority IsAuthority × PartsFit (request_parts h)
 
 -- why a head gives no request, in the order of judging. Memory is asked for only where `host` stands for the authority. Not
--- enforced are the rules of CONNECT (RFC 9114, section 4.4), that `:protocol` comes with it alone, and what a second `host` says
+-- enforced are the rules of CONNECT (RFC 9114, section 4.4), that `:protocol` comes with it alone, what a second `host` says, and
+-- that other methods have `:scheme` and `:path` (section 4.3.1) where both are missing
 abbrev pub RefusesRequest : Head → HeaderError → Type 0
 RefusesRequest h MissingAuthority = authority_refusal h.authority (host_of h.regular) ≡ Some MissingAuthority
 RefusesRequest h ContradictedAuthority = authority_refusal h.authority (host_of h.regular) ≡ Some ContradictedAuthority

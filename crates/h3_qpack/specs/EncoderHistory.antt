@@ -30,7 +30,8 @@ pub record EncoderHistory : Type 0 where
 abbrev pub no_table : EncoderHistory
 no_table = record { capacity = 0; limit = 0; inserted = []; known_received = 0; required_insert_counts = []; tracked = []; canceled = [] }
 
--- how many sections may still be blocked for insertions
+-- how many sections may still be blocked for insertions. The limit is one on streams (RFC 9204, section 2.1.2); two sections of one
+-- stream count twice here
 abbrev pub blocks_out : EncoderHistory → ℕ
 blocks_out s = count_by (λ count. nat_lt s.known_received count) s.required_insert_counts
 
