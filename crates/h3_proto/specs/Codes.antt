@@ -1,6 +1,8 @@
--- The texts of error codes (RFC 9114, section 8.1, and RFC 9204, section 6).
+-- Error codes and their texts (RFC 9114, section 8.1, and RFC 9204, section 6), and the code of refused settings.
 use Rattle.std.specs.Prelude.{ℕ, List, [], ◌∷◌, ◌++◌, ◌==◌, codes, Option, Some, None, if◌then◌else◌, false}
 use Rattle.std.specs.Fmt.{digits}
+use Rattle.h3_proto.specs.declared.frame.SettingsError.{SettingsError}
+use Rattle.h3_proto.specs.declared.frame.SettingsError.TheVariants as settings
 
 -- the codes that have a name
 abbrev pub named : List (ℕ × List ℕ)
@@ -43,3 +45,41 @@ name_or_number code None = codes "0x" ++ digits 16 false code
 
 abbrev pub code_text : ℕ → List ℕ
 code_text code = name_or_number code (code_name code)
+
+abbrev pub internal_error : ℕ
+internal_error = 0x102
+
+abbrev pub stream_creation_error : ℕ
+stream_creation_error = 0x103
+
+abbrev pub closed_critical_stream : ℕ
+closed_critical_stream = 0x104
+
+abbrev pub frame_unexpected : ℕ
+frame_unexpected = 0x105
+
+abbrev pub frame_error : ℕ
+frame_error = 0x106
+
+abbrev pub id_error : ℕ
+id_error = 0x108
+
+abbrev pub settings_error : ℕ
+settings_error = 0x109
+
+abbrev pub missing_settings : ℕ
+missing_settings = 0x10a
+
+abbrev pub decompression_failed : ℕ
+decompression_failed = 0x200
+
+abbrev pub encoder_stream_error : ℕ
+encoder_stream_error = 0x201
+
+abbrev pub decoder_stream_error : ℕ
+decoder_stream_error = 0x202
+
+-- a payload that ends inside a pair is a faulty frame, and all else is a fault of the settings (RFC 9114, sections 7.1 and 7.2.4)
+abbrev pub settings_code : SettingsError → ℕ
+settings_code settings.Malformed = frame_error
+settings_code _ = settings_error

@@ -2,11 +2,13 @@
 ghost use Rattle.std.specs.Prelude.{◌≡◌, ◌≢◌, ℕ, ◌+◌, ◌^◌, ◌<◌, ◌≤◌, ◌==◌, List, [], ◌∷◌, ◌++◌, length, take, drop, true, All, IfOk, IfErr, IfSome, IsNone, Ok, Err, Some, None, OnOk, OnErr};
 ghost use Rattle.std.specs.Cmp.Lexicographic.{pointwise};
 ghost use Rattle.h3_coding.specs.Writing.{AppendsFront, UsesRoom};
+ghost use Rattle.h3_proto.specs.Codes.{settings_code};
 ghost use Rattle.h3_proto.specs.Ids.{reserved};
 ghost use Rattle.h3_proto.specs.PairLaws.{same_pairs};
 ghost use Rattle.h3_proto.specs.Pairs.{IsPair, same_pair, pair_encoding, payload_of, pair_at};
 ghost use Rattle.h3_proto.specs.Settings.{error_text, is_forbidden, is_known, has_id, ids_differ, value_of, inserted, received, settings_of, left_of, left_of_pair};
 
+use crate::error::Code;
 use bytes::{Buf, BufMut};
 use h3_coding::coding::{BufExt, BufMutExt, WriteRefused};
 use h3_coding::varint::VarInt;
@@ -89,6 +91,19 @@ pub enum SettingsError {
     InvalidSettingId(u64),
     /// The value of the setting is 2^62 or more.
     InvalidSettingValue(SettingId, u64),
+}
+
+impl SettingsError {
+    /// The code of the connection fault that such a payload is (RFC 9114, sections 7.1 and 7.2.4): `H3_FRAME_ERROR` where it ends
+    /// inside a pair, and else `H3_SETTINGS_ERROR`.
+    pub fn code(&self) -> Code
+        ensures { result ≡ settings_code self.now }
+    {
+        match self {
+            SettingsError::Malformed => Code::H3_FRAME_ERROR,
+            _ => Code::H3_SETTINGS_ERROR,
+        }
+    }
 }
 
 impl fmt::Display for SettingsError {

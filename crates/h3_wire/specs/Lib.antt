@@ -31,3 +31,4 @@ pub mod Asking
 pub mod AskingLaws
 pub mod Starting
 pub mod StartingLaws
+pub mod Codes

@@ -1,4 +1,9 @@
 //! Why a stream gives no frame.
+ghost use Rattle.std.specs.Prelude.{◌≡◌};
+ghost use Rattle.h3_wire.specs.Codes.{refusal_code};
+ghost use Rattle.h3_wire.specs.Known.{refusal};
+
+use crate::proto::error::Code;
 use crate::proto::frame::SettingsError;
 use crate::proto::push::InvalidPushId;
 use crate::proto::stream::InvalidStreamId;
@@ -19,6 +24,19 @@ pub enum FrameProtocolError {
     InvalidStreamId(InvalidStreamId),
     /// Kept for the names' sake: an id of a frame is below 2^62.
     InvalidPushId(InvalidPushId),
+}
+
+impl FrameProtocolError {
+    /// The code of the connection fault that this frame is, on whatever stream it stands (RFC 9114, sections 7.1, 7.2.4 and 7.2.8).
+    pub fn code(&self) -> Code
+        ensures { result ≡ refusal_code (refusal self.now) }
+    {
+        match self {
+            FrameProtocolError::Settings(e) => e.code(),
+            FrameProtocolError::ForbiddenFrame(_) => Code::H3_FRAME_UNEXPECTED,
+            _ => Code::H3_FRAME_ERROR,
+        }
+    }
 }
 
 /// Why a stream of frames gives none.
