@@ -1,5 +1,5 @@
 -- One round of reading frames, and one read of a payload.
-use Rattle.std.proofs.Common.{◌≡◌, ℕ, ◌<◌, true, false, List, [], ◌∷◌, ◌++◌, length, arith, sym, ◌∙◌, ap, subst, refl, Result, Ok, Err, Option, Some, None}
+use Rattle.std.proofs.Common.{◌≡◌, ℕ, ◌<◌, Bool, true, false, List, [], ◌∷◌, ◌++◌, length, arith, sym, ◌∙◌, ap, subst, refl, Result, Ok, Err, Option, Some, None}
 use Rattle.h3_wire.specs.declared.quic.Poll.{Poll}
 use Rattle.h3_wire.specs.declared.quic.Poll.TheVariants.{Ready, Pending}
 use Rattle.h3_wire.specs.declared.proto.frame.PayloadLen.{PayloadLen}
@@ -36,6 +36,10 @@ some_at_end (byte ∷ bytes) h = refl
 pub none_at_end : (left : List ℕ) → length left ≡ 0 → at_end_of left ≡ Ready (Ok None)
 none_at_end [] h = refl
 none_at_end (byte ∷ bytes) h = absurd (omega arith)
+
+-- whether the end cuts a payload short is told of the payload that the call found
+pub short_of : {S : Type 0} {b : Bool} {old now : PayloadLeft} (told : Received) (read : Buffered S) → is_short told now read ≡ b → now ≡ old → is_short told old read ≡ b
+short_of {b = b} told read e same = subst (λ p. is_short told p read ≡ b) same e
 
 module _ {S : Type 0} (answers : S → Answer → S → Type 0) (old mid new : Framing S) (told : Received) (under_way : is_open old.payload ≡ true) (asks : Asks answers (stream_part old) (Ok told) (stream_part mid))
     (same_payload : mid.payload ≡ old.payload) (same_decoder : mid.decoder ≡ old.decoder) (whole : is_short told old.payload (stream_part mid) ≡ false) where

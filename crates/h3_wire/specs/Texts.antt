@@ -31,6 +31,14 @@ other_text (frame.MaxPushId id) = codes "MaxPushId(push " ++ (decimal id ++ code
 other_text (frame.WebTransportStream id) = codes "WebTransportStream()"
 other_text (frame.Grease kind) = codes "Grease()"
 
+-- a frame whose text has no number but that of its entries
+abbrev pub HasNoNumber : {B : Type 0} → Frame B → Type 0
+HasNoNumber (frame.CancelPush id) = ⊥
+HasNoNumber (frame.PushPromise p) = ⊥
+HasNoNumber (frame.Goaway id) = ⊥
+HasNoNumber (frame.MaxPushId id) = ⊥
+HasNoNumber _ = Unit {0}
+
 abbrev pub data_text : ℕ → List ℕ
 data_text len = codes "Data: " ++ (decimal len ++ codes " bytes")
 

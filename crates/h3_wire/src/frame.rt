@@ -3,7 +3,8 @@ ghost use Rattle.std.specs.Prelude.{◌≡◌, ◌<◌, ◌≤◌, ◌-◌, ◌^
 ghost use Rattle.h3_wire.specs.declared.quic.Poll.TheVariants.{Ready};
 ghost use Rattle.std.specs.Borrow.{Lends, sem};
 ghost use Rattle.h3_wire.specs.contracts.frame.FrameStream.{the_row};
-ghost use Rattle.h3_wire.specs.Asking.{Asks, IsRoundBefore, Rounds, ReadsOnce, TakesFirst};
+ghost use Rattle.h3_wire.specs.Asking.{Asks, IsRoundBefore, Rounds, ReadsOnce, TakesFirst, data_of, is_short};
+ghost use Rattle.h3_wire.specs.declared.stream.Received.TheVariants as end;
 ghost use Rattle.h3_wire.specs.declared.frame.errors.FrameStreamError.TheVariants as stream;
 ghost use Rattle.h3_wire.specs.Source.{Asked, coming};
 ghost use Rattle.std.specs.List.{concat};
@@ -234,28 +235,16 @@ impl<S: RecvStream> FrameStream<S> {
         if !self.has_data() {
             return Poll::Ready(Ok(None));
         }
-        match self.ask() {
+        let received = match self.ask() {
+            Ok(received) => received,
+            Err(e) => return Poll::Ready(Err(e)),
+        };
+        if self.ends_short(received) {
+            return Poll::Ready(Err(FrameStreamError::UnexpectedEnd));
+        }
+        match self.take_data() {
+            Ok(taken) => data_answer(received, taken),
             Err(e) => Poll::Ready(Err(e)),
-            Ok(Received::More) => match self.take_data() {
-                Err(e) => Poll::Ready(Err(e)),
-                Ok(Some(bytes)) => Poll::Ready(Ok(Some(bytes))),
-                Ok(None) => unreachable!(),
-            },
-            Ok(Received::Nothing) => match self.take_data() {
-                Err(e) => Poll::Ready(Err(e)),
-                Ok(Some(bytes)) => Poll::Ready(Ok(Some(bytes))),
-                Ok(None) => Poll::Pending,
-            },
-            Ok(Received::End) => {
-                if self.is_cut_short() {
-                    return Poll::Ready(Err(FrameStreamError::UnexpectedEnd));
-                }
-                match self.take_data() {
-                    Err(e) => Poll::Ready(Err(e)),
-                    Ok(Some(bytes)) => Poll::Ready(Ok(Some(bytes))),
-                    Ok(None) => Poll::Ready(Ok(None)),
-                }
-            }
         }
     }
 
@@ -280,7 +269,35 @@ impl<S: RecvStream> FrameStream<S> {
     }
 }
 
+// What a read of a payload answers, by what the source told and the bytes that were taken.
+fn data_answer(
+    received: Received,
+    taken: Option<Bytes>,
+) -> Poll<Result<Option<Bytes>, FrameStreamError>>
+    ensures { result ≡ data_of received taken }
+{
+    match taken {
+        Some(bytes) => Poll::Ready(Ok(Some(bytes))),
+        None => match received {
+            Received::End => Poll::Ready(Ok(None)),
+            _ => Poll::Pending,
+        },
+    }
+}
+
 impl<S> FrameStream<S> {
+    // Whether the end is known, and cuts the payload short in what was read.
+    fn ends_short(&self, received: Received) -> bool
+        ensures is { result ≡ is_short received self.now.payload (stream_part self.now) }
+        ensures short { result ≡ true → (received ≡ end.End) × IsCutShort (length self.now.buffered) self.now.payload }
+        ensures whole { result ≡ false → received ≡ end.End → self.now.buffered ≡ [] → is_open self.now.payload ≡ true → self.now.payload ≡ PayloadLeft.ToEnd }
+    {
+        match received {
+            Received::End => self.is_cut_short(),
+            _ => false,
+        }
+    }
+
     // Whether all that was read is the last piece of a payload that is longer.
     fn is_cut_short(&self) -> bool
         ensures is { result ≡ is_cut_short self.now.payload (length self.now.buffered) (length self.now.pieces) }

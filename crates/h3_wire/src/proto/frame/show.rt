@@ -1,6 +1,7 @@
 //! The texts of frames and of their errors.
-ghost use Rattle.std.specs.Prelude.{Some};
-ghost use Rattle.h3_wire.specs.Texts.{frame_error_text, other_text, read_text, written_text};
+ghost use Rattle.std.specs.Prelude.{◌≡◌, ◌++◌, codes, Some, MatchOption};
+ghost use Rattle.std.specs.Fmt.{decimal};
+ghost use Rattle.h3_wire.specs.Texts.{frame_error_text, other_text, read_text, written_text, HasNoNumber};
 
 use super::{Frame, FrameError, PayloadLen};
 use bytes::Buf;
@@ -19,8 +20,8 @@ impl fmt::Display for FrameError {
             FrameError::InvalidFrameValue => f.write_str("frame value is invalid"),
             FrameError::Incomplete(least) => write!(f, "internal error: frame incomplete {least}"),
             FrameError::Settings(e) => write!(f, "invalid settings: {e}"),
-            FrameError::InvalidStreamId(e) => write!(f, "{e}"),
-            FrameError::InvalidPushId(e) => write!(f, "{e}"),
+            FrameError::InvalidStreamId(e) => fmt::Display::fmt(e, f),
+            FrameError::InvalidPushId(e) => fmt::Display::fmt(e, f),
             FrameError::OutOfMemory => f.write_str("out of memory"),
         }
     }
@@ -41,6 +42,23 @@ impl fmt::Debug for Frame<PayloadLen> {
     }
 }
 
+impl<B> Frame<B> {
+    // The number that is printed of a frame, and what stands before it.
+    fn number(&self) -> Option<(&'static str, u64)>
+        ensures { MatchOption result (HasNoNumber self.now) (λ p. other_text self.now ≡ p.0.now ++ (decimal p.1 ++ codes ")")) }
+    {
+        match self {
+            Frame::CancelPush(id) => Some(("CancelPush(push ", VarInt::from(*id).into_inner())),
+            Frame::MaxPushId(id) => Some(("MaxPushId(push ", VarInt::from(*id).into_inner())),
+            Frame::PushPromise(promise) => {
+                Some(("PushPromise(", VarInt::from(promise.id).into_inner()))
+            }
+            Frame::Goaway(id) => Some(("GoAway(", id.into_inner())),
+            _ => None,
+        }
+    }
+}
+
 // A frame that has no payload of its own kind.
 #[derive(Drop)]
 struct Other<'a, B>(&'a Frame<B>);
@@ -53,12 +71,12 @@ impl<B> fmt::Display for Other<'_, B> {
             Frame::Data(_) => f.write_str("Data"),
             Frame::Headers(section) => write!(f, "Headers({} entries)", section.len()),
             Frame::Settings(_) => f.write_str("Settings"),
-            Frame::CancelPush(id) => write!(f, "CancelPush({id})"),
-            Frame::PushPromise(promise) => write!(f, "PushPromise({})", VarInt::from(promise.id)),
-            Frame::Goaway(id) => write!(f, "GoAway({id})"),
-            Frame::MaxPushId(id) => write!(f, "MaxPushId({id})"),
             Frame::WebTransportStream(_) => f.write_str("WebTransportStream()"),
             Frame::Grease(_) => f.write_str("Grease()"),
+            other => match other.number() {
+                Some((name, number)) => write!(f, "{name}{number})"),
+                None => unreachable!(),
+            },
         }
     }
 }
