@@ -1,12 +1,11 @@
 -- A payload in the midst of its reading.
 use Rattle.std.proofs.Common.{◌≡◌, ℕ, ◌+◌, ◌*◌, ◌<◌, ◌≤◌, ◌⊎◌, true, not, List, [], ◌∷◌, ◌++◌, length, take, drop, replicate, ap, sym, ◌∙◌, arith, append_assoc, length-append, flat_map, inl, inr}
-use Rattle.std.specs.List.{AllByRecursion, list_all}
-use Rattle.std.proofs.lemmas.Bool.{and_parts, ltb-true, not-true}
+use Rattle.std.specs.List.{AllByRecursion}
+use Rattle.std.proofs.lemmas.Bool.{and_parts, not-true}
 use Rattle.std.proofs.lemmas.List.{length-replicate, append_cancel_left}
 use Rattle.h3_huffman.specs.Huffman.{bits, octets, huffman, code_word}
 use Rattle.h3_huffman.specs.Payload.{IsByte, IsNoPayload}
 use Rattle.h3_huffman.specs.Tree.{Leaf, walk, code_tree, is_leaf}
-use Rattle.h3_huffman.specs.Tables.{is_bit}
 use Rattle.h3_huffman.proofs.Computed.{tree_holds}
 use Rattle.h3_huffman.specs.PayloadLaws.{all_from_at, words_hold, huffman_bits}
 use Rattle.h3_huffman.proofs.Words.{word_front, one_word}

@@ -138,7 +138,7 @@ window_high n d h =
     let at : 4092 ≤ n / 2 ^ d % 2 ^ 30 / 2 ^ 18 = rw (← far, ← front) at h in
     omega arith
 
-single_symbol : (symbol : ℕ) (y : List ℕ) → code_word symbol ++ y ≡ flat_map code_word (symbol ∷ []) ++ y
+pub single_symbol : (symbol : ℕ) (y : List ℕ) → code_word symbol ++ y ≡ flat_map code_word (symbol ∷ []) ++ y
 single_symbol symbol y = ap (λ x. x ++ y) (sym (append-nil (code_word symbol)))
 
 pub stand_symbol : (p out : List ℕ) (acc count read written symbol l : ℕ) → Standing p out acc count read written → bits count acc ≡ code_word symbol ++ bits (count - l) acc → symbol < 256 → 5 ≤ l → l ≤ count → written < length out →

@@ -1,9 +1,9 @@
 -- No word of the code begins another one.
-use Rattle.std.proofs.Common.{◌≡◌, ℕ, zero, suc, ◌+◌, ◌<◌, ◌≤◌, Bool, true, bytes_eq, nat_eq, List, [], ◌∷◌, ◌++◌, refl, ap, sym, ◌∙◌, arith, inl, inr}
-use Rattle.std.proofs.lemmas.Bool.{and_parts, eqb-true, cases_eq}
+use Rattle.std.proofs.Common.{◌≡◌, ℕ, zero, suc, ◌≤◌, true, List, [], ◌∷◌, ◌++◌, refl, ap, sym, ◌∙◌, arith}
+use Rattle.std.proofs.lemmas.Bool.{eqb-true}
 use Rattle.h3_huffman.specs.Huffman.{code_word}
 use Rattle.h3_huffman.specs.Tree.{Tree, Empty, Leaf, Fork, walk, code_tree, is_leaf_of}
-use Rattle.h3_huffman.specs.Tables.{is_tree, all_from}
+use Rattle.h3_huffman.specs.Tables.{is_tree}
 use Rattle.h3_huffman.specs.PayloadLaws.{all_from_at}
 use Rattle.h3_huffman.proofs.Computed.{tree_holds}
 

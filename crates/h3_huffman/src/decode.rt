@@ -1,8 +1,9 @@
 //! Reads Huffman payloads.
-ghost use Rattle.std.specs.Prelude.{◌≡◌, ◌↔◌, IsTrue, ℕ, ◌+◌, ◌-◌, ◌*◌, ◌/◌, ◌%◌, ◌^◌, ◌<◌, ◌≤◌, List, ◌++◌, length, take, drop, replicate, flat_map, MatchOption};
+ghost use Rattle.std.specs.Prelude.{◌≡◌, ◌↔◌, IsTrue, ℕ, ◌+◌, ◌-◌, ◌*◌, ◌/◌, ◌%◌, ◌^◌, ◌<◌, ◌≤◌, List, ◌++◌, length, take, drop, replicate, flat_map, is_some, MatchOption};
 ghost use Rattle.std.specs.List.{AllByRecursion};
 ghost use Rattle.h3_huffman.specs.Huffman.{huffman, bits, code_word};
 ghost use Rattle.h3_huffman.specs.Payload.{IsByte, IsNoPayload};
+ghost use Rattle.h3_huffman.specs.Unhuffman.{unhuffman};
 ghost use Rattle.h3_huffman.specs.Tables.{entry_symbols, entry_count, IsEntry};
 
 use crate::tables::{ENTRIES, LENGTHS, LIMITS, OFFSETS, SYMBOLS};
@@ -10,15 +11,15 @@ use crate::tables::{ENTRIES, LENGTHS, LIMITS, OFFSETS, SYMBOLS};
 /// The entries from this one on belong to words longer than the index.
 const LONG: u64 = 4092;
 
-/// A word of more than twelve bits.
+/// The word of a symbol: its length in bits.
 #[derive(Copy, Clone)]
-struct LongWord {
+struct Word {
     symbol: u16,
     length: u64,
 }
 
 /// The word at the front of a window of thirty bits that begin with ten ones.
-fn long_word(window: u32) -> LongWord
+fn long_word(window: u32) -> Word
     requires high { 0x3ff00000 ≤ window }
     requires low { window < 2 ^ 30 }
     ensures word { bits 30 window ≡ code_word result.symbol ++ bits (30 - result.length) window }
@@ -32,7 +33,7 @@ fn long_word(window: u32) -> LongWord
     }
     let length = LENGTHS[row];
     let place = (window - LIMITS[row]) >> (30 - length);
-    LongWord {
+    Word {
         symbol: SYMBOLS[OFFSETS[row] + place as usize],
         length: u64::from(length),
     }
@@ -78,6 +79,56 @@ fn is_padding(acc: u64, count: u64) -> bool
 {
     let mask = (1 << count) - 1;
     count < 8 && acc & mask == mask
+}
+
+/// The word at the front of a window of thirty bits.
+fn first_word(window: u32) -> Word
+    requires { window < 2 ^ 30 }
+    ensures word { bits 30 window ≡ code_word result.symbol ++ bits (30 - result.length) window }
+    ensures symbol { result.symbol ≤ 256 }
+    ensures least { 5 ≤ result.length }
+    ensures most { result.length ≤ 30 }
+{
+    let index = u64::from(window >> 18);
+    if index >= LONG {
+        return long_word(window);
+    }
+    let entry = entry_at(index);
+    Word {
+        symbol: (entry % 256) as u16,
+        length: u64::from((entry >> 20) % 16),
+    }
+}
+
+/// Whether the payload is the Huffman encoding of a string. It takes one symbol at a time and writes none, so it asks for
+/// no memory, and is slower than `decode_into`.
+pub fn is_encoding(payload: &[u8]) -> bool
+    ensures { result ≡ is_some (unhuffman payload.now) }
+{
+    let mut acc: u64 = 0;
+    let mut count: u64 = 0;
+    let mut read: usize = 0;
+    'reading: while read < payload.len() {
+        acc = acc << 8 | u64::from(payload[read]);
+        count += 8;
+        read += 1;
+        'symbols: while count >= 30 {
+            let first = first_word(((acc >> (count - 30)) % (1 << 30)) as u32);
+            if first.symbol == 256 {
+                return false;
+            }
+            count -= first.length;
+        }
+    }
+    let wide = acc << 32 | 0xffff_ffff;
+    'ending: while !is_padding(acc, count) {
+        let first = first_word(((wide >> (count + 2)) % (1 << 30)) as u32);
+        if first.symbol == 256 || first.length > count {
+            return false;
+        }
+        count -= first.length;
+    }
+    true
 }
 
 /// Writes the string whose Huffman encoding the payload is to the front of `out`, and says how long it is.
