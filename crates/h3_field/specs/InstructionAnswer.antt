@@ -3,8 +3,9 @@ use Rattle.std.specs.Prelude.{◌≡◌, ◌<◌, ◌≤◌, ◌^◌, ℕ, List,
 use Rattle.h3_field.specs.Reading.{Reading, Whole, Unfinished, Bad}
 use Rattle.h3_field.specs.Instruction.{EncoderInstruction, DecoderInstruction}
 use Rattle.h3_field.specs.Instruction.{EncoderInstruction as to_decoder, DecoderInstruction as to_encoder}
-use Rattle.h3_field.specs.InstructionReading.{InstructionForm, Says, HasString}
-use Rattle.h3_field.specs.ShapeAnswer.{Place, error_at, IsRefused}
+use Rattle.h3_field.specs.InstructionReading.{InstructionForm, Capacity, NameReference, LiteralName, Repeat, Says, HasString}
+use Rattle.h3_field.specs.StringAnswer.{TakesMemory}
+use Rattle.h3_field.specs.ShapeAnswer.{Place, error_at, TakeMemory, IsRefused}
 use Rattle.h3_field.specs.declared.prefix_int.Error.TheVariants.{Overflow}
 use Rattle.h3_field.specs.declared.parse_error.ParseError.{ParseError}
 use Rattle.h3_field.specs.declared.parse_error.ParseError.TheVariants.{Integer}
@@ -54,12 +55,20 @@ IsReply (to_encoder.Acknowledge stream) = stream < 2 ^ 62
 IsReply (to_encoder.CancelStream stream) = stream < 2 ^ 62
 IsReply (to_encoder.Increment count) = count < 2 ^ 62
 
+-- Each string of the instruction is one, and not all are empty.
+abbrev pub InstructionTakesMemory : InstructionForm → Type 0
+InstructionTakesMemory (Capacity n) = ⊥
+InstructionTakesMemory (NameReference is_static index value) = TakesMemory value
+InstructionTakesMemory (LiteralName name value) = TakeMemory name value
+InstructionTakesMemory (Repeat index) = ⊥
+
 -- The instruction, and what stands behind it is left. One that is not whole, or is refused, is left unread. Memory is
--- asked for by strings alone, and only a string of a whole instruction is refused.
+-- asked for by strings alone; only a string of a whole instruction is refused, and as want of memory only where the
+-- instruction is one.
 abbrev pub AnswersInstruction : {I : Type 0} → (I → EncoderInstruction) → Place → Reading InstructionForm → List ℕ → List ℕ → Result (Option I) ParseError → Type 0
 AnswersInstruction says place (Whole form rest) old new (Ok (Some i)) = Says form (says i) × (new ≡ rest)
 AnswersInstruction says place (Whole form rest) old new (Ok None) = ⊥
-AnswersInstruction says place (Whole form rest) old new (Err e) = HasString form × IsRefused ((i : EncoderInstruction) → Says form i → ⊥) e × (new ≡ old)
+AnswersInstruction says place (Whole form rest) old new (Err e) = HasString form × IsRefused (InstructionTakesMemory form) ((i : EncoderInstruction) → Says form i → ⊥) e × (new ≡ old)
 AnswersInstruction says place Unfinished old new result = (result ≡ Ok None) × (new ≡ old)
 AnswersInstruction says place Bad old new result = (result ≡ Err (error_at place Overflow)) × (new ≡ old)
 

@@ -3,8 +3,9 @@ use Rattle.std.specs.Prelude.{◌≡◌, ◌<◌, ◌≤◌, ◌^◌, ℕ, List,
 use Rattle.h3_field.specs.Reading.{Reading, Whole, Unfinished, Bad}
 use Rattle.h3_field.specs.Line.{FieldLine}
 use Rattle.h3_field.specs.Line.{FieldLine as of}
-use Rattle.h3_field.specs.LineReading.{LineForm, SaysLine, HasString}
-use Rattle.h3_field.specs.ShapeAnswer.{Place, error_at, IsRefused}
+use Rattle.h3_field.specs.LineReading.{LineForm, Indexed, PostBase, Named, PostBaseNamed, LiteralField, SaysLine, HasString}
+use Rattle.h3_field.specs.StringAnswer.{TakesMemory}
+use Rattle.h3_field.specs.ShapeAnswer.{Place, error_at, TakeMemory, IsRefused}
 use Rattle.h3_field.specs.declared.prefix_int.Error.TheVariants.{Overflow, UnexpectedEnd}
 use Rattle.h3_field.specs.declared.parse_error.ParseError.{ParseError}
 use Rattle.h3_field.specs.declared.block.HeaderBlockField as kind
@@ -42,11 +43,19 @@ IsWritable (of.RelativeName index value) = (index < 2 ^ 62) × (length value < 2
 IsWritable (of.PostBaseName index value) = (index < 2 ^ 62) × (length value < 2 ^ 62)
 IsWritable (of.Literal name value) = (length name < 2 ^ 62) × (length value < 2 ^ 62)
 
+-- Each string of the line is one, and not all are empty.
+abbrev pub LineTakesMemory : LineForm → Type 0
+LineTakesMemory (Indexed is_static index) = ⊥
+LineTakesMemory (PostBase index) = ⊥
+LineTakesMemory (Named is_static index value) = TakesMemory value
+LineTakesMemory (PostBaseNamed index value) = TakesMemory value
+LineTakesMemory (LiteralField name value) = TakeMemory name value
+
 -- The line, and what stands behind it is left; or why it is none, and nothing is taken. Memory is asked for by strings
--- alone, and only a string of a whole line is refused.
+-- alone; only a string of a whole line is refused, and as want of memory only where the line is one.
 abbrev pub AnswersLine : {L : Type 0} → (L → FieldLine) → Place → Reading LineForm → List ℕ → List ℕ → Result L ParseError → Type 0
 AnswersLine line_of place (Whole form rest) old new (Ok l) = SaysLine form (line_of l) × (new ≡ rest)
-AnswersLine line_of place (Whole form rest) old new (Err e) = HasString form × IsRefused ((l : FieldLine) → SaysLine form l → ⊥) e × (new ≡ old)
+AnswersLine line_of place (Whole form rest) old new (Err e) = HasString form × IsRefused (LineTakesMemory form) ((l : FieldLine) → SaysLine form l → ⊥) e × (new ≡ old)
 AnswersLine line_of place Unfinished old new result = (result ≡ Err (error_at place UnexpectedEnd)) × (new ≡ old)
 AnswersLine line_of place Bad old new result = (result ≡ Err (error_at place Overflow)) × (new ≡ old)
 

@@ -4,6 +4,7 @@ use Rattle.h3_field.specs.Field.{Field}
 use Rattle.h3_field.specs.Reading.{Whole}
 use Rattle.h3_field.specs.Line.{FieldLine}
 use Rattle.h3_field.specs.LineReading.{LineForm, HasString, line}
+use Rattle.h3_field.specs.LineAnswer.{LineTakesMemory}
 use Rattle.h3_field.specs.PrefixReading.{EncodedPrefix, prefix}
 use Rattle.h3_field.specs.Section.{HasLine, line_field, AnswersSection, TooLong, Refused}
 use Rattle.h3_field.specs.declared.decoder_error.DecoderError.{DecoderError}
@@ -20,9 +21,9 @@ pub record HasField (bytes : List ℕ) (f : Field) (rest : List ℕ) : Type 0 wh
 abbrev pub HasNoField : List ℕ → Type 0
 HasNoField bytes = (rest : List ℕ) (l : FieldLine) (f : Field) → HasLine bytes l rest → line_field l ≡ Some f → ⊥
 
--- They begin with a line that has a string.
+-- They begin with a line that has a string: each string of it is one, and not all are empty.
 abbrev pub BeginsWithString : List ℕ → Type 0
-BeginsWithString bytes = (form : LineForm) × (rest : List ℕ) × (line bytes ≡ Whole form rest) × HasString form
+BeginsWithString bytes = (form : LineForm) × (rest : List ℕ) × (line bytes ≡ Whole form rest) × HasString form × LineTakesMemory form
 
 -- Memory may be asked for as soon as a section's first line has a string, or is a field, which is kept.
 abbrev pub MayAskMemory : List ℕ → Type 0

@@ -103,7 +103,7 @@ bad_at memory bad AtString Overflow h = h
 
 pub refused_line : {L : Type 0} (place : Place) (line_of : L → FieldLine) (r : Reading LineForm) (old new : List ℕ) (e : ParseError) → line old ≡ r → AnswersLine line_of place r old new (Err e) → IsReason (BeginsWithString old) (HasNoField old) (λ size. ⊥) (decoder_parse e)
 refused_line place line_of (Whole form rest) old new (String string.TheVariants.HuffmanDecoding) is h = not_said old rest form is h.1
-refused_line place line_of (Whole form rest) old new OutOfMemory is h = (form, rest, is, h.0)
+refused_line place line_of (Whole form rest) old new OutOfMemory is h = (form, rest, is, h.0, h.1)
 refused_line place line_of (Whole form rest) old new (String string.TheVariants.OutOfMemory) is h = absurd h.1
 refused_line place line_of (Whole form rest) old new (String string.TheVariants.UnexpectedEnd) is h = absurd h.1
 refused_line place line_of (Whole form rest) old new (String (string.TheVariants.Integer e)) is h = absurd h.1

@@ -1,8 +1,9 @@
 -- What the readers of an integer and a string, and of two strings, answer.
-use Rattle.std.specs.Prelude.{◌≡◌, ◌⊎◌, ℕ, List, Result, Ok, Err}
+use Rattle.std.specs.Prelude.{◌≡◌, ◌⊎◌, ◌+◌, ◌<◌, ℕ, true, List, length, is_some, Result, Ok, Err}
 use Rattle.h3_field.specs.Reading.{Reading, Whole, Unfinished, Bad}
-use Rattle.h3_field.specs.StringReading.{StandsFor, StandsForNone}
-use Rattle.h3_field.specs.StringAnswer.{of_integer}
+use Rattle.h3_field.specs.StringReading.{Payload, StandsFor, StandsForNone}
+use Rattle.h3_field.specs.StringAnswer.{TakesMemory, of_integer}
+use Rattle.h3_field.specs.Values.{string_of}
 use Rattle.h3_field.specs.declared.prefix_int.Error as integer
 use Rattle.h3_field.specs.Shapes as shape
 use Rattle.h3_field.specs.declared.prefix_int.Error.TheVariants.{Overflow, UnexpectedEnd}
@@ -37,28 +38,37 @@ behind (Whole head rest) = AtString
 behind Unfinished = AtInteger
 behind Bad = AtInteger
 
--- Why what is whole is refused: a string of it is no Huffman encoding, or want of memory.
-abbrev pub IsRefused : Type 0 → ParseError → Type 0
-IsRefused None (String string.TheVariants.HuffmanDecoding) = None
-IsRefused None (String string.TheVariants.OutOfMemory) = ⊥
-IsRefused None (String string.TheVariants.UnexpectedEnd) = ⊥
-IsRefused None (String (string.TheVariants.Integer e)) = ⊥
-IsRefused None (String string.TheVariants.HuffmanEncoding) = ⊥
-IsRefused None (String string.TheVariants.BufSize) = ⊥
-IsRefused None OutOfMemory = Unit {0}
-IsRefused None (Integer e) = ⊥
-IsRefused None (InvalidPrefix first) = ⊥
-IsRefused None InvalidBase = ⊥
+-- Both are strings, and not both empty: their bytes take memory.
+abbrev pub TakeMemory : Payload → Payload → Type 0
+TakeMemory name value = (is_some (string_of name) ≡ true) × (is_some (string_of value) ≡ true) × (0 < length name.bytes + length value.bytes)
+
+-- Why what is whole is refused: a string of it is no Huffman encoding, or want of memory where each is one.
+abbrev pub IsRefused : Type 0 → Type 0 → ParseError → Type 0
+IsRefused memory none (String string.TheVariants.HuffmanDecoding) = none
+IsRefused memory none (String string.TheVariants.OutOfMemory) = ⊥
+IsRefused memory none (String string.TheVariants.UnexpectedEnd) = ⊥
+IsRefused memory none (String (string.TheVariants.Integer e)) = ⊥
+IsRefused memory none (String string.TheVariants.HuffmanEncoding) = ⊥
+IsRefused memory none (String string.TheVariants.BufSize) = ⊥
+IsRefused memory none OutOfMemory = memory
+IsRefused memory none (Integer e) = ⊥
+IsRefused memory none (InvalidPrefix first) = ⊥
+IsRefused memory none InvalidBase = ⊥
 
 -- the parts, and what stands behind them is left; a refused read takes nothing
 abbrev pub AnswersIndexAndString : Place → Reading shape.IndexAndString → List ℕ → List ℕ → Result IndexAndString ParseError → Type 0
 AnswersIndexAndString place (Whole p rest) old new (Ok r) = (r.flags ≡ p.flags) × (r.index ≡ p.index) × StandsFor p.value r.value.items × (new ≡ rest)
-AnswersIndexAndString place (Whole p rest) old new (Err e) = IsRefused (StandsForNone p.value) e × (new ≡ old)
+AnswersIndexAndString place (Whole p rest) old new (Err e) = IsRefused (TakesMemory p.value) (StandsForNone p.value) e × (new ≡ old)
 AnswersIndexAndString place Unfinished old new result = (result ≡ Err (error_at place UnexpectedEnd)) × (new ≡ old)
 AnswersIndexAndString place Bad old new result = (result ≡ Err (error_at place Overflow)) × (new ≡ old)
 
+-- the strings of two payloads
+abbrev pub AnswersBothStrings : Payload → Payload → Result TwoStrings ParseError → Type 0
+AnswersBothStrings first second (Ok r) = StandsFor first r.name.items × StandsFor second r.value.items
+AnswersBothStrings first second (Err e) = IsRefused (TakeMemory first second) (StandsForNone first ⊎ StandsForNone second) e
+
 abbrev pub AnswersTwoStrings : Reading shape.TwoStrings → List ℕ → List ℕ → Result TwoStrings ParseError → Type 0
 AnswersTwoStrings (Whole p rest) old new (Ok r) = StandsFor p.name r.name.items × StandsFor p.value r.value.items × (new ≡ rest)
-AnswersTwoStrings (Whole p rest) old new (Err e) = IsRefused (StandsForNone p.name ⊎ StandsForNone p.value) e × (new ≡ old)
+AnswersTwoStrings (Whole p rest) old new (Err e) = IsRefused (TakeMemory p.name p.value) (StandsForNone p.name ⊎ StandsForNone p.value) e × (new ≡ old)
 AnswersTwoStrings Unfinished old new result = (result ≡ Err (error_at AtString UnexpectedEnd)) × (new ≡ old)
 AnswersTwoStrings Bad old new result = (result ≡ Err (error_at AtString Overflow)) × (new ≡ old)

@@ -1,8 +1,9 @@
 -- What the calls of `prefix_string` answer.
-use Rattle.std.specs.Prelude.{◌≡◌, ℕ, List, Result, Ok, Err, Vec}
+use Rattle.std.specs.Prelude.{◌≡◌, ◌<◌, ℕ, true, List, length, is_some, Result, Ok, Err, Vec}
 use Rattle.std.specs.declared.alloc.Global.{Global}
 use Rattle.h3_field.specs.Reading.{Reading, Whole, Unfinished, Bad}
 use Rattle.h3_field.specs.StringReading.{Payload, StandsFor, StandsForNone}
+use Rattle.h3_field.specs.Values.{string_of}
 use Rattle.h3_field.specs.declared.prefix_int.Error as integer
 use Rattle.h3_field.specs.declared.prefix_int.Error.TheVariants.{Overflow}
 use Rattle.h3_field.specs.declared.prefix_string.Error.{Error}
@@ -14,11 +15,15 @@ AnswersPayload (Whole value rest) old new result = (result ≡ Ok value) × (new
 AnswersPayload Unfinished old new result = (result ≡ Err integer.TheVariants.UnexpectedEnd) × (new ≡ old)
 AnswersPayload Bad old new result = (result ≡ Err Overflow) × (new ≡ old)
 
--- the bytes; or that there are none; or want of memory
+-- It is a string, and not an empty one: its bytes take memory.
+abbrev pub TakesMemory : Payload → Type 0
+TakesMemory p = (is_some (string_of p) ≡ true) × (0 < length p.bytes)
+
+-- the bytes; or that there are none; or want of memory for those that there are
 abbrev pub AnswersBytes : Payload → Result (Vec ℕ Global) Error → Type 0
 AnswersBytes p (Ok bytes) = StandsFor p bytes.items
 AnswersBytes p (Err HuffmanDecoding) = StandsForNone p
-AnswersBytes p (Err OutOfMemory) = Unit {0}
+AnswersBytes p (Err OutOfMemory) = TakesMemory p
 AnswersBytes p (Err UnexpectedEnd) = ⊥
 AnswersBytes p (Err (Integer e)) = ⊥
 AnswersBytes p (Err HuffmanEncoding) = ⊥

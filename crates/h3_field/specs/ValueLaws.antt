@@ -1,9 +1,9 @@
 -- A payload stands for its value, a form says its value, and each nothing else.
-use Rattle.std.proofs.Common.{◌≡◌, ℕ, Bool, true, false, List, if◌then◌else◌, Option, Some, None, option_map, refl, ap, sym, ◌∙◌, subst}
-use Rattle.std.specs.List.{AllByRecursion, list_all}
+use Rattle.std.proofs.Common.{◌≡◌, ℕ, Bool, true, false, List, if◌then◌else◌, Option, Some, None, is_some, option_map, refl, ap, sym, ◌∙◌, subst}
+use Rattle.std.specs.List.{AllByRecursion}
 use Rattle.h3_huffman.specs.Huffman.{huffman}
 use Rattle.h3_huffman.specs.Payload.{IsByte}
-use Rattle.h3_huffman.specs.Unhuffman.{is_byte, unhuffman}
+use Rattle.h3_huffman.specs.Unhuffman.{unhuffman}
 use Rattle.h3_huffman.specs.UnhuffmanLaws.{unhuffman_some, unhuffman_is, all_bytes, each_byte, encoded_is}
 use Rattle.h3_field.specs.StringReading.{Payload, StandsFor, StandsForNone}
 use Rattle.h3_field.specs.Line.{FieldLine}
@@ -12,6 +12,8 @@ use Rattle.h3_field.specs.LineReading.{LineForm, Indexed, PostBase, Named, PostB
 use Rattle.h3_field.specs.Instruction.{EncoderInstruction}
 use Rattle.h3_field.specs.Instruction.EncoderInstruction.{SetCapacity, InsertWithStaticName, InsertWithEntryName, InsertLiteral, Duplicate}
 use Rattle.h3_field.specs.InstructionReading.{InstructionForm, Capacity, NameReference, LiteralName, Repeat, Says}
+use Rattle.h3_field.specs.LineAnswer.{LineTakesMemory}
+use Rattle.h3_field.specs.InstructionAnswer.{InstructionTakesMemory}
 use Rattle.h3_field.specs.Values.{plain_string, string_of, of_both, line_of, instruction_of}
 
 some_same : {X : Type 0} (x y : X) → Some x ≡ Some y → x ≡ y
@@ -93,6 +95,24 @@ no_line form none l h = some_of_none (line_of form) l none (line_some form l h)
 pub one_line_said : (form : LineForm) (l k : FieldLine) → SaysLine form l → SaysLine form k → l ≡ k
 one_line_said form l k a b = some_same l k (sym (line_some form l a) ∙ line_some form k b)
 
+some_mapped : {X : Type 0} (build : List ℕ → X) (o : Option (List ℕ)) → is_some o ≡ true → is_some (option_map build o) ≡ true
+some_mapped build None e = absurd (cc)
+some_mapped build (Some value) e = refl
+
+some_of_both : {X : Type 0} (build : List ℕ → List ℕ → X) (o u : Option (List ℕ)) → is_some o ≡ true → is_some u ≡ true → is_some (of_both build o u) ≡ true
+some_of_both build None u e h = absurd (cc)
+some_of_both build (Some name) None e h = absurd (cc)
+some_of_both build (Some name) (Some value) e h = refl
+
+-- a form whose strings take memory says a line
+pub line_of_memory : (form : LineForm) → LineTakesMemory form → is_some (line_of form) ≡ true
+line_of_memory (Indexed is_static index) h = absurd h
+line_of_memory (PostBase index) h = absurd h
+line_of_memory (Named true index p) h = some_mapped (λ value. StaticName index value) (string_of p) h.0
+line_of_memory (Named false index p) h = some_mapped (λ value. RelativeName index value) (string_of p) h.0
+line_of_memory (PostBaseNamed index p) h = some_mapped (λ value. PostBaseName index value) (string_of p) h.0
+line_of_memory (LiteralField p q) h = some_of_both Literal (string_of p) (string_of q) h.0 h.1
+
 pub instruction_some : (form : InstructionForm) (i : EncoderInstruction) → Says form i → instruction_of form ≡ Some i
 instruction_some (Capacity n) i h = rw h refl
 instruction_some (NameReference true index p) i h = mapped (λ value. InsertWithStaticName index value) p h.0 i h.1 h.2
@@ -116,3 +136,11 @@ no_instruction form none i h = some_of_none (instruction_of form) i none (instru
 -- a form says one instruction
 pub one_instruction_said : (form : InstructionForm) (i j : EncoderInstruction) → Says form i → Says form j → i ≡ j
 one_instruction_said form i j a b = some_same i j (sym (instruction_some form i a) ∙ instruction_some form j b)
+
+-- a form whose strings take memory says an instruction
+pub instruction_of_memory : (form : InstructionForm) → InstructionTakesMemory form → is_some (instruction_of form) ≡ true
+instruction_of_memory (Capacity n) h = absurd h
+instruction_of_memory (NameReference true index p) h = some_mapped (λ value. InsertWithStaticName index value) (string_of p) h.0
+instruction_of_memory (NameReference false index p) h = some_mapped (λ value. InsertWithEntryName index value) (string_of p) h.0
+instruction_of_memory (LiteralName p q) h = some_of_both InsertLiteral (string_of p) (string_of q) h.0 h.1
+instruction_of_memory (Repeat index) h = absurd h

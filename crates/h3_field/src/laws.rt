@@ -1,7 +1,7 @@
 //! What holds of the encodings. These functions do nothing: their contracts are the laws.
-ghost use Rattle.std.specs.Prelude.{◌≡◌, ◌+◌, ◌<◌, ◌≤◌, ◌-◌, ◌^◌, ℕ, true, List, [], ◌++◌, length, None, Some};
+ghost use Rattle.std.specs.Prelude.{◌≡◌, ◌+◌, ◌<◌, ◌≤◌, ◌-◌, ◌^◌, ℕ, true, List, [], ◌++◌, length, is_some, None, Some};
 ghost use Rattle.h3_field.specs.Line.{FieldLine, line_bytes};
-ghost use Rattle.h3_field.specs.LineAnswer.{IsWritable};
+ghost use Rattle.h3_field.specs.LineAnswer.{IsWritable, LineTakesMemory};
 ghost use Rattle.std.specs.List.{AllByRecursion};
 ghost use Rattle.h3_huffman.specs.Huffman.{huffman};
 ghost use Rattle.h3_field.specs.Integer.{prefixed};
@@ -21,7 +21,7 @@ ghost use Rattle.h3_field.specs.Reading.{Whole};
 ghost use Rattle.h3_field.specs.ReadBack.{IsFieldOfBytes, IsLineOfBytes, IsInstructionOfBytes, HasInstruction, answer_from};
 ghost use Rattle.h3_field.specs.Instruction.{EncoderInstruction, DecoderInstruction, encoder_bytes, decoder_bytes};
 ghost use Rattle.h3_field.specs.InstructionReading.{InstructionForm, Says, instruction, decoder_instruction};
-ghost use Rattle.h3_field.specs.InstructionAnswer.{IsSendable, IsReply};
+ghost use Rattle.h3_field.specs.InstructionAnswer.{IsSendable, IsReply, InstructionTakesMemory};
 
 use crate::field::HeaderField;
 use std::hash::Hash;
@@ -101,20 +101,24 @@ pub fn payloads_are_their_value()
     ensures refused { (p : Payload) → string_of p ≡ None → StandsForNone p }
 {}
 
-/// What a form of a line says is a value: the line, or none where a string of it is refused.
+/// What a form of a line says is a value: the line, or none where a string of it is refused. A form that may be refused for
+/// want of memory says a line.
 pub fn lines_are_their_value()
     ensures some { (form : LineForm) (l : FieldLine) → SaysLine form l → line_of form ≡ Some l }
     ensures only { (form : LineForm) (l : FieldLine) → line_of form ≡ Some l → SaysLine form l }
     ensures none { (form : LineForm) → ((l : FieldLine) → SaysLine form l → ⊥) → line_of form ≡ None }
     ensures refused { (form : LineForm) (l : FieldLine) → line_of form ≡ None → SaysLine form l → ⊥ }
+    ensures memory { (form : LineForm) → LineTakesMemory form → is_some (line_of form) ≡ true }
 {}
 
-/// What a form of an encoder instruction says is a value: the instruction, or none where a string of it is refused.
+/// What a form of an encoder instruction says is a value: the instruction, or none where a string of it is refused. A form
+/// that may be refused for want of memory says an instruction.
 pub fn instructions_are_their_value()
     ensures some { (form : InstructionForm) (i : EncoderInstruction) → Says form i → instruction_of form ≡ Some i }
     ensures only { (form : InstructionForm) (i : EncoderInstruction) → instruction_of form ≡ Some i → Says form i }
     ensures none { (form : InstructionForm) → ((i : EncoderInstruction) → Says form i → ⊥) → instruction_of form ≡ None }
     ensures refused { (form : InstructionForm) (i : EncoderInstruction) → instruction_of form ≡ None → Says form i → ⊥ }
+    ensures memory { (form : InstructionForm) → InstructionTakesMemory form → is_some (instruction_of form) ≡ true }
 {}
 
 /// What a reading leaves is an end of the bytes, and at least one byte is taken.

@@ -1,5 +1,5 @@
 //! What lines and instructions are made of: an integer, an integer and a string, or two strings.
-ghost use Rattle.std.specs.Prelude.{◌≡◌, ◌<◌, ◌≤◌, ◌-◌, ◌^◌, ◌++◌, true, false, length, slice_index, MatchOption, OnOk, OnErr};
+ghost use Rattle.std.specs.Prelude.{◌≡◌, ◌<◌, ◌≤◌, ◌-◌, ◌^◌, ◌++◌, true, false, length, slice_index, is_some, if◌then◌else◌, MatchOption, OnOk, OnErr};
 ghost use Rattle.std.specs.Result.{IsOkUnless};
 ghost use Rattle.h3_field.specs.Ends.{IsEndOf};
 ghost use Rattle.h3_field.specs.Integer.{prefixed};
@@ -7,12 +7,14 @@ ghost use Rattle.h3_field.specs.IntegerReading.{integer};
 ghost use Rattle.h3_field.specs.StringLiteral.{string_literal};
 ghost use Rattle.h3_field.specs.declared.prefix_string.Error.TheVariants as string_error;
 ghost use Rattle.h3_field.specs.Shapes.{begins, index_and_string, two_strings};
-ghost use Rattle.h3_field.specs.ShapeAnswer.{behind, AnswersIndexAndString, AnswersTwoStrings};
+ghost use Rattle.h3_field.specs.Values.{string_of};
+ghost use Rattle.h3_field.specs.ShapeAnswer.{behind, AnswersIndexAndString, AnswersBothStrings, AnswersTwoStrings};
+ghost use Rattle.h3_field.specs.declared.parse_error.ParseError.TheVariants as parse_error;
 
 use crate::cursor::SliceCursor;
 use crate::parse_error::ParseError;
 use crate::prefix_int;
-use crate::prefix_string::{self, take_payload};
+use crate::prefix_string::{self, Payload, take_payload};
 use std::alloc::Global;
 
 /// The first byte, where there is one and it is not from `low` to `high`.
@@ -79,6 +81,36 @@ pub(crate) struct TwoStrings {
     pub(crate) value: Vec<u8>,
 }
 
+/// The error of two strings, where the first is one for which there is no memory.
+fn refusal_before(second: &Payload<'_>) -> ParseError
+    ensures { result ≡ (if is_some (string_of second.now) then parse_error.OutOfMemory else parse_error.String string_error.HuffmanDecoding) }
+{
+    if second.is_string() {
+        return ParseError::OutOfMemory;
+    }
+    ParseError::String(prefix_string::Error::HuffmanDecoding)
+}
+
+/// The strings of two payloads. Where one is no string, this is the answer, whether there is memory or not.
+fn both_strings(
+    alloc: Global,
+    first: &Payload<'_>,
+    second: &Payload<'_>,
+) -> Result<TwoStrings, ParseError>
+    ensures { AnswersBothStrings first.now second.now result }
+{
+    let name = match first.to_bytes(alloc) {
+        Ok(name) => name,
+        Err(prefix_string::Error::OutOfMemory) => return Err(refusal_before(second)),
+        Err(e) => return Err(ParseError::String(e)),
+    };
+    match second.to_bytes(alloc) {
+        Ok(value) => Ok(TwoStrings { name, value }),
+        Err(prefix_string::Error::OutOfMemory) => Err(ParseError::OutOfMemory),
+        Err(e) => Err(ParseError::String(e)),
+    }
+}
+
 /// Takes two strings from the front. A refused read takes nothing.
 pub(crate) fn take_two_strings(
     alloc: Global,
@@ -99,18 +131,12 @@ pub(crate) fn take_two_strings(
         Ok((_, payload)) => payload,
         Err(e) => return Err(ParseError::String(prefix_string::Error::from(e))),
     };
-    let name = match first.to_bytes(alloc) {
-        Ok(name) => name,
-        Err(prefix_string::Error::OutOfMemory) => return Err(ParseError::OutOfMemory),
-        Err(e) => return Err(ParseError::String(e)),
-    };
-    match second.to_bytes(alloc) {
-        Ok(value) => {
+    match both_strings(alloc, &first, &second) {
+        Ok(parts) => {
             *buf = ahead;
-            Ok(TwoStrings { name, value })
+            Ok(parts)
         }
-        Err(prefix_string::Error::OutOfMemory) => Err(ParseError::OutOfMemory),
-        Err(e) => Err(ParseError::String(e)),
+        Err(e) => Err(e),
     }
 }
 

@@ -1,7 +1,8 @@
 //! The bytes of a string, before they are decoded.
-ghost use Rattle.std.specs.Prelude.{◌≡◌, ◌-◌, ◌≤◌, ℕ, List, length, true};
+ghost use Rattle.std.specs.Prelude.{◌≡◌, ◌-◌, ◌≤◌, ℕ, List, length, is_some, true};
 ghost use Rattle.h3_field.specs.Ends.{IsEndOf};
 ghost use Rattle.h3_field.specs.StringReading.{string};
+ghost use Rattle.h3_field.specs.Values.{string_of};
 ghost use Rattle.h3_field.specs.StringAnswer.{AnswersPayload, AnswersBytes};
 
 use crate::cursor::SliceCursor;
@@ -64,6 +65,9 @@ impl<'a> Payload<'a> {
     {
         let encoded = self.bytes;
         are_bytes(encoded);
+        if encoded.is_empty() {
+            return Ok(Vec::new(alloc));
+        }
         if !self.is_huffman {
             let Ok(bytes) = Vec::from_slice(alloc, encoded) else {
                 return Err(Error::OutOfMemory);
@@ -72,16 +76,31 @@ impl<'a> Payload<'a> {
         }
         decode_payload(alloc, encoded)
     }
+
+    /// Whether it stands for a string. It asks for no memory.
+    pub(crate) fn is_string(&self) -> bool
+        ensures { result ≡ is_some (string_of self.now) }
+    {
+        let encoded = self.bytes;
+        are_bytes(encoded);
+        !self.is_huffman || h3_huffman::decode::is_encoding(encoded)
+    }
 }
 
-/// The string of a Huffman encoding.
+/// The string of a Huffman encoding. What is no encoding is refused as such, whether there is memory or not.
 pub(crate) fn decode_payload(alloc: Global, encoded: &[u8]) -> Result<Vec<u8>, Error>
     ensures { AnswersBytes (record { is_huffman = true; bytes = encoded.now }) result }
 {
+    if encoded.is_empty() {
+        return Ok(Vec::new(alloc));
+    }
     // a code word has at least five bits, and the decoder writes two symbols at a time
     let room = encoded.len() / 5 * 8 + 12;
     let Ok(mut bytes) = vec![in alloc; 0u8; room] else {
-        return Err(Error::OutOfMemory);
+        if h3_huffman::decode::is_encoding(encoded) {
+            return Err(Error::OutOfMemory);
+        }
+        return Err(Error::HuffmanDecoding);
     };
     let Some(len) = h3_huffman::decode::decode_into(encoded, &mut bytes) else {
         return Err(Error::HuffmanDecoding);

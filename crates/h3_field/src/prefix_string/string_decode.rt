@@ -1,8 +1,9 @@
 //! The bytes of a Huffman encoding, one by one.
-ghost use Rattle.std.specs.Prelude.{◌≡◌, ℕ, List, IfOk, Some};
+ghost use Rattle.std.specs.Prelude.{◌≡◌, ℕ, true, List, IfOk, IfErr, Some};
 ghost use Rattle.h3_field.specs.ErrorTexts.{huffman_text};
 ghost use Rattle.std.specs.Iterator.{YieldsFirst, item_count};
 ghost use Rattle.h3_field.specs.Decoding.{DecodesTo};
+ghost use Rattle.h3_field.specs.StringAnswer.{TakesMemory};
 
 use crate::prefix_string;
 use crate::prefix_string::BitWindow;
@@ -82,9 +83,10 @@ impl FusedIterator for DecodeIter {}
 pub trait HpackStringDecode {
     ghost encoded: { Self → List ℕ };
 
-    /// The bytes that it stands for.
+    /// The bytes that it stands for, or the error of what is no encoding. Memory is wanting for an encoding alone.
     fn hpack_decode(&self, alloc: Global) -> Result<DecodeIter, AllocError>
-        ensures { IfOk result (λ items. DecodesTo (encoded self.now) items) };
+        ensures items { IfOk result (λ items. DecodesTo (encoded self.now) items) }
+        ensures memory { IfErr result (λ _. TakesMemory (record { is_huffman = true; bytes = encoded self.now })) };
 }
 
 impl HpackStringDecode for Vec<u8> {

@@ -1,4 +1,4 @@
-use Rattle.h3_field.specs.ValueLaws.{line_some, line_is, line_none, no_line}
+use Rattle.h3_field.specs.ValueLaws.{line_some, line_is, line_none, no_line, line_of_memory}
 use Rattle.h3_field.proofs.laws.lines_are_their_value.Goals as goal
 
 pub returns-clause-some : goal.returns-clause-some
@@ -12,3 +12,6 @@ returns-clause-none c = line_none
 
 pub returns-clause-refused : goal.returns-clause-refused
 returns-clause-refused c form l none says = no_line form none l says
+
+pub returns-clause-memory : goal.returns-clause-memory
+returns-clause-memory c = line_of_memory
