@@ -18,7 +18,7 @@ use Rattle.h3_field.specs.Section.{HasLine}
 use Rattle.h3_field.specs.ReadBack.{AreBytes, IsLineOfBytes, IsInstructionOfBytes, HasInstruction}
 use Rattle.h3_field.specs.Instruction.{EncoderInstruction, DecoderInstruction, encoder_bytes, decoder_bytes}
 use Rattle.h3_field.specs.Instruction.{EncoderInstruction as to_decoder, DecoderInstruction as to_encoder}
-use Rattle.h3_field.specs.InstructionReading.{InstructionForm, Says, Capacity, NameReference, LiteralName, Repeat, name_reference, literal_name, capacity, repeat, instruction, acknowledgment, cancellation, increment, decoder_instruction}
+use Rattle.h3_field.specs.InstructionReading.{Says, Capacity, NameReference, LiteralName, Repeat, name_reference, literal_name, capacity, repeat, instruction, acknowledgment, cancellation, increment, decoder_instruction}
 use Rattle.h3_field.specs.InstructionLaws.{name_reference_read, literal_name_read, capacity_read, repeat_read, acknowledgment_read, cancellation_read, increment_read}
 use Rattle.h3_field.specs.InstructionAnswer.{IsSendable, IsReply}
 use Rattle.h3_field.specs.SectionLaws.{line_indexed, line_named, line_literal, line_post_base, line_post_base_named, whole_same}
