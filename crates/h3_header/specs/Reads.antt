@@ -9,6 +9,7 @@ use Rattle.http_uri.specs.Grammar.{IsScheme, IsAuthority, IsPathInput, without_f
 use Rattle.h3_field.specs.Field.{Field}
 use Rattle.h3_header.specs.ProtocolText.{IsProtocolText}
 use Rattle.h3_header.specs.Head.{Head, trailer_head}
+use Rattle.h3_header.specs.declared.headers.pseudo.Pseudo.{Pseudo}
 use Rattle.h3_header.specs.declared.headers.kind.FieldKind.{FieldKind}
 use Rattle.h3_header.specs.declared.headers.kind.FieldKind.TheVariants.{Method, Scheme, Authority, Path, Status, Protocol, Regular}
 use Rattle.h3_header.specs.declared.headers.error.HeaderError.{HeaderError}
@@ -71,11 +72,11 @@ pub record AcceptsAt (at : FieldKind) (h : Head) (f : Field) : Type 0 where
   pub room : HasRoomAt at h f
 
 -- reading the field may ask for memory: to keep its bytes, or for the text of its refusal
-abbrev pub MayAskMemory : FieldKind → Field → Type 0
-MayAskMemory Method f = ¬ (IsShortMethod f.value)
-MayAskMemory Status f = ¬ (IsCodeText f.value)
-MayAskMemory Protocol f = ¬ (IsProtocolText f.value)
-MayAskMemory _ f = ⊤
+abbrev pub MayAskMemory : FieldKind → List ℕ → Type 0
+MayAskMemory Method value = ¬ (IsShortMethod value)
+MayAskMemory Status value = ¬ (IsCodeText value)
+MayAskMemory Protocol value = ¬ (IsProtocolText value)
+MayAskMemory _ value = ⊤
 
 -- why it may not. A name is judged before its value, and room comes last
 abbrev pub RefusesAt : FieldKind → Head → Field → HeaderError → Type 0
@@ -87,7 +88,7 @@ RefusesAt at h f MissingMethod = ⊥
 RefusesAt at h f MissingStatus = ⊥
 RefusesAt at h f MissingAuthority = ⊥
 RefusesAt at h f ContradictedAuthority = ⊥
-RefusesAt at h f OutOfMemory = MayAskMemory at f
+RefusesAt at h f OutOfMemory = MayAskMemory at f.value
 
 -- the refusal of a name that should be valid
 abbrev pub RefusesName : Type 0 → HeaderError → Type 0
@@ -100,6 +101,22 @@ abbrev pub RefusesValue : Type 0 → Type 0 → HeaderError → Type 0
 RefusesValue Valid Asks (InvalidHeaderValue _) = ¬ Valid
 RefusesValue Valid Asks OutOfMemory = Asks
 RefusesValue Valid Asks _ = ⊥
+
+-- the refusal of the value of a pseudo-header field
+abbrev pub RefusesPseudo : FieldKind → List ℕ → HeaderError → Type 0
+RefusesPseudo at value (InvalidHeaderValue _) = ¬ (IsValueAt at value)
+RefusesPseudo at value OutOfMemory = MayAskMemory at value
+RefusesPseudo at value _ = ⊥
+
+-- pseudo-header fields with one more, which takes the place of an earlier one
+abbrev pub with_pseudo : FieldKind → Pseudo → List ℕ → Pseudo
+with_pseudo Method p value = record p { method = Some value }
+with_pseudo Scheme p value = record p { scheme = Some value }
+with_pseudo Authority p value = record p { authority = Some value }
+with_pseudo Path p value = record p { path = Some (without_fragment value) }
+with_pseudo Status p value = record p { status = Some (status_number value) }
+with_pseudo Protocol p value = record p { protocol = Some value }
+with_pseudo Regular p value = p
 
 -- the refusal of a regular field
 abbrev pub RefusesRegular : Entries FieldValue → List ℕ → List ℕ → HeaderError → Type 0

@@ -35,14 +35,22 @@ request_head method u m protocol =
       regular = m;
     }
 
+-- the parts of a URI, where a `host` stands for a missing authority
+abbrev pub with_host : Parts → Option (List ℕ) → Parts
+with_host p host = record { scheme = p.scheme; authority = option_or p.authority host; path_and_query = p.path_and_query }
+
+-- they make a URI
+abbrev pub AreOfUri : Parts → Type 0
+AreOfUri p = IfSome p.authority IsAuthority × PartsFit p
+
 -- path, scheme and authority of a head. The first `host` stands for a missing authority
 abbrev pub request_parts : Head → Parts
 request_parts h =
-    record { scheme = h.scheme; authority = option_or h.authority (host_of h.regular); path_and_query = h.path }
+    with_host (record { scheme = h.scheme; authority = h.authority; path_and_query = h.path }) (host_of h.regular)
 
 -- they make a URI
 abbrev pub CanBeUri : Head → Type 0
-CanBeUri h = IfSome (request_parts h).authority IsAuthority × PartsFit (request_parts h)
+CanBeUri h = AreOfUri (request_parts h)
 
 -- why a head gives no request, in the order of judging. Memory is asked for only where `host` stands for the authority. Not
 -- enforced are the rules of CONNECT (RFC 9114, section 4.4), that `:protocol` comes with it alone, what a second `host` says, and

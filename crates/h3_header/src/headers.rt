@@ -1,6 +1,6 @@
 //! Headers and trailers: the pseudo-header fields and the regular fields of a message
 //! (RFC 9114, 4.3).
-ghost use Rattle.std.specs.Prelude.{◌≡◌, ◌-◌, ◌^◌, [], length, min, IfOk, IfErr, OnOk, option_copied, codes, Some, None};
+ghost use Rattle.std.specs.Prelude.{◌≡◌, ◌-◌, ◌^◌, [], length, min, IfOk, IfErr, IfSome, IsSome, OnOk, Some, None};
 ghost use Rattle.std.specs.List.{AllByRecursion};
 ghost use Rattle.http_uri.specs.Uri.{uri_authority};
 ghost use Rattle.h3_field.specs.ReadBack.{IsFieldOfBytes};
@@ -10,12 +10,12 @@ ghost use Rattle.h3_header.specs.Reads.{RefusesOne, IsHeadOf, head_of_fields};
 ghost use Rattle.h3_header.specs.ReadsBack.{ReadsBack, as_read};
 
 use crate::ext::Protocol;
-use authority::{authority_text, find_refusal, https, or_host, root};
+use authority::{authority_text, find_refusal, uri_of};
 pub use error::HeaderError;
 use h3_field::HeaderField;
 use http::{Method, StatusCode};
 use http_header::HeaderMap;
-use http_uri::{Parts, Uri};
+use http_uri::Uri;
 pub use iter::HeaderIter;
 use iter::RegularIter;
 pub use kind::FieldKind;
@@ -71,32 +71,7 @@ impl Header {
         if let Some(e) = find_refusal(authority_text(uri.authority()), &fields) {
             return Err(e);
         }
-        let protocol = if method.as_str() == "CONNECT" {
-            protocol
-        } else {
-            None
-        };
-        let Parts {
-            scheme,
-            authority,
-            path_and_query,
-        } = uri.into_parts();
-        let scheme = match scheme {
-            Some(scheme) => scheme,
-            None => https(),
-        };
-        let path = match path_and_query {
-            Some(path) => path,
-            None => root(),
-        };
-        let pseudo = Pseudo {
-            method: Some(method),
-            scheme: Some(scheme),
-            authority,
-            path: Some(path),
-            status: None,
-            protocol,
-        };
+        let pseudo = Pseudo::request(method, uri, protocol);
         Ok(Header { pseudo, fields })
     }
 
@@ -133,31 +108,31 @@ impl Header {
             × (r.3 ≡ self.regular)) }
         ensures err { IfErr result (RefusesRequest self) }
     {
-        let Header { pseudo, fields } = self;
-        let Pseudo {
-            method,
-            scheme,
-            authority,
-            path,
-            status: _,
-            protocol,
-        } = pseudo;
-        if let Some(e) = find_refusal(authority_text(authority.as_ref()), &fields) {
+        if let Some(e) = self.request_refusal() {
             return Err(e);
         }
-        let Some(method) = method else {
-            return Err(HeaderError::MissingMethod);
-        };
-        let authority = or_host(alloc, authority, &fields)?;
-        let parts = Parts {
-            scheme,
-            authority,
-            path_and_query: path,
-        };
-        match Uri::from_parts(parts) {
+        let Header { pseudo, fields } = self;
+        let (method, parts, protocol) = pseudo.into_request();
+        let Some(method) = method else { unreachable!() };
+        match uri_of(alloc, parts, &fields) {
             Ok(uri) => Ok((method, uri, protocol, fields)),
-            Err(_) => Err(HeaderError::InvalidRequest),
+            Err(e) => Err(e),
         }
+    }
+
+    // Why this gives no request, but for its URI.
+    fn request_refusal(&self) -> Option<HeaderError>
+        ensures refused { IfSome result (RefusesRequest self.now) }
+        ensures none { result ≡ None → (authority_refusal self.now.authority (host_of self.now.regular) ≡ None)
+            × IsSome self.now.method }
+    {
+        if let Some(e) = find_refusal(self.pseudo.authority_text(), &self.fields) {
+            return Some(e);
+        }
+        if self.pseudo.method.is_none() {
+            return Some(HeaderError::MissingMethod);
+        }
+        None
     }
 
     /// The status and the regular fields of a response, or `MissingStatus`.
@@ -165,9 +140,8 @@ impl Header {
         ensures ok { IfOk result (λ r. (self.status ≡ Some r.0) × (r.1 ≡ self.regular)) }
         ensures err { IfErr result (λ e. (e ≡ HeaderError.MissingStatus) × (self.status ≡ None)) }
     {
-        let Header { pseudo, fields } = self;
-        match pseudo.status {
-            Some(status) => Ok((status, fields)),
+        match self.status() {
+            Some(status) => Ok((status, self.into_fields())),
             None => Err(HeaderError::MissingStatus),
         }
     }

@@ -1,13 +1,16 @@
 //! What a request names or leaves out: its authority, or the field `host`, its scheme and its path
 //! (RFC 9114, 4.3.1).
-ghost use Rattle.std.specs.Prelude.{◌≡◌, codes, IfOk, OnOk, IfErr, IfSome, option_copied};
+ghost use Rattle.std.specs.Prelude.{◌≡◌, ◌⊎◌, codes, bytes_eq, if◌then◌else◌, IfOk, OnOk, IfErr, IfSome, None, option_copied, unwrap_or};
 ghost use Rattle.std.specs.Option.{option_or};
 ghost use Rattle.http_uri.specs.Grammar.{IsAuthority, IsScheme, IsPathInput};
-ghost use Rattle.h3_header.specs.Request.{host_of, authority_refusal, IsHostError};
+ghost use Rattle.http_uri.specs.Uri.{IsUriOfParts};
+ghost use Rattle.h3_header.specs.Request.{host_of, authority_refusal, with_host, AreOfUri, IsHostError};
 
 use super::error::HeaderError;
+use crate::ext::Protocol;
+use http::Method;
 use http_header::HeaderMap;
-use http_uri::{Authority, PathAndQuery, Scheme, UriError};
+use http_uri::{Authority, Parts, PathAndQuery, Scheme, Uri, UriError};
 use std::alloc::Global;
 
 /// The scheme of a request that names none. It takes no memory.
@@ -27,6 +30,37 @@ pub(crate) fn root() -> PathAndQuery
     ensures valid { IsPathInput (codes "/") }
 {
     PathAndQuery::from_static("/").unwrap()
+}
+
+/// The protocol that counts: CONNECT alone has one (RFC 8441, 4).
+pub(crate) fn protocol_of(method: &Method, protocol: Option<Protocol>) -> Option<Protocol>
+    ensures { result ≡ (if bytes_eq method.now (codes "CONNECT") then protocol else None) }
+{
+    if method.as_str() == "CONNECT" {
+        protocol
+    } else {
+        None
+    }
+}
+
+/// The scheme, or else https.
+pub(crate) fn scheme_or_https(scheme: Option<Scheme>) -> Scheme
+    ensures { result ≡ unwrap_or scheme (codes "https") }
+{
+    match scheme {
+        Some(scheme) => scheme,
+        None => https(),
+    }
+}
+
+/// The path, or else `/`.
+pub(crate) fn path_or_root(path: Option<PathAndQuery>) -> PathAndQuery
+    ensures { result ≡ unwrap_or path (codes "/") }
+{
+    match path {
+        Some(path) => path,
+        None => root(),
+    }
 }
 
 fn host(map: &HeaderMap) -> Option<&[u8]>
@@ -85,5 +119,28 @@ pub(crate) fn or_host(
         Ok(authority) => Ok(Some(authority)),
         Err(UriError::Invalid(_)) => Err(HeaderError::InvalidRequest),
         Err(UriError::OutOfMemory) => Err(HeaderError::OutOfMemory),
+    }
+}
+
+/// The URI of these parts, where the first `host` stands for a missing authority.
+pub(crate) fn uri_of(alloc: Global, parts: Parts, map: &HeaderMap) -> Result<Uri, HeaderError>
+    ensures ok { IfOk result (λ u. AreOfUri (with_host parts (host_of map.now)) × IsUriOfParts (with_host parts (host_of map.now)) u) }
+    ensures err { IfErr result (λ e. ((e ≡ HeaderError.InvalidRequest) × ¬ (AreOfUri (with_host parts (host_of map.now))))
+        ⊎ ((e ≡ HeaderError.OutOfMemory) × (parts.authority ≡ None))) }
+{
+    let Parts {
+        scheme,
+        authority,
+        path_and_query,
+    } = parts;
+    let authority = or_host(alloc, authority, map)?;
+    let parts = Parts {
+        scheme,
+        authority,
+        path_and_query,
+    };
+    match Uri::from_parts(parts) {
+        Ok(uri) => Ok(uri),
+        Err(_) => Err(HeaderError::InvalidRequest),
     }
 }

@@ -6,14 +6,18 @@ ghost use Rattle.http.specs.StatusCode.{IsStatusCode, code_digits};
 ghost use Rattle.http_uri.specs.Grammar.{IsScheme, IsAuthority, IsPathAndQuery, or_slash};
 ghost use Rattle.h3_field.specs.ReadBack.{IsFieldOfBytes};
 ghost use Rattle.h3_header.specs.ProtocolText.{IsProtocolText};
-ghost use Rattle.h3_header.specs.Parts.{no_pseudo, fields_of_pseudo};
+ghost use Rattle.http_header.specs.FieldValue.{FieldValue};
+ghost use Rattle.http_header.specs.HeaderMap.{Entries};
+ghost use Rattle.h3_header.specs.Parts.{head_of_parts, no_pseudo, fields_of_pseudo};
+ghost use Rattle.h3_header.specs.Request.{request_head};
 ghost use Rattle.h3_header.specs.ReadsBack.{IsValidPseudo};
 
+use super::authority::{path_or_root, protocol_of, scheme_or_https};
 use super::write::{append_pseudo, append_static, visit_text};
 use crate::ext::Protocol;
 use h3_field::HeaderField;
 use http::{Method, StatusCode};
-use http_uri::{Authority, PathAndQuery, Scheme};
+use http_uri::{Authority, Parts, PathAndQuery, Scheme, Uri};
 use std::alloc::{AllocError, Global};
 
 /// The pseudo-header fields that are there.
@@ -54,6 +58,49 @@ impl Pseudo {
             status: Some(status),
             protocol: None,
         }
+    }
+
+    /// The pseudo-header fields of a request (RFC 9114, 4.3.1). A missing scheme is https, a missing
+    /// path is `/`, and the protocol counts for CONNECT alone.
+    pub(crate) fn request(method: Method, uri: Uri, protocol: Option<Protocol>) -> Pseudo
+        ensures { (regular : Entries FieldValue) → head_of_parts result regular ≡ request_head method uri regular protocol }
+    {
+        let protocol = protocol_of(&method, protocol);
+        let Parts {
+            scheme,
+            authority,
+            path_and_query,
+        } = uri.into_parts();
+        Pseudo {
+            method: Some(method),
+            scheme: Some(scheme_or_https(scheme)),
+            authority,
+            path: Some(path_or_root(path_and_query)),
+            status: None,
+            protocol,
+        }
+    }
+
+    /// The method, the parts of the URI and the protocol.
+    pub(crate) fn into_request(self) -> (Option<Method>, Parts, Option<Protocol>)
+        ensures method { result.0 ≡ self.method }
+        ensures parts { result.1 ≡ record { scheme = self.scheme; authority = self.authority; path_and_query = self.path } }
+        ensures protocol { result.2 ≡ self.protocol }
+    {
+        let Pseudo {
+            method,
+            scheme,
+            authority,
+            path,
+            status: _,
+            protocol,
+        } = self;
+        let parts = Parts {
+            scheme,
+            authority,
+            path_and_query: path,
+        };
+        (method, parts, protocol)
     }
 
     pub(crate) fn method_text(&self) -> Option<&str>

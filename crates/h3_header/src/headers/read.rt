@@ -8,7 +8,8 @@ ghost use Rattle.http_header.specs.HeaderMap.{append, RefusesAppend};
 ghost use Rattle.http.specs.StatusCode.{IsCodeText};
 ghost use Rattle.http_uri.specs.Grammar.{IsScheme, IsAuthority, IsPathInput, without_fragment};
 ghost use Rattle.h3_header.specs.ProtocolText.{IsProtocolText};
-ghost use Rattle.h3_header.specs.Reads.{IsShortMethod, status_number, RefusesName, RefusesValue, RefusesRegular, Accepts, Refuses, with_field};
+ghost use Rattle.h3_header.specs.declared.headers.kind.FieldKind.TheVariants as field;
+ghost use Rattle.h3_header.specs.Reads.{IsShortMethod, IsValueAt, status_number, RefusesName, RefusesValue, RefusesRegular, RefusesPseudo, Accepts, Refuses, with_field, with_pseudo};
 ghost use Rattle.h3_header.specs.Parts.{head_of_parts};
 
 use super::authority::{https, root};
@@ -189,33 +190,67 @@ pub(crate) fn read_field(
     let kind = FieldKind::of(field.name());
     let (name, value) = field.into_inner();
     match kind {
-        FieldKind::Method => {
-            pseudo.method = Some(read_method(alloc, value.as_slice())?);
-            Ok(())
-        }
-        FieldKind::Scheme => {
-            pseudo.scheme = Some(read_scheme(alloc, value.as_slice())?);
-            Ok(())
-        }
-        FieldKind::Authority => {
-            pseudo.authority = Some(read_authority(alloc, store, &value)?);
-            Ok(())
-        }
-        FieldKind::Path => {
-            pseudo.path = Some(read_path(alloc, store, &value)?);
-            Ok(())
-        }
-        FieldKind::Status => {
-            pseudo.status = Some(read_status(alloc, value.as_slice())?);
-            Ok(())
-        }
-        FieldKind::Protocol => {
-            pseudo.protocol = Some(read_protocol(alloc, value.as_slice())?);
-            Ok(())
-        }
-        FieldKind::Regular => {
-            append_field(alloc, map, store, &name, &value)?;
-            Ok(())
-        }
+        FieldKind::Regular => append_field(alloc, map, store, &name, &value),
+        _ => read_pseudo(alloc, pseudo, store, kind, &value),
+    }
+}
+
+// Reads the value of a pseudo-header field, which takes the place of an earlier one.
+fn read_pseudo(
+    alloc: Global,
+    pseudo: &mut Pseudo,
+    store: &mut Store,
+    kind: FieldKind,
+    value: &CowSlice<'static, u8>,
+) -> Result<(), HeaderError>
+    requires { kind ≡ field.Regular → ⊥ }
+    ensures ok { OnOk result (IsValueAt kind (cow_slice_items value.now)
+        × (pseudo.new ≡ with_pseudo kind pseudo.old (cow_slice_items value.now))) }
+    ensures err { IfErr result (RefusesPseudo kind (cow_slice_items value.now)) }
+{
+    match kind {
+        FieldKind::Method => match read_method(alloc, value.as_slice()) {
+            Ok(method) => {
+                pseudo.method = Some(method);
+                Ok(())
+            }
+            Err(e) => Err(e),
+        },
+        FieldKind::Scheme => match read_scheme(alloc, value.as_slice()) {
+            Ok(scheme) => {
+                pseudo.scheme = Some(scheme);
+                Ok(())
+            }
+            Err(e) => Err(e),
+        },
+        FieldKind::Authority => match read_authority(alloc, store, value) {
+            Ok(authority) => {
+                pseudo.authority = Some(authority);
+                Ok(())
+            }
+            Err(e) => Err(e),
+        },
+        FieldKind::Path => match read_path(alloc, store, value) {
+            Ok(path) => {
+                pseudo.path = Some(path);
+                Ok(())
+            }
+            Err(e) => Err(e),
+        },
+        FieldKind::Status => match read_status(alloc, value.as_slice()) {
+            Ok(status) => {
+                pseudo.status = Some(status);
+                Ok(())
+            }
+            Err(e) => Err(e),
+        },
+        FieldKind::Protocol => match read_protocol(alloc, value.as_slice()) {
+            Ok(protocol) => {
+                pseudo.protocol = Some(protocol);
+                Ok(())
+            }
+            Err(e) => Err(e),
+        },
+        FieldKind::Regular => unreachable!(),
     }
 }
