@@ -105,7 +105,8 @@ impl Encoder {
         self.table.is_canceled(stream)
     }
 
-    /// Lets an encoder that has inserted nothing use a table of that capacity, at most 2^30 - 1, where up to `blocked` sections,
+    /// Lets an encoder that has inserted nothing use a table of that capacity, at most 2^30 - 1 (what such a table costs stands at
+    /// `h3_table::entries::MAX_CAPACITY`; the peer announces the capacity, and a caller may use less), where up to `blocked` sections,
     /// at most 65535, may be blocked at the decoder; and appends the instruction for the capacity (RFC 9204, section 4.3.1). What was
     /// written and read before stands. A refusal changes nothing.
     pub fn use_table(

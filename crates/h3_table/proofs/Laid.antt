@@ -136,5 +136,5 @@ fields_push place bytes name value (s ∷ rs) r h new =
     } in
     rw (same, name_is, behind, value_is) (ap (λ fs. first_field bytes s ∷ fs) (fields_push (place + byte_count s) rest name value rs r h.1 next))
 
-pub row_is : (k : FieldRow) (fields : List Field) (written : ℕ) → k.fields ≡ fields → k.written ≡ written → k ≡ record { fields = fields; written = written }
-row_is k fields written f w = λ i. record { fields = f i; written = w i }
+pub row_with : (k then : FieldRow) (fields : List Field) → k.fields ≡ fields → k.written ≡ then.written → k.room ≡ then.room → k.places ≡ then.places → k ≡ record then { fields = fields }
+row_with k then fields f w r p = λ i. record { fields = f i; written = w i; room = r i; places = p i }

@@ -3,5 +3,5 @@ use Rattle.std.specs.Prelude.{ℕ, List}
 
 pub record ByteRow : Type 0 where
   pub bytes : List ℕ
-  -- for how many more there is memory
+  -- for how many more there is memory behind them
   pub room : ℕ

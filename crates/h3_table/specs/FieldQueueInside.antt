@@ -1,11 +1,12 @@
 -- What the fields of `FieldQueue` stand for.
 use Rattle.std.specs.Prelude.{◌<◌, ◌+◌, ◌^◌, length}
+use Rattle.std.specs.VecDeque.{deque_capacity}
 use Rattle.h3_table.specs.FieldRow.{FieldRow}
 use Rattle.h3_table.specs.Records.{fields_of, AreLaid}
 use Rattle.h3_table.specs.declared.field_queue.FieldQueue.TheInside.{Inside}
 
 abbrev pub field_row_inside : Inside → FieldRow
-field_row_inside q = record { fields = fields_of q.bytes.bytes q.records.items; written = q.first + length q.bytes.bytes }
+field_row_inside q = record { fields = fields_of q.bytes.bytes q.records.items; written = q.first + length q.bytes.bytes; room = q.bytes.room; places = deque_capacity q.records }
 
 pub record IsFieldQueue (q : Inside) : Type 0 where
   pub laid : AreLaid q.first q.bytes.bytes q.records.items

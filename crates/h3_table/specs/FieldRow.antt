@@ -6,3 +6,7 @@ pub record FieldRow : Type 0 where
   pub fields : List Field
   -- how many bytes of names and values there ever were
   pub written : ℕ
+  -- for how many more bytes there is memory behind them
+  pub room : ℕ
+  -- for how many records there is memory
+  pub places : ℕ

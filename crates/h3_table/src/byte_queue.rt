@@ -1,12 +1,12 @@
 //! Bytes that are put in at one end and taken out at the other, and lie in one row.
-ghost use Rattle.std.specs.Prelude.{◌≡◌, ◌<◌, ◌≤◌, ◌+◌, ◌-◌, ◌^◌, ◌++◌, [], length, take, drop, OnOk, IfOk};
+ghost use Rattle.std.specs.Prelude.{◌≡◌, ◌<◌, ◌≤◌, ◌+◌, ◌-◌, ◌/◌, ◌^◌, ◌++◌, [], length, take, drop, IfOk, IfSome, IfNone};
 ghost use Rattle.std.specs.Vec.{vec_capacity, vec_len};
 
 use std::alloc::{AllocError, Global};
 use std::marker::Model;
 
 /// The bytes that are there stand behind those that were taken out. Where no room is left behind them they are moved to a new
-/// block, which has room for a quarter more and a bit, so a byte is moved four times or less in the mean.
+/// block, which has room for a quarter more than is kept and a bit, so a byte is moved four times or less in the mean.
 #[derive(Drop)]
 pub(crate) struct ByteQueue {
     bytes: Vec<u8>,
@@ -24,19 +24,6 @@ impl Model for ByteQueue {
     ghost view = { byte_row_inside };
 
     ghost invariant = { IsByteQueue };
-}
-
-/// The bytes in a new block with room for so many more.
-fn moved(alloc: Global, bytes: &[u8], count: usize) -> Result<Vec<u8>, AllocError>
-    requires more { count < 2 ^ 32 }
-    requires few { length bytes.now < 2 ^ 32 }
-    ensures items { IfOk result (λ block. block.items ≡ bytes.now) }
-    ensures room { IfOk result (λ block. vec_len block + count ≤ vec_capacity block) }
-{
-    let len = bytes.len();
-    let mut block = Vec::with_capacity(alloc, len + len / 4 + count + 128)?;
-    block.extend_from_slice(bytes)?;
-    Ok(block)
 }
 
 impl ByteQueue {
@@ -64,20 +51,37 @@ impl ByteQueue {
         &self.bytes[from..from + len]
     }
 
-    /// Takes memory for so many bytes more.
-    pub(crate) fn reserve(&mut self, count: usize) -> Result<(), AllocError>
+    /// A new block for what is kept of the bytes and so many more, where there is no room for these behind the bytes.
+    pub(crate) fn block_for(&self, kept: usize, count: usize) -> Result<Option<Vec<u8>>, AllocError>
+        requires kept { kept < 2 ^ 32 }
         requires more { count < 2 ^ 32 }
-        requires few { length self.old.bytes < 2 ^ 32 }
-        ensures bytes { self.new.bytes ≡ self.old.bytes }
-        ensures ok { OnOk result (count ≤ self.new.room) }
+        ensures none { IfOk result (λ block. IfNone block (count ≤ self.now.room)) }
+        ensures empty { IfOk result (λ block. IfSome block (λ b. b.items ≡ [])) }
+        ensures len { IfOk result (λ block. IfSome block (λ b. vec_capacity b ≡ kept + kept / 4 + count + 128)) }
     {
         if count <= self.bytes.capacity() - self.bytes.len() {
-            return Ok(());
+            return Ok(None);
         }
-        let alloc = *self.bytes.allocator();
-        self.bytes = moved(alloc, &self.bytes[self.start..], count)?;
+        let block = Vec::with_capacity(*self.bytes.allocator(), kept + kept / 4 + count + 128)?;
+        Ok(Some(block))
+    }
+
+    /// Moves the bytes to a new block, where there is one, which has room for them.
+    pub(crate) fn move_to(&mut self, block: Option<Vec<u8>>)
+        requires empty { IfSome block (λ b. b.items ≡ []) }
+        requires fits { IfSome block (λ b. length self.old.bytes ≤ vec_capacity b) }
+        ensures bytes { self.new.bytes ≡ self.old.bytes }
+        ensures none { IfNone block (self.new.room ≡ self.old.room) }
+        ensures some { IfSome block (λ b. vec_capacity b ≤ self.new.room + length self.old.bytes) }
+    {
+        let Some(mut block) = block else {
+            return;
+        };
+        let Ok(()) = block.extend_from_slice(&self.bytes[self.start..]) else {
+            return;
+        };
+        self.bytes = block;
         self.start = 0;
-        Ok(())
     }
 
     /// Puts bytes in, for which there is room.
@@ -94,7 +98,8 @@ impl ByteQueue {
     /// Takes so many bytes out.
     pub(crate) fn drop_front(&mut self, count: usize)
         requires { count ≤ length self.old.bytes }
-        ensures { self.new.bytes ≡ drop count self.old.bytes }
+        ensures bytes { self.new.bytes ≡ drop count self.old.bytes }
+        ensures room { self.new.room ≡ self.old.room }
     {
         self.start += count;
     }

@@ -18,7 +18,9 @@ use std::marker::Model;
 /// Numbers of entries stay below this one.
 pub const MOST_INSERTIONS: usize = 4611686018427387904;
 
-/// The greatest capacity of a table, in bytes.
+/// The greatest capacity of a table, in bytes: 2^30 - 1. Of fields without bytes a table of it has 33,554,431 entries, with a record of
+/// about 50 bytes and, at an encoder, three numbers of 8 bytes for each, in rings that have room for up to twice as many; of long fields
+/// it has 1 GiB of bytes, in a block of at most a quarter more. A search walks the entries of one slot of 256.
 pub const MAX_CAPACITY: usize = 1073741823;
 
 /// The size of a field in a table, stopping at the greatest number (RFC 9204, section 3.2.1).
@@ -263,7 +265,20 @@ impl Entries {
         self.put(field.name(), field.value(), None)
     }
 
-    /// Inserts an entry of a name, which may be static, and a value.
+    /// How many bytes of names and values there are at most, once the sizes of the entries sum to at most the room.
+    fn kept_within(&self, room: usize) -> usize
+        ensures most { section_size (table room self.now.entries) ≤ result + 32 * length (table room self.now.entries) }
+        ensures within { result ≤ room }
+    {
+        if self.size > room {
+            room
+        } else {
+            self.fields.byte_count()
+        }
+    }
+
+    /// Inserts an entry of a name, which may be static, and a value. Room is taken before the first entry is evicted, for what is
+    /// left then and for this one: a block has at most a quarter more than the capacity, and 128 bytes.
     fn put(
         &mut self,
         name: &[u8],
@@ -276,9 +291,13 @@ impl Entries {
         ensures ok { OnOk result (self.new ≡ with_entry self.old (record { name = name.now; value = value.now })) }
         ensures err { OnErr result (self.new ≡ self.old) }
     {
-        let size = self.size + name.len() + value.len() + 32;
-        self.fields.push(name, value, static_name)?;
-        self.size = evict_oldest(&mut self.fields, size, self.capacity);
+        let count = name.len() + value.len();
+        let room = self.capacity - (count + 32);
+        let kept = self.kept_within(room);
+        let block = self.fields.reserve(kept, count)?;
+        let size = evict_oldest(&mut self.fields, self.size, room);
+        self.fields.push(name, value, static_name, block);
+        self.size = size + count + 32;
         self.inserted += 1;
         Ok(())
     }

@@ -1,5 +1,6 @@
 //! Fields in the order of their insertion, whose bytes lie end to end.
-ghost use Rattle.std.specs.Prelude.{◌≡◌, ℕ, ◌+◌, ◌-◌, ◌*◌, ◌^◌, ◌<◌, ◌≤◌, ◌++◌, ◌∷◌, [], List, length, slice_get, slice_index_or, min, Some, None, IfSome, IfNone, IfOk, OnErr, OnOk};
+ghost use Rattle.std.specs.Prelude.{◌≡◌, ℕ, ◌+◌, ◌-◌, ◌*◌, ◌/◌, ◌^◌, ◌<◌, ◌≤◌, ◌++◌, ◌∷◌, [], List, length, slice_get, slice_index_or, min, Some, None, IfSome, IfNone, IfOk, OnOk};
+ghost use Rattle.std.specs.Vec.{vec_capacity};
 ghost use Rattle.h3_field.specs.Field.{Field, field_size, section_size};
 
 use crate::byte_queue::ByteQueue;
@@ -105,7 +106,8 @@ impl Model for FieldQueue {
 
 impl FieldQueue {
     pub(crate) fn new(alloc: Global) -> FieldQueue
-        ensures { result ≡ record { fields = []; written = 0 } }
+        ensures fields { result.fields ≡ [] }
+        ensures written { result.written ≡ 0 }
     {
         FieldQueue {
             records: VecDeque::new(alloc),
@@ -145,23 +147,47 @@ impl FieldQueue {
         })
     }
 
-    /// Puts a field in as the newest one. Where memory is refused nothing changes.
+    /// Takes memory for a record more, and for so many bytes more beside those that are kept: a new block, where the one that is
+    /// there has no room for them. The fields stay.
+    pub(crate) fn reserve(
+        &mut self,
+        kept: usize,
+        count: usize,
+    ) -> Result<Option<Vec<u8>>, AllocError>
+        requires kept { kept < 2 ^ 32 }
+        requires more { count < 2 ^ 32 }
+        ensures fields { self.new.fields ≡ self.old.fields }
+        ensures written { self.new.written ≡ self.old.written }
+        ensures places { OnOk result (length self.new.fields < self.new.places) }
+        ensures none { IfOk result (λ block. IfNone block (count ≤ self.new.room)) }
+        ensures empty { IfOk result (λ block. IfSome block (λ b. b.items ≡ [])) }
+        ensures len { IfOk result (λ block. IfSome block (λ b. vec_capacity b ≡ kept + kept / 4 + count + 128)) }
+    {
+        self.records.reserve(1)?;
+        self.bytes.block_for(kept, count)
+    }
+
+    /// Puts a field in as the newest one, for which there is memory: in the block that is given, or where none is, in the one that is there.
     pub(crate) fn push(
         &mut self,
         name: &[u8],
         value: &[u8],
         static_name: Option<&'static [u8]>,
-    ) -> Result<(), AllocError>
+        block: Option<Vec<u8>>,
+    )
         requires same { IfSome static_name (λ given. given.now ≡ name.now) }
+        requires place { length self.old.fields < self.old.places }
+        requires room { IfNone block (length name.now + length value.now ≤ self.old.room) }
+        requires empty { IfSome block (λ b. b.items ≡ []) }
+        requires fits { IfSome block (λ b. section_size self.old.fields + (length name.now + length value.now) ≤ vec_capacity b + 32 * length self.old.fields) }
         requires small { length name.now + length value.now < 2 ^ 32 }
         requires few { section_size self.old.fields < 2 ^ 32 }
         requires written { self.old.written + 2 ^ 32 < 2 ^ 128 }
-        ensures ok { OnOk result (self.new ≡ record { fields = self.old.fields ++ record { name = name.now; value = value.now } ∷ []; written = self.old.written + (length name.now + length value.now) }) }
-        ensures err { OnErr result (self.new ≡ self.old) }
+        ensures fields { self.new.fields ≡ self.old.fields ++ record { name = name.now; value = value.now } ∷ [] }
+        ensures written { self.new.written ≡ self.old.written + (length name.now + length value.now) }
     {
         let there = self.bytes.len();
-        self.records.reserve(1)?;
-        self.bytes.reserve(name.len() + value.len())?;
+        self.bytes.move_to(block);
         self.records.push_back_reserved(Record {
             place: self.first + there as u128,
             name_len: name.len(),
@@ -170,7 +196,6 @@ impl FieldQueue {
         });
         self.bytes.push(name);
         self.bytes.push(value);
-        Ok(())
     }
 
     /// Takes the oldest field out, and answers how many bytes it had.
@@ -178,6 +203,7 @@ impl FieldQueue {
         ensures some { IfSome result (λ n. (f : Field) × (self.old.fields ≡ f ∷ self.new.fields) × (n + 32 ≡ field_size f)) }
         ensures none { IfNone result ((self.old.fields ≡ []) × (self.new ≡ self.old)) }
         ensures written { self.new.written ≡ self.old.written }
+        ensures memory { (self.new.room ≡ self.old.room) × (self.new.places ≡ self.old.places) }
     {
         let Some(record) = self.records.pop_front() else {
             return None;

@@ -9,6 +9,8 @@ pub record Invariant (sum most : ℕ) (fields fields_then : FieldRow) : Type 0 w
   pub shorter : length fields.fields ≤ length fields_then.fields
   pub same : table most fields.fields ≡ table most fields_then.fields
   pub written : fields.written ≡ fields_then.written
+  pub room : fields.room ≡ fields_then.room
+  pub places : fields.places ≡ fields_then.places
 
 abbrev pub invariant-loop-sum : goal.invariant-loop-sum
 invariant-loop-sum l = Invariant l.sum l.most l.fields l.initial.fields

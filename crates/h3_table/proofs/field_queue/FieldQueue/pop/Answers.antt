@@ -15,6 +15,6 @@ returns-clause-some c =
     let bytes = c.self.inside.bytes.bytes in
     let first = first_field bytes c.in-Some.record in (
       first,
-      ap (λ (k : FieldRow). k.fields) (sym c.self.view_is) ∙ ap (fields_of bytes) c.in-Some.ensures.items ∙ ap (λ b. first ∷ fields_of b c.pop_front.new.self.items) (sym c.drop_front.ensures),
+      ap (λ (k : FieldRow). k.fields) (sym c.self.view_is) ∙ ap (fields_of bytes) c.in-Some.ensures.items ∙ ap (λ b. first ∷ fields_of b c.pop_front.new.self.items) (sym c.drop_front.ensures.bytes),
       sym (first_size bytes c.in-Some.record laid.0.within),
     )
