@@ -67,10 +67,7 @@ fn response(alloc: Global, status: &[u8], words: &[&[u8]]) -> Result<Header, Lin
     let Ok(status) = StatusCode::from_bytes(status) else {
         return Err(LineError::NoSuchLine);
     };
-    match fields(alloc, words) {
-        Ok(fields) => Ok(Header::response(status, fields)),
-        Err(e) => Err(e),
-    }
+    Ok(Header::response(status, fields(alloc, words)?))
 }
 
 /// The head of a request.
@@ -114,8 +111,5 @@ pub fn trailer(alloc: Global, words: &[&[u8]]) -> Result<Header, LineError>
     ensures ok { IfOk result (IsTrailerText (texts words.now)) }
     ensures err { IfErr result (Denies ((trailer : Head) × IsTrailerText (texts words.now) trailer)) }
 {
-    match fields(alloc, words) {
-        Ok(fields) => Ok(Header::trailer(fields)),
-        Err(e) => Err(e),
-    }
+    Ok(Header::trailer(fields(alloc, words)?))
 }
