@@ -107,7 +107,10 @@ fn read_payload<B: Buf>(
             Ok(section) => Ok(Frame::Headers(section)),
             Err(_) => Err(FrameError::OutOfMemory),
         },
-        FrameType::CANCEL_PUSH => Ok(Frame::CancelPush(PushId::from(read_number(buf, len)?))),
+        FrameType::CANCEL_PUSH => match read_number(buf, len) {
+            Ok(id) => Ok(Frame::CancelPush(PushId::from(id))),
+            Err(e) => Err(e),
+        },
         FrameType::SETTINGS => match Settings::read_front(buf, len) {
             Ok(settings) => Ok(Frame::Settings(settings)),
             Err(e) => Err(FrameError::Settings(e)),
@@ -122,8 +125,14 @@ fn read_payload<B: Buf>(
                 Err(_) => Err(FrameError::OutOfMemory),
             }
         }
-        FrameType::GOAWAY => Ok(Frame::Goaway(read_number(buf, len)?)),
-        FrameType::MAX_PUSH_ID => Ok(Frame::MaxPushId(PushId::from(read_number(buf, len)?))),
+        FrameType::GOAWAY => match read_number(buf, len) {
+            Ok(id) => Ok(Frame::Goaway(id)),
+            Err(e) => Err(e),
+        },
+        FrameType::MAX_PUSH_ID => match read_number(buf, len) {
+            Ok(id) => Ok(Frame::MaxPushId(PushId::from(id))),
+            Err(e) => Err(e),
+        },
         FrameType::H2_PRIORITY
         | FrameType::H2_PING
         | FrameType::H2_WINDOW_UPDATE

@@ -1,7 +1,7 @@
 use Rattle.std.proofs.Common.{refl, sym, subst}
-use Rattle.h3_wire.specs.Streams.{stream_part}
+use Rattle.h3_wire.specs.Streams.{stream_part, PollsData}
 use Rattle.h3_wire.specs.Asking.{ReadsOnce, fails, cut_short}
-use Rattle.h3_wire.proofs.Rounds.{takes_once, refused_once, short_of}
+use Rattle.h3_wire.proofs.Rounds.{takes_once, refused_once, short_of, polls_taken}
 use Rattle.h3_wire.specs.Source.{done}
 use Rattle.h3_wire.proofs.Reading.{adds_none}
 use Rattle.h3_wire.proofs.frame.FrameStream.poll_payload.Goals as goal
@@ -33,3 +33,10 @@ returns-in-Err-take_data-clause-once g c =
     refused_once g.S.RecvStream.answers c.args.self.now c.ask.new.self c.take_data.new.self c.in-Ok.received (sym c.if-not-has_data.ensures) c.in-Ok.ensures.asks c.ask.ensures.payload c.ask.ensures.decoder
     (short_of c.in-Ok.received (stream_part c.ask.new.self) (sym c.if-ends_short.ensures.is) c.ask.ensures.payload)
     c.in-Err-take_data.e c.in-Err-take_data.ensures.memory c.in-Err-take_data.ensures.none
+
+pub returns-in-Ok-take_data-clause-polls : goal.returns-in-Ok-take_data-clause-polls
+returns-in-Ok-take_data-clause-polls g c =
+    subst (λ a. PollsData g.S.RecvStream.rest g.S.RecvStream.answers a c.args.self.now c.take_data.new.self) (sym c.data_answer.ensures)
+    (polls_taken g.S.RecvStream.rest g.S.RecvStream.answers c.args.self.now c.ask.new.self c.take_data.new.self c.in-Ok.received c.in-Ok-take_data.taken
+    c.ask.ensures.all c.ask.ensures.payload (sym c.if-not-has_data.ensures) c.in-Ok.ensures.tells c.in-Ok-take_data.ensures.takes c.take_data.ensures.source c.take_data.ensures.is_eos
+    (c.if-ends_short.ensures.whole refl))
