@@ -2,6 +2,7 @@
 ghost use Rattle.std.specs.Prelude.{◌≡◌, [], unwrap_or, IfOk};
 ghost use Rattle.std.specs.Iterator.{item_count};
 ghost use Rattle.h3_header.specs.Left.{TakesField};
+ghost use Rattle.h3_header.specs.Parts.{fields_of_pseudo};
 
 use super::pseudo::Pseudo;
 use super::write::{pseudo_field, regular_field, static_field};
@@ -62,6 +63,33 @@ fn make_field(
     regular_field(alloc, name, value.as_bytes())
 }
 
+impl Pseudo {
+    // The first field that is left, which is taken.
+    fn take_field(&mut self, alloc: Global) -> Option<Result<HeaderField, AllocError>>
+        ensures { TakesField (fields_of_pseudo self.old) result (fields_of_pseudo self.new) }
+    {
+        if let Some(part) = self.method.take() {
+            return Some(pseudo_field(alloc, b":method", part.as_str()));
+        }
+        if let Some(part) = self.scheme.take() {
+            return Some(pseudo_field(alloc, b":scheme", part.as_str()));
+        }
+        if let Some(part) = self.authority.take() {
+            return Some(pseudo_field(alloc, b":authority", part.as_str()));
+        }
+        if let Some(part) = self.path.take() {
+            return Some(pseudo_field(alloc, b":path", part.as_str()));
+        }
+        if let Some(part) = self.status.take() {
+            return Some(Ok(static_field(b":status", part.as_str())));
+        }
+        if let Some(part) = self.protocol.take() {
+            return Some(Ok(static_field(b":protocol", part.as_str())));
+        }
+        None
+    }
+}
+
 impl Model for HeaderIter {
     ghost use Rattle.std.specs.Prelude.{List, ◌++◌};
     ghost use Rattle.h3_field.specs.Field.{Field};
@@ -80,25 +108,9 @@ impl Iterator for HeaderIter {
     ghost remaining = { item_count (λ it. it) };
 
     fn next(&mut self) -> Option<Result<HeaderField, AllocError>> {
-        let alloc = self.alloc;
-        if let Some(part) = self.pseudo.method.take() {
-            return Some(pseudo_field(alloc, b":method", part.as_str()));
+        match self.pseudo.take_field(self.alloc) {
+            Some(field) => Some(field),
+            None => self.regular.take_field(self.alloc),
         }
-        if let Some(part) = self.pseudo.scheme.take() {
-            return Some(pseudo_field(alloc, b":scheme", part.as_str()));
-        }
-        if let Some(part) = self.pseudo.authority.take() {
-            return Some(pseudo_field(alloc, b":authority", part.as_str()));
-        }
-        if let Some(part) = self.pseudo.path.take() {
-            return Some(pseudo_field(alloc, b":path", part.as_str()));
-        }
-        if let Some(part) = self.pseudo.status.take() {
-            return Some(Ok(static_field(b":status", part.as_str())));
-        }
-        if let Some(part) = self.pseudo.protocol.take() {
-            return Some(Ok(static_field(b":protocol", part.as_str())));
-        }
-        self.regular.take_field(alloc)
     }
 }
