@@ -117,6 +117,32 @@ pub fn decode(alloc: Global, size: u8, buf: &mut SliceCursor<'_>) -> Result<Vec<
 /// The longest string that is encoded in one pass, into an array of its own.
 const SHORT: usize = 63;
 
+/// The longest string for which a small array serves, of which fewer bytes have to be cleared first.
+const VERY_SHORT: usize = 15;
+
+/// Writes the Huffman encoding of a string to the front of `room`, and appends its length and what was written. A
+/// refusal may leave a part of them.
+#[inline(always)]
+fn put_by_way_of(
+    room: &mut [u8],
+    size: u8,
+    flags: u8,
+    value: &[u8],
+    buf: &mut Vec<u8>,
+) -> Result<(), AllocError>
+    requires least { 2 ≤ size }
+    requires most { size ≤ 8 }
+    requires flags { flags < 2 ^ (8 - size) }
+    requires short { length value.now ≤ 63 }
+    requires room { 4 * length value.now + 4 ≤ length room.old }
+    ensures ok { OnOk result (buf.new.items ≡ buf.old.items ++ string_literal size flags value.now) }
+    ensures err { OnErr result (take (length buf.old.items) buf.new.items ≡ buf.old.items) }
+{
+    let len = h3_huffman::encode::encode_front(value, room);
+    prefix_int::encode(size - 1, 2 * flags + 1, len as u64, buf)?;
+    buf.extend_from_slice(&room[..len])
+}
+
 /// Appends the length and the Huffman encoding of a short string. A refusal may leave a part of them.
 fn put_short(size: u8, flags: u8, value: &[u8], buf: &mut Vec<u8>) -> Result<(), AllocError>
     requires least { 2 ≤ size }
@@ -126,10 +152,12 @@ fn put_short(size: u8, flags: u8, value: &[u8], buf: &mut Vec<u8>) -> Result<(),
     ensures ok { OnOk result (buf.new.items ≡ buf.old.items ++ string_literal size flags value.now) }
     ensures err { OnErr result (take (length buf.old.items) buf.new.items ≡ buf.old.items) }
 {
-    let mut encoding = [0u8; 4 * SHORT + 4];
-    let len = h3_huffman::encode::encode_front(value, &mut encoding);
-    prefix_int::encode(size - 1, 2 * flags + 1, len as u64, buf)?;
-    buf.extend_from_slice(&encoding[..len])
+    if value.len() <= VERY_SHORT {
+        let mut room = [0u8; 4 * VERY_SHORT + 4];
+        return put_by_way_of(&mut room, size, flags, value, buf);
+    }
+    let mut room = [0u8; 4 * SHORT + 4];
+    put_by_way_of(&mut room, size, flags, value, buf)
 }
 
 /// Appends the length and the Huffman encoding of a string. A refusal may leave a part of them.
