@@ -1,15 +1,16 @@
 -- What a pull answers among the other streams: one too many that would wait is a fault.
-use Rattle.std.specs.Prelude.{◌≡◌, ℕ, List, option_map, nat_lt}
+use Rattle.std.specs.Prelude.{◌≡◌, ℕ, List, if◌then◌else◌, option_map, nat_lt}
 use Rattle.h3_qpack.specs.DecoderState.{DecoderState}
 use Rattle.h3_proto.specs.declared.stream.Side.{Side}
 use Rattle.h3_connection.specs.Calls.{Sets}
 use Rattle.h3_connection.specs.Endpoint.{heads_waiting}
 use Rattle.h3_connection.specs.Incoming.{Incoming}
-use Rattle.h3_connection.specs.Pulling.{Pulled, pull_stream}
+use Rattle.h3_connection.specs.Pulling.{Pulled, is_client, pull_stream}
 use Rattle.h3_connection.specs.Sending.{if_too_many}
 use Rattle.h3_connection.specs.State.{RequestState, kept_at}
 use Rattle.h3_connection.specs.StreamSets.{Streams, HaveDistinctIds, stream_at, set_stream}
 use Rattle.h3_connection.specs.declared.event.Pull.{Pull}
+use Rattle.h3_connection.specs.declared.event.Pull.TheVariants as answer
 use Rattle.h3_connection.specs.declared.setup.Announced.{Announced}
 use Rattle.h3_incoming.specs.Gives.{Gives}
 use Rattle.h3_incoming.specs.Resuming.{Resumes}
@@ -32,3 +33,7 @@ pub record PullsWithin (side : Side) (own : Announced) (id : ℕ) (r : DecoderSt
 pub record ResumesThere (old new : Streams RequestState) (id : ℕ) (before after : RequestState) : Type 0 where
   pub sets : Sets old new id (record before { incoming = after.incoming })
   pub resumes : Resumes before.incoming after.incoming
+
+-- what a pull answers of a request stream that is not open
+abbrev pub unopened_answer : Side → Pull
+unopened_answer side = if is_client side then answer.NoMessages else answer.Pending

@@ -1,5 +1,5 @@
 //! A request stream, both ways.
-ghost use Rattle.std.specs.Prelude.{◌≡◌, IfErr, OnErr, OnOk};
+ghost use Rattle.std.specs.Prelude.{◌≡◌, ◌||◌, IfErr, OnErr, OnOk};
 ghost use Rattle.h3_connection.specs.Calls.{fresh_request};
 ghost use Rattle.h3_connection.specs.Delivering.{kept};
 
@@ -47,6 +47,13 @@ impl RequestStream {
         ensures { result.now ≡ self.now.outgoing }
     {
         &self.outgoing
+    }
+
+    // Whether its end or its reset came: nothing more comes then.
+    pub(crate) fn has_ended(&self) -> bool
+        ensures { result ≡ (self.now.incoming.ended || self.now.incoming.was_reset) }
+    {
+        self.incoming.ended() || self.incoming.was_reset()
     }
 
     // More bytes came. No queue of 2^62 bytes fits into memory: a longer one is refused as such. An `Err` changes nothing, and

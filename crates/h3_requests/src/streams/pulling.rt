@@ -10,7 +10,7 @@ ghost use Rattle.h3_connection.specs.Pulling.{is_memory, just, pull_stream};
 ghost use Rattle.h3_connection.specs.Sending.{if_too_many};
 ghost use Rattle.h3_connection.specs.State.{kept_at};
 ghost use Rattle.h3_connection.specs.StreamSets.{Streams};
-ghost use Rattle.h3_requests.specs.Limited.{AreReceivers, PullsWithin, ResumesThere};
+ghost use Rattle.h3_requests.specs.Limited.{AreReceivers, PullsWithin, ResumesThere, unopened_answer};
 
 use super::RequestStreams;
 use h3_blocked::{above, replace};
@@ -35,8 +35,8 @@ impl RequestStreams {
     /// The next item of a stream's message, or why there is none now. More streams than were announced that would wait are a fault
     /// of the connection, and this stream waits no more then (RFC 9204, section 2.1.2). Room for what it may come to wait for is
     /// asked for first, but not where the stream was given up or its end was handed out. `Fault::Memory` writes nothing and loses
-    /// nothing: whatever is delivered later, the stream's pulls answer the same. `NoMessages`, and nothing happens, where the stream
-    /// is not there.
+    /// nothing: whatever is delivered later, the stream's pulls answer the same. Nothing happens where the stream is not there: a
+    /// server's peer may still open it (`Pending`), a client's does not (`NoMessages`).
     pub fn pull(
         &mut self,
         alloc: Global,
@@ -46,7 +46,7 @@ impl RequestStreams {
         decoder: &Decoder,
         replies: &mut Vec<u8>,
     ) -> Pull
-        ensures absent { kept_at self.old id ≡ None → (result ≡ Pull.NoMessages) × (self.new ≡ self.old) × (replies.new.items ≡ replies.old.items) }
+        ensures absent { kept_at self.old id ≡ None → (result ≡ unopened_answer side) × (self.new ≡ self.old) × (replies.new.items ≡ replies.old.items) }
         ensures there { is_some (kept_at self.new id) ≡ is_some (kept_at self.old id) }
         ensures answer { is_memory result ≡ false → IfSome (kept_at self.old id) (λ before. IfSome (kept_at self.new id) (λ after.
             PullsWithin side announced.now id decoder.now self.old self.new before after result replies.old.items replies.new.items)) }
@@ -55,7 +55,7 @@ impl RequestStreams {
         ensures settled { IfSome (kept_at self.old id) (λ before. is_settled_request (Some before.incoming) ≡ true → is_memory result ≡ false) }
     {
         let Some(stream) = self.streams.get_mut(&id.into_inner()) else {
-            return Pull::NoMessages;
+            return unopened(side);
         };
         let limit = announced.limits.blocked;
         let inserted = decoder.inserted();
@@ -86,6 +86,16 @@ impl RequestStreams {
             inserted,
             answer,
         )
+    }
+}
+
+/// What a stream gives that is not there: a server's peer may still open it.
+fn unopened(side: Side) -> Pull
+    ensures { result ≡ unopened_answer side }
+{
+    match side {
+        Side::Client => Pull::NoMessages,
+        Side::Server => Pull::Pending,
     }
 }
 

@@ -6,12 +6,13 @@ ghost use Rattle.h3_connection.specs.Delivering.{kept, with_end, given_up_once, 
 ghost use Rattle.h3_connection.specs.State.{kept_at};
 ghost use Rattle.h3_connection.specs.declared.event.StreamFault.TheVariants.{Reset, Canceled};
 ghost use Rattle.h3_incoming.specs.Replying.{encodings};
-ghost use Rattle.h3_requests.specs.Changing.{opened_at, Receives};
+ghost use Rattle.h3_requests.specs.Changing.{opened_at, Receives, receiver_refusal, IsRefusedBy};
 
 use super::RequestStreams;
 use bytes::Bytes;
 use h3_blocked::replace;
-use h3_proto::stream::StreamId;
+use h3_connection::event::{DeliverError, Refusal};
+use h3_proto::stream::{Side, StreamId};
 use std::alloc::{AllocError, Global};
 
 impl RequestStreams {
@@ -22,16 +23,76 @@ impl RequestStreams {
         ensures back { IfErr result (λ b. b ≡ bytes) }
         ensures err { OnErr result (AllSame self.old self.new) }
     {
-        let Ok(was_there) = self.open_absent(alloc, id) else {
+        let Some(stream) = self.streams.get_mut(&id.into_inner()) else {
+            return self.deliver_first(alloc, id, bytes);
+        };
+        stream.deliver(bytes)
+    }
+
+    /// The same, but bytes are refused where the peer sends none: on a stream of a client that is not open (`NotOpen`), and behind an
+    /// end or a reset (`AfterEnd`). An `Err` changes nothing; `OutOfMemory` hands the bytes back.
+    pub fn deliver_next(
+        &mut self,
+        alloc: Global,
+        side: Side,
+        id: StreamId,
+        bytes: Bytes,
+    ) -> Result<(), DeliverError>
+        ensures ok { OnOk result (Receives self.old self.new id (λ i. kept i bytes)) }
+        ensures taken { OnOk result (receiver_refusal side (kept_at self.old id) ≡ None) }
+        ensures why { IfErr result (λ e. IsRefusedBy (receiver_refusal side (kept_at self.old id)) bytes e) }
+        ensures err { OnErr result (AllSame self.old self.new) }
+    {
+        let Some(stream) = self.streams.get_mut(&id.into_inner()) else {
+            return self.deliver_unopened(alloc, side, id, bytes);
+        };
+        if stream.has_ended() {
+            return Err(DeliverError::Refused(Refusal::AfterEnd));
+        }
+        match stream.deliver(bytes) {
+            Ok(()) => Ok(()),
+            Err(bytes) => Err(DeliverError::OutOfMemory(bytes)),
+        }
+    }
+
+    // Bytes of a stream that is not there: a server's peer opens it.
+    fn deliver_unopened(
+        &mut self,
+        alloc: Global,
+        side: Side,
+        id: StreamId,
+        bytes: Bytes,
+    ) -> Result<(), DeliverError>
+        requires { kept_at self.old id ≡ None }
+        ensures ok { OnOk result (Receives self.old self.new id (λ i. kept i bytes)) }
+        ensures taken { OnOk result (receiver_refusal side None ≡ None) }
+        ensures why { IfErr result (λ e. IsRefusedBy (receiver_refusal side None) bytes e) }
+        ensures err { OnErr result (AllSame self.old self.new) }
+    {
+        match side {
+            Side::Client => Err(DeliverError::Refused(Refusal::NotOpen)),
+            Side::Server => match self.deliver_first(alloc, id, bytes) {
+                Ok(()) => Ok(()),
+                Err(bytes) => Err(DeliverError::OutOfMemory(bytes)),
+            },
+        }
+    }
+
+    // The first bytes of a stream, which open it.
+    fn deliver_first(&mut self, alloc: Global, id: StreamId, bytes: Bytes) -> Result<(), Bytes>
+        requires { kept_at self.old id ≡ None }
+        ensures ok { OnOk result (Receives self.old self.new id (λ i. kept i bytes)) }
+        ensures back { IfErr result (λ b. b ≡ bytes) }
+        ensures err { OnErr result (AllSame self.old self.new) }
+    {
+        let Ok(()) = self.open(alloc, id) else {
             return Err(bytes);
         };
-        match self.deliver_there(id, bytes) {
-            Ok(()) => Ok(()),
-            Err(bytes) => {
-                self.close_again(id, was_there);
-                Err(bytes)
-            }
-        }
+        let Err(bytes) = self.deliver_there(id, bytes) else {
+            return Ok(());
+        };
+        self.undo_open(id);
+        Err(bytes)
     }
 
     /// Its end came. A stream that is not there is opened. An `Err` changes nothing: memory was refused.
@@ -39,7 +100,20 @@ impl RequestStreams {
         ensures ok { OnOk result (Receives self.old self.new id with_end) }
         ensures err { OnErr result (AllSame self.old self.new) }
     {
-        let Ok(_was_there) = self.open_absent(alloc, id) else {
+        let Some(stream) = self.streams.get_mut(&id.into_inner()) else {
+            return self.end_first(alloc, id);
+        };
+        stream.incoming.end();
+        Ok(())
+    }
+
+    // The end of a stream of which nothing else came, which opens it.
+    fn end_first(&mut self, alloc: Global, id: StreamId) -> Result<(), AllocError>
+        requires { kept_at self.old id ≡ None }
+        ensures ok { OnOk result (Receives self.old self.new id with_end) }
+        ensures err { OnErr result (self.new ≡ self.old) }
+    {
+        let Ok(()) = self.open(alloc, id) else {
             return Err(AllocError);
         };
         self.end_there(id);

@@ -1,5 +1,5 @@
 //! What is sent on a request stream.
-ghost use Rattle.std.specs.Prelude.{◌≡◌, None, length, min, OnOk, IfErr, IfSome, IsSome};
+ghost use Rattle.std.specs.Prelude.{◌≡◌, None, is_some, length, min, OnOk, IfErr, IfSome, IsSome};
 ghost use Rattle.h3_connection.specs.Calls.{Sets, AllSame};
 ghost use Rattle.h3_connection.specs.State.{kept_at};
 ghost use Rattle.h3_connection.specs.WaitingPieces.{bytes_of};
@@ -75,16 +75,18 @@ impl RequestStreams {
         stream.outgoing.reset();
     }
 
-    /// Takes the first bytes of what waits, at most all. Nothing happens where the stream is not there.
-    pub fn advance(&mut self, id: StreamId, count: usize)
+    /// Takes the first bytes of what waits, at most all, and answers whether the stream is there. Nothing happens where it is not.
+    pub fn advance(&mut self, id: StreamId, count: usize) -> bool
+        ensures found { result ≡ is_some (kept_at self.old id) }
         ensures there { IfSome (kept_at self.old id) (λ r.
             Sets self.old self.new id (record r { outgoing = taken_from r.outgoing (min count (length (bytes_of r.outgoing.pieces))) })) }
         ensures absent { kept_at self.old id ≡ None → self.new ≡ self.old }
     {
         let Some(stream) = self.streams.get_mut(&id.into_inner()) else {
-            return;
+            return false;
         };
         let waiting = stream.outgoing.waiting();
         stream.outgoing.advance(count.min(waiting));
+        true
     }
 }
