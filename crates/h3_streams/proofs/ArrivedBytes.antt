@@ -6,7 +6,7 @@ use Rattle.h3_connection.specs.declared.arrival.Arrival.{Arrival}
 use Rattle.h3_connection.specs.declared.arrival.Arrival.TheVariants.{BytesCame}
 use Rattle.h3_connection.specs.Calls.{Sets, AllSame}
 use Rattle.h3_connection.specs.Delivering.{bytes_at, heard_as, read_unidirectional, unidirectional_at, with_unidirectional, push_code}
-use Rattle.h3_connection.specs.Endpoint.{EndpointHistory, is_read_as}
+use Rattle.h3_connection.specs.Endpoint.{EndpointHistory}
 use Rattle.h3_connection.specs.Endpoint.Kind.{PeerUnidirectional}
 use Rattle.h3_connection.specs.StandsLaws.{stands_unidirectional}
 use Rattle.h3_connection.specs.State.{EndpointState, StandsFor}
@@ -16,12 +16,12 @@ use Rattle.h3_connection.specs.Unidirectional.Role.{Untold, Control, Encoder, De
 use Rattle.h3_unidirectional.specs.Kinds.{is_untold, received_by, TellsFirst}
 use Rattle.h3_unidirectional.specs.declared.stream.Received.{Received}
 use Rattle.h3_unidirectional.specs.declared.stream.Received.TheVariants as received
-use Rattle.h3_streams.specs.Placed.{StreamsState, placed, stream_of_peer, Receives, Reads}
+use Rattle.h3_streams.specs.Placed.{StreamsState, placed, Receives, Reads}
 use Rattle.h3_streams.specs.PlacedLaws.{stands_map}
-use Rattle.h3_streams.specs.ReadingOn.{ReadsSome, StopsAt, IsRead, IsPeers, IsDue, Stops, reader_on, left_arrivals}
+use Rattle.h3_streams.specs.ReadingOn.{ReadsSome, StopsAt, IsRead, IsPeers, IsDue, Stops, left_arrivals}
 use Rattle.h3_streams.specs.declared.left.Left.{Left}
 use Rattle.h3_streams.proofs.Closing.{there}
-use Rattle.h3_streams.proofs.Peers.{one_peer, unread_on}
+use Rattle.h3_streams.proofs.Peers.{one_peer}
 use Rattle.h3_streams.proofs.Told.{IsTold, told_kept, told_read, told_found, told_stopped}
 
 -- nothing of them was taken
@@ -139,23 +139,10 @@ role_read r x y new side id bytes rest fault critical receives reads s e due =
     let t = is_told r s x new e id bytes rest critical due.stands receives in
     told_found s x y new e side id bytes r rest fault t (reads s _ (told_read s x new e side id bytes r rest due.stands due.side_is due.kind t))
 
--- the stream is not read as such before it is told
-not_read : (r : Role) (s : EndpointState) (x : StreamsState) (e : EndpointHistory) (id : ℕ) → is_critical r ≡ true → StandsFor (placed s x) e → is_critical (unidirectional_at e id).role ≡ false
-    → is_read_as (reader_on r e) id ≡ false
-not_read (Untold front) s x e id c h unread = absurd (cc)
-not_read Control s x e id c h unread = unread_on e.side e.unidirectional e.control_on id h.reached.told_control unread
-not_read Encoder s x e id c h unread = unread_on e.side e.unidirectional e.encoder_on id h.reached.told_encoder unread
-not_read Decoder s x e id c h unread = unread_on e.side e.unidirectional e.decoder_on id h.reached.told_decoder unread
-not_read (Session n) s x e id c h unread = absurd (cc)
-not_read (Push n) s x e id c h unread = absurd (cc)
-not_read Ignored s x e id c h unread = absurd (cc)
-
-pub role_stopped : (r : Role) (x y : StreamsState) (new : Streams Unidirectional) (side : Side) (id : ℕ) (told : Bool) (bytes rest : List ℕ) (left : List Arrival) → is_critical r ≡ true
-    → Receives x.unidirectional new id bytes (for_reader r rest) → told ≡ is_critical (stream_of_peer x id).role
-    → ((s : EndpointState) (e : EndpointHistory) → IsRead s (record x { unidirectional = new }) e side id r → Stops r told s (record x { unidirectional = new }) y e id rest left)
+pub role_stopped : (r : Role) (x y : StreamsState) (new : Streams Unidirectional) (side : Side) (id : ℕ) (bytes rest : List ℕ) (left : List Arrival) → is_critical r ≡ true
+    → Receives x.unidirectional new id bytes (for_reader r rest)
+    → ((s : EndpointState) (e : EndpointHistory) → IsRead s (record x { unidirectional = new }) e side id r → Stops r s (record x { unidirectional = new }) y e id rest left)
     → (s : EndpointState) (e : EndpointHistory) → IsDue s x e side id → StopsAt s y e (BytesCame id bytes ∷ []) left
-role_stopped r x y new side id told bytes rest left critical receives was stops s e due =
+role_stopped r x y new side id bytes rest left critical receives stops s e due =
     let t = is_told r s x new e id bytes rest critical due.stands receives in
-    let was' : is_critical (unidirectional_at e id).role ≡ told = ap (λ (o : Unidirectional). is_critical o.role) (sym (there s x e id due.stands)) ∙ sym was in
-    told_stopped s x y new e id bytes r rest left told due.stands due.kind t was' (λ untold. not_read r s x e id critical due.stands (was' ∙ untold))
-    (stops s _ (told_read s x new e side id bytes r rest due.stands due.side_is due.kind t))
+    told_stopped s x y new e id bytes r rest left due.stands due.kind t (stops s _ (told_read s x new e side id bytes r rest due.stands due.side_is due.kind t))

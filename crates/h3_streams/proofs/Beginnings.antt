@@ -23,15 +23,6 @@ pub listen_nothing : (s : EncoderHistory) → listen s [] ≡ listened s [] fals
 unfolding listen
 listen_nothing s = refl
 
--- no such stream came, where this one is neither read as such nor a second one
-pub none_on : (on : Option ℕ) (id : ℕ) → is_read_as on id ≡ false → is_second on id ≡ false → on ≡ None
-none_on None id h k = refl
-none_on (Some first) id h k = absurd (both (first == id) h k)
-  where
-    both : (b : Bool) → b ≡ false → not b ≡ false → ⊥
-    both true h k = cc
-    both false h k = cc
-
 -- A reading of no bytes finds no fault, and what is stored stands for the endpoint after it.
 pub record Begins (s : EndpointState) (x : StreamsState) (found : Found) : Type 0 where
   pub new : EndpointHistory

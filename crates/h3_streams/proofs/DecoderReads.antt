@@ -1,6 +1,6 @@
 -- Bytes of the peer's decoder stream.
 use Rattle.std.proofs.Common.{◌≡◌, ℕ, Bool, true, false, if◌then◌else◌, List, [], ◌∷◌, ◌++◌, Option, Some, None, refl, ap, sym, subst, ◌∙◌}
-use Rattle.std.specs.Prelude.{◌&&◌, is_some, is_none}
+use Rattle.std.specs.Prelude.{is_some}
 use Rattle.h3_proto.specs.declared.stream.Side.{Side}
 use Rattle.h3_qpack.specs.EncoderHistory.{EncoderHistory}
 use Rattle.h3_qpack.specs.EncoderState.{encoder_state}
@@ -23,7 +23,7 @@ use Rattle.h3_streams.specs.declared.left.Left.{Left}
 use Rattle.h3_streams.specs.declared.readers.Stop.{Stop}
 use Rattle.h3_streams.specs.declared.readers.Stop.TheVariants.{Unheld, Held}
 use Rattle.h3_streams.proofs.EncoderReads.{first_found}
-use Rattle.h3_streams.proofs.Peers.{one_peer, told_peer, turn}
+use Rattle.h3_streams.proofs.Peers.{one_peer, told_peer}
 
 -- settings that are there are known
 pub known_not_none : (o : Option (List (ℕ × ℕ))) → is_some o ≡ true → o ≡ None → ⊥
@@ -69,11 +69,11 @@ decoder_read x id bytes n fault known first knows listens s e side r =
     (rw knows' (read_by s x e id bytes n fault known h (told_peer s x e side id Decoder refl r) knows' listens))
 
 -- a front of them was read
-decoder_held : (x : StreamsState) (id : ℕ) (bytes : List ℕ) (n : Encoding) (left : List Arrival) (told : Bool) → false ≡ is_second x.decoder_on id → true ≡ is_some x.peer.settings
+decoder_held : (x : StreamsState) (id : ℕ) (bytes : List ℕ) (n : Encoding) (left : List Arrival) → false ≡ is_second x.decoder_on id → true ≡ is_some x.peer.settings
     → ((t : EncoderHistory) → x.encoding.encoder ≡ encoder_state t → StopsListening t (record x.encoding { unread = x.encoding.unread ++ bytes }) n) → left ≡ BytesCame id [] ∷ []
     → (s : EndpointState) (e : EndpointHistory) (side : Side) → IsRead s x e side id Decoder
-    → Stops Decoder told s x (record x { decoder_on = Some id; encoding = n }) e id bytes left
-decoder_held x id bytes n left told first knows stopped is s e side r =
+    → Stops Decoder s x (record x { decoder_on = Some id; encoding = n }) e id bytes left
+decoder_held x id bytes n left first knows stopped is s e side r =
     let h = r.stands in
     let y = record x { decoder_on = Some id; encoding = n } in
     let here : is_second e.decoder_on id ≡ false = ap (λ o. is_second o id) (sym h.decoder_on) ∙ sym first in
@@ -90,14 +90,13 @@ decoder_held x id bytes n left told first knows stopped is s e side r =
     Stops.Held here (subst (StopsAt s y (held_as e id (Decoder, bytes)) (BytesCame id [] ∷ [])) (sym is) stops)
 
 -- the reading was refused memory
-pub decoder_stopped : (x : StreamsState) (id : ℕ) (bytes : List ℕ) (n : Encoding) (left : Left) (told known : Bool) (stop : Stop) → false ≡ is_second x.decoder_on id → false ≡ (told && is_none x.decoder_on)
+pub decoder_stopped : (x : StreamsState) (id : ℕ) (bytes : List ℕ) (n : Encoding) (left : Left) (known : Bool) (stop : Stop) → false ≡ is_second x.decoder_on id
     → known ≡ is_some x.peer.settings → ListenedPart stop known bytes x.encoding n → left ≡ left_by stop id
     → (s : EndpointState) (e : EndpointHistory) (side : Side) → IsRead s x e side id Decoder
-    → Stops Decoder told s x (record x { decoder_on = Some id; encoding = n }) e id bytes (left_arrivals left)
-decoder_stopped x id bytes n left told known Held first read knows (is_known, part) is s e side r =
-    decoder_held x id bytes n (left_arrivals left) told first (sym is_known ∙ knows) part (ap left_arrivals is) s e side r
-decoder_stopped x id bytes n left told known (Unheld back) first read knows (same, kept) is s e side r =
+    → Stops Decoder s x (record x { decoder_on = Some id; encoding = n }) e id bytes (left_arrivals left)
+decoder_stopped x id bytes n left known Held first knows (is_known, part) is s e side r =
+    decoder_held x id bytes n (left_arrivals left) first (sym is_known ∙ knows) part (ap left_arrivals is) s e side r
+decoder_stopped x id bytes n left known (Unheld back) first knows (same, kept) is s e side r =
     let new = record x { decoder_on = Some id; encoding = n } in
     let with_id : new ≡ record x { decoder_on = Some id } = ap (λ q. record x { decoder_on = Some id; encoding = q }) kept in
-    Stops.Unheld (ap (λ o. is_second o id) (sym r.stands.decoder_on) ∙ sym first) (ap left_arrivals is ∙ ap (λ l. BytesCame id l ∷ []) same)
-    (λ before. with_id ∙ ap (λ o. record x { decoder_on = o }) (sym (turn x.decoder_on id told first read before))) (λ now. with_id)
+    Stops.Unheld (ap (λ o. is_second o id) (sym r.stands.decoder_on) ∙ sym first) (ap left_arrivals is ∙ ap (λ l. BytesCame id l ∷ []) same) with_id

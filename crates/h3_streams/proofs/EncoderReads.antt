@@ -1,6 +1,5 @@
 -- Bytes of the peer's encoder stream.
 use Rattle.std.proofs.Common.{◌≡◌, ℕ, ◌-◌, ◌==◌, Bool, true, false, if◌then◌else◌, List, [], ◌∷◌, ◌++◌, append-nil, flat_map, Option, Some, refl, ap, sym, subst, ◌∙◌}
-use Rattle.std.specs.Prelude.{◌&&◌, is_none}
 use Rattle.h3_field.specs.Instruction.{decoder_bytes}
 use Rattle.h3_field.specs.Instruction.DecoderInstruction.{Increment}
 use Rattle.h3_proto.specs.declared.stream.Side.{Side}
@@ -21,7 +20,7 @@ use Rattle.h3_streams.specs.Stopping.{HeardPart, left_by}
 use Rattle.h3_streams.specs.declared.left.Left.{Left}
 use Rattle.h3_streams.specs.declared.readers.Stop.{Stop}
 use Rattle.h3_streams.specs.declared.readers.Stop.TheVariants.{Unheld, Held}
-use Rattle.h3_streams.proofs.Peers.{one_peer, told_peer, turn}
+use Rattle.h3_streams.proofs.Peers.{one_peer, told_peer}
 
 increment_by : (b : Bool) (n : ℕ) → flat_map decoder_bytes (if b then [] else Increment n ∷ []) ≡ (if b then [] else decoder_bytes (Increment n))
 increment_by true n = refl
@@ -54,11 +53,11 @@ encoder_read x id bytes d fault after first hears s e side r =
     subst (Reads s fault y) (sym (first_found (read_encoder f bytes) e.encoder_on e id here)) (k.fault, stands)
 
 -- a front of them was read
-encoder_held : (x : StreamsState) (id : ℕ) (bytes : List ℕ) (d : Decoding) (after : List ℕ) (left : List Arrival) (told : Bool) → false ≡ is_second x.encoder_on id
+encoder_held : (x : StreamsState) (id : ℕ) (bytes : List ℕ) (d : Decoding) (after : List ℕ) (left : List Arrival) → false ≡ is_second x.encoder_on id
     → HearsPart (record x.decoding { unread = x.decoding.unread ++ bytes }) d → after ≡ x.own.decoder ++ increment_for (d.decoder.table.inserted - x.decoding.decoder.table.inserted) → left ≡ BytesCame id [] ∷ []
     → (s : EndpointState) (e : EndpointHistory) (side : Side) → IsRead s x e side id Encoder
-    → Stops Encoder told s x (record x { encoder_on = Some id; decoding = d; own = record x.own { decoder = after } }) e id bytes left
-encoder_held x id bytes d after left told first part wrote is s e side r =
+    → Stops Encoder s x (record x { encoder_on = Some id; decoding = d; own = record x.own { decoder = after } }) e id bytes left
+encoder_held x id bytes d after left first part wrote is s e side r =
     let h = r.stands in
     let y = record x { encoder_on = Some id; decoding = d; own = record x.own { decoder = after } } in
     let here : is_second e.encoder_on id ≡ false = ap (λ o. is_second o id) (sym h.encoder_on) ∙ sym first in
@@ -75,14 +74,13 @@ encoder_held x id bytes d after left told first part wrote is s e side r =
     Stops.Held here (subst (StopsAt s y (held_as e id (Encoder, bytes)) (BytesCame id [] ∷ [])) (sym is) stops)
 
 -- the reading was refused memory
-pub encoder_stopped : (x : StreamsState) (id : ℕ) (bytes : List ℕ) (d : Decoding) (after : List ℕ) (left : Left) (told : Bool) (stop : Stop) → false ≡ is_second x.encoder_on id → false ≡ (told && is_none x.encoder_on)
+pub encoder_stopped : (x : StreamsState) (id : ℕ) (bytes : List ℕ) (d : Decoding) (after : List ℕ) (left : Left) (stop : Stop) → false ≡ is_second x.encoder_on id
     → HeardPart stop bytes x.decoding d x.own.decoder after → left ≡ left_by stop id
     → (s : EndpointState) (e : EndpointHistory) (side : Side) → IsRead s x e side id Encoder
-    → Stops Encoder told s x (record x { encoder_on = Some id; decoding = d; own = record x.own { decoder = after } }) e id bytes (left_arrivals left)
-encoder_stopped x id bytes d after left told Held first read (part, wrote) is s e side r = encoder_held x id bytes d after (left_arrivals left) told first part wrote (ap left_arrivals is) s e side r
-encoder_stopped x id bytes d after left told (Unheld back) first read (same, kept, nothing) is s e side r =
+    → Stops Encoder s x (record x { encoder_on = Some id; decoding = d; own = record x.own { decoder = after } }) e id bytes (left_arrivals left)
+encoder_stopped x id bytes d after left Held first (part, wrote) is s e side r = encoder_held x id bytes d after (left_arrivals left) first part wrote (ap left_arrivals is) s e side r
+encoder_stopped x id bytes d after left (Unheld back) first (same, kept, nothing) is s e side r =
     let new = record x { encoder_on = Some id; decoding = d; own = record x.own { decoder = after } } in
     let with_id : new ≡ record x { encoder_on = Some id } = ap (λ q. record x { encoder_on = Some id; decoding = q; own = record x.own { decoder = after } }) kept
     ∙ ap (λ l. record x { encoder_on = Some id; own = record x.own { decoder = l } }) nothing in
-    Stops.Unheld (ap (λ o. is_second o id) (sym r.stands.encoder_on) ∙ sym first) (ap left_arrivals is ∙ ap (λ l. BytesCame id l ∷ []) same)
-    (λ before. with_id ∙ ap (λ o. record x { encoder_on = o }) (sym (turn x.encoder_on id told first read before))) (λ now. with_id)
+    Stops.Unheld (ap (λ o. is_second o id) (sym r.stands.encoder_on) ∙ sym first) (ap left_arrivals is ∙ ap (λ l. BytesCame id l ∷ []) same) with_id

@@ -1,6 +1,6 @@
 -- Frames of the peer's control stream, once its settings came.
 use Rattle.std.proofs.Common.{◌≡◌, ℕ, Bool, true, false, List, [], ◌∷◌, ◌++◌, Option, Some, None, refl, ap, sym, subst, ◌∙◌}
-use Rattle.std.specs.Prelude.{◌&&◌, is_some, is_none}
+use Rattle.std.specs.Prelude.{is_some}
 use Rattle.h3_proto.specs.declared.stream.Side.{Side}
 use Rattle.h3_connection.specs.declared.arrival.Arrival.{Arrival}
 use Rattle.h3_connection.specs.declared.arrival.Arrival.TheVariants.{BytesCame}
@@ -17,7 +17,7 @@ use Rattle.h3_streams.specs.ReadingOn.{ReadsSome, StopsAt, IsRead, Stops, ReadsH
 use Rattle.h3_streams.specs.declared.left.Left.{Left}
 use Rattle.h3_streams.proofs.EncoderReads.{first_found}
 use Rattle.h3_streams.proofs.PeerAgain.{settings_stay}
-use Rattle.h3_streams.proofs.Peers.{one_peer, told_by, told_peer, turn}
+use Rattle.h3_streams.proofs.Peers.{one_peer, told_by, told_peer}
 
 -- the peer's bytes are held
 held_read : (s : EndpointState) (x : StreamsState) (e : EndpointHistory) (side : Side) (id : ℕ) (bytes : List ℕ) (p : Peer) → IsRead s x e side id Control → p ≡ with_unread x.peer (x.peer.unread ++ bytes)
@@ -42,19 +42,18 @@ control_read x new side id bytes p fault first is reads s e r =
     let f = record e { control_on = Some id } in
     subst (Reads s fault new) (sym (first_found (read_control f bytes) e.control_on e id here)) (reads s (held_as e id (Control, bytes)) (held_read s x e side id bytes p r is) refl)
 
-pub control_held : (x new : StreamsState) (side : Side) (id : ℕ) (bytes : List ℕ) (p : Peer) (left : List Arrival) (told : Bool) → false ≡ is_second x.control_on id → p ≡ with_unread x.peer (x.peer.unread ++ bytes)
+pub control_held : (x new : StreamsState) (side : Side) (id : ℕ) (bytes : List ℕ) (p : Peer) (left : List Arrival) → false ≡ is_second x.control_on id → p ≡ with_unread x.peer (x.peer.unread ++ bytes)
     → StopsHeld (record x { control_on = Some id; peer = p }) new side id left
-    → (s : EndpointState) (e : EndpointHistory) → IsRead s x e side id Control → Stops Control told s x new e id bytes left
-control_held x new side id bytes p left told first is stops s e r =
+    → (s : EndpointState) (e : EndpointHistory) → IsRead s x e side id Control → Stops Control s x new e id bytes left
+control_held x new side id bytes p left first is stops s e r =
     Stops.Held (ap (λ o. is_second o id) (sym r.stands.control_on) ∙ sym first) (stops s (held_as e id (Control, bytes)) (held_read s x e side id bytes p r is) refl)
 
-pub control_unheld : (x : StreamsState) (side : Side) (id : ℕ) (bytes back : List ℕ) (p : Peer) (left : Left) (told : Bool) → false ≡ is_second x.control_on id → false ≡ (told && is_none x.control_on)
+pub control_unheld : (x : StreamsState) (side : Side) (id : ℕ) (bytes back : List ℕ) (p : Peer) (left : Left) → false ≡ is_second x.control_on id
     → back ≡ bytes → p ≡ x.peer → left ≡ record { id = id; bytes = back; early = None }
-    → (s : EndpointState) (e : EndpointHistory) → IsRead s x e side id Control → Stops Control told s x (record x { control_on = Some id; peer = p }) e id bytes (left_arrivals left)
-control_unheld x side id bytes back p left told first read same kept is s e r =
+    → (s : EndpointState) (e : EndpointHistory) → IsRead s x e side id Control → Stops Control s x (record x { control_on = Some id; peer = p }) e id bytes (left_arrivals left)
+control_unheld x side id bytes back p left first same kept is s e r =
     let with_id : record x { control_on = Some id; peer = p } ≡ record x { control_on = Some id } = ap (λ q. record x { control_on = Some id; peer = q }) kept in
-    Stops.Unheld (ap (λ o. is_second o id) (sym r.stands.control_on) ∙ sym first) (ap left_arrivals is ∙ ap (λ l. BytesCame id l ∷ []) same)
-    (λ before. with_id ∙ ap (λ o. record x { control_on = o }) (sym (turn x.control_on id told first read before))) (λ now. with_id)
+    Stops.Unheld (ap (λ o. is_second o id) (sym r.stands.control_on) ∙ sym first) (ap left_arrivals is ∙ ap (λ l. BytesCame id l ∷ []) same) with_id
 
 -- Further settings do nothing.
 known_after : (o q : Option (List (ℕ × ℕ))) (e : EndpointHistory) (fault : Option ℕ) → is_some o ≡ true → then_decoder o q (if_learned o q e) fault ≡ (e, fault)

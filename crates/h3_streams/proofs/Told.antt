@@ -8,12 +8,12 @@ use Rattle.h3_connection.specs.declared.arrival.Arrival.TheVariants.{BytesCame}
 use Rattle.h3_connection.specs.Calls.{Sets}
 use Rattle.h3_connection.specs.Control.{Found, read_control, read_encoder, read_decoder}
 use Rattle.h3_connection.specs.Delivering.{bytes_at, heard_as, only_one, read_unidirectional, unidirectional_at, with_unidirectional}
-use Rattle.h3_connection.specs.Endpoint.{EndpointHistory, is_second, is_read_as, kind_of}
+use Rattle.h3_connection.specs.Endpoint.{EndpointHistory, is_second, kind_of}
 use Rattle.h3_connection.specs.Endpoint.Kind.{PeerUnidirectional}
 use Rattle.h3_connection.specs.Keeping.{read_arrival}
 use Rattle.h3_connection.specs.PartReading.{ReadsOn, held, held_as, is_reader}
 use Rattle.h3_connection.specs.StandsLaws.{stands_unidirectional}
-use Rattle.h3_connection.specs.State.{EndpointState, StandsFor, IsToldPeer, kept_at}
+use Rattle.h3_connection.specs.State.{EndpointState, StandsFor, IsReached, IsToldPeer, kept_at}
 use Rattle.h3_connection.specs.StreamSets.{Streams, stream_at}
 use Rattle.h3_connection.specs.StreamSetLaws.{set-here}
 use Rattle.h3_connection.specs.Unidirectional.{Unidirectional, Role, untold, is_critical, role_after, with_bytes}
@@ -23,9 +23,9 @@ use Rattle.h3_streams.specs.Placed.{StreamsState, placed, Reads}
 use Rattle.h3_streams.specs.PlacedLaws.{stands_map}
 use Rattle.h3_streams.specs.ReadingOn.{ReadsSome, StopsAt, IsRead, IsPeers, Stops, Unheld, Held, reader_on, with_reader}
 use Rattle.h3_streams.proofs.Again.{is_there}
-use Rattle.h3_streams.proofs.Beginnings.{Begins, none_on, control_begins, encoder_begins, decoder_begins}
+use Rattle.h3_streams.proofs.Beginnings.{Begins, control_begins, encoder_begins, decoder_begins}
 use Rattle.h3_streams.proofs.EncoderReads.{first_found}
-use Rattle.h3_streams.proofs.Peers.{one_peer, peer_on}
+use Rattle.h3_streams.proofs.Peers.{one_peer, peer_on, told_by, same_reader}
 
 -- the stream, told to be of this role
 abbrev pub told_as : EndpointHistory → ℕ → Role → EndpointHistory
@@ -201,18 +201,42 @@ stopped_now s x new e id bytes r rest left h kind t none is =
       kinds = subst (λ a. All (IsPeers e.side) a) (sym is) (one_peer e.side id rest kind);
     }
 
--- the first stream of its role, where this one was not read as such
-first_of : (r : Role) (e : EndpointHistory) (id : ℕ) → is_read_as (reader_on r e) id ≡ false → is_second (reader_on r e) id ≡ false → reader_on r e ≡ None
-first_of r e id h k = none_on (reader_on r e) id h k
+-- the stream that is read as such told to be so
+reader_told : (r : Role) (e : EndpointHistory) (id : ℕ) → is_critical r ≡ true → IsReached e → reader_on r e ≡ Some id → IsToldPeer e.side e.unidirectional id
+reader_told (Untold front) e id c h is = absurd (cc)
+reader_told Control e id c h is = told_by e.side e.unidirectional e.control_on id is h.told_control
+reader_told Encoder e id c h is = told_by e.side e.unidirectional e.encoder_on id is h.told_encoder
+reader_told Decoder e id c h is = told_by e.side e.unidirectional e.decoder_on id is h.told_decoder
+reader_told (Session n) e id c h is = absurd (cc)
+reader_told (Push n) e id c h is = absurd (cc)
+reader_told Ignored e id c h is = absurd (cc)
 
-pub told_stopped : (s : EndpointState) (x y : StreamsState) (new : Streams Unidirectional) (e : EndpointHistory) (id : ℕ) (bytes : List ℕ) (r : Role) (rest : List ℕ) (left : List Arrival) (told : Bool) → StandsFor (placed s x) e
-    → kind_of e.side id ≡ PeerUnidirectional → IsTold x new e id bytes r rest → is_critical (unidirectional_at e id).role ≡ told → (told ≡ false → is_read_as (reader_on r e) id ≡ false)
-    → Stops r told s (record x { unidirectional = new }) y (told_as e id r) id rest left → StopsAt s y e (BytesCame id bytes ∷ []) left
-told_stopped s x y new e id bytes r rest left true h kind t before unread (Unheld first is same now) =
-    subst (λ z. StopsAt s z e (BytesCame id bytes ∷ []) left) (sym (same refl)) (stopped_before s x new e id bytes r rest left h kind t before is)
-told_stopped s x y new e id bytes r rest left false h kind t before unread (Unheld first is same now) =
+same_reading : (r : Role) (s : EndpointState) (x : StreamsState) (e : EndpointHistory) (id : ℕ) → is_critical r ≡ true → StandsFor (placed s x) e → reader_on r e ≡ Some id → x ≡ with_reader r x id
+same_reading (Untold front) s x e id c h is = absurd (cc)
+same_reading Control s x e id c h is = ap (λ o. record x { control_on = o }) (h.control_on ∙ is)
+same_reading Encoder s x e id c h is = ap (λ o. record x { encoder_on = o }) (h.encoder_on ∙ is)
+same_reading Decoder s x e id c h is = ap (λ o. record x { decoder_on = o }) (h.decoder_on ∙ is)
+same_reading (Session n) s x e id c h is = absurd (cc)
+same_reading (Push n) s x e id c h is = absurd (cc)
+same_reading Ignored s x e id c h is = absurd (cc)
+
+-- nothing of them was taken, by whether the stream was read as such before
+stopped_unheld : (s : EndpointState) (x : StreamsState) (new : Streams Unidirectional) (e : EndpointHistory) (id : ℕ) (bytes : List ℕ) (r : Role) (rest : List ℕ) (left : List Arrival) (on : Option ℕ) → StandsFor (placed s x) e
+    → kind_of e.side id ≡ PeerUnidirectional → IsTold x new e id bytes r rest → reader_on r e ≡ on → is_second on id ≡ false → left ≡ BytesCame id rest ∷ []
+    → StopsAt s (with_reader r (record x { unidirectional = new }) id) e (BytesCame id bytes ∷ []) left
+stopped_unheld s x new e id bytes r rest left None h kind t on first is = stopped_now s x new e id bytes r rest left h kind t on is
+stopped_unheld s x new e id bytes r rest left (Some other) h kind t on first is =
+    let here : reader_on r e ≡ Some id = on ∙ ap Some (same_reader other id first) in
+    let before = stopped_before s x new e id bytes r rest left h kind t (reader_told r e id t.critical h.reached here).1 is in
+    let read : StandsFor (placed s (record x { unidirectional = new })) (told_as e id r) = told_stands s x new e id bytes r rest h t in
+    subst (λ y. StopsAt s y e (BytesCame id bytes ∷ []) left) (same_reading r s (record x { unidirectional = new }) (told_as e id r) id t.critical read (told_reader r e id r ∙ here)) before
+
+pub told_stopped : (s : EndpointState) (x y : StreamsState) (new : Streams Unidirectional) (e : EndpointHistory) (id : ℕ) (bytes : List ℕ) (r : Role) (rest : List ℕ) (left : List Arrival) → StandsFor (placed s x) e
+    → kind_of e.side id ≡ PeerUnidirectional → IsTold x new e id bytes r rest
+    → Stops r s (record x { unidirectional = new }) y (told_as e id r) id rest left → StopsAt s y e (BytesCame id bytes ∷ []) left
+told_stopped s x y new e id bytes r rest left h kind t (Unheld first is now) =
     let second : is_second (reader_on r e) id ≡ false = ap (λ o. is_second o id) (sym (told_reader r e id r)) ∙ first in
-    subst (λ z. StopsAt s z e (BytesCame id bytes ∷ []) left) (sym (now refl)) (stopped_now s x new e id bytes r rest left h kind t (first_of r e id (unread refl) second) is)
-told_stopped s x y new e id bytes r rest left told h kind t before unread (Held first stops) =
+    subst (λ z. StopsAt s z e (BytesCame id bytes ∷ []) left) (sym now) (stopped_unheld s x new e id bytes r rest left (reader_on r e) h kind t refl second is)
+told_stopped s x y new e id bytes r rest left h kind t (Held first stops) =
     let second : is_second (reader_on r e) id ≡ false = ap (λ o. is_second o id) (sym (told_reader r e id r)) ∙ first in
     stopped_held s x y new e id bytes r rest left kind t second stops (held_is x new e id bytes r rest t) (held_side (told_as e id r) id r rest)

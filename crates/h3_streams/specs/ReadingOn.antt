@@ -67,12 +67,11 @@ with_reader Encoder x id = record x { encoder_on = Some id }
 with_reader Decoder x id = record x { decoder_on = Some id }
 with_reader _ x id = x
 
--- What the reading of bytes for a role leaves that was refused memory, where the role was told before or is told now: the reader
--- took none of them, or it holds them all and a front of what it holds was read.
-pub data Stops (role : Role) (told : Bool) (s : EndpointState) (old new : StreamsState) (e : EndpointHistory) (id : ℕ) (bytes : List ℕ) (left : List Arrival) : Type 0 where
-  Unheld : is_second (reader_on role e) id ≡ false → left ≡ BytesCame id bytes ∷ [] → (told ≡ true → new ≡ old) → (told ≡ false → new ≡ with_reader role old id)
-      → Stops role told s old new e id bytes left
-  Held : is_second (reader_on role e) id ≡ false → StopsAt s new (held_as e id (role, bytes)) (BytesCame id [] ∷ []) left → Stops role told s old new e id bytes left
+-- What the reading of bytes for a role leaves that was refused memory: the stream is read as such, and the reader took none of them,
+-- or it holds them all and a front of what it holds was read.
+pub data Stops (role : Role) (s : EndpointState) (old new : StreamsState) (e : EndpointHistory) (id : ℕ) (bytes : List ℕ) (left : List Arrival) : Type 0 where
+  Unheld : is_second (reader_on role e) id ≡ false → left ≡ BytesCame id bytes ∷ [] → new ≡ with_reader role old id → Stops role s old new e id bytes left
+  Held : is_second (reader_on role e) id ≡ false → StopsAt s new (held_as e id (role, bytes)) (BytesCame id [] ∷ []) left → Stops role s old new e id bytes left
 
 -- What a reading of all that is held of the control stream finds, and what it leaves that was refused memory.
 abbrev pub ReadsHeld : StreamsState → StreamsState → Side → ℕ → Option ℕ → Type 0

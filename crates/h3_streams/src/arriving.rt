@@ -6,7 +6,6 @@ ghost use Rattle.h3_connection.specs.Delivering.{bytes_at, end_at, reset_at, pus
 ghost use Rattle.h3_connection.specs.Endpoint.{EndpointHistory};
 ghost use Rattle.h3_connection.specs.Endpoint.Kind.{PeerUnidirectional};
 ghost use Rattle.h3_connection.specs.State.{EndpointState, StandsFor};
-ghost use Rattle.h3_connection.specs.Unidirectional.{is_critical};
 ghost use Rattle.h3_streams.specs.Placed.{placed, stream_of_peer, Reads, KeepsAll, closing_code};
 ghost use Rattle.h3_streams.specs.ReadingOn.{HasRoom, IsDue, StopsAt, left_arrivals};
 
@@ -41,16 +40,6 @@ fn push_fault(side: Side) -> Code
 }
 
 impl ConnectionStreams {
-    /// Whether a stream of the peer was told to be its control, encoder or decoder stream.
-    fn is_told(&self, id: StreamId) -> bool
-        ensures { result ≡ is_critical (stream_of_peer self.now id).role }
-    {
-        match self.unidirectional.get(&id.into_inner()) {
-            Some(stream) => stream.is_critical(),
-            None => false,
-        }
-    }
-
     /// How many bytes of a session came on it and were not handed out.
     fn session_len(&self, id: StreamId) -> usize
         ensures { result ≡ length (concat (stream_of_peer self.now id).unread) }
@@ -81,16 +70,15 @@ impl ConnectionStreams {
         ensures ok { IfOk result (λ fault. (s : EndpointState) (e : EndpointHistory) → IsDue s self.old e side id → Reads s fault self.new (bytes_at e id bytes PeerUnidirectional)) }
         ensures err { IfErr result (λ left. (s : EndpointState) (e : EndpointHistory) → IsDue s self.old e side id → StopsAt s self.new e (BytesCame id bytes ∷ []) (left_arrivals left)) }
     {
-        let told = self.is_told(id);
         if !self.has_room(id, bytes.len()) {
             return Err(Left::of(id, bytes));
         }
         match map::receive(&mut self.unidirectional, alloc, id, bytes) {
             Ok(Received::Nothing) => Ok(None),
             Ok(Received::Push) => Ok(Some(push_fault(side))),
-            Ok(Received::Control(rest)) => self.control_bytes(alloc, side, id, told, rest),
-            Ok(Received::Encoder(rest)) => self.encoder_bytes(id, told, rest),
-            Ok(Received::Decoder(rest)) => self.decoder_bytes(id, told, rest),
+            Ok(Received::Control(rest)) => self.control_bytes(alloc, side, id, rest),
+            Ok(Received::Encoder(rest)) => self.encoder_bytes(id, rest),
+            Ok(Received::Decoder(rest)) => self.decoder_bytes(id, rest),
             Err(back) => Err(Left::of(id, back)),
         }
     }

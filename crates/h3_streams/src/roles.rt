@@ -1,5 +1,5 @@
 //! Bytes for the connection's own streams of the peer: its control, encoder and decoder stream.
-ghost use Rattle.std.specs.Prelude.{◌≡◌, ◌&&◌, is_none, Some, IfOk, IfErr};
+ghost use Rattle.std.specs.Prelude.{◌≡◌, Some, IfOk, IfErr};
 ghost use Rattle.h3_proto.specs.declared.stream.Side.{Side};
 ghost use Rattle.h3_connection.specs.Delivering.{heard_as};
 ghost use Rattle.h3_connection.specs.Endpoint.{EndpointHistory};
@@ -28,29 +28,14 @@ fn is_second(first: Option<StreamId>, id: StreamId) -> bool
     }
 }
 
-/// Whether a stream was told to be of a role, and none is read as such: no calls lead to that.
-fn is_unread(first: Option<StreamId>, told: bool) -> bool
-    ensures { result ≡ (told && is_none first) }
-{
-    told && first.is_none()
-}
-
 impl ConnectionStreams {
     /// Bytes for the encoder stream: of the first such stream, whose role was told before or is told now. A second one is a fault.
-    pub(crate) fn encoder_bytes(
-        &mut self,
-        id: StreamId,
-        told: bool,
-        bytes: Bytes,
-    ) -> Result<Option<Code>, Left>
+    pub(crate) fn encoder_bytes(&mut self, id: StreamId, bytes: Bytes) -> Result<Option<Code>, Left>
         ensures ok { IfOk result (λ fault. (s : EndpointState) (e : EndpointHistory) (side : Side) → IsRead s self.old e side id Encoder → Reads s fault self.new (heard_as e id Encoder bytes)) }
-        ensures err { IfErr result (λ left. (s : EndpointState) (e : EndpointHistory) (side : Side) → IsRead s self.old e side id Encoder → Stops Encoder told s self.old self.new e id bytes (left_arrivals left)) }
+        ensures err { IfErr result (λ left. (s : EndpointState) (e : EndpointHistory) (side : Side) → IsRead s self.old e side id Encoder → Stops Encoder s self.old self.new e id bytes (left_arrivals left)) }
     {
         if is_second(self.encoder_on, id) {
             return Ok(Some(Code::H3_STREAM_CREATION_ERROR));
-        }
-        if is_unread(self.encoder_on, told) {
-            return Err(Left::of(id, bytes));
         }
         self.encoder_on = Some(id);
         let stop = match hear(&mut self.decoding, &mut self.own.decoder, bytes) {
@@ -61,20 +46,12 @@ impl ConnectionStreams {
     }
 
     /// Bytes for the decoder stream: of the first such stream, whose role was told before or is told now. A second one is a fault.
-    pub(crate) fn decoder_bytes(
-        &mut self,
-        id: StreamId,
-        told: bool,
-        bytes: Bytes,
-    ) -> Result<Option<Code>, Left>
+    pub(crate) fn decoder_bytes(&mut self, id: StreamId, bytes: Bytes) -> Result<Option<Code>, Left>
         ensures ok { IfOk result (λ fault. (s : EndpointState) (e : EndpointHistory) (side : Side) → IsRead s self.old e side id Decoder → Reads s fault self.new (heard_as e id Decoder bytes)) }
-        ensures err { IfErr result (λ left. (s : EndpointState) (e : EndpointHistory) (side : Side) → IsRead s self.old e side id Decoder → Stops Decoder told s self.old self.new e id bytes (left_arrivals left)) }
+        ensures err { IfErr result (λ left. (s : EndpointState) (e : EndpointHistory) (side : Side) → IsRead s self.old e side id Decoder → Stops Decoder s self.old self.new e id bytes (left_arrivals left)) }
     {
         if is_second(self.decoder_on, id) {
             return Ok(Some(Code::H3_STREAM_CREATION_ERROR));
-        }
-        if is_unread(self.decoder_on, told) {
-            return Err(Left::of(id, bytes));
         }
         self.decoder_on = Some(id);
         let stop = match listen(&mut self.encoding, self.peer.has_settings(), bytes) {
@@ -90,17 +67,13 @@ impl ConnectionStreams {
         alloc: Global,
         side: Side,
         id: StreamId,
-        told: bool,
         bytes: Bytes,
     ) -> Result<Option<Code>, Left>
         ensures ok { IfOk result (λ fault. (s : EndpointState) (e : EndpointHistory) → IsRead s self.old e side id Control → Reads s fault self.new (heard_as e id Control bytes)) }
-        ensures err { IfErr result (λ left. (s : EndpointState) (e : EndpointHistory) → IsRead s self.old e side id Control → Stops Control told s self.old self.new e id bytes (left_arrivals left)) }
+        ensures err { IfErr result (λ left. (s : EndpointState) (e : EndpointHistory) → IsRead s self.old e side id Control → Stops Control s self.old self.new e id bytes (left_arrivals left)) }
     {
         if is_second(self.control_on, id) {
             return Ok(Some(Code::H3_STREAM_CREATION_ERROR));
-        }
-        if is_unread(self.control_on, told) {
-            return Err(Left::of(id, bytes));
         }
         self.control_on = Some(id);
         match hold(&mut self.peer, bytes) {

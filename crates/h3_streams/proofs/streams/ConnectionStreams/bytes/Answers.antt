@@ -26,8 +26,7 @@ returns-in-Ok-Control-clause-ok c =
 pub returns-in-Ok-Control-clause-err : goal.returns-in-Ok-Control-clause-err
 returns-in-Ok-Control-clause-err c =
     let receives = rw c.in-Ok-Control.field-0-is at c.in-Ok-Control.ensures.ok in
-    let told = rw (sym c.self.view_is) at c.is_told-told.ensures in
-    rw (sym c.self.view_is) (IfErr-weaker c.control_bytes.result _ _ (λ left stops. role_stopped Control _ _ _ _ _ _ _ _ (left_arrivals left) refl receives told stops) c.control_bytes.ensures.err)
+    rw (sym c.self.view_is) (IfErr-weaker c.control_bytes.result _ _ (λ left stops. role_stopped Control _ _ _ _ _ _ _ (left_arrivals left) refl receives stops) c.control_bytes.ensures.err)
 
 pub returns-in-Ok-Encoder-clause-ok : goal.returns-in-Ok-Encoder-clause-ok
 returns-in-Ok-Encoder-clause-ok c =
@@ -37,8 +36,7 @@ returns-in-Ok-Encoder-clause-ok c =
 pub returns-in-Ok-Encoder-clause-err : goal.returns-in-Ok-Encoder-clause-err
 returns-in-Ok-Encoder-clause-err c =
     let receives = rw c.in-Ok-Encoder.field-0-is at c.in-Ok-Encoder.ensures.ok in
-    let told = rw (sym c.self.view_is) at c.is_told-told.ensures in
-    rw (sym c.self.view_is) (IfErr-weaker c.encoder_bytes.result _ _ (λ left stops. role_stopped Encoder _ _ _ _ _ _ _ _ (left_arrivals left) refl receives told (λ s e. stops s e c.args.side)) c.encoder_bytes.ensures.err)
+    rw (sym c.self.view_is) (IfErr-weaker c.encoder_bytes.result _ _ (λ left stops. role_stopped Encoder _ _ _ _ _ _ _ (left_arrivals left) refl receives (λ s e. stops s e c.args.side)) c.encoder_bytes.ensures.err)
 
 pub returns-in-Ok-Decoder-clause-ok : goal.returns-in-Ok-Decoder-clause-ok
 returns-in-Ok-Decoder-clause-ok c =
@@ -48,8 +46,7 @@ returns-in-Ok-Decoder-clause-ok c =
 pub returns-in-Ok-Decoder-clause-err : goal.returns-in-Ok-Decoder-clause-err
 returns-in-Ok-Decoder-clause-err c =
     let receives = rw c.in-Ok-Decoder.field-0-is at c.in-Ok-Decoder.ensures.ok in
-    let told = rw (sym c.self.view_is) at c.is_told-told.ensures in
-    rw (sym c.self.view_is) (IfErr-weaker c.decoder_bytes.result _ _ (λ left stops. role_stopped Decoder _ _ _ _ _ _ _ _ (left_arrivals left) refl receives told (λ s e. stops s e c.args.side)) c.decoder_bytes.ensures.err)
+    rw (sym c.self.view_is) (IfErr-weaker c.decoder_bytes.result _ _ (λ left stops. role_stopped Decoder _ _ _ _ _ _ _ (left_arrivals left) refl receives (λ s e. stops s e c.args.side)) c.decoder_bytes.ensures.err)
 
 pub returns-in-Err-clause-err : goal.returns-in-Err-clause-err
 returns-in-Err-clause-err c = rw (sym c.self.view_is) (untaken _ _ _ _ _ _ _ c.in-Err.ensures.err.1 c.in-Err.ensures.err.0 c.of-in-Err.ensures)

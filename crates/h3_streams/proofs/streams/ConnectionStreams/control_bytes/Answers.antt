@@ -9,4 +9,4 @@ returns-clause-ok c =
 
 pub returns-clause-err : goal.returns-clause-err
 returns-clause-err c =
-    rw (sym c.self.view_is) (IfErr-weaker c.frames.result _ _ (λ left stops. control_held _ _ _ _ _ _ _ _ c.if-is_second.ensures c.in-Ok.ensures.ok stops) c.frames.ensures.err)
+    rw (sym c.self.view_is) (IfErr-weaker c.frames.result _ _ (λ left stops. control_held _ _ _ _ _ _ _ c.if-is_second.ensures c.in-Ok.ensures.ok stops) c.frames.ensures.err)

@@ -7,4 +7,4 @@ returns-in-Ok-clause-ok c = rw (sym c.self.view_is, sym c.self-inside.view_is) (
 
 pub returns-clause-err : goal.returns-clause-err
 returns-clause-err c =
-    rw (sym c.self.view_is, sym c.self-inside.view_is) (encoder_stopped _ _ _ _ _ _ _ _ c.if-is_second.ensures c.if-is_unread.ensures c.in-Err.ensures.err c.left.ensures)
+    rw (sym c.self.view_is, sym c.self-inside.view_is) (encoder_stopped _ _ _ _ _ _ _ c.if-is_second.ensures c.in-Err.ensures.err c.left.ensures)
