@@ -1,16 +1,19 @@
 //! The program: a script in, the answers out.
-ghost use Rattle.std.specs.Prelude.{◌≡◌, ◌⊎◌, ◌≤◌, true, string_bytes, IfOk, IfErr};
+ghost use Rattle.std.specs.List.{list_any};
+ghost use Rattle.std.specs.Prelude.{◌≡◌, ◌⊎◌, ◌≤◌, true, false, string_bytes, IfOk, IfErr};
 ghost use Rattle.std.specs.Io.KnownBytes.{Appends};
 ghost use Rattle.h3_script.specs.Few.{AreFew};
 ghost use Rattle.h3_script.specs.Lines.{printed, refused_line};
-ghost use Rattle.h3_talk.specs.Talks.{HasRead, Prints, AnswersScript, RefusesInput, ReadsScript, Fails};
+ghost use Rattle.h3_talk.specs.Talks.{AreAnswers, HasRead, Prints, AnswersScript, RefusesInput, ReadsScript, Fails};
+ghost use Rattle.h3_world.specs.Headline.{is_memory};
 ghost use Rattle.h3_world.specs.Setup.{IsMadeSetup};
 
 use h3_script::error::ScriptError;
 use h3_script::script::{Script, parse};
 use h3_script::text::answer_text;
-use h3_session::run::run;
-use h3_world::event::Answer;
+use h3_session::run::{Outcome, run};
+use h3_world::event::{Answer, Event};
+use h3_world::setup::Setup;
 use std::alloc::{AllocError, Global};
 use std::io::{Read, Write};
 
@@ -103,13 +106,39 @@ fn answer<W: Write>(alloc: Global, script: Script, writer: &mut W) -> u8
     ensures statuses { (result ≡ 0) ⊎ (result ≡ 2) }
 {
     let Script { setup, events } = script;
-    let Ok(outcome) = run(alloc, setup, &events) else {
+    let Ok(answers) = answers_to(alloc, setup, &events) else {
         return 2;
     };
-    let Ok(text) = print(alloc, &outcome.answers) else {
+    let Ok(text) = print(alloc, &answers) else {
         return 2;
     };
     if put(writer, text.as_bytes()) { 0 } else { 2 }
+}
+
+/// The answers of a run, without the endpoints that it leaves.
+fn answers_to(alloc: Global, setup: Setup, events: &[Event]) -> Result<Vec<Answer>, AllocError>
+    requires made { IsMadeSetup setup }
+    requires few { AreFew events.now }
+    ensures { IfOk result (λ answers. list_any is_memory answers.items ≡ false → AreAnswers setup events.now answers.items) }
+{
+    match run(alloc, setup, events) {
+        Ok(outcome) => Ok(answers_of(outcome)),
+        Err(e) => Err(e),
+    }
+}
+
+/// Lets both endpoints go, each by one call: at the end of a scope they would be dropped field by field.
+fn answers_of(outcome: Outcome) -> Vec<Answer>
+    ensures { result.items ≡ outcome.answers.items }
+{
+    let Outcome {
+        answers,
+        client,
+        server,
+    } = outcome;
+    drop(client);
+    drop(server);
+    answers
 }
 
 /// The lines of the answers.
