@@ -13,7 +13,6 @@ pub mod ReadsOn
 pub mod Encoded
 pub mod StreamHeaders
 pub mod Outgoing
-pub mod Heads
 pub mod Lent
 pub mod EncodedLaws
 pub mod Accepting

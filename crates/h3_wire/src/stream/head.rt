@@ -1,7 +1,6 @@
 //! Room for the bytes before a payload.
 ghost use Rattle.std.specs.Prelude.{◌≡◌, ◌-◌, ◌≤◌, [], ◌++◌, length, take, drop, OnOk, OnErr};
 ghost use Rattle.bytes.specs.Filled.{UsesSpare, MakesSpare, UsesMaxSpare, KeepsMaxSpare};
-ghost use Rattle.h3_wire.specs.Heads.{head_bytes};
 
 use bytes::BufMut;
 use std::alloc::AllocError;
@@ -9,7 +8,7 @@ use std::marker::Model;
 
 /// At most `N` bytes, with no memory of their own. A contract sees the bytes.
 #[derive(Drop)]
-pub(crate) struct Head<const N: usize> {
+pub(super) struct Head<const N: usize> {
     bytes: [u8; N],
     len: usize,
 }
@@ -74,36 +73,5 @@ impl<const N: usize> BufMut for Head<N> {
         all[self.len..end].copy_from_slice(src);
         self.len = end;
         Ok(())
-    }
-}
-
-/// The bytes before a payload: a type and a length, or all that a stream or a frame may begin with. The room for more is
-/// not touched where few are written.
-#[derive(Drop)]
-pub(crate) enum AnyHead {
-    Short(Head<16>),
-    Long(Head<152>),
-}
-
-impl AnyHead {
-    pub(super) fn len(&self) -> usize
-        ensures value { result ≡ length (head_bytes self.now) }
-        ensures bound { result ≤ 152 }
-    {
-        match self {
-            AnyHead::Short(head) => head.len(),
-            AnyHead::Long(head) => head.len(),
-        }
-    }
-
-    /// The bytes from a place on.
-    pub(super) fn from(&self, position: usize) -> &[u8]
-        requires { position ≤ length (head_bytes self.now) }
-        ensures { result.now ≡ drop position (head_bytes self.now) }
-    {
-        match self {
-            AnyHead::Short(head) => head.from(position),
-            AnyHead::Long(head) => head.from(position),
-        }
     }
 }

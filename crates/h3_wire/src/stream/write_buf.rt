@@ -2,15 +2,14 @@
 ghost use Rattle.std.specs.Prelude.{◌≡◌, ◌-◌, ◌<◌, ◌≤◌, ◌++◌, [], length, drop};
 ghost use Rattle.bytes.specs.Unread.{IsChunkOf};
 ghost use Rattle.h3_coding.specs.Encodings.{encoding};
-ghost use Rattle.h3_wire.specs.Encoded.{HasLength, front_of};
-ghost use Rattle.h3_wire.specs.Heads.{head_bytes};
+ghost use Rattle.h3_wire.specs.Encoded.{HasLength};
 ghost use Rattle.h3_wire.specs.Outgoing.{all_of, first_part, IsHead, IsFrameBehind};
 ghost use Rattle.h3_wire.specs.StreamHeaders.{uni_encoding, bidi_encoding};
 
-use super::head::{AnyHead, Head};
+use super::head::Head;
 use super::headers::{BidiStreamHeader, UniStreamHeader, write_type};
 use crate::buf::Piece;
-use crate::proto::frame::{Frame, FrameType, Lent, write_head};
+use crate::proto::frame::{Frame, Lent};
 use crate::proto::stream::StreamType;
 use bytes::Buf;
 use h3_coding::coding::Encode;
@@ -24,7 +23,7 @@ const SIZE: usize = 152;
 /// contract sees both parts.
 #[derive(Drop)]
 pub struct WriteBuf<B: Buf> {
-    head: AnyHead,
+    head: Head<SIZE>,
     position: usize,
     lent: Lent<B>,
 }
@@ -32,14 +31,13 @@ pub struct WriteBuf<B: Buf> {
 impl<B: Buf> Model for WriteBuf<B> {
     ghost use Rattle.std.specs.Prelude.{◌<◌, ◌≤◌, ◌^◌, length, drop};
     ghost use Rattle.h3_wire.specs.Outgoing.{Outgoing};
-    ghost use Rattle.h3_wire.specs.Heads.{head_bytes};
     ghost use Rattle.h3_wire.specs.Lent.{lent_left};
 
     ghost Value = { Outgoing };
 
-    ghost view = { λ w. record { head = drop w.position (head_bytes w.head); payload = lent_left B.unread w.lent } };
+    ghost view = { λ w. record { head = drop w.position w.head; payload = lent_left B.unread w.lent } };
 
-    ghost invariant = { λ w. (w.position ≤ length (head_bytes w.head)) × (length (lent_left B.unread w.lent) < 2 ^ 62) };
+    ghost invariant = { λ w. (w.position ≤ length w.head) × (length (lent_left B.unread w.lent) < 2 ^ 62) };
 }
 
 impl<B: Buf> WriteBuf<B> {
@@ -48,7 +46,7 @@ impl<B: Buf> WriteBuf<B> {
         ensures { IsHead head result }
     {
         WriteBuf {
-            head: AnyHead::Long(head),
+            head,
             position: 0,
             lent: Lent::Nothing,
         }
@@ -86,36 +84,18 @@ impl<B: Buf> From<BidiStreamHeader> for WriteBuf<B> {
     }
 }
 
-// What comes before the bytes that the frame lends. That of DATA, the frame that is sent most often, takes little room.
-fn head_of<B: Buf>(frame: &Frame<B>) -> AnyHead
-    requires { HasLength B.unread frame.now }
-    ensures { head_bytes result ≡ front_of B.unread frame.now }
-{
-    match frame {
-        Frame::Data(payload) => {
-            let mut head = Head::new();
-            // There is room for each head.
-            let _written = write_head(FrameType::DATA, payload.remaining() as u64, &mut head);
-            AnyHead::Short(head)
-        }
-        _ => {
-            let mut head = Head::new();
-            let _written = frame.encode_front(&mut head);
-            AnyHead::Long(head)
-        }
-    }
-}
-
 /// A frame whose payload has 2^62 bytes or more has no encoding, and gives no bytes.
 impl<B: Buf + Drop> From<Frame<B>> for WriteBuf<B> {
     ghost from_gives = { λ frame w. HasLength B.unread frame → IsFrameBehind B.unread [] frame w };
 
     fn from(frame: Frame<B>) -> Self {
+        let mut head = Head::new();
         if !frame.has_length() {
-            return WriteBuf::alone(Head::new());
+            return WriteBuf::alone(head);
         }
+        let _written = frame.encode_front(&mut head);
         WriteBuf {
-            head: head_of(&frame),
+            head,
             position: 0,
             lent: frame.into_lent(),
         }
@@ -134,7 +114,7 @@ impl<B: Buf + Drop> From<(StreamType, Frame<B>)> for WriteBuf<B> {
         let _written = write_type(ty, &mut head);
         let _written = frame.encode_front(&mut head);
         WriteBuf {
-            head: AnyHead::Long(head),
+            head,
             position: 0,
             lent: frame.into_lent(),
         }

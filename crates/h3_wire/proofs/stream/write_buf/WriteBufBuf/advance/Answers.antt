@@ -1,5 +1,4 @@
 use Rattle.std.proofs.Common.{◌≡◌, ◌+◌, ◌-◌, ◌++◌, min, length, drop, ◌∙◌, ap}
-use Rattle.h3_wire.specs.Heads.{head_bytes}
 use Rattle.h3_wire.specs.Lent.{lent_left}
 use Rattle.h3_wire.specs.Outgoing.{Outgoing, all_of}
 use Rattle.h3_wire.proofs.Passing.{pass, pass_first, pass_second}
@@ -7,7 +6,7 @@ use Rattle.h3_wire.proofs.stream.write_buf.WriteBufBuf.advance.Goals as goal
 
 pub returns-clause-value : goal.returns-clause-value
 returns-clause-value g c =
-    let head = head_bytes c.self.inside.head in
+    let head = c.self.inside.head in
     let at = c.self.inside.position in
     let passed = c.min-of_head.result in
     let k : passed ≡ min c.args.cnt (length head - at) = c.min-of_head.ensures ∙ ap (λ n. min c.args.cnt (n - at)) c.len.ensures.value in
@@ -16,7 +15,7 @@ returns-clause-value g c =
 
 pub returns-clause-head : goal.returns-clause-head
 returns-clause-head g c =
-    let head = head_bytes c.self.inside.head in
+    let head = c.self.inside.head in
     let at = c.self.inside.position in
     let passed = c.min-of_head.result in
     let k : passed ≡ min c.args.cnt (length head - at) = c.min-of_head.ensures ∙ ap (λ n. min c.args.cnt (n - at)) c.len.ensures.value in
@@ -24,7 +23,7 @@ returns-clause-head g c =
 
 pub returns-clause-payload : goal.returns-clause-payload
 returns-clause-payload g c =
-    let head = head_bytes c.self.inside.head in
+    let head = c.self.inside.head in
     let at = c.self.inside.position in
     let passed = c.min-of_head.result in
     let k : passed ≡ min c.args.cnt (length head - at) = c.min-of_head.ensures ∙ ap (λ n. min c.args.cnt (n - at)) c.len.ensures.value in
