@@ -45,8 +45,8 @@
  *
  * H3_MEMORY: malloc or realloc answered NULL. Nothing is lost and nothing leaks; the same call may be made again. A sum of bytes past
  * 2^56 counts as want of memory too. After H3_KEPT what was taken is read by the next h3_pull of any stream (of h3_control_id, which hands out
- * nothing, if no other is at hand) or by the next delivery on a stream that is open; until then a delivery on a request stream that is not
- * open yet answers H3_MEMORY. h3_finish, h3_reset, h3_advance, h3_outgoing, h3_next_waiting, the states and h3_free take no memory.
+ * nothing, if no other is at hand) or by the next delivery. h3_finish, h3_reset, h3_advance, h3_outgoing, h3_next_waiting, the states and
+ * h3_free take no memory.
  *
  * HOW QUIC'S CALLBACKS MAP TO CALLS
  *

@@ -16,6 +16,10 @@ pub mod ReceivingRefusals
 pub mod ReceivingRequests
 pub mod ReceivingReading
 pub mod ReceivingArrives
+pub mod ReceivingAtOnce
+pub mod OpeningElsewhere
+pub mod Opening
+pub mod ReceivingFirst
 pub mod PullingStreams
 pub mod PullingKept
 pub mod Running

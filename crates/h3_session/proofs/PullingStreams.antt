@@ -1,6 +1,6 @@
 -- What a pull of one stream answers and leaves.
 use Rattle.std.proofs.Common.{◌≡◌, ℕ, Bool, true, false, if◌then◌else◌, List, [], ◌∷◌, Option, Some, None, refl, ap, sym, subst, ◌∙◌}
-use Rattle.std.specs.Prelude.{◌||◌, IsSome, IfSome, is_some}
+use Rattle.std.specs.Prelude.{◌||◌, IfSome, is_some}
 use Rattle.h3_connection.specs.Delivering.{with_incoming}
 use Rattle.h3_connection.specs.Endpoint.{EndpointHistory, Kind, kind_of, replied}
 use Rattle.h3_connection.specs.Endpoint.Kind.{Request, ServerOpened, OwnUnidirectional, PeerUnidirectional}
@@ -14,6 +14,8 @@ use Rattle.h3_connection.specs.State.{EndpointState, RequestState, StandsFor, ke
 use Rattle.h3_connection.specs.StreamSets.{stream_at}
 use Rattle.h3_connection.specs.Unidirectional.{Unidirectional, Role, pull_unidirectional, pull_session, if_over, raw, may_be_session, is_closed}
 use Rattle.h3_coding.specs.Varint.{varint_at}
+use Rattle.h3_proto.specs.declared.stream.Side.{Side}
+use Rattle.h3_proto.specs.declared.stream.Side.TheVariants.{Client, Server}
 use Rattle.h3_connection.specs.Unidirectional.Role.{Untold, Control, Encoder, Decoder, Session, Push, Ignored}
 use Rattle.h3_connection.specs.declared.event.Pull.{Pull}
 use Rattle.h3_connection.specs.declared.event.Pull.TheVariants as answer
@@ -22,9 +24,9 @@ use Rattle.h3_connection.specs.declared.event.Fault.TheVariants as fault
 use Rattle.h3_connection.specs.declared.event.Item.TheVariants as item
 use Rattle.h3_incoming.specs.Gives.{Gives}
 use Rattle.h3_streams.specs.Placed.{StreamsState, placed, Answers}
-use Rattle.h3_requests.specs.Limited.{PullsWithin, ResumesThere}
+use Rattle.h3_requests.specs.Limited.{PullsWithin, ResumesThere, unopened_answer}
 use Rattle.h3_session.specs.OpenedLaws.{ChangesRequests, stands_replied, stands_closed, some_there, none_there}
-use Rattle.h3_session.specs.Pulling.{PullsItem, fault_code, answer_code, closed_with, settled_in, unopened_answer}
+use Rattle.h3_session.specs.Pulling.{PullsItem, fault_code, answer_code, closed_with, settled_in}
 use Rattle.h3_session.proofs.PullingResumes.{goes_on_as_before}
 
 -- whether the answer is settled
@@ -132,23 +134,6 @@ pulls_there s mid id before after a kind was rest pulls stops settled = record {
 differ : false ≡ true → ⊥
 differ is = cc
 
-pulls_found : (s mid : EndpointState) (id : ℕ) (at to : Option RequestState) (a : Pull) → kind_of s.side id ≡ Request → kept_at s.requests id ≡ at → kept_at mid.requests id ≡ to → is_some at ≡ true → is_some to ≡ is_some at
-    → ChangesRequests s mid
-    → (is_memory a ≡ false → IfSome at (λ before. IfSome to (λ after. PullsWithin s.side s.announced id s.decoding.decoder s.requests mid.requests before after a s.own.decoder mid.own.decoder)))
-    → (is_memory a ≡ true → IfSome at (λ before. IfSome to (λ after. ResumesThere s.requests mid.requests id before after)) × (mid.own.decoder ≡ s.own.decoder))
-    → IfSome at (λ before. is_settled_request (Some before.incoming) ≡ true → is_memory a ≡ false)
-    → PullsItem s (closed_with (answer_code a) mid) id a
-pulls_found s mid id None to a kind was now there still rest pulls stops settled = absurd (differ there)
-pulls_found s mid id (Some before) None a kind was now there still rest pulls stops settled = absurd (differ still)
-pulls_found s mid id (Some before) (Some after) a kind was now there still rest pulls stops settled = pulls_there s mid id before after a kind was rest pulls stops settled
-
-pub pulls_open : (s mid : EndpointState) (id : ℕ) (a : Pull) → kind_of s.side id ≡ Request → IsSome (kept_at s.requests id) → is_some (kept_at mid.requests id) ≡ is_some (kept_at s.requests id) → ChangesRequests s mid
-    → (is_memory a ≡ false → IfSome (kept_at s.requests id) (λ before. IfSome (kept_at mid.requests id) (λ after. PullsWithin s.side s.announced id s.decoding.decoder s.requests mid.requests before after a s.own.decoder mid.own.decoder)))
-    → (is_memory a ≡ true → IfSome (kept_at s.requests id) (λ before. IfSome (kept_at mid.requests id) (λ after. ResumesThere s.requests mid.requests id before after)) × (mid.own.decoder ≡ s.own.decoder))
-    → IfSome (kept_at s.requests id) (λ before. is_settled_request (Some before.incoming) ≡ true → is_memory a ≡ false)
-    → PullsItem s (closed_with (answer_code a) mid) id a
-pulls_open s mid id a kind there still rest pulls stops settled = pulls_found s mid id (kept_at s.requests id) (kept_at mid.requests id) a kind refl refl there still rest pulls stops settled
-
 -- an answer without memory
 pulls_plainly : (s new : EndpointState) (id : ℕ) (a : Pull) → is_memory a ≡ false → ((e : EndpointHistory) → StandsFor s e → (a ≡ (pull_at e id (kind_of e.side id)).0) × StandsFor new (pull_at e id (kind_of e.side id)).1) → PullsItem s new id a
 pulls_plainly s new id a no_memory answers = record {
@@ -167,6 +152,37 @@ pulls_unopened s id kind was = pulls_plainly s s id (unopened_answer s.side) (un
     let is : pull_at e id (kind_of e.side id) ≡ pull_request e id None =
     ap (pull_at e id) (ap (λ side. kind_of side id) (sym h.side) ∙ kind) ∙ ap (pull_request e id) (none_there s e id h was) in
     rw is (ap unopened_answer h.side, h))
+
+unopened_code : (side : Side) → answer_code (unopened_answer side) ≡ None
+unopened_code Client = refl
+unopened_code Server = refl
+
+changes_nothing : (s mid : EndpointState) → ChangesRequests s mid → mid.requests ≡ s.requests → mid.own.decoder ≡ s.own.decoder → mid ≡ s
+changes_nothing s mid rest requests decoder = rest ∙ ap (λ r. record s { requests = r; own = record s.own { decoder = mid.own.decoder } }) requests ∙ ap (λ b. record s { own = record s.own { decoder = b } }) decoder
+
+pulls_found : (s mid : EndpointState) (id : ℕ) (at to : Option RequestState) (a : Pull) → kind_of s.side id ≡ Request → kept_at s.requests id ≡ at → kept_at mid.requests id ≡ to → is_some to ≡ is_some at
+    → ChangesRequests s mid
+    → (at ≡ None → (a ≡ unopened_answer s.side) × (mid.requests ≡ s.requests) × (mid.own.decoder ≡ s.own.decoder))
+    → (is_memory a ≡ false → IfSome at (λ before. IfSome to (λ after. PullsWithin s.side s.announced id s.decoding.decoder s.requests mid.requests before after a s.own.decoder mid.own.decoder)))
+    → (is_memory a ≡ true → IfSome at (λ before. IfSome to (λ after. ResumesThere s.requests mid.requests id before after)) × (mid.own.decoder ≡ s.own.decoder))
+    → IfSome at (λ before. is_settled_request (Some before.incoming) ≡ true → is_memory a ≡ false)
+    → PullsItem s (closed_with (answer_code a) mid) id a
+pulls_found s mid id None to a kind was now still rest absent pulls stops settled =
+    let unopened = absent refl in
+    subst (λ m. PullsItem s (closed_with (answer_code a) m) id a) (sym (changes_nothing s mid rest unopened.1 unopened.2))
+    (subst (λ b. PullsItem s (closed_with (answer_code b) s) id b) (sym unopened.0)
+    (subst (λ c. PullsItem s (closed_with c s) id (unopened_answer s.side)) (sym (unopened_code s.side)) (pulls_unopened s id kind was)))
+pulls_found s mid id (Some before) None a kind was now still rest absent pulls stops settled = absurd (differ still)
+pulls_found s mid id (Some before) (Some after) a kind was now still rest absent pulls stops settled = pulls_there s mid id before after a kind was rest pulls stops settled
+
+-- A request stream.
+pub pulls_request : (s mid : EndpointState) (id : ℕ) (a : Pull) → kind_of s.side id ≡ Request → is_some (kept_at mid.requests id) ≡ is_some (kept_at s.requests id) → ChangesRequests s mid
+    → (kept_at s.requests id ≡ None → (a ≡ unopened_answer s.side) × (mid.requests ≡ s.requests) × (mid.own.decoder ≡ s.own.decoder))
+    → (is_memory a ≡ false → IfSome (kept_at s.requests id) (λ before. IfSome (kept_at mid.requests id) (λ after. PullsWithin s.side s.announced id s.decoding.decoder s.requests mid.requests before after a s.own.decoder mid.own.decoder)))
+    → (is_memory a ≡ true → IfSome (kept_at s.requests id) (λ before. IfSome (kept_at mid.requests id) (λ after. ResumesThere s.requests mid.requests id before after)) × (mid.own.decoder ≡ s.own.decoder))
+    → IfSome (kept_at s.requests id) (λ before. is_settled_request (Some before.incoming) ≡ true → is_memory a ≡ false)
+    → PullsItem s (closed_with (answer_code a) mid) id a
+pulls_request s mid id a kind still rest absent pulls stops settled = pulls_found s mid id (kept_at s.requests id) (kept_at mid.requests id) a kind refl refl still rest absent pulls stops settled
 
 -- A stream with no messages.
 pub pulls_server_opened : (s : EndpointState) (id : ℕ) → kind_of s.side id ≡ ServerOpened → PullsItem s s id answer.NoMessages

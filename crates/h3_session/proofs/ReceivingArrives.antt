@@ -46,7 +46,7 @@ arrives_as [] e a is t =
     ∙ ap closed_by (alone e a is)
 arrives_as (k ∷ kept) e a is t = taken_by e.closed (arrival_refusal e (stream_of a)) e (read_all (k ∷ kept ++ a ∷ []) (unkept e)) t.open_still t.accepted
 
-arrives_is : (e : EndpointHistory) (a : Arrival) → IsTaken e (stream_of a) → arrives e a ≡ closed_by (read_all (e.kept ++ a ∷ []) (unkept e))
+pub arrives_is : (e : EndpointHistory) (a : Arrival) → IsTaken e (stream_of a) → arrives e a ≡ closed_by (read_all (e.kept ++ a ∷ []) (unkept e))
 arrives_is e a t = arrives_as e.kept e a refl t
 
 -- what is kept, and this behind it, is on open streams
@@ -164,7 +164,7 @@ pub received_once : (s new : EndpointState) (a : Arrival) → s.kept ≡ [] → 
 received_once s new a none kind taken rest got = took_once s new a none taken (λ e h. reads_request s new e a h kind rest got)
 
 -- It was refused.
-refused_as : (kept : List Arrival) (e : EndpointHistory) (a : Arrival) (r : Refusal) → e.kept ≡ kept → e.closed ≡ None → arrival_refusal e (stream_of a) ≡ Some r → arrives_behind kept e a ≡ (Some r, e)
+pub refused_as : (kept : List Arrival) (e : EndpointHistory) (a : Arrival) (r : Refusal) → e.kept ≡ kept → e.closed ≡ None → arrival_refusal e (stream_of a) ≡ Some r → arrives_behind kept e a ≡ (Some r, e)
 refused_as [] e a r none open_still is =
     let first : delivery_refusal e (stream_of a) ≡ Some r = plainly (is_closed_in e.kept (stream_of a)) (delivery_refusal e (stream_of a)) r (ap (λ k. is_closed_in k (stream_of a)) none) is in
     ap (λ c. taken c (delivery_refusal e (stream_of a)) e (read_arrival e a)) open_still ∙ ap (λ o. taken None o e (read_arrival e a)) first

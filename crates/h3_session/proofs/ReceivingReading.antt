@@ -107,7 +107,7 @@ pub leaves_request : (s new : EndpointState) (a : Arrival) → ChangesRequests s
 leaves_request s new a rest same is e h keeps = leaves_all new e a (same_requests s new e rest same is h) keeps
 
 -- what an arrival does, by the kind of its stream
-read_is : (e : EndpointHistory) (a : Arrival) → read_arrival e a ≡ read_at e a (kind_of e.side (stream_of a))
+pub read_is : (e : EndpointHistory) (a : Arrival) → read_arrival e a ≡ read_at e a (kind_of e.side (stream_of a))
 read_is e (BytesCame id bytes) = refl
 read_is e (EndCame id) = refl
 read_is e (ResetCame id code) = refl

@@ -19,13 +19,13 @@ use Rattle.h3_session.specs.OpenedLaws.{ChangesRequests, received_at, incoming_o
 use Rattle.h3_session.specs.Reading.{GoesOn, ReadsWholly}
 
 -- the endpoint after it
-abbrev receiving : EndpointHistory → Arrival → EndpointHistory
+abbrev pub receiving : EndpointHistory → Arrival → EndpointHistory
 receiving e a = replied (with_incoming (opened e (stream_of a)) (stream_of a) (received a (incoming_at e (stream_of a)))) (replies_to a (incoming_at e (stream_of a)))
 
 no_replies : (e : EndpointHistory) → e ≡ replied e []
 no_replies e = ap (λ r. record e { own = record e.own { replies = r } }) (sym (append-nil e.own.replies))
 
-read_as : (e : EndpointHistory) (a : Arrival) → kind_of e.side (stream_of a) ≡ Request → read_arrival e a ≡ (receiving e a, None)
+pub read_as : (e : EndpointHistory) (a : Arrival) → kind_of e.side (stream_of a) ≡ Request → read_arrival e a ≡ (receiving e a, None)
 read_as e (BytesCame id bytes) is = ap (bytes_at e id bytes) is ∙ ap (λ f. (f, None)) (no_replies (with_incoming (opened e id) id (received (BytesCame id bytes) (incoming_at e id))))
 read_as e (EndCame id) is = ap (end_at e id) is ∙ ap (λ f. (f, None)) (no_replies (with_incoming (opened e id) id (received (EndCame id) (incoming_at e id))))
 read_as e (ResetCame id code) is = ap (reset_at e id code) is

@@ -1,6 +1,6 @@
 -- What waits to be sent, and what is stored once some of it was taken.
 use Rattle.std.proofs.Common.{arith, ◌≡◌, ℕ, zero, suc, ◌+◌, ◌-◌, ◌<◌, ◌≤◌, if◌then◌else◌, Bool, true, false, List, [], ◌∷◌, ◌++◌, length, Option, Some, None, refl, ap, sym, subst, ◌∙◌, inl, inr, append-nil, append_assoc, length-append}
-use Rattle.std.specs.Prelude.{◌≢◌, ◌^◌, count_by, nat_lt, min, map, IfSome, option_map}
+use Rattle.std.specs.Prelude.{◌^◌, count_by, nat_lt, min, map, IfSome, is_some, option_map}
 use Rattle.std.proofs.lemmas.List.{length-drop}
 use Rattle.std.proofs.lemmas.Bool.{cases_lt}
 use Rattle.h3_coding.specs.Encodings.{encoding}
@@ -75,18 +75,17 @@ advances_request_here s new id count r was sets e h =
     let there : StandsFor (record s { requests = new }) (advance e id taken) = subst (λ o. StandsFor (record s { requests = new }) (advance_at e id taken o)) (sym f.there) here in
     subst (λ n. StandsFor (record s { requests = new }) (advance e id n)) same there
 
-advances_there : (s : EndpointState) (new : Streams RequestState) (id count : ℕ) (there : Option RequestState) → kept_at s.requests id ≡ there → option_map (λ r. r.outgoing) there ≢ None
+advances_there : (s : EndpointState) (new : Streams RequestState) (id count : ℕ) (there : Option RequestState) → kept_at s.requests id ≡ there → is_some there ≡ true
     → IfSome there (λ r. Sets s.requests new id (record r { outgoing = sent.taken_from r.outgoing (min count (length (bytes_of r.outgoing.pieces))) }))
     → Advances s (record s { requests = new }) id count
-advances_there s new id count None was some sets = absurd (some refl)
+advances_there s new id count None was some sets = absurd (cc)
 advances_there s new id count (Some r) was some sets = advances_request_here s new id count r was sets
 
-pub advances_request : (s now : EndpointState) (new : Streams RequestState) (id count : ℕ) (w : OutgoingState) → s ≡ now → sender_in now id ≡ Some w
+pub advances_request : (s now : EndpointState) (new : Streams RequestState) (id count : ℕ) → s ≡ now → is_some (kept_at s.requests id) ≡ true
     → IfSome (kept_at s.requests id) (λ r. Sets s.requests new id (record r { outgoing = sent.taken_from r.outgoing (min count (length (bytes_of r.outgoing.pieces))) }))
     → Advances now (record s { requests = new }) id count
-advances_request s now new id count w view was sets =
-    let here : sender_in s id ≡ Some w = ap (λ v. sender_in v id) view ∙ was in
-    subst (λ v. Advances v (record s { requests = new }) id count) view (advances_there s new id count (kept_at s.requests id) refl (λ never. absurd (let no_one : ◌≡◌ {A = Option OutgoingState} None (Some w) = sym never ∙ here in cc)) sets)
+advances_request s now new id count view some sets =
+    subst (λ v. Advances v (record s { requests = new }) id count) view (advances_there s new id count (kept_at s.requests id) refl some sets)
 
 advances_own_here : (s : EndpointState) (id count taken : ℕ) → taken ≡ min count (length (waiting_on s.own s.side id)) → sender_in s id ≡ None
     → Advances s (record s { own = having_taken s.own s.side id taken }) id count

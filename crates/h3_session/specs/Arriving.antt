@@ -1,5 +1,5 @@
 -- What comes from the peer, by what is stored.
-use Rattle.std.specs.Prelude.{◌≡◌, ℕ, true, List, [], ◌++◌, Option, Some, None, option_map, unwrap_or, IsSome}
+use Rattle.std.specs.Prelude.{◌≡◌, ℕ, Bool, true, false, List, [], ◌++◌, Option, Some, None, Result, Ok, Err, option_map, unwrap_or, IsSome}
 use Rattle.h3_field.specs.Instruction.{DecoderInstruction}
 use Rattle.h3_connection.specs.Arrivals.{stream_of, is_closed_in}
 use Rattle.h3_connection.specs.Delivering.{kept, with_end, given_up_once, cancellation, closed_refusal, request_refusal, server_opened_refusal}
@@ -13,6 +13,8 @@ use Rattle.h3_connection.specs.StreamSets.{Streams}
 use Rattle.h3_connection.specs.Unidirectional.{is_closed, untold}
 use Rattle.h3_connection.specs.declared.arrival.Arrival.{Arrival}
 use Rattle.h3_connection.specs.declared.arrival.Arrival.TheVariants.{BytesCame, EndCame, ResetCame}
+use Rattle.h3_connection.specs.declared.event.DeliverError.{DeliverError}
+use Rattle.h3_connection.specs.declared.event.DeliverError.TheVariants as deliver_error
 use Rattle.h3_connection.specs.declared.event.Refusal.{Refusal}
 use Rattle.h3_connection.specs.declared.event.Refusal.TheVariants as refusal
 use Rattle.h3_connection.specs.declared.event.StreamFault.TheVariants as stream_fault
@@ -44,6 +46,19 @@ replies_to (ResetCame id code) i = cancellation id i.fault
 pub record IsReceived (a : Arrival) (old new : Streams RequestState) (before after : List ℕ) : Type 0 where
   pub streams : Receives old new (stream_of a) (received a)
   pub replies : after ≡ before ++ encodings (replies_to a (opened_at old (stream_of a)).incoming)
+
+-- What comes opens a request stream, and is not refused.
+pub record ComesFirst (s : EndpointState) (a : Arrival) : Type 0 where
+  pub closed : s.closed ≡ None
+  pub accepted : arrival_refused s (stream_of a) ≡ None
+  pub request : kind_of s.side (stream_of a) ≡ Request
+  pub absent : kept_at s.requests (stream_of a) ≡ None
+
+-- what came was stored
+abbrev pub is_stored : Result Unit DeliverError → Bool
+is_stored (Ok done) = true
+is_stored (Err deliver_error.Kept) = true
+is_stored (Err e) = false
 
 -- What comes is taken. A request stream on which it comes is there.
 pub record IsAccepted (s : EndpointState) (a : Arrival) : Type 0 where

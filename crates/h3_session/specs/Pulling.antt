@@ -1,12 +1,11 @@
 -- What the steps of a pull promise.
-use Rattle.std.specs.Prelude.{◌≡◌, ℕ, Bool, true, false, if◌then◌else◌, Option, Some, None, option_map, Result, Ok, Err}
+use Rattle.std.specs.Prelude.{◌≡◌, ℕ, Bool, true, false, Option, Some, None, option_map, Result, Ok, Err}
 use Rattle.h3_connection.specs.Endpoint.{EndpointHistory, Kind, kind_of}
 use Rattle.h3_connection.specs.Endpoint.Kind.{Request, PeerUnidirectional}
 use Rattle.h3_connection.specs.Keeping.{read_all, unkept, settles, is_settled_request, is_settled_peer}
 use Rattle.h3_connection.specs.PartReading.{StandsAsked}
-use Rattle.h3_connection.specs.Pulling.{is_memory, is_client}
+use Rattle.h3_connection.specs.Pulling.{is_memory}
 use Rattle.h3_connection.specs.Sending.{pull_at}
-use Rattle.h3_proto.specs.declared.stream.Side.{Side}
 use Rattle.h3_connection.specs.State.{EndpointState, StandsFor, kept_at}
 use Rattle.h3_connection.specs.declared.event.Pull.{Pull}
 use Rattle.h3_connection.specs.declared.event.Pull.TheVariants as answer
@@ -44,7 +43,3 @@ pub record PullsItem (s new : EndpointState) (id : ℕ) (result : Pull) : Type 0
 abbrev pub ReadsKept : {E : Type 0} → EndpointHistory → Result (Option ℕ) E → EndpointState → Type 0
 ReadsKept e (Ok found) new = Finds found new (read_all e.kept (unkept e))
 ReadsKept e (Err refused) new = KeepsRest (unkept e) e.kept new
-
--- a request stream that is not open
-abbrev pub unopened_answer : Side → Pull
-unopened_answer side = if is_client side then answer.NoMessages else answer.Pending

@@ -11,8 +11,8 @@ ghost use Rattle.h3_connection.specs.SendingContracts.{Cancels};
 ghost use Rattle.h3_connection.specs.State.{StandsFor, kept_at};
 ghost use Rattle.h3_connection.specs.declared.event.Refusal.TheVariants.{OutOfMemory};
 ghost use Rattle.h3_session.specs.Canceling.{cancel_refused, CancelsAt};
-ghost use Rattle.h3_requests.specs.Limited.{PullsWithin, ResumesThere};
-ghost use Rattle.h3_session.specs.Pulling.{PullsItem, ReadsKept, answer_code, closed_with, settled_in, unopened_answer};
+ghost use Rattle.h3_requests.specs.Limited.{PullsWithin, ResumesThere, unopened_answer};
+ghost use Rattle.h3_session.specs.Pulling.{PullsItem, ReadsKept, answer_code, closed_with, settled_in};
 ghost use Rattle.h3_session.specs.OpenedLaws.{ChangesRequests};
 
 use super::Endpoint;
@@ -68,16 +68,6 @@ fn fault_of(answer: &Pull) -> Option<Code>
     }
 }
 
-/// What a request stream gives that is not open: a server's peer may still open it.
-fn unopened(side: Side) -> Pull
-    ensures { result ≡ unopened_answer side }
-{
-    match side {
-        Side::Client => Pull::NoMessages,
-        Side::Server => Pull::Pending,
-    }
-}
-
 /// Whether the answer to each further pull is settled: the stream was given up, or its end was handed out.
 fn is_settled(stream: Option<&RequestStream>) -> bool
     ensures { result ≡ is_settled_request (option_map (λ r. r.incoming) (option_copied stream.entry)) }
@@ -100,6 +90,7 @@ fn pull_stream(
     id: StreamId,
     streams: &mut ConnectionStreams,
 ) -> Pull
+    ensures absent { kept_at requests.old id ≡ None → (result ≡ unopened_answer side) × (requests.new ≡ requests.old) × (streams.new.own.decoder ≡ streams.old.own.decoder) }
     ensures there { is_some (kept_at requests.new id) ≡ is_some (kept_at requests.old id) }
     ensures answer { is_memory result ≡ false → IfSome (kept_at requests.old id) (λ before. IfSome (kept_at requests.new id) (λ after.
         PullsWithin side announced.now id streams.old.decoding.decoder requests.old requests.new before after result streams.old.own.decoder streams.new.own.decoder)) }
@@ -220,15 +211,11 @@ impl Endpoint {
     }
 
     // A fault of the connection closes it.
-    #[tactic(auto, using(crate::proofs::PullingStreams::pulls_unopened, crate::proofs::PullingStreams::pulls_open))]
     fn pull_request(&mut self, id: StreamId) -> Pull
         requires { kind_of self.old.side id ≡ Request }
         ensures { PullsItem self.old self.new id result }
     {
-        if self.requests.get(id).is_none() {
-            return unopened(self.side);
-        }
-        let answer = self.pull_open(id);
+        let answer = self.pull_stored(id);
         self.close_with(&answer);
         answer
     }
@@ -241,8 +228,9 @@ impl Endpoint {
         }
     }
 
-    fn pull_open(&mut self, id: StreamId) -> Pull
+    fn pull_stored(&mut self, id: StreamId) -> Pull
         ensures rest { ChangesRequests self.old self.new }
+        ensures absent { kept_at self.old.requests id ≡ None → (result ≡ unopened_answer self.old.side) × (self.new.requests ≡ self.old.requests) × (self.new.own.decoder ≡ self.old.own.decoder) }
         ensures there { is_some (kept_at self.new.requests id) ≡ is_some (kept_at self.old.requests id) }
         ensures answer { is_memory result ≡ false → IfSome (kept_at self.old.requests id) (λ before. IfSome (kept_at self.new.requests id) (λ after.
             PullsWithin self.old.side self.old.announced id self.old.decoding.decoder self.old.requests self.new.requests before after result self.old.own.decoder self.new.own.decoder)) }

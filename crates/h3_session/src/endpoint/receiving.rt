@@ -2,15 +2,17 @@
 ghost use Rattle.std.specs.Prelude.{◌≡◌, ◌≢◌, true, false, [], Err, Some, None, option_map, option_copied, ◌<◌, ◌+◌, ◌++◌, ◌∷◌, OnOk, OnErr, IfOk, IfErr};
 ghost use Rattle.std.specs.VecDeque.{deque_len, deque_capacity};
 ghost use Rattle.h3_connection.specs.Arrivals.{stream_of, closes, is_closed_in};
-ghost use Rattle.h3_connection.specs.Calls.{AllSame};
-ghost use Rattle.h3_connection.specs.Delivering.{request_refusal, server_opened_refusal};
+ghost use Rattle.h3_blocked.specs.Sums.{TakesOut};
+ghost use Rattle.h3_connection.specs.Calls.{AllSame, Sets, fresh_request};
+ghost use Rattle.h3_connection.specs.Delivering.{kept, request_refusal, server_opened_refusal};
 ghost use Rattle.h3_connection.specs.Endpoint.{EndpointHistory, kind_of};
 ghost use Rattle.h3_connection.specs.Endpoint.Kind.{Request};
 ghost use Rattle.h3_connection.specs.Keeping.{arrival_refusal};
 ghost use Rattle.h3_connection.specs.ReceivingContracts.{IsTaken, Receives, KeepsBehind, Delivers, DeliversEnd, DeliversReset, bytes_of};
-ghost use Rattle.h3_connection.specs.State.{StandsFor};
+ghost use Rattle.h3_connection.specs.State.{StandsFor, kept_at};
 ghost use Rattle.h3_connection.specs.declared.event.DeliverError.TheVariants.{Kept};
-ghost use Rattle.h3_session.specs.Arriving.{delivery_refused, IsReceived, IsAccepted};
+ghost use Rattle.h3_session.specs.Arriving.{delivery_refused, arrival_refused, is_stored, IsReceived, IsAccepted, ComesFirst};
+ghost use Rattle.h3_requests.specs.Changing.{Receives as ReceivesHere, receiver_refusal, IsRefusedBy};
 ghost use Rattle.h3_session.specs.OpenedLaws.{ChangesRequests};
 
 use super::Endpoint;
@@ -56,6 +58,16 @@ fn is_request(side: Side, id: StreamId) -> bool
         StreamKind::ServerOpened => false,
         StreamKind::OwnUnidirectional => false,
         StreamKind::PeerUnidirectional => false,
+    }
+}
+
+/// Whether what came was stored.
+fn is_stored(answer: &Result<(), DeliverError>) -> bool
+    ensures { result ≡ is_stored answer.now }
+{
+    match answer {
+        Ok(()) => true,
+        Err(error) => matches!(error, DeliverError::Kept),
     }
 }
 
@@ -155,9 +167,13 @@ impl Endpoint {
     /// order, everything after a connection fault, what comes on a stream that sends nothing or isn't open, and what comes behind an
     /// end or a reset. `OutOfMemory` hands the bytes back, and nothing has changed. `Kept`: the bytes are taken, and memory was
     /// refused in reading what came; the next delivery or pull reads on from there.
+    #[tactic(auto, using(crate::proofs::ReceivingAtOnce::delivers_at_once))]
     pub fn deliver(&mut self, id: StreamId, bytes: Bytes) -> Result<(), DeliverError>
         ensures { Delivers self.old self.new id bytes result }
     {
+        if self.takes_at_once(id) {
+            return self.deliver_at_once(id, bytes);
+        }
         self.arrive(Arrival::BytesCame(id, bytes))
     }
 
@@ -174,6 +190,26 @@ impl Endpoint {
         ensures { DeliversReset self.old self.new id code result }
     {
         self.arrive(Arrival::ResetCame(id, code))
+    }
+
+    // Whether what comes on the stream is its receiver's at once: it is a request stream's, and nothing is kept.
+    fn takes_at_once(&self, id: StreamId) -> bool
+        ensures closed { result ≡ true → self.now.closed ≡ None }
+        ensures kept { result ≡ true → self.now.kept ≡ [] }
+        ensures request { result ≡ true → kind_of self.now.side id ≡ Request }
+    {
+        self.closed.is_none() && self.kept.is_empty() && is_request(self.side, id)
+    }
+
+    // Bytes of a request stream, with one look-up.
+    fn deliver_at_once(&mut self, id: StreamId, bytes: Bytes) -> Result<(), DeliverError>
+        ensures rest { self.new ≡ record self.old { requests = self.new.requests } }
+        ensures ok { OnOk result (ReceivesHere self.old.requests self.new.requests id (λ i. kept i bytes)) }
+        ensures taken { OnOk result (receiver_refusal self.old.side (kept_at self.old.requests id) ≡ None) }
+        ensures why { IfErr result (λ e. IsRefusedBy (receiver_refusal self.old.side (kept_at self.old.requests id)) bytes e) }
+        ensures err { OnErr result (AllSame self.old.requests self.new.requests) }
+    {
+        self.requests.deliver_next(self.alloc, self.side, id, bytes)
     }
 
     // What comes is read behind all that is kept. With nothing kept, what comes on a request stream is its receiver's at once.
@@ -194,7 +230,7 @@ impl Endpoint {
                 return self.receive_at_once(arrival);
             }
             if self.requests.get(id).is_none() {
-                return Err(DeliverError::OutOfMemory(bytes_of(arrival)));
+                return self.take_first(arrival);
             }
         }
         self.take(arrival)
@@ -213,6 +249,40 @@ impl Endpoint {
             Ok(()) => Ok(()),
             Err(arrival) => Err(DeliverError::OutOfMemory(bytes_of(arrival))),
         }
+    }
+
+    // What opens a request stream, behind what is kept. It is opened before that is read, since nothing is kept of a stream that is
+    // not open, and taken out again where what was kept has a fault.
+    #[tactic(auto, using(crate::proofs::ReceivingFirst::first_accepted, crate::proofs::ReceivingFirst::first_stored, crate::proofs::ReceivingFirst::first_undone, crate::proofs::ReceivingFirst::first_refused_memory))]
+    fn take_first(&mut self, arrival: Arrival) -> Result<(), DeliverError>
+        requires { ComesFirst self.old arrival }
+        ensures { Receives self.old self.new arrival result }
+    {
+        let id = stream_of(&arrival);
+        let Ok(()) = self.open_first(id) else {
+            return Err(DeliverError::OutOfMemory(bytes_of(arrival)));
+        };
+        let answer = self.take(arrival);
+        if is_stored(&answer) {
+            return answer;
+        }
+        self.undo_first(id);
+        answer
+    }
+
+    fn open_first(&mut self, id: StreamId) -> Result<(), AllocError>
+        ensures rest { self.new ≡ record self.old { requests = self.new.requests } }
+        ensures ok { OnOk result (Sets self.old.requests self.new.requests id fresh_request) }
+        ensures err { OnErr result (self.new ≡ self.old) }
+    {
+        self.requests.open(self.alloc, id)
+    }
+
+    fn undo_first(&mut self, id: StreamId)
+        ensures rest { self.new ≡ record self.old { requests = self.new.requests } }
+        ensures taken_out { TakesOut self.old.requests self.new.requests id }
+    {
+        self.requests.undo_open(id);
     }
 
     // What comes is kept behind the rest, and all of it is read.
@@ -251,7 +321,8 @@ impl Endpoint {
     // Why what comes on a stream is refused, a connection fault aside. An end or a reset that is kept counts.
     #[tactic(auto, using(crate::proofs::ReceivingRefusals::arrival_refusal_is))]
     fn arrival_refusal(&self, id: StreamId) -> Option<Refusal>
-        ensures { (e : EndpointHistory) → StandsFor self.now e → result ≡ arrival_refusal e id }
+        ensures stored { result ≡ arrival_refused self.now id }
+        ensures history { (e : EndpointHistory) → StandsFor self.now e → result ≡ arrival_refusal e id }
     {
         if let Some(refusal) = self.delivery_refusal(id) {
             return Some(refusal);

@@ -1,5 +1,5 @@
 //! What an endpoint sends.
-ghost use Rattle.std.specs.Prelude.{◌≡◌, ◌≤◌, ◌+◌, ◌++◌, length, not, IfSome, OnOk, OnErr, option_copied};
+ghost use Rattle.std.specs.Prelude.{◌≡◌, ◌≤◌, ◌+◌, ◌++◌, true, false, None, length, not, IfSome, OnOk, OnErr, option_copied};
 ghost use Rattle.h3_connection.specs.Calls.{open_refused};
 ghost use Rattle.h3_connection.specs.Endpoint.{goaway_encoding};
 ghost use Rattle.h3_connection.specs.Pulling.{is_client};
@@ -191,12 +191,27 @@ impl Endpoint {
     pub fn advance(&mut self, id: StreamId, count: usize)
         ensures { Advances self.old self.new id count }
     {
-        let Some(_) = self.sender(id) else {
-            let waiting = self.own_outgoing(id).len();
-            take_own(&mut self.streams, self.side, id, count.min(waiting));
+        if self.advance_request(id, count) {
             return;
-        };
-        self.requests.advance(id, count);
+        }
+        self.advance_own(id, count);
+    }
+
+    // Takes the first bytes that wait on a request stream, and answers whether that is there, with one look-up.
+    fn advance_request(&mut self, id: StreamId, count: usize) -> bool
+        ensures there { result ≡ true → Advances self.old self.new id count }
+        ensures absent { result ≡ false → sender_in self.old id ≡ None }
+        ensures none { result ≡ false → self.new ≡ self.old }
+    {
+        self.requests.advance(id, count)
+    }
+
+    fn advance_own(&mut self, id: StreamId, count: usize)
+        requires { sender_in self.old id ≡ None }
+        ensures { Advances self.old self.new id count }
+    {
+        let waiting = self.own_outgoing(id).len();
+        take_own(&mut self.streams, self.side, id, count.min(waiting));
     }
 
     /// Some of the bytes that wait on a stream, from the first on. Empty exactly where nothing waits.
