@@ -1,0 +1,121 @@
+//! Whole field sections without a dynamic table, and the fields that they are of.
+use crate::case::{CaseError, bytes, number, text};
+use h3_field::{
+    Decoded, DecoderError, EncoderError, HeaderField, SliceCursor, decode_stateless, dynamic,
+    encode_stateless, prefix_int, vas,
+};
+use std::alloc::Global;
+use std::borrow::CowSlice;
+
+pub fn answer(alloc: Global, command: &str, words: &[&str]) -> Result<String, CaseError> {
+    if command == "write" {
+        return write(alloc, &fields(alloc, words)?);
+    }
+    match words {
+        [] => errors(alloc, command),
+        [first, second] => {
+            if command == "read" {
+                let section = bytes(alloc, *second)?;
+                return read(alloc, number(*first)?, &section);
+            }
+            let name = text(alloc, *first)?;
+            of_field(alloc, command, field(name, text(alloc, *second)?))
+        }
+        _ => Err(CaseError::Unreadable),
+    }
+}
+
+/// A field of bytes of its own.
+pub fn field(name: Vec<u8>, value: Vec<u8>) -> HeaderField {
+    HeaderField::new(CowSlice::Owned(name), CowSlice::Owned(value))
+}
+
+/// The fields of words `name=value`.
+pub fn fields(alloc: Global, words: &[&str]) -> Result<Vec<HeaderField>, CaseError> {
+    let mut fields = Vec::new(alloc);
+    for word in words {
+        let Some((name, value)) = word.split_once('=') else {
+            return Err(CaseError::Unreadable);
+        };
+        let name = text(alloc, name)?;
+        fields.push(field(name, text(alloc, value)?))?;
+    }
+    Ok(fields)
+}
+
+/// A word `name=value` of a field.
+pub fn push_field(text: &mut String, field: &HeaderField) -> Result<(), CaseError> {
+    text.push(' ')?;
+    text.push_str(str::from_utf8(field.name()).unwrap_or("?"))?;
+    text.push('=')?;
+    text.push_str(str::from_utf8(field.value()).unwrap_or("?"))?;
+    Ok(())
+}
+
+/// The size of a section, whether a dynamic entry is named, its fields, and how many bytes are left; or why it is refused.
+fn read(alloc: Global, limit: u64, section: &[u8]) -> Result<String, CaseError> {
+    let mut buf = SliceCursor::new(section);
+    match decode_stateless(alloc, &mut buf, limit) {
+        Ok(decoded) => told(alloc, &decoded, buf.remaining()),
+        Err(e) => crate::case::with_rest(alloc, &e, buf.chunk()),
+    }
+}
+
+fn told(alloc: Global, decoded: &Decoded, left: usize) -> Result<String, CaseError> {
+    let (size, named) = (decoded.mem_size, decoded.dyn_ref);
+    let mut text = format!(in alloc; "size {size} dynamic {named} left {left}:")?;
+    for field in &decoded.fields {
+        push_field(&mut text, field)?;
+    }
+    Ok(text)
+}
+
+/// The section of at most two fields, and its size.
+fn write(alloc: Global, fields: &[HeaderField]) -> Result<String, CaseError> {
+    let [first, second] = fields else {
+        return Err(CaseError::Unreadable);
+    };
+    let sum = first.mem_size().saturating_add(second.mem_size());
+    if sum > 1000 {
+        return Err(CaseError::Unreadable);
+    }
+    let mut section = Vec::new(alloc);
+    let size = encode_stateless(&mut section, fields);
+    crate::case::with_rest(alloc, &(sum, size), &section)
+}
+
+/// The texts of a field, or the parts that it is taken into.
+fn of_field(alloc: Global, command: &str, field: HeaderField) -> Result<String, CaseError> {
+    if command == "print" {
+        return Ok(format!(in alloc; "{field}")?);
+    }
+    if command == "other_value" {
+        let other = field.with_value(alloc, CowSlice::Borrowed(b"2"))?;
+        return Ok(other.into_string(alloc)?);
+    }
+    if command == "parts" {
+        let (name, value) = field.into_inner();
+        return parts(alloc, &HeaderField::from((name, value)));
+    }
+    Err(CaseError::Unreadable)
+}
+
+/// A field put together from parts, and whether it is the one of borrowed bytes.
+fn parts(alloc: Global, field: &HeaderField) -> Result<String, CaseError> {
+    let borrowed = HeaderField::new(CowSlice::Borrowed(b":path"), CowSlice::Borrowed(b"a"));
+    let same = *field == borrowed;
+    field.are_bytes();
+    let (name, value) = (field.as_ref().name(), field.value());
+    Ok(format!(in alloc; "{name:?} {value:?} same {same}")?)
+}
+
+/// The texts of errors that are made of others.
+fn errors(alloc: Global, command: &str) -> Result<String, CaseError> {
+    if command != "errors" {
+        return Err(CaseError::Unreadable);
+    }
+    let end = DecoderError::from(prefix_int::Error::UnexpectedEnd);
+    let gone = EncoderError::from(dynamic::Error::from(vas::Error::Index(3)));
+    let memory = DecoderError::from(dynamic::Error::OutOfMemory);
+    Ok(format!(in alloc; "{end} {gone} {memory:?}")?)
+}
