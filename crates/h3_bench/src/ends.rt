@@ -15,6 +15,22 @@ fn keep_last(bytes: &mut Vec<u8>, left: usize) {
     bytes.truncate(bytes.len() - taken);
 }
 
+/// Appends the instruction of the capacity.
+fn set_limits(
+    table: &mut DynamicTable,
+    capacity: usize,
+    limit: usize,
+    instructions: &mut Vec<u8>,
+) -> Result<(), Failure> {
+    if table.set_max_blocked(limit).is_err() {
+        return Err(Failure::Input);
+    }
+    match set_dynamic_table_size(table, instructions, capacity) {
+        Ok(()) => Ok(()),
+        Err(_) => Err(Failure::Input),
+    }
+}
+
 /// An encoder, and the start of an instruction that is not whole.
 #[derive(Drop)]
 pub(crate) struct Sender {
@@ -31,16 +47,16 @@ impl Sender {
         instructions: &mut Vec<u8>,
     ) -> Result<Sender, Failure> {
         let mut table = DynamicTable::new(alloc);
-        if table.set_max_blocked(limit).is_err() {
-            return Err(Failure::Input);
+        match set_limits(&mut table, capacity, limit, instructions) {
+            Ok(()) => Ok(Sender {
+                encoder: Encoder::from(table),
+                unread: Vec::new(alloc),
+            }),
+            Err(e) => {
+                drop(table);
+                Err(e)
+            }
         }
-        if set_dynamic_table_size(&mut table, instructions, capacity).is_err() {
-            return Err(Failure::Input);
-        }
-        Ok(Sender {
-            encoder: Encoder::from(table),
-            unread: Vec::new(alloc),
-        })
     }
 
     /// Appends the list's section, and the instructions to be read before it.
@@ -117,19 +133,39 @@ impl Receiver {
         section: &[u8],
         replies: &mut Vec<u8>,
     ) -> Result<Option<Vec<HeaderField>>, Failure> {
-        let decoded = match self.decoder.decode_header(&mut SliceCursor::new(section)) {
-            Ok(decoded) => decoded,
-            Err(DecoderError::MissingRefs(_)) => return Ok(None),
-            Err(_) => return Err(Failure::Refused),
-        };
-        if decoded.dyn_ref {
-            if stream >= 1 << 62 {
-                return Err(Failure::Input);
+        match self.decoder.decode_header(&mut SliceCursor::new(section)) {
+            Ok(decoded) => {
+                if decoded.dyn_ref {
+                    acknowledge(stream, replies)?;
+                }
+                Ok(Some(decoded.fields))
             }
-            if ack_header(stream, replies).is_err() {
-                return Err(Failure::Memory);
-            }
+            Err(DecoderError::MissingRefs(_)) => Ok(None),
+            Err(_) => Err(Failure::Refused),
         }
-        Ok(Some(decoded.fields))
+    }
+
+    /// Decodes a section that does not have to wait. Returns the count of its fields.
+    pub(crate) fn count(
+        &mut self,
+        stream: u64,
+        section: &[u8],
+        replies: &mut Vec<u8>,
+    ) -> Result<usize, Failure> {
+        match self.decode(stream, section, replies) {
+            Ok(Some(fields)) => Ok(fields.len()),
+            Ok(None) => Err(Failure::Refused),
+            Err(e) => Err(e),
+        }
+    }
+}
+
+fn acknowledge(stream: u64, replies: &mut Vec<u8>) -> Result<(), Failure> {
+    if stream >= 1 << 62 {
+        return Err(Failure::Input);
+    }
+    match ack_header(stream, replies) {
+        Ok(()) => Ok(()),
+        Err(_) => Err(Failure::Memory),
     }
 }

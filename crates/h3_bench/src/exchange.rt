@@ -71,10 +71,8 @@ impl Batch {
         report.add(0, self.instructions.len());
         for (stream, section) in self.streams.iter().zip(self.sections.iter()) {
             report.add(0, section.len());
-            match receiver.decode(*stream, section, &mut self.replies)? {
-                Some(fields) => report.add(fields.len(), 0),
-                None => return Err(Failure::Refused),
-            }
+            let count = receiver.count(*stream, section, &mut self.replies)?;
+            report.add(count, 0);
         }
         Ok(())
     }
@@ -107,15 +105,41 @@ struct Ends {
 
 impl Ends {
     fn new(alloc: Global, shape: Shape) -> Result<Ends, Failure> {
-        let mut batch = Batch::new(alloc, shape.batch)?;
-        let sender = Sender::new(alloc, shape.capacity, shape.limit, &mut batch.instructions)?;
-        let receiver = Receiver::new(alloc, shape.capacity)?;
-        Ok(Ends {
-            sender,
-            receiver,
-            batch,
-            report: Report::new(),
-        })
+        match Batch::new(alloc, shape.batch) {
+            Ok(batch) => Ends::around(alloc, shape, batch),
+            Err(e) => Err(e),
+        }
+    }
+
+    /// Around an empty batch, in which the encoder's first instruction stands then.
+    fn around(alloc: Global, shape: Shape, mut batch: Batch) -> Result<Ends, Failure> {
+        match Sender::new(alloc, shape.capacity, shape.limit, &mut batch.instructions) {
+            Ok(sender) => Ends::joined(sender, Receiver::new(alloc, shape.capacity), batch),
+            Err(e) => {
+                drop(batch);
+                Err(e)
+            }
+        }
+    }
+
+    fn joined(
+        sender: Sender,
+        receiver: Result<Receiver, Failure>,
+        batch: Batch,
+    ) -> Result<Ends, Failure> {
+        match receiver {
+            Ok(receiver) => Ok(Ends {
+                sender,
+                receiver,
+                batch,
+                report: Report::new(),
+            }),
+            Err(e) => {
+                drop(sender);
+                drop(batch);
+                Err(e)
+            }
+        }
     }
 
     /// The batch is read, answered and packed, and the next begins.
@@ -147,6 +171,22 @@ fn send_lists(
     Ok(stream)
 }
 
+/// All passes over the lists. Their batches stand in `packed` then.
+fn send_passes(
+    passes: usize,
+    lists: &[FieldList],
+    ends: &mut Ends,
+    packed: &mut Vec<u8>,
+) -> Result<Report, Failure> {
+    let mut stream: u64 = 0;
+    packed.clear();
+    for pass in 0..passes {
+        let is_last = pass + 1 == passes;
+        stream = send_lists(lists, stream, is_last, ends, packed)?;
+    }
+    Ok(ends.report)
+}
+
 /// A session. Its batches stand in `packed` then.
 fn exchange(
     alloc: Global,
@@ -154,14 +194,30 @@ fn exchange(
     lists: &[FieldList],
     packed: &mut Vec<u8>,
 ) -> Result<Report, Failure> {
-    let mut ends = Ends::new(alloc, shape)?;
-    let mut stream: u64 = 0;
-    packed.clear();
-    for pass in 0..shape.passes {
-        let is_last = pass + 1 == shape.passes;
-        stream = send_lists(lists, stream, is_last, &mut ends, packed)?;
+    match Ends::new(alloc, shape) {
+        Ok(mut ends) => {
+            let report = send_passes(shape.passes, lists, &mut ends, packed);
+            drop(ends);
+            report
+        }
+        Err(e) => Err(e),
     }
-    Ok(ends.report)
+}
+
+fn run_rounds(
+    alloc: Global,
+    rounds: u64,
+    shape: Shape,
+    lists: &[FieldList],
+    packed: &mut Vec<u8>,
+    out: &mut [u8],
+) -> Result<Report, Failure> {
+    for _ in 0..rounds {
+        exchange(alloc, shape, lists, packed)?;
+    }
+    let report = exchange(alloc, shape, lists, packed)?;
+    output::hand_out(packed, out)?;
+    Ok(report)
 }
 
 fn run(
@@ -173,12 +229,7 @@ fn run(
 ) -> Result<Report, Failure> {
     let lists = input::field_lists(alloc, bytes)?;
     let mut packed = Vec::new(alloc);
-    for _ in 0..rounds {
-        exchange(alloc, shape, &lists, &mut packed)?;
-    }
-    let report = exchange(alloc, shape, &lists, &mut packed)?;
-    output::hand_out(&packed, out)?;
-    Ok(report)
+    run_rounds(alloc, rounds, shape, &lists, &mut packed, out)
 }
 
 /// Runs a session `rounds` times, and once more to hand out its batches: for each the count of its sections, each of

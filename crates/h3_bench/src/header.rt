@@ -15,18 +15,31 @@ fn fields_of(alloc: Global, section: &[u8]) -> Result<Vec<HeaderField>, Failure>
 }
 
 fn header_of(alloc: Global, section: &[u8]) -> Result<Header, Failure> {
-    match Header::try_from(alloc, fields_of(alloc, section)?) {
+    let fields = fields_of(alloc, section)?;
+    match Header::try_from(alloc, fields) {
         Ok(header) => Ok(header),
         Err(_) => Err(Failure::Refused),
     }
 }
 
-/// Makes the header of each section, and lets it go.
+/// Makes the header of a section, and lets it go. Returns the count of its fields.
+fn read_one(alloc: Global, section: &[u8]) -> Result<usize, Failure> {
+    match header_of(alloc, section) {
+        Ok(header) => {
+            let count = header.len();
+            drop(header);
+            Ok(count)
+        }
+        Err(e) => Err(e),
+    }
+}
+
+/// Makes the header of each section.
 fn read_all(alloc: Global, sections: &[&[u8]]) -> Result<Report, Failure> {
     let mut report = Report::new();
     for section in sections {
-        let header = header_of(alloc, *section)?;
-        report.add(header.len(), 0);
+        let count = read_one(alloc, *section)?;
+        report.add(count, 0);
     }
     Ok(report)
 }
@@ -71,14 +84,20 @@ fn decode(alloc: Global, rounds: u64, bytes: &[u8]) -> Result<Report, Failure> {
     Ok(report)
 }
 
+/// Appends the header of a section.
+fn add_header(alloc: Global, section: &[u8], headers: &mut Vec<Header>) -> Result<(), Failure> {
+    let header = header_of(alloc, section)?;
+    match headers.push(header) {
+        Ok(()) => Ok(()),
+        Err(_) => Err(Failure::Memory),
+    }
+}
+
 fn list(alloc: Global, rounds: u64, bytes: &[u8]) -> Result<Report, Failure> {
     let sections = input::strings(alloc, bytes)?;
     let mut headers = Vec::new(alloc);
     for section in &sections {
-        let header = header_of(alloc, *section)?;
-        if headers.push(header).is_err() {
-            return Err(Failure::Memory);
-        }
+        add_header(alloc, *section, &mut headers)?;
     }
     let mut report = Report::new();
     for _ in 0..rounds {

@@ -81,14 +81,18 @@ fn take_owned(
     }
 }
 
+fn take_field(alloc: Global, input: &mut SliceCursor<'_>) -> Result<HeaderField, Failure> {
+    let name = take_owned(alloc, input)?;
+    let value = take_owned(alloc, input)?;
+    Ok(HeaderField::new(name, value))
+}
+
 fn take_list(alloc: Global, input: &mut SliceCursor<'_>) -> Result<FieldList, Failure> {
     let count = take_number(input)?;
     let mut fields = Vec::new(alloc);
     let mut size: u64 = 0;
     for _ in 0..count {
-        let name = take_owned(alloc, input)?;
-        let value = take_owned(alloc, input)?;
-        let field = HeaderField::new(name, value);
+        let field = take_field(alloc, input)?;
         let own_size = field.mem_size() as u64;
         if own_size >= (1 << 62) - size {
             return Err(Failure::Input);

@@ -50,37 +50,78 @@ fn decode_all(alloc: Global, sections: &[&[u8]]) -> Result<Report, Failure> {
     Ok(report)
 }
 
+/// Packs the section of each list.
+fn put_sections(
+    lists: &[FieldList],
+    section: &mut Vec<u8>,
+    packed: &mut Vec<u8>,
+) -> Result<(), Failure> {
+    output::put_number(packed, lists.len())?;
+    for list in lists {
+        encode_list(list, section)?;
+        output::put_string(packed, section)?;
+    }
+    Ok(())
+}
+
+fn encode_rounds(
+    rounds: u64,
+    lists: &[FieldList],
+    section: &mut Vec<u8>,
+    packed: &mut Vec<u8>,
+    out: &mut [u8],
+) -> Result<Report, Failure> {
+    let mut report = Report::new();
+    for _ in 0..rounds {
+        report = encode_all(lists, section)?;
+    }
+    put_sections(lists, section, packed)?;
+    output::hand_out(packed, out)?;
+    Ok(report)
+}
+
 fn encode(alloc: Global, rounds: u64, bytes: &[u8], out: &mut [u8]) -> Result<Report, Failure> {
     let lists = input::field_lists(alloc, bytes)?;
     let mut section = Vec::new(alloc);
+    let mut packed = Vec::new(alloc);
+    encode_rounds(rounds, &lists, &mut section, &mut packed, out)
+}
+
+/// Packs the list of a section.
+fn put_list(alloc: Global, section: &[u8], packed: &mut Vec<u8>) -> Result<(), Failure> {
+    let decoded = decode_section(alloc, section)?;
+    output::put_fields(packed, &decoded.fields)
+}
+
+/// Packs the list of each section.
+fn put_lists(alloc: Global, sections: &[&[u8]], packed: &mut Vec<u8>) -> Result<(), Failure> {
+    output::put_number(packed, sections.len())?;
+    for section in sections {
+        put_list(alloc, *section, packed)?;
+    }
+    Ok(())
+}
+
+fn decode_rounds(
+    alloc: Global,
+    rounds: u64,
+    sections: &[&[u8]],
+    packed: &mut Vec<u8>,
+    out: &mut [u8],
+) -> Result<Report, Failure> {
     let mut report = Report::new();
     for _ in 0..rounds {
-        report = encode_all(&lists, &mut section)?;
+        report = decode_all(alloc, sections)?;
     }
-    let mut packed = Vec::new(alloc);
-    output::put_number(&mut packed, lists.len())?;
-    for list in &lists {
-        encode_list(list, &mut section)?;
-        output::put_string(&mut packed, &section)?;
-    }
-    output::hand_out(&packed, out)?;
+    put_lists(alloc, sections, packed)?;
+    output::hand_out(packed, out)?;
     Ok(report)
 }
 
 fn decode(alloc: Global, rounds: u64, bytes: &[u8], out: &mut [u8]) -> Result<Report, Failure> {
     let sections = input::strings(alloc, bytes)?;
-    let mut report = Report::new();
-    for _ in 0..rounds {
-        report = decode_all(alloc, &sections)?;
-    }
     let mut packed = Vec::new(alloc);
-    output::put_number(&mut packed, sections.len())?;
-    for section in &sections {
-        let decoded = decode_section(alloc, *section)?;
-        output::put_fields(&mut packed, &decoded.fields)?;
-    }
-    output::hand_out(&packed, out)?;
-    Ok(report)
+    decode_rounds(alloc, rounds, &sections, &mut packed, out)
 }
 
 /// Encodes the lists `rounds` times, and once more to hand their sections out as strings.

@@ -119,6 +119,26 @@ fn put_written(
     Ok(())
 }
 
+/// All steps of an encoder. Its first instruction stands in `instructions` before.
+fn send_steps(
+    alloc: Global,
+    sender: &mut Sender,
+    lists: &[FieldList],
+    steps: &[Step<'_, usize>],
+    instructions: &mut Vec<u8>,
+    packed: &mut Vec<u8>,
+) -> Result<Report, Failure> {
+    let mut report = Report::new();
+    let mut section = Vec::new(alloc);
+    packed.clear();
+    output::put_number(packed, steps.len())?;
+    for step in steps {
+        send(sender, lists, step, &mut section, instructions, &mut report)?;
+        put_written(packed, &mut section, instructions)?;
+    }
+    Ok(report)
+}
+
 /// A session of an encoder: what it writes in each step stands in `packed` then.
 fn send_all(
     alloc: Global,
@@ -128,24 +148,15 @@ fn send_all(
     steps: &[Step<'_, usize>],
     packed: &mut Vec<u8>,
 ) -> Result<Report, Failure> {
-    let mut report = Report::new();
-    let mut section = Vec::new(alloc);
     let mut instructions = Vec::new(alloc);
-    let mut sender = Sender::new(alloc, capacity, limit, &mut instructions)?;
-    packed.clear();
-    output::put_number(packed, steps.len())?;
-    for step in steps {
-        send(
-            &mut sender,
-            lists,
-            step,
-            &mut section,
-            &mut instructions,
-            &mut report,
-        )?;
-        put_written(packed, &mut section, &mut instructions)?;
+    match Sender::new(alloc, capacity, limit, &mut instructions) {
+        Ok(mut sender) => {
+            let report = send_steps(alloc, &mut sender, lists, steps, &mut instructions, packed);
+            drop(sender);
+            report
+        }
+        Err(e) => Err(e),
     }
-    Ok(report)
 }
 
 /// A step of a decoder; the fields where it decoded a section. It appends what it writes.
@@ -163,22 +174,47 @@ fn receive(
     }
 }
 
+/// A step of a decoder whose fields and replies are let go.
+fn receive_one(
+    receiver: &mut Receiver,
+    step: &Step<'_, &[u8]>,
+    replies: &mut Vec<u8>,
+    report: &mut Report,
+) -> Result<(), Failure> {
+    if let Some(fields) = receive(receiver, step, replies)? {
+        count_fields(&fields, report);
+    }
+    replies.clear();
+    Ok(())
+}
+
+fn receive_steps(
+    alloc: Global,
+    receiver: &mut Receiver,
+    steps: &[Step<'_, &[u8]>],
+) -> Result<Report, Failure> {
+    let mut report = Report::new();
+    let mut replies = Vec::new(alloc);
+    for step in steps {
+        receive_one(receiver, step, &mut replies, &mut report)?;
+    }
+    Ok(report)
+}
+
 /// A session of a decoder.
 fn receive_all(
     alloc: Global,
     capacity: usize,
     steps: &[Step<'_, &[u8]>],
 ) -> Result<Report, Failure> {
-    let mut report = Report::new();
-    let mut replies = Vec::new(alloc);
-    let mut receiver = Receiver::new(alloc, capacity)?;
-    for step in steps {
-        if let Some(fields) = receive(&mut receiver, step, &mut replies)? {
-            count_fields(&fields, &mut report);
+    match Receiver::new(alloc, capacity) {
+        Ok(mut receiver) => {
+            let report = receive_steps(alloc, &mut receiver, steps);
+            drop(receiver);
+            report
         }
-        replies.clear();
+        Err(e) => Err(e),
     }
-    Ok(report)
 }
 
 /// Packs 1 and a list where a section was decoded, else 0.
@@ -206,17 +242,54 @@ fn receive_into(
     Ok(())
 }
 
-/// What a decoder gives and writes in a session, for each step: 1 and a list where it decoded a section, else 0; and
-/// what it wrote.
-fn received(alloc: Global, capacity: usize, steps: &[Step<'_, &[u8]>]) -> Result<Vec<u8>, Failure> {
-    let mut packed = Vec::new(alloc);
+fn receive_steps_into(
+    alloc: Global,
+    packed: &mut Vec<u8>,
+    receiver: &mut Receiver,
+    steps: &[Step<'_, &[u8]>],
+) -> Result<(), Failure> {
     let mut replies = Vec::new(alloc);
-    let mut receiver = Receiver::new(alloc, capacity)?;
-    output::put_number(&mut packed, steps.len())?;
+    output::put_number(packed, steps.len())?;
     for step in steps {
-        receive_into(&mut packed, &mut receiver, step, &mut replies)?;
+        receive_into(packed, receiver, step, &mut replies)?;
     }
-    Ok(packed)
+    Ok(())
+}
+
+/// Packs what a decoder gives and writes in a session, for each step: 1 and a list where it decoded a section, else 0;
+/// and what it wrote.
+fn put_received(
+    alloc: Global,
+    packed: &mut Vec<u8>,
+    capacity: usize,
+    steps: &[Step<'_, &[u8]>],
+) -> Result<(), Failure> {
+    match Receiver::new(alloc, capacity) {
+        Ok(mut receiver) => {
+            let done = receive_steps_into(alloc, packed, &mut receiver, steps);
+            drop(receiver);
+            done
+        }
+        Err(e) => Err(e),
+    }
+}
+
+fn send_rounds(
+    alloc: Global,
+    rounds: u64,
+    capacity: usize,
+    limit: usize,
+    lists: &[FieldList],
+    steps: &[Step<'_, usize>],
+    packed: &mut Vec<u8>,
+    out: &mut [u8],
+) -> Result<Report, Failure> {
+    for _ in 0..rounds {
+        send_all(alloc, capacity, limit, lists, steps, packed)?;
+    }
+    let report = send_all(alloc, capacity, limit, lists, steps, packed)?;
+    output::hand_out(packed, out)?;
+    Ok(report)
 }
 
 fn encode(
@@ -231,12 +304,16 @@ fn encode(
     let lists = take_lists(alloc, &mut input)?;
     let steps = sender_steps(alloc, &mut input)?;
     let mut packed = Vec::new(alloc);
-    for _ in 0..rounds {
-        send_all(alloc, capacity, limit, &lists, &steps, &mut packed)?;
-    }
-    let report = send_all(alloc, capacity, limit, &lists, &steps, &mut packed)?;
-    output::hand_out(&packed, out)?;
-    Ok(report)
+    send_rounds(
+        alloc,
+        rounds,
+        capacity,
+        limit,
+        &lists,
+        &steps,
+        &mut packed,
+        out,
+    )
 }
 
 fn decode(
@@ -251,7 +328,8 @@ fn decode(
     for _ in 0..rounds {
         report = receive_all(alloc, capacity, &steps)?;
     }
-    let packed = received(alloc, capacity, &steps)?;
+    let mut packed = Vec::new(alloc);
+    put_received(alloc, &mut packed, capacity, &steps)?;
     output::hand_out(&packed, out)?;
     Ok(report)
 }
