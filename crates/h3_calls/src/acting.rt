@@ -5,6 +5,7 @@ use crate::text::{bytes_text, pull_text};
 use bytes::Bytes;
 use h3_connection::event::{DeliverError, Fault, Pull, Refusal};
 use h3_connection::setup::{Limits, NewError};
+use h3_header::Header;
 use h3_proto::config::Config;
 use h3_proto::stream::{Side, StreamId};
 use h3_script::text::answer_text;
@@ -21,35 +22,47 @@ pub fn answer(
     if line.is_empty() || line.starts_with('#') {
         return String::from_str(alloc, line);
     }
-    match call(alloc, line)? {
-        Some(Call::New(side, section, table, blocked)) => {
-            let limits = Limits { table, blocked };
-            let config = Config::default()
-                .with_grease(false)
-                .with_max_field_section_size(section);
-            begin(
-                alloc,
-                endpoint,
-                Endpoint::new(alloc, side, config, limits, 0),
-            )
-        }
-        Some(call) => match endpoint {
-            Some(endpoint) => act(alloc, endpoint, call),
-            None => String::from_str(alloc, "no endpoint"),
-        },
-        None => String::from_str(alloc, "no such call"),
+    match call(alloc, line) {
+        Ok(Some(call)) => perform(alloc, endpoint, call),
+        Ok(None) => String::from_str(alloc, "no such call"),
+        Err(e) => Err(e),
     }
 }
 
-/// The endpoint that was made takes the place of the one before.
+/// Makes a call of the endpoint, where there is one, or makes a new one.
+fn perform(
+    alloc: Global,
+    endpoint: &mut Option<Endpoint>,
+    call: Call,
+) -> Result<String, AllocError> {
+    match call {
+        Call::New(side, section, table, blocked) => {
+            begin(alloc, endpoint, side, section, Limits { table, blocked })
+        }
+        call => match endpoint {
+            Some(endpoint) => act(alloc, endpoint, call),
+            None => {
+                drop(call);
+                String::from_str(alloc, "no endpoint")
+            }
+        },
+    }
+}
+
+/// A new endpoint takes the place of the one before.
 fn begin(
     alloc: Global,
     endpoint: &mut Option<Endpoint>,
-    made: Result<Endpoint, NewError>,
+    side: Side,
+    section: u64,
+    limits: Limits,
 ) -> Result<String, AllocError> {
-    match made {
+    let config = Config::default()
+        .with_grease(false)
+        .with_max_field_section_size(section);
+    match Endpoint::new(alloc, side, config, limits, 0) {
         Ok(made) => {
-            *endpoint = Some(made);
+            drop(endpoint.replace(made));
             String::from_str(alloc, "ok")
         }
         Err(NewError::TableLimit) => String::from_str(alloc, "refused TableLimit"),
@@ -64,9 +77,9 @@ fn act(alloc: Global, endpoint: &mut Endpoint, call: Call) -> Result<String, All
     match call {
         Call::New(_, _, _, _) => String::from_str(alloc, "no such call"),
         Call::Open => opened(alloc, endpoint.open_request()),
-        Call::Head(id, head) => done(alloc, endpoint.send_head(id, &head)),
+        Call::Head(id, head) => send_head(alloc, endpoint, id, head),
         Call::Body(id, body) => sent(alloc, endpoint.send_body(id, body)),
-        Call::Trailer(id, trailer) => done(alloc, endpoint.send_trailer(id, &trailer)),
+        Call::Trailer(id, trailer) => send_trailer(alloc, endpoint, id, trailer),
         Call::Finish(id) => done(alloc, endpoint.finish(id)),
         Call::Reset(id) => done(alloc, endpoint.reset(id)),
         Call::Cancel(id) => done(alloc, cancel(endpoint, id)),
@@ -74,25 +87,48 @@ fn act(alloc: Global, endpoint: &mut Endpoint, call: Call) -> Result<String, All
         Call::Deliver(id, bytes) => delivered(alloc, deliver(endpoint, id, bytes)),
         Call::End(id) => delivered(alloc, deliver_end(endpoint, id)),
         Call::Gone(id, code) => delivered(alloc, deliver_reset(endpoint, id, code)),
-        Call::Pull(id) => pull_text(alloc, &pull(endpoint, id)),
-        Call::Advance(id, count) => {
-            endpoint.advance(id, count);
-            String::from_str(alloc, "ok")
-        }
+        Call::Pull(id) => pulled(alloc, pull(endpoint, id)),
+        Call::Advance(id, count) => advance(alloc, endpoint, id, count),
         Call::Waits(id) => waits(alloc, endpoint, id),
         Call::Lends(id) => bytes_text(alloc, "lends ", endpoint.outgoing(id)),
-        Call::Tries(id) => {
-            let tries = endpoint.block_tries(id);
-            format!(in alloc; "tries {tries}")
-        }
+        Call::Tries(id) => tries(alloc, endpoint, id),
         Call::Sends(id) => String::from_str(alloc, sends(endpoint, id)),
         Call::Show => shown(alloc, endpoint),
-        Call::Sent => {
-            let sent = endpoint.sent();
-            format!(in alloc; "sent {sent}")
-        }
+        Call::Sent => sum(alloc, endpoint),
         Call::Goaways => goaways(alloc, endpoint),
     }
+}
+
+fn send_head(
+    alloc: Global,
+    endpoint: &mut Endpoint,
+    id: StreamId,
+    head: Header,
+) -> Result<String, AllocError> {
+    let tried = endpoint.send_head(id, &head);
+    drop(head);
+    done(alloc, tried)
+}
+
+fn send_trailer(
+    alloc: Global,
+    endpoint: &mut Endpoint,
+    id: StreamId,
+    trailer: Header,
+) -> Result<String, AllocError> {
+    let tried = endpoint.send_trailer(id, &trailer);
+    drop(trailer);
+    done(alloc, tried)
+}
+
+fn advance(
+    alloc: Global,
+    endpoint: &mut Endpoint,
+    id: StreamId,
+    count: usize,
+) -> Result<String, AllocError> {
+    endpoint.advance(id, count);
+    String::from_str(alloc, "ok")
 }
 
 /// Delivers bytes. Those that come back for want of memory are delivered once more, and where they were taken and not read no
@@ -137,31 +173,48 @@ fn cancel(endpoint: &mut Endpoint, id: StreamId) -> Result<(), Refusal> {
     }
 }
 
+fn pulled(alloc: Global, pull: Pull) -> Result<String, AllocError> {
+    let text = pull_text(alloc, &pull);
+    drop(pull);
+    text
+}
+
+/// The line of an answer, which is let go by one call: at the end of a scope its parts would be dropped one by one.
+fn answered(alloc: Global, answer: Answer) -> Result<String, AllocError> {
+    let text = answer_text(alloc, &answer);
+    drop(answer);
+    text
+}
+
 fn opened(alloc: Global, tried: Result<StreamId, Refusal>) -> Result<String, AllocError> {
     match tried {
-        Ok(id) => answer_text(alloc, &Answer::Opened(id)),
-        Err(refusal) => answer_text(alloc, &Answer::Refused(refusal)),
+        Ok(id) => answered(alloc, Answer::Opened(id)),
+        Err(refusal) => refused(alloc, refusal),
     }
 }
 
 fn done(alloc: Global, tried: Result<(), Refusal>) -> Result<String, AllocError> {
     match tried {
-        Ok(()) => answer_text(alloc, &Answer::Done),
-        Err(refusal) => answer_text(alloc, &Answer::Refused(refusal)),
+        Ok(()) => answered(alloc, Answer::Done),
+        Err(refusal) => refused(alloc, refusal),
     }
+}
+
+fn refused(alloc: Global, refusal: Refusal) -> Result<String, AllocError> {
+    answered(alloc, Answer::Refused(refusal))
 }
 
 fn sent(alloc: Global, tried: Result<(), (Refusal, Bytes)>) -> Result<String, AllocError> {
     match tried {
-        Ok(()) => answer_text(alloc, &Answer::Done),
-        Err((refusal, _body)) => answer_text(alloc, &Answer::Refused(refusal)),
+        Ok(()) => done(alloc, Ok(())),
+        Err((refusal, _body)) => refused(alloc, refusal),
     }
 }
 
 fn delivered(alloc: Global, tried: Result<(), DeliverError>) -> Result<String, AllocError> {
     match tried {
-        Ok(()) => answer_text(alloc, &Answer::Done),
-        Err(e) => answer_text(alloc, &Answer::Refused(refusal_of(&e))),
+        Ok(()) => done(alloc, Ok(())),
+        Err(e) => refused(alloc, refusal_of(&e)),
     }
 }
 
@@ -195,15 +248,21 @@ fn sends(endpoint: &Endpoint, id: StreamId) -> &'static str {
     "sends"
 }
 
+fn tries(alloc: Global, endpoint: &Endpoint, id: StreamId) -> Result<String, AllocError> {
+    let tries = endpoint.block_tries(id);
+    format!(in alloc; "tries {tries}")
+}
+
+/// The sum of what was sent.
+fn sum(alloc: Global, endpoint: &Endpoint) -> Result<String, AllocError> {
+    let sent = endpoint.sent();
+    format!(in alloc; "sent {sent}")
+}
+
 fn shown(alloc: Global, endpoint: &Endpoint) -> Result<String, AllocError> {
-    answer_text(
-        alloc,
-        &Answer::Shown(
-            endpoint.peer_limits(),
-            endpoint.table_size(),
-            endpoint.waiting_heads(),
-        ),
-    )
+    let limits = endpoint.peer_limits();
+    let answer = Answer::Shown(limits, endpoint.table_size(), endpoint.waiting_heads());
+    answered(alloc, answer)
 }
 
 fn goaways(alloc: Global, endpoint: &Endpoint) -> Result<String, AllocError> {

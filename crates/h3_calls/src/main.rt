@@ -7,14 +7,22 @@ mod reading;
 mod text;
 
 use crate::acting::answer;
+use h3_session::endpoint::Endpoint;
 use std::io;
 
 fn main(rt: HostRuntime) -> io::Result<()> {
-    let alloc = rt.alloc();
     let mut endpoint = None;
+    let done = answer_lines(&rt, &mut endpoint);
+    drop(endpoint);
+    done
+}
+
+/// Answers each line of the standard input.
+fn answer_lines(rt: &HostRuntime, endpoint: &mut Option<Endpoint>) -> io::Result<()> {
+    let alloc = rt.alloc();
     for line in rt.lines(alloc) {
         let line = line?;
-        let told = answer(alloc, &mut endpoint, line.as_str())?;
+        let told = answer(alloc, endpoint, line.as_str())?;
         println!(rt; "{told}")?;
     }
     Ok(())

@@ -95,15 +95,31 @@ fn on_stream(
     words: &[&str],
 ) -> Result<Option<Call>, AllocError> {
     if command == "head" {
-        return Ok(section(alloc, words)?.map(|head| Call::Head(id, head)));
+        return head(alloc, id, words);
     }
     if command == "trailer" {
-        return Ok(section(alloc, words)?.map(|trailer| Call::Trailer(id, trailer)));
+        return trailer(alloc, id, words);
     }
     match words {
         [] => Ok(alone(command, id)),
         [word] => with_word(alloc, command, id, *word),
         _ => Ok(None),
+    }
+}
+
+fn head(alloc: Global, id: StreamId, words: &[&str]) -> Result<Option<Call>, AllocError> {
+    match section(alloc, words) {
+        Ok(Some(head)) => Ok(Some(Call::Head(id, head))),
+        Ok(None) => Ok(None),
+        Err(e) => Err(e),
+    }
+}
+
+fn trailer(alloc: Global, id: StreamId, words: &[&str]) -> Result<Option<Call>, AllocError> {
+    match section(alloc, words) {
+        Ok(Some(trailer)) => Ok(Some(Call::Trailer(id, trailer))),
+        Ok(None) => Ok(None),
+        Err(e) => Err(e),
     }
 }
 
@@ -115,21 +131,41 @@ fn with_word(
     word: &str,
 ) -> Result<Option<Call>, AllocError> {
     if command == "body" {
-        return Ok(bytes(alloc, word)?.map(|bytes| Call::Body(id, bytes)));
+        return body(alloc, id, word);
     }
     if command == "deliver" {
-        return Ok(bytes(alloc, word)?.map(|bytes| Call::Deliver(id, bytes)));
+        return delivery(alloc, id, word);
     }
-    let Some(number) = number(word) else {
-        return Ok(None);
-    };
+    match number(word) {
+        Some(number) => Ok(with_number(command, id, number)),
+        None => Ok(None),
+    }
+}
+
+fn body(alloc: Global, id: StreamId, word: &str) -> Result<Option<Call>, AllocError> {
+    match bytes(alloc, word) {
+        Ok(Some(bytes)) => Ok(Some(Call::Body(id, bytes))),
+        Ok(None) => Ok(None),
+        Err(e) => Err(e),
+    }
+}
+
+fn delivery(alloc: Global, id: StreamId, word: &str) -> Result<Option<Call>, AllocError> {
+    match bytes(alloc, word) {
+        Ok(Some(bytes)) => Ok(Some(Call::Deliver(id, bytes))),
+        Ok(None) => Ok(None),
+        Err(e) => Err(e),
+    }
+}
+
+fn with_number(command: &str, id: StreamId, number: u64) -> Option<Call> {
     if command == "gone" {
-        return Ok(Some(Call::Gone(id, number)));
+        return Some(Call::Gone(id, number));
     }
     if command == "advance" {
-        return Ok(Some(Call::Advance(id, number as usize)));
+        return Some(Call::Advance(id, number as usize));
     }
-    Ok(None)
+    None
 }
 
 /// A call on a stream with nothing else.
@@ -200,7 +236,10 @@ fn section(alloc: Global, words: &[&str]) -> Result<Option<Header>, AllocError> 
         };
         fields.push(HeaderField::new(decoded(alloc, name)?, decoded(alloc, value)?))?;
     }
-    Ok(Header::try_from(alloc, fields).ok())
+    match Header::try_from(alloc, fields) {
+        Ok(header) => Ok(Some(header)),
+        Err(_) => Ok(None),
+    }
 }
 
 fn decoded(alloc: Global, word: &str) -> Result<CowSlice<'static, u8>, AllocError> {
