@@ -1,7 +1,7 @@
 # The commands of this repository. `make help` lists them.
 SCRIPT ?= examples/first.talk
 
-.PHONY: help run build lib test test-c bench interop
+.PHONY: help run build lib test test-c bench bench-exchange interop
 
 help: ## list the commands
 	@grep -hE '^[a-z-]+:.*## ' $(MAKEFILE_LIST) | sed -E 's/^([a-z-]+):.*## /make \1: /'
@@ -25,6 +25,9 @@ test: ## prove every crate from nothing, try the must-fail edits, run the tests 
 
 bench: ## print our figures beside nghttp3's and plain C's, measured in one run
 	@bash scripts/bench.sh
+
+bench-exchange: ## of these the rows of whole exchanges alone, over the library for C
+	@bash scripts/bench.sh exchange
 
 interop: ## show that nghttp3 reads what we write and we what it writes, and that the examples talk with HTTP/3 peers over QUIC
 	@bash scripts/interop.sh

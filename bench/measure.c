@@ -191,7 +191,7 @@ static void print_row(const row_kind *kind, const figures *found) {
   below += short_of;
 }
 
-static void print_allocations(const figures *found, double count) {
+static void print_allocations(const row_kind *kind, const figures *found, double count) {
   printf("%-28s %-13s", "  allocations", "");
   for (int k = 0; k < CONTENDERS; k++) {
     if (found->seconds[k] > 0)
@@ -199,7 +199,7 @@ static void print_allocations(const figures *found, double count) {
     else
       printf(" %12s", "-");
   }
-  printf(" %-8s\n", "a list");
+  printf(" %-8s\n", kind->one ? kind->one : "a list");
 }
 
 int is_measured(const char *row, const char *set) {
@@ -236,14 +236,14 @@ void measure_step(const row_kind *kind, const contender *whole, const contender 
   step.seconds[OURS] = found.seconds[OURS] - found.seconds[PEER];
   step.allocations[OURS] = found.allocations[OURS] - found.allocations[PEER];
   print_row(kind, &step);
-  if (lists > 0) print_allocations(&step, lists);
+  if (lists > 0) print_allocations(kind, &step, lists);
 }
 
 void measure_row(const row_kind *kind, const contender contenders[CONTENDERS], double lists) {
   if (!is_measured(kind->row, kind->set)) return;
   figures found = measure(contenders);
   print_row(kind, &found);
-  if (lists > 0) print_allocations(&found, lists);
+  if (lists > 0) print_allocations(kind, &found, lists);
 }
 
 int rows_below(void) { return below; }

@@ -28,6 +28,7 @@ typedef struct {
   double target_peer, target_third; /* least ratios of throughput; 0: none */
   const char *third;                /* who the third contender is; NULL: plain C */
   double most;                      /* the greatest figure of ours; 0: none */
+  const char *one;                  /* what allocations are counted for; NULL: a list */
 } row_kind;
 
 void print_head(void);
@@ -36,7 +37,7 @@ void print_head(void);
 extern const char *measure_only;
 int is_measured(const char *row, const char *set);
 
-/* Measures the contenders and prints their row; `lists`, where it is above 0, also the allocations of one list.
+/* Measures the contenders and prints their row; `lists`, where it is above 0, also the allocations of one of them.
  * `work` is NULL for a contender that the row does not have. */
 void measure_row(const row_kind *kind, const contender contenders[CONTENDERS], double lists);
 

@@ -1,5 +1,6 @@
 #!/usr/bin/env bash
-# Our encoder and decoder against nghttp3's, and then the examples against HTTP/3 peers over QUIC. The last line is 'N passed, M failed'.
+# The library for C beside nghttp3, then the examples against HTTP/3 peers over QUIC, and then our encoder and decoder of QPACK against nghttp3's, which
+# want a second library (h3_bench) proved. The last line is 'N passed, M failed'.
 set -uo pipefail
 cd "$(dirname "$0")/.."
 
@@ -7,23 +8,29 @@ log=$(mktemp)
 trap 'rm -f "$log"' EXIT
 passed=0
 failed=0
-if bash scripts/driver.sh interop; then
-  bench/out/interop bench/data | tee "$log"
-  last=$(grep -E '^[0-9]+ passed, [0-9]+ failed' "$log" | tail -n 1)
-  good=$(sed -nE 's/^([0-9]+) passed, .*/\1/p' <<<"$last")
-  bad=$(sed -nE 's/^[0-9]+ passed, ([0-9]+) failed.*/\1/p' <<<"$last")
-  passed=$((passed + ${good:-0}))
-  failed=$((failed + ${bad:-1}))
-else
-  failed=1
-fi
 
-bash scripts/interop_quic.sh | tee "$log"
-status=${PIPESTATUS[0]}
-good=$(grep -cE '^ok ' "$log")
-bad=$(grep -cE '^failed ' "$log")
-if [ "$status" -ne 0 ] && [ "$bad" -eq 0 ]; then bad=1; fi
-passed=$((passed + good))
-failed=$((failed + bad))
+# runs a command, and counts its lines 'ok ..' and 'failed ..'
+count() {
+  "$@" 2>&1 | tee "$log"
+  local status=${PIPESTATUS[0]} good bad
+  good=$(grep -cE '^ok ' "$log")
+  bad=$(grep -cE '^failed ' "$log")
+  # a command that stopped early, or checked nothing, is a failure of its own
+  if [ "$bad" -eq 0 ] && { [ "$status" -ne 0 ] || [ "$good" -eq 0 ]; }; then bad=1; fi
+  passed=$((passed + good))
+  failed=$((failed + bad))
+}
+
+if bash scripts/peer.sh && bash scripts/lib.sh && make --no-print-directory -s -C bench out/interop_exchange; then
+  count bench/out/interop_exchange bench/data
+  count env LIB="$PWD/build/c" bash scripts/interop_quic.sh
+else
+  failed=$((failed + 1))
+fi
+if bash scripts/driver.sh interop; then
+  count bench/out/interop bench/data
+else
+  failed=$((failed + 1))
+fi
 echo "$passed passed, $failed failed"
 [ "$failed" -eq 0 ]

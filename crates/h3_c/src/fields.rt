@@ -1,5 +1,5 @@
 //! Heads as C hands them in: the sizes of each name and value, and all their bytes in one row.
-ghost use Rattle.std.specs.Prelude.{◌≡◌, ◌≤◌, ◌+◌, ◌++◌, ◌∷◌, [], length, take, drop, IfOk, IfErr, OnOk, Some};
+ghost use Rattle.std.specs.Prelude.{◌≡◌, ◌≤◌, ◌+◌, ◌++◌, ◌∷◌, [], length, take, drop, IfOk, IfErr, IfSome, OnOk, Some};
 ghost use Rattle.std.specs.Cow.{cow_slice_items};
 ghost use Rattle.h3_header.specs.HeadRead.{IsHead};
 ghost use Rattle.h3_c.specs.Given.{field_at_front, fields_cut, head_given};
@@ -7,6 +7,7 @@ ghost use Rattle.h3_c.specs.Giving.{RefusesFields, RefusesHead};
 
 use crate::numbers::{ARGUMENT, MEMORY, Told, unread};
 use h3_field::HeaderField;
+use h3_field::static_::StaticTable;
 use h3_header::Header;
 use std::alloc::{AllocError, Global};
 use std::borrow::CowSlice;
@@ -23,6 +24,49 @@ fn owned(alloc: Global, bytes: &[u8]) -> Result<CowSlice<'static, u8>, AllocErro
     ensures { IfOk result (λ c. cow_slice_items c ≡ bytes.now) }
 {
     Ok(CowSlice::Owned(Vec::from_slice(alloc, bytes)?))
+}
+
+// The static table's copy of a name (RFC 9204, appendix A). It is compared here, so that the proof needs nothing of how it is found.
+fn static_name(name: &[u8]) -> Option<&'static [u8]>
+    ensures { IfSome result (λ s. s.now ≡ name.now) }
+{
+    let index = StaticTable::find_name(name)?;
+    let Ok(found) = StaticTable::get_name(index) else {
+        return None;
+    };
+    if found != name {
+        return None;
+    }
+    Some(found)
+}
+
+// A copy of values that most heads have, with no memory of its own.
+fn static_value(value: &[u8]) -> Option<&'static [u8]>
+    ensures { IfSome result (λ s. s.now ≡ value.now) }
+{
+    match value {
+        b"GET" => Some(b"GET"),
+        b"POST" => Some(b"POST"),
+        b"https" => Some(b"https"),
+        b"/" => Some(b"/"),
+        b"200" => Some(b"200"),
+        _ => None,
+    }
+}
+
+// The bytes, by a static copy where there is one.
+fn kept(
+    alloc: Global,
+    bytes: &[u8],
+    known: Option<&'static [u8]>,
+) -> Result<CowSlice<'static, u8>, AllocError>
+    requires { IfSome known (λ s. s.now ≡ bytes.now) }
+    ensures { IfOk result (λ c. cow_slice_items c ≡ bytes.now) }
+{
+    match known {
+        Some(known) => Ok(CowSlice::Borrowed(known)),
+        None => owned(alloc, bytes),
+    }
 }
 
 fn front(bytes: &[u8], count: usize) -> &[u8]
@@ -49,9 +93,10 @@ fn push_field(
     requires { size.name + size.value ≤ length rest.now }
     ensures { OnOk result (fields.new.items ≡ fields.old.items ++ field_at_front size rest.now ∷ []) }
 {
-    let name = owned(alloc, front(rest, size.name as usize))?;
-    let behind_name = behind(rest, size.name as usize);
-    let value = owned(alloc, front(behind_name, size.value as usize))?;
+    let name = front(rest, size.name as usize);
+    let value = front(behind(rest, size.name as usize), size.value as usize);
+    let name = kept(alloc, name, static_name(name))?;
+    let value = kept(alloc, value, static_value(value))?;
     fields.push(HeaderField::new(name, value))?;
     Ok(())
 }

@@ -1,13 +1,15 @@
 //! The heads and trailers that C sends.
 ghost use Rattle.std.specs.Prelude.{◌≡◌};
 ghost use Rattle.h3_connection.specs.SendingContracts.{SendsHead, SendsTrailer};
-ghost use Rattle.h3_c.specs.Exported.{OnStream, OrMemory, SendsGiven};
+ghost use Rattle.h3_c.specs.Exported.{Calls, OnStream, OrMemory, SendsGiven};
 ghost use Rattle.h3_c.specs.Given.{head_given};
+ghost use Rattle.h3_c.specs.Numbers.{call_told};
 
 use super::Connection;
 use crate::fields::{FieldSize, given_head};
 use crate::filled::note;
 use crate::numbers::{ARGUMENT, MEMORY, Told, called};
+use h3_header::Header;
 use h3_proto::stream::StreamId;
 use std::alloc::Global;
 
@@ -26,15 +28,21 @@ impl Connection {
         let Ok(stream) = StreamId::try_from(id) else {
             return ARGUMENT;
         };
-        let head = match given_head(alloc, sizes, bytes) {
-            Ok(head) => head,
-            Err(told) => return told,
-        };
+        match given_head(alloc, sizes, bytes) {
+            Ok(head) => self.put_head(stream, &head),
+            Err(told) => told,
+        }
+    }
+
+    // (a function of its own: each exit of one that owns the head would drop it)
+    fn put_head(&mut self, stream: StreamId, head: &Header) -> Told
+        ensures { OrMemory result self.old self.new (Calls call_told result self.old self.new (λ call. SendsHead self.old.endpoint self.new.endpoint stream head.now call)) }
+    {
         if self.filled.reserve(1).is_err() {
             return MEMORY;
         }
-        let told = called(self.endpoint.send_head(stream, &head));
-        note(&mut self.filled, id);
+        let told = called(self.endpoint.send_head(stream, head));
+        note(&mut self.filled, stream.into_inner());
         told
     }
 
@@ -52,15 +60,21 @@ impl Connection {
         let Ok(stream) = StreamId::try_from(id) else {
             return ARGUMENT;
         };
-        let trailer = match given_head(alloc, sizes, bytes) {
-            Ok(trailer) => trailer,
-            Err(told) => return told,
-        };
+        match given_head(alloc, sizes, bytes) {
+            Ok(trailer) => self.put_trailer(stream, &trailer),
+            Err(told) => told,
+        }
+    }
+
+    // (a function of its own: each exit of one that owns the trailer would drop it)
+    fn put_trailer(&mut self, stream: StreamId, trailer: &Header) -> Told
+        ensures { OrMemory result self.old self.new (Calls call_told result self.old self.new (λ call. SendsTrailer self.old.endpoint self.new.endpoint stream trailer.now call)) }
+    {
         if self.filled.reserve(1).is_err() {
             return MEMORY;
         }
-        let told = called(self.endpoint.send_trailer(stream, &trailer));
-        note(&mut self.filled, id);
+        let told = called(self.endpoint.send_trailer(stream, trailer));
+        note(&mut self.filled, stream.into_inner());
         told
     }
 }

@@ -24,12 +24,15 @@ impl Connection {
         let Ok(id) = StreamId::try_from(id) else {
             return ARGUMENT;
         };
+        let waiting = self.endpoint.waiting(id);
         let mut front = Vec::new(alloc);
+        // room for all at once; where that is refused, so is the copy
+        let _room = front.reserve(waiting.min(out.len()));
         *count = match self.endpoint.copy_outgoing(id, out.len(), &mut front) {
             Ok(()) => copy_front(front.as_slice(), out),
             Err(_) => copy_front(self.endpoint.outgoing(id), out),
         };
-        let is_last = self.endpoint.is_finished(id) && self.endpoint.waiting(id) == *count;
+        let is_last = self.endpoint.is_finished(id) && waiting == *count;
         *fin = is_last as u32;
         OK
     }

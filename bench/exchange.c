@@ -1,0 +1,108 @@
+/* Rows of whole exchanges, ours through the C interface beside nghttp3's, in one run. */
+#include "exchange.h"
+#include "measure.h"
+#include <stdio.h>
+#include <stdlib.h>
+#include <string.h>
+
+uint8_t exchange_body[LONGEST_BODY], carried[MOST_CARRIED], copied[LONGEST_BODY];
+
+/* through the C interface an exchange takes at most 1.2 of nghttp3's time */
+static const double TARGET = 1 / 1.2;
+
+static void count_sent(const field_lists *lists, size_t exchanges, size_t body, came_out *all) {
+  *all = (came_out){.heads = exchanges, .ends = exchanges, .body = exchanges * body};
+  for (size_t i = 0; i < exchanges; i++) {
+    const field_list *list = &lists->lists[i % lists->count];
+    all->fields += list->count;
+    for (size_t j = 0; j < list->count; j++) all->field_bytes += list->fields[j].namelen + list->fields[j].valuelen;
+  }
+}
+
+static void want(const char *who, const came_out *got, const came_out *sent) {
+  if (memcmp(got, sent, sizeof *got)) {
+    fprintf(stderr, "%s: %zu heads, %zu fields of %zu bytes, %zu of bodies, %zu ends; sent %zu, %zu, %zu, %zu, %zu\n", who, got->heads, got->fields,
+            got->field_bytes, got->body, got->ends, sent->heads, sent->fields, sent->field_bytes, sent->body, sent->ends);
+    stop("another thing came out than was sent", 0);
+  }
+}
+
+void want_all(const char *who, const exchange_kind *kind, const came_out *at_server, const came_out *at_client) {
+  came_out sent;
+  count_sent(kind->requests, kind->exchanges, kind->request_body, &sent);
+  want(who, at_server, &sent);
+  count_sent(kind->responses, kind->exchanges, kind->response_body, &sent);
+  want(who, at_client, &sent);
+}
+
+#define FIELD(name, value) \
+  { (uint8_t *)(name), (uint8_t *)(value), sizeof(name) - 1, sizeof(value) - 1, NGHTTP3_NV_FLAG_NONE }
+
+static void row(const char *name, const char *set, exchange_kind kind) {
+  const contender both[CONTENDERS] = {{our_exchanges, &kind}, {peer_exchanges, &kind}, {0}};
+  measure_row(&(row_kind){name, set, "ns", (double)kind.exchanges, 1, 1, TARGET, 0, NULL, 0, "each"}, both, (double)kind.exchanges);
+}
+
+/* Both without a table, and with one of 4,096 bytes of which 100 streams may wait. */
+static void rows(const char *with_none, const char *with_table, const char *set, exchange_kind kind) {
+  row(with_none, set, kind);
+  kind.table = 4096;
+  kind.blocked = 100;
+  row(with_table, set, kind);
+}
+
+static void small_rows(exchange_kind get) {
+  rows("500 exchanges, 0/0", "500 exchanges, 4096/100", "small GET", get);
+  exchange_kind many = get;
+  many.exchanges = 20000;
+  rows("20,000 exchanges, 0/0", "20,000 exchanges, 4096/100", "small GET", many);
+  exchange_kind post = get;
+  post.request_body = post.response_body = 7000;
+  rows("500 exchanges, 0/0", "500 exchanges, 4096/100", "small POST", post);
+  exchange_kind large = get;
+  large.request_body = large.response_body = LONGEST_BODY;
+  large.under_way = 10;
+  row("500 exchanges, 0/0", "64 KiB POST", large);
+}
+
+static double held_after(void (*work)(void *, uint64_t), exchange_kind kind, size_t exchanges) {
+  kind.exchanges = exchanges;
+  contender c = {work, &kind};
+  return memory_of(&c).bytes;
+}
+
+/* What a pair of idle endpoints holds, and by how much more each finished exchange raises it. */
+static void memory_rows(exchange_kind kind) {
+  const char *row_name = "memory";
+  double idle[2] = {held_after(our_exchanges, kind, 0), held_after(peer_exchanges, kind, 0)};
+  figure_row(&(figure_kind){row_name, "", "  an idle endpoint", "bytes", 4096}, idle[OURS] / 2, idle[PEER] / 2);
+  const size_t few = 5000, many = 15000;
+  double raised[2];
+  void (*const works[2])(void *, uint64_t) = {our_exchanges, peer_exchanges};
+  for (int k = 0; k < 2; k++) raised[k] = (held_after(works[k], kind, many) - held_after(works[k], kind, few)) / (double)(many - few) / 2;
+  figure_row(&(figure_kind){row_name, "", "  a finished stream", "bytes", 0}, raised[OURS], raised[PEER]);
+}
+
+int main(int argc, char **argv) {
+  const char *dir = argc > 1 ? argv[1] : "data";
+  if (argc > 2) measure_seconds = atof(argv[2]);
+  if (argc > 3) measure_only = argv[3];
+  for (size_t i = 0; i < sizeof exchange_body; i++) exchange_body[i] = (uint8_t)('a' + i % 26);
+  field_lists requests = load_lists(dir, "requests"), responses = load_lists(dir, "responses");
+  field_lists posts = with_value(&requests, "real POST", ":method", "POST"), answers = with_value(&responses, "real POST", ":status", "200");
+  nghttp3_nv get[] = {FIELD(":method", "GET"), FIELD(":scheme", "https"), FIELD(":authority", "www.example.com"), FIELD(":path", "/sample/path")};
+  nghttp3_nv ok[] = {FIELD(":status", "200"), FIELD("content-type", "text/plain")};
+  field_list small_get = {get, 4}, small_ok = {ok, 2};
+  field_lists gets = {.name = "small GET", .lists = &small_get, .count = 1}, oks = {.name = "small GET", .lists = &small_ok, .count = 1};
+  printf("whole exchanges: the time of one, ours through h3.h; a star marks more than 1.2 of nghttp3's time\n");
+  print_head();
+  exchange_kind real = {&posts, &answers, 7000, 7000, 500, 100, MOST_CARRIED, 0, 0};
+  rows("500 exchanges, 0/0", "500 exchanges, 4096/100", "real POST", real);
+  real.piece = 1200;
+  rows("in pieces of 1,200, 0/0", "in pieces of 1,200, 4096/100", "real POST", real);
+  exchange_kind small = {&gets, &oks, 0, 100, 500, 100, MOST_CARRIED, 0, 0};
+  small_rows(small);
+  memory_rows(small);
+  printf("%d rows below their target\n", rows_below());
+  return rows_below() > 0;
+}

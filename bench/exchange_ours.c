@@ -1,0 +1,161 @@
+/* Exchanges by build/c/libh3.a. */
+#include "exchange.h"
+#include "h3.h"
+#include <stdlib.h>
+#include <string.h>
+
+typedef struct {
+  h3_field_size *sizes;
+  size_t count;
+  pack bytes;
+} given_list; /* a list as h3_send_head takes it */
+
+typedef struct {
+  h3_endpoint end;
+  const given_list *lists; /* what it sends */
+  size_t lists_count, body;
+  uint64_t *whole; /* streams whose end came, not yet answered or forgotten */
+  size_t whole_count;
+  came_out got;
+} side;
+
+static void done(const char *what, uint32_t answer) {
+  if (answer != H3_OK) stop(what, (long)answer);
+}
+
+static given_list *given(const field_lists *lists) {
+  given_list *all = calloc(lists->count, sizeof *all);
+  for (size_t i = 0; i < lists->count; i++) {
+    const field_list *list = &lists->lists[i];
+    all[i].count = list->count;
+    all[i].sizes = calloc(list->count, sizeof *all[i].sizes);
+    for (size_t j = 0; j < list->count; j++) {
+      const nghttp3_nv *field = &list->fields[j];
+      all[i].sizes[j] = (h3_field_size){(uint32_t)field->namelen, (uint32_t)field->valuelen};
+      put_bytes(&all[i].bytes, field->name, field->namelen);
+      put_bytes(&all[i].bytes, field->value, field->valuelen);
+    }
+  }
+  return all;
+}
+
+static void free_given(given_list *all, size_t count) {
+  for (size_t i = 0; i < count; i++) {
+    free(all[i].sizes);
+    free_pack(&all[i].bytes);
+  }
+  free(all);
+}
+
+static void read_fields(side *to, size_t count) {
+  for (size_t i = 0; i < count; i++) {
+    size_t name, value;
+    done("h3_item_field", h3_item_field(&to->end, i, copied, 1 << 8, &name, copied + (1 << 8), LONGEST_BODY - (1 << 8), &value));
+    to->got.field_bytes += name + value;
+  }
+  to->got.fields += count;
+  to->got.heads++;
+}
+
+static void read_body(side *to) {
+  size_t len;
+  done("h3_item_bytes", h3_item_bytes(&to->end, 0, copied, sizeof copied, &len));
+  to->got.body += len;
+}
+
+/* Reads a stream until a pause or its end. */
+static void pull(side *to, uint64_t id) {
+  for (h3_item item;;) {
+    done("h3_pull", h3_pull(&to->end, id, &item));
+    switch (item.kind) {
+    case H3_HEAD:
+      read_fields(to, item.fields);
+      break;
+    case H3_BODY:
+      read_body(to);
+      break;
+    case H3_END:
+      to->whole[to->whole_count++] = id;
+      to->got.ends++;
+      return;
+    case H3_PENDING:
+      return;
+    default:
+      stop("h3_pull gave another kind", (long)item.kind);
+    }
+  }
+}
+
+static void carry(side *from, side *to, uint64_t id, size_t piece) {
+  size_t len;
+  uint32_t fin;
+  do {
+    done("h3_outgoing", h3_outgoing(&from->end, id, carried, piece, &len, &fin));
+    if (len) {
+      done("h3_deliver", h3_deliver(&to->end, id, carried, len, NULL));
+      done("h3_advance", h3_advance(&from->end, id, len));
+    }
+    if (fin) done("h3_deliver_end", h3_deliver_end(&to->end, id, NULL));
+    if (id % 4 == 0) pull(to, id);
+  } while (len == piece && !fin);
+}
+
+/* Carries all that waits: the own streams first, since heads may need what stands there. */
+static void carry_all(side *from, side *to, int is_server, size_t piece) {
+  const uint64_t own[] = {h3_control_id(is_server), h3_encoder_id(is_server), h3_decoder_id(is_server)};
+  for (size_t i = 0; i < sizeof own / sizeof *own; i++) carry(from, to, own[i], piece);
+  for (uint64_t id = 0; h3_next_waiting(&from->end, id, &id) == H3_OK; id++) carry(from, to, id, piece);
+}
+
+static void send(side *from, uint64_t id) {
+  const given_list *list = &from->lists[id / 4 % from->lists_count];
+  done("h3_send_head", h3_send_head(&from->end, id, list->sizes, list->count, list->bytes.bytes, list->bytes.len, NULL));
+  if (from->body) done("h3_send_body", h3_send_body(&from->end, id, exchange_body, from->body, NULL));
+  done("h3_finish", h3_finish(&from->end, id, NULL));
+}
+
+static void make(side *made, const exchange_kind *kind, int is_server) {
+  h3_config config;
+  h3_config_default(&config);
+  config.server = (uint32_t)is_server;
+  config.table = kind->table;
+  config.blocked = kind->blocked;
+  done("h3_new", h3_new(&made->end, &config, NULL));
+}
+
+static void run_connection(const exchange_kind *kind, side *client, side *server) {
+  make(client, kind, 0);
+  make(server, kind, 1);
+  carry_all(client, server, 0, kind->piece);
+  carry_all(server, client, 1, kind->piece);
+  for (size_t opened = 0; opened < kind->exchanges;) {
+    for (size_t i = 0; i < kind->under_way && opened < kind->exchanges; i++, opened++) {
+      uint64_t id;
+      done("h3_open_request", h3_open_request(&client->end, &id, NULL));
+      send(client, id);
+    }
+    carry_all(client, server, 0, kind->piece);
+    for (size_t i = 0; i < server->whole_count; i++) send(server, server->whole[i]);
+    carry_all(server, client, 1, kind->piece);
+    carry_all(client, server, 0, kind->piece);
+    carry_all(server, client, 1, kind->piece);
+    client->whole_count = server->whole_count = 0;
+  }
+  h3_free(&client->end);
+  h3_free(&server->end);
+}
+
+void our_exchanges(void *data, uint64_t rounds) {
+  const exchange_kind *kind = data;
+  given_list *requests = given(kind->requests), *responses = given(kind->responses);
+  uint64_t *whole = calloc(2 * (kind->under_way + 1), sizeof *whole);
+  for (; rounds; rounds--) {
+    side client = {H3_NONE_YET, requests, kind->requests->count, kind->request_body, whole, 0, {0}};
+    side server = {H3_NONE_YET, responses, kind->responses->count, kind->response_body, whole + kind->under_way + 1, 0, {0}};
+    run_connection(kind, &client, &server);
+    want_all("ours", kind, &server.got, &client.got);
+  }
+  free(whole);
+  free_given(requests, kind->requests->count);
+  free_given(responses, kind->responses->count);
+}
