@@ -6,6 +6,7 @@ ghost use Rattle.h3_c.specs.Numbers.{argument};
 
 use crate::config::{GivenConfig, endpoint_of};
 use crate::numbers::{ARGUMENT, MEMORY, Told, unmade};
+use crate::owned::boxed;
 use h3_connection::event::Pull;
 use h3_field::HeaderField;
 use h3_session::endpoint::Endpoint;
@@ -57,7 +58,6 @@ impl Connection {
 }
 
 /// The connection that is asked for.
-#[tactic(auto, using(crate::proofs::Making::lacks_memory, crate::proofs::Making::refused))]
 pub(crate) fn made(alloc: Global, given: &GivenConfig) -> Result<Box<Connection>, Told>
     ensures near { IfOk result (λ b. given.now.grease < 0x210842108421083) }
     ensures made { IfOk result (λ b. Creates (side_of given.now) (announced_of given.now) (Ok b.value.endpoint)) }
@@ -68,12 +68,21 @@ pub(crate) fn made(alloc: Global, given: &GivenConfig) -> Result<Box<Connection>
     if given.grease >= 0x210842108421083 {
         return Err(ARGUMENT);
     }
-    let endpoint = match endpoint_of(alloc, given) {
-        Ok(endpoint) => endpoint,
-        Err(e) => return Err(unmade(&e)),
-    };
-    let Ok(connection) = Box::new(alloc, Connection::of(alloc, endpoint)) else {
-        return Err(MEMORY);
-    };
-    Ok(connection)
+    made_in_range(alloc, given)
+}
+
+#[tactic(auto, using(crate::proofs::Making::lacks_memory, crate::proofs::Making::refused))]
+fn made_in_range(alloc: Global, given: &GivenConfig) -> Result<Box<Connection>, Told>
+    requires { given.now.grease < 0x210842108421083 }
+    ensures made { IfOk result (λ b. Creates (side_of given.now) (announced_of given.now) (Ok b.value.endpoint)) }
+    ensures last { IfOk result (λ b. b.value.last ≡ Pull.Pending) }
+    ensures refused { IfErr result (Unmakes given.now) }
+{
+    match endpoint_of(alloc, given) {
+        Ok(endpoint) => match boxed(alloc, Connection::of(alloc, endpoint)) {
+            Ok(connection) => Ok(connection),
+            Err(_) => Err(MEMORY),
+        },
+        Err(e) => Err(unmade(&e)),
+    }
 }

@@ -112,9 +112,17 @@ pub(crate) fn shown(answer: &Pull) -> PulledItem
         Pull::Pending => plain(9),
         Pull::Waiting(count) => numbered(10, *count as u64),
         Pull::NoMessages => plain(11),
-        Pull::Fault(Fault::Connection(code)) => numbered(12, code.value()),
-        Pull::Fault(Fault::Stream(fault)) => fault_shown(*fault),
-        Pull::Fault(Fault::Memory) => plain(16),
+        Pull::Fault(fault) => fault_given(fault),
+    }
+}
+
+fn fault_given(fault: &Fault) -> PulledItem
+    ensures { result ≡ shown (Pull.Fault fault.now) }
+{
+    match fault {
+        Fault::Connection(code) => numbered(12, code.value()),
+        Fault::Stream(fault) => fault_shown(*fault),
+        Fault::Memory => plain(16),
     }
 }
 

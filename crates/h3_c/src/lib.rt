@@ -12,4 +12,5 @@ mod handle;
 mod items;
 mod loose;
 mod numbers;
+mod owned;
 mod state;

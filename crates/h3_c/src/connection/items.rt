@@ -5,6 +5,7 @@ ghost use Rattle.h3_c.specs.Exported.{GivesField, OnStream, Pulls, ReadsBytes, R
 use super::Connection;
 use crate::items::{PulledItem, bytes_of, copy_front, fields_of, shown};
 use crate::numbers::{ARGUMENT, MEMORY, NONE, OK, ROOM, Told};
+use crate::owned::put;
 use h3_field::HeaderField;
 use h3_proto::stream::StreamId;
 use std::alloc::Global;
@@ -17,9 +18,10 @@ impl Connection {
         let Ok(id) = StreamId::try_from(id) else {
             return ARGUMENT;
         };
-        self.fields = None;
-        self.last = self.endpoint.pull(id);
-        *item = shown(&self.last);
+        let answer = self.endpoint.pull(id);
+        *item = shown(&answer);
+        put(&mut self.fields, None);
+        put(&mut self.last, answer);
         OK
     }
 
