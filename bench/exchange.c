@@ -71,16 +71,13 @@ static double held_after(void (*work)(void *, uint64_t), exchange_kind kind, siz
   return memory_of(&c).bytes;
 }
 
-/* What a pair of idle endpoints holds, and by how much more each finished exchange raises it. */
-static void memory_rows(exchange_kind kind) {
-  const char *row_name = "memory";
-  double idle[2] = {held_after(our_exchanges, kind, 0), held_after(peer_exchanges, kind, 0)};
-  figure_row(&(figure_kind){row_name, "", "  an idle endpoint", "bytes", 4096}, idle[OURS] / 2, idle[PEER] / 2);
+/* By how much each finished exchange raises what an endpoint holds. */
+static void memory_row(exchange_kind kind) {
   const size_t few = 5000, many = 15000;
   double raised[2];
   void (*const works[2])(void *, uint64_t) = {our_exchanges, peer_exchanges};
   for (int k = 0; k < 2; k++) raised[k] = (held_after(works[k], kind, many) - held_after(works[k], kind, few)) / (double)(many - few) / 2;
-  figure_row(&(figure_kind){row_name, "", "  a finished stream", "bytes", 0}, raised[OURS], raised[PEER]);
+  figure_row(&(figure_kind){"memory", "", "  a finished stream", "bytes", 0}, raised[OURS], raised[PEER]);
 }
 
 int main(int argc, char **argv) {
@@ -102,7 +99,7 @@ int main(int argc, char **argv) {
   rows("in pieces of 1,200, 0/0", "in pieces of 1,200, 4096/100", "real POST", real);
   exchange_kind small = {&gets, &oks, 0, 100, 500, 100, MOST_CARRIED, 0, 0};
   small_rows(small);
-  memory_rows(small);
+  memory_row(small);
   printf("%d rows below their target\n", rows_below());
   return rows_below() > 0;
 }
