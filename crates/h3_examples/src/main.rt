@@ -27,6 +27,7 @@ fn all(alloc: Global, text: &mut String) -> Result<(), AllocError> {
     stateless::response(alloc, text)?;
     session::round_trip(alloc, text)?;
     reading::in_pieces(alloc, text)?;
+    reading::at_once(alloc, text)?;
     refusals::of_limits(alloc, text)?;
     refusals::of_an_acknowledgment(alloc, text)?;
     table::inserts_in_the_shortest_way(alloc, text)?;

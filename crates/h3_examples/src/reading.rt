@@ -13,26 +13,40 @@ const SECTION: &[u8] = &[3, 129, 209, 215, 16, 17];
 pub fn in_pieces(alloc: Global, text: &mut String) -> Result<(), AllocError> {
     words(text, "# a decoder whose encoder stream comes in pieces")?;
     let mut decoder = Decoder::announced(alloc, 220);
-    section(alloc, &decoder, text)?;
-    piece(alloc, &mut decoder, &TWO_INSERTIONS[..30], text)?;
-    piece(alloc, &mut decoder, &TWO_INSERTIONS[20..], text)?;
-    section(alloc, &decoder, text)?;
+    two_pieces(alloc, &mut decoder, text)
+}
+
+fn two_pieces(alloc: Global, decoder: &mut Decoder, text: &mut String) -> Result<(), AllocError> {
+    section(alloc, decoder, text)?;
+    piece(alloc, decoder, &TWO_INSERTIONS[..30], text)?;
+    piece(alloc, decoder, &TWO_INSERTIONS[20..], text)?;
+    section(alloc, decoder, text)
+}
+
+/// One insertion and 299 duplicates of it. Then an instruction for a capacity above the one that was announced.
+pub fn at_once(alloc: Global, text: &mut String) -> Result<(), AllocError> {
     words(
         text,
         "# 300 insertions at once, and a capacity above the announced one",
     )?;
-    let mut decoder = Decoder::announced(alloc, 220);
-    let mut many = vec![in alloc; 63, 189, 1, 192, 0]?;
+    let mut many = Vec::new(alloc);
+    push_insertions(&mut many)?;
+    alone(alloc, &many, text)?;
+    alone(alloc, &[63, 190, 1], text)
+}
+
+fn push_insertions(many: &mut Vec<u8>) -> Result<(), AllocError> {
+    many.extend_from_slice(&[63, 189, 1, 192, 0])?;
     for _ in 0..299 {
         many.push(0)?;
     }
-    piece(alloc, &mut decoder, &many, text)?;
-    piece(
-        alloc,
-        &mut Decoder::announced(alloc, 220),
-        &[63, 190, 1],
-        text,
-    )
+    Ok(())
+}
+
+/// What a decoder makes of these bytes that has read nothing before.
+fn alone(alloc: Global, bytes: &[u8], text: &mut String) -> Result<(), AllocError> {
+    let mut decoder = Decoder::announced(alloc, 220);
+    piece(alloc, &mut decoder, bytes, text)
 }
 
 fn section(alloc: Global, decoder: &Decoder, text: &mut String) -> Result<(), AllocError> {

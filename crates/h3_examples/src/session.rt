@@ -26,36 +26,52 @@ pub fn round_trip(alloc: Global, text: &mut String) -> Result<(), AllocError> {
         text,
         "# a session: a table of 220 bytes, on which two streams may wait",
     )?;
-    let mut ends = begin(alloc, text)?;
-    ends.send(4, text)?;
-    ends.read(4, text)?;
-    ends.carry_instructions(text)?;
-    ends.read(4, text)?;
-    ends.carry_replies(text)?;
-    ends.send(8, text)?;
-    ends.give_up(8, text)?;
-    ends.carry_replies(text)
+    let mut instructions = Vec::new(alloc);
+    match encoder(alloc, &mut instructions) {
+        Ok(encoder) => begin(alloc, text, encoder, instructions),
+        Err(e) => Err(e),
+    }
 }
 
 /// The peer's settings came, in which the decoder announced its limits: the encoder may use the table.
-fn begin(alloc: Global, text: &mut String) -> Result<Ends, AllocError> {
+fn encoder(alloc: Global, instructions: &mut Vec<u8>) -> Result<Encoder, AllocError> {
     let mut encoder = Encoder::new(alloc);
-    let mut instructions = Vec::new(alloc);
-    if encoder.use_table(220, 2, &mut instructions).is_err() {
-        return Err(AllocError);
+    match encoder.use_table(220, 2, instructions) {
+        Ok(()) => Ok(encoder),
+        Err(_) => Err(AllocError),
     }
-    bytes(alloc, text, "encoder stream", &instructions)?;
-    Ok(Ends {
+}
+
+fn begin(
+    alloc: Global,
+    text: &mut String,
+    encoder: Encoder,
+    instructions: Vec<u8>,
+) -> Result<(), AllocError> {
+    let mut ends = Ends {
         alloc,
         encoder,
         decoder: Decoder::announced(alloc, 220),
         section: Vec::new(alloc),
         instructions,
         replies: Vec::new(alloc),
-    })
+    };
+    ends.exchange(text)
 }
 
 impl Ends {
+    fn exchange(&mut self, text: &mut String) -> Result<(), AllocError> {
+        bytes(self.alloc, text, "encoder stream", &self.instructions)?;
+        self.send(4, text)?;
+        self.read(4, text)?;
+        self.carry_instructions(text)?;
+        self.read(4, text)?;
+        self.carry_replies(text)?;
+        self.send(8, text)?;
+        self.give_up(8, text)?;
+        self.carry_replies(text)
+    }
+
     /// Writes a request for https://www.example.com/sample/path.
     fn send(&mut self, stream: u64, text: &mut String) -> Result<(), AllocError> {
         let request = [
