@@ -38,7 +38,9 @@ fn item(alloc: Global, item: Item) -> Result<String, CaseError> {
 }
 
 fn line(alloc: Global, answer: Answer) -> Result<String, CaseError> {
-    Ok(answer_text(alloc, &answer)?)
+    let told = answer_text(alloc, &answer);
+    drop(answer);
+    Ok(told?)
 }
 
 /// An answer that carries nothing.

@@ -1,8 +1,9 @@
 //! Headers of messages (RFC 9114, section 4.3): field lists and the headers that they make, refusals and texts.
 use crate::case::{CaseError, number, said, small, text};
 use crate::sections::{field, fields, push_field};
+use h3_field::HeaderField;
 use h3_header::ext::Protocol;
-use h3_header::headers::{Header, HeaderError};
+use h3_header::headers::{Header, HeaderError, HeaderIter};
 use http::{Method, StatusCode};
 use http_header::{HeaderMap, HeaderName, HeaderValue};
 use http_uri::Uri;
@@ -68,10 +69,17 @@ fn listed(alloc: Global, header: &Header) -> Result<String, CaseError> {
 /// The fields as the iterator gives them.
 fn iterated(alloc: Global, header: Header) -> Result<String, CaseError> {
     let mut text = String::new(alloc);
-    for field in header.into_iter(alloc) {
-        push_field(&mut text, &field?)?;
+    for item in header.into_iter(alloc) {
+        push_item(&mut text, item)?;
     }
     Ok(text)
+}
+
+fn push_item(text: &mut String, item: Result<HeaderField, AllocError>) -> Result<(), CaseError> {
+    let field = item?;
+    let pushed = push_field(text, &field);
+    drop(field);
+    pushed
 }
 
 fn kind(alloc: Global, header: &Header) -> Result<String, CaseError> {
@@ -141,27 +149,51 @@ fn append_host(alloc: Global, fields: &mut HeaderMap, host: &str) -> Result<(), 
 fn made(alloc: Global, header: Result<Header, HeaderError>) -> Result<String, CaseError> {
     match header {
         Ok(header) => {
-            let (is, text) = (header.is_request(), listed(alloc, &header)?);
-            Ok(format!(in alloc; "request {is}: {text}")?)
+            let told = told_of(alloc, &header);
+            drop(header);
+            told
         }
         Err(e) => refused(alloc, &e),
     }
 }
 
+fn told_of(alloc: Global, header: &Header) -> Result<String, CaseError> {
+    let (is, text) = (header.is_request(), listed(alloc, header)?);
+    Ok(format!(in alloc; "request {is}: {text}")?)
+}
+
 /// A response without fields: its text, or whether its iterator gives one field and then no more.
 fn response(alloc: Global, words: &[&str]) -> Result<String, CaseError> {
-    let header = Header::response(StatusCode::OK, HeaderMap::new(alloc));
     let [word] = words else {
         return Err(CaseError::Unreadable);
     };
+    let header = Header::response(StatusCode::OK, HeaderMap::new(alloc));
     if *word == "print" {
-        return Ok(format!(in alloc; "{header:?}")?);
+        return printed(alloc, header);
     }
-    let mut iter = header.into_iter(alloc);
-    let first = iter.next().is_some();
-    let second = iter.next().is_some();
-    let third = iter.next().is_some();
+    let [first, second, third] = thrice(alloc, header);
     Ok(format!(in alloc; "{first} {second} {third}")?)
+}
+
+fn printed(alloc: Global, header: Header) -> Result<String, CaseError> {
+    let text = format!(in alloc; "{header:?}");
+    drop(header);
+    Ok(text?)
+}
+
+/// Whether its iterator gives a field, asked three times.
+fn thrice(alloc: Global, header: Header) -> [bool; 3] {
+    let mut iter = header.into_iter(alloc);
+    let given = [gives(&mut iter), gives(&mut iter), gives(&mut iter)];
+    drop(iter);
+    given
+}
+
+fn gives(iter: &mut HeaderIter) -> bool {
+    let item = iter.next();
+    let is = item.is_some();
+    drop(item);
+    is
 }
 
 /// A list of one name more than a map holds.
