@@ -1,4 +1,4 @@
-//! Reading where memory may be refused: `rt try --fail-alloc 1..` over one of these lines refuses each allocation in turn. A
+//! Reading where memory may be refused: `rt try --fail-alloc N` over one of these lines refuses the Nth allocation. A
 //! call that was refused for memory took nothing, and is made again.
 ghost use Rattle.std.specs.Prelude.{◌≡◌, ◌<◌, ◌≤◌, ◌^◌, length, false};
 ghost use Rattle.h3_wire.specs.Streams.{left, is_open};
