@@ -1,7 +1,7 @@
 # The commands of this repository. `make help` lists them.
 SCRIPT ?= examples/first.talk
 
-.PHONY: help run build lib test test-c bench bench-exchange interop
+.PHONY: help run build lib test test-c bench bench-build bench-page bench-exchange interop
 
 help: ## list the commands
 	@grep -hE '^[a-z-]+:.*## ' $(MAKEFILE_LIST) | sed -E 's/^([a-z-]+):.*## /make \1: /'
@@ -25,6 +25,12 @@ test: ## prove every crate from nothing, try the must-fail edits, run the tests 
 
 bench: ## print our figures beside nghttp3's and plain C's, measured in one run
 	@bash scripts/bench.sh
+
+bench-build: ## build what make bench measures, and measure nothing
+	@BUILD_ONLY=1 bash scripts/bench.sh
+
+bench-page: ## measure what make bench-build left, and write the tables of docs/PERFORMANCE.md
+	@bash scripts/bench.sh page
 
 bench-exchange: ## of these the rows of whole exchanges alone, over the library for C
 	@bash scripts/bench.sh exchange

@@ -40,7 +40,7 @@ void want_all(const char *who, const exchange_kind *kind, const came_out *at_ser
 
 static void row(const char *name, const char *set, exchange_kind kind) {
   const contender both[CONTENDERS] = {{our_exchanges, &kind}, {peer_exchanges, &kind}, {0}};
-  measure_row(&(row_kind){name, set, "ns", (double)kind.exchanges, 1, 1, TARGET, 0, NULL, 0, "each"}, both, (double)kind.exchanges);
+  measure_row(&(row_kind){name, set, "us", (double)kind.exchanges, 1000, 1, TARGET, 0}, both, (double)kind.exchanges);
 }
 
 /* Both without a table, and with one of 4,096 bytes of which 100 streams may wait. */
@@ -51,11 +51,25 @@ static void rows(const char *with_none, const char *with_table, const char *set,
   row(with_table, set, kind);
 }
 
+static double seconds_each(void (*work)(void *, uint64_t), exchange_kind *kind) {
+  const contender c = {work, kind};
+  return seconds_of(&c) / (double)kind->exchanges;
+}
+
+/* What one of so many exchanges costs, of one of few: nothing is to be searched in line. */
+static void growth_row(exchange_kind few, exchange_kind many) {
+  const figure_kind kind = {"growth", "small GET", "one of 20,000, of one of 500", "times", 1.1};
+  if (!is_measured(kind.row, kind.set)) return;
+  figure_row(&kind, seconds_each(our_exchanges, &many) / seconds_each(our_exchanges, &few),
+             seconds_each(peer_exchanges, &many) / seconds_each(peer_exchanges, &few));
+}
+
 static void small_rows(exchange_kind get) {
   rows("500 exchanges, 0/0", "500 exchanges, 4096/100", "small GET", get);
   exchange_kind many = get;
   many.exchanges = 20000;
   rows("20,000 exchanges, 0/0", "20,000 exchanges, 4096/100", "small GET", many);
+  growth_row(get, many);
   exchange_kind post = get;
   post.request_body = post.response_body = 7000;
   rows("500 exchanges, 0/0", "500 exchanges, 4096/100", "small POST", post);
@@ -71,13 +85,19 @@ static double held_after(void (*work)(void *, uint64_t), exchange_kind kind, siz
   return memory_of(&c).bytes;
 }
 
-/* By how much each finished exchange raises what an endpoint holds. */
-static void memory_row(exchange_kind kind) {
+/* By how much each finished exchange raises what an end holds, and what an end holds at most in a connection without any. */
+static void memory_rows(exchange_kind kind) {
   const size_t few = 5000, many = 15000;
-  double raised[2];
+  const figure_kind finished = {"memory", "small GET", "a finished stream", "bytes", 0}, idle = {"memory", "no exchange", "an idle end", "bytes", 4096};
   void (*const works[2])(void *, uint64_t) = {our_exchanges, peer_exchanges};
-  for (int k = 0; k < 2; k++) raised[k] = (held_after(works[k], kind, many) - held_after(works[k], kind, few)) / (double)(many - few) / 2;
-  figure_row(&(figure_kind){"memory", "", "  a finished stream", "bytes", 0}, raised[OURS], raised[PEER]);
+  double raised[2], held[2];
+  if (!is_measured(finished.row, finished.set)) return;
+  for (int k = 0; k < 2; k++) {
+    raised[k] = (held_after(works[k], kind, many) - held_after(works[k], kind, few)) / (double)(many - few) / 2;
+    held[k] = held_after(works[k], kind, 0) / 2;
+  }
+  figure_row(&finished, raised[OURS], raised[PEER]);
+  figure_row(&idle, held[OURS], held[PEER]);
 }
 
 int main(int argc, char **argv) {
@@ -86,20 +106,21 @@ int main(int argc, char **argv) {
   if (argc > 3) measure_only = argv[3];
   for (size_t i = 0; i < sizeof exchange_body; i++) exchange_body[i] = (uint8_t)('a' + i % 26);
   field_lists requests = load_lists(dir, "requests"), responses = load_lists(dir, "responses");
-  field_lists posts = with_value(&requests, "real POST", ":method", "POST"), answers = with_value(&responses, "real POST", ":status", "200");
+  field_lists posts = with_value(&requests, "real POST", ":method", "POST"), answers = with_value(&responses, "real POST", ":status", "200"),
+              pages = with_value(&requests, "real GET", ":method", "GET");
   nghttp3_nv get[] = {FIELD(":method", "GET"), FIELD(":scheme", "https"), FIELD(":authority", "www.example.com"), FIELD(":path", "/sample/path")};
   nghttp3_nv ok[] = {FIELD(":status", "200"), FIELD("content-type", "text/plain")};
   field_list small_get = {get, 4}, small_ok = {ok, 2};
   field_lists gets = {.name = "small GET", .lists = &small_get, .count = 1}, oks = {.name = "small GET", .lists = &small_ok, .count = 1};
-  printf("whole exchanges: the time of one, ours through h3.h; a star marks more than 1.2 of nghttp3's time\n");
   print_head();
   exchange_kind real = {&posts, &answers, 7000, 7000, 500, 100, MOST_CARRIED, 0, 0};
   rows("500 exchanges, 0/0", "500 exchanges, 4096/100", "real POST", real);
   real.piece = 1200;
   rows("in pieces of 1,200, 0/0", "in pieces of 1,200, 4096/100", "real POST", real);
+  row("20,000 exchanges, 0/0", "real GET", (exchange_kind){&pages, &answers, 0, 100, 20000, 100, MOST_CARRIED, 0, 0});
   exchange_kind small = {&gets, &oks, 0, 100, 500, 100, MOST_CARRIED, 0, 0};
   small_rows(small);
-  memory_row(small);
-  printf("%d rows below their target\n", rows_below());
+  memory_rows(small);
+  printf("\n%d rows below their target\n", rows_below());
   return rows_below() > 0;
 }

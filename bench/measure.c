@@ -11,7 +11,8 @@ const char *measure_only;
 volatile uint64_t measure_sink;
 static int below;
 
-enum { RUNS = 5 };
+/* Contenders, and behind each what is taken off its time. */
+enum { RUNS = 5, MEASURED = 2 * CONTENDERS };
 
 typedef struct {
   double seconds[CONTENDERS];     /* of one round: the median of five runs; 0 where there is no such contender */
@@ -87,11 +88,14 @@ double allocations_of(const contender *c, uint64_t rounds) {
   return (double)(allocations - before);
 }
 
+/* A round that takes long is tried once. */
 static double best_time(const contender *c, uint64_t rounds, int tries) {
+  const double LONG = 0.02;
   double best = 1e9;
-  for (; tries; tries--) {
+  for (; tries && best > LONG; tries--) {
     double taken = time_of(c, rounds);
     if (taken < best) best = taken;
+    if (taken > LONG) break;
   }
   return best;
 }
@@ -107,20 +111,19 @@ static uint64_t rounds_of(const contender *c) {
 }
 
 /* One run: the contenders in turn, in pieces of some milliseconds; of each the best piece counts. */
-static void run(const contender contenders[CONTENDERS], const uint64_t rounds[CONTENDERS], double taken[CONTENDERS]) {
-  double best[CONTENDERS], none[CONTENDERS];
-  for (int k = 0; k < CONTENDERS; k++) best[k] = none[k] = 1e9;
+static void run(const contender all[MEASURED], const uint64_t rounds[MEASURED], double taken[MEASURED]) {
+  double best[MEASURED], none[MEASURED];
+  for (int k = 0; k < MEASURED; k++) best[k] = none[k] = 1e9;
   double end = now() + measure_seconds / RUNS;
   do {
-    for (int k = 0; k < CONTENDERS; k++) {
-      if (!contenders[k].work) continue;
-      double idle = time_of(&contenders[k], 0), busy = time_of(&contenders[k], rounds[k]);
+    for (int k = 0; k < MEASURED; k++) {
+      if (!all[k].work) continue;
+      double idle = time_of(&all[k], 0), busy = time_of(&all[k], rounds[k]);
       if (idle < none[k]) none[k] = idle;
       if (busy < best[k]) best[k] = busy;
     }
   } while (now() < end);
-  for (int k = 0; k < CONTENDERS; k++)
-    taken[k] = contenders[k].work ? (best[k] - none[k]) / (double)rounds[k] : 0;
+  for (int k = 0; k < MEASURED; k++) taken[k] = all[k].work ? (best[k] - none[k]) / (double)rounds[k] : 0;
 }
 
 static int in_order(const void *one, const void *other) {
@@ -128,78 +131,99 @@ static int in_order(const void *one, const void *other) {
   return (a > b) - (a < b);
 }
 
-static figures measure(const contender contenders[CONTENDERS]) {
+static double allocations_a_round(const contender *c, uint64_t rounds) {
+  return (allocations_of(c, rounds) - allocations_of(c, 0)) / (double)rounds;
+}
+
+/* What the contenders take beyond their parts. */
+static figures measure(const contender whole[CONTENDERS], const contender part[CONTENDERS]) {
   figures found = {0};
-  uint64_t rounds[CONTENDERS] = {0};
-  double taken[RUNS][CONTENDERS], one[RUNS];
+  contender all[MEASURED];
+  uint64_t rounds[MEASURED] = {0};
+  double taken[RUNS][MEASURED], one[RUNS];
   for (int k = 0; k < CONTENDERS; k++) {
-    if (!contenders[k].work) continue;
-    rounds[k] = rounds_of(&contenders[k]);
-    double with = allocations_of(&contenders[k], rounds[k]), without = allocations_of(&contenders[k], 0);
-    found.allocations[k] = (with - without) / (double)rounds[k];
+    all[k] = whole[k];
+    all[CONTENDERS + k] = part ? part[k] : (contender){0};
   }
-  for (int i = 0; i < RUNS; i++) run(contenders, rounds, taken[i]);
+  for (int k = 0; k < MEASURED; k++) {
+    if (!all[k].work) continue;
+    rounds[k] = rounds_of(&all[k]);
+    found.allocations[k % CONTENDERS] += (k < CONTENDERS ? 1 : -1) * allocations_a_round(&all[k], rounds[k]);
+  }
+  for (int i = 0; i < RUNS; i++) run(all, rounds, taken[i]);
   for (int k = 0; k < CONTENDERS; k++) {
-    for (int i = 0; i < RUNS; i++) one[i] = taken[i][k];
+    for (int i = 0; i < RUNS; i++) one[i] = taken[i][k] - taken[i][CONTENDERS + k];
     qsort(one, RUNS, sizeof *one, in_order);
     found.seconds[k] = one[RUNS / 2];
   }
   return found;
 }
 
+/* The rows are those of a table in Markdown. */
 void print_head(void) {
-  printf("%-28s %-13s %12s %12s %12s %-8s %9s %9s\n", "row", "set", "ours", "nghttp3", "third", "unit", "/nghttp3",
-         "/third");
+  printf("| %-27s | %-17s | %9s | %9s | %9s | %-8s | %8s | %8s | %-25s | %s |\n", "Row", "Set", "ours", "nghttp3", "third", "unit",
+         "/nghttp3", "/third", "wanted", "allocations");
+  printf("|---|---|---|---|---|---|---|---|---|---|\n");
 }
 
 static double figure_of(const row_kind *kind, double seconds) {
-  return kind->each ? seconds / kind->count * 1e9 : kind->count / seconds / kind->scale;
+  return kind->each ? seconds / kind->count * 1e9 / kind->scale : kind->count / seconds / kind->scale;
 }
 
 static void print_figure(const row_kind *kind, double seconds) {
   if (seconds <= 0)
-    printf(" %12s", "-");
+    printf(" %9s |", "");
   else
-    printf(" %12.2f", figure_of(kind, seconds));
+    printf(" %9.2f |", figure_of(kind, seconds));
 }
 
+/* A ratio is judged as it is printed. */
 static int print_ratio(double ours, double other, double target) {
-  if (other <= 0) {
-    printf(" %9s", "-");
+  if (ours <= 0 || other <= 0) {
+    printf(" %8s |", "");
     return 0;
   }
-  double ratio = other / ours;
-  int short_of = target > 0 && ratio < target;
-  printf(" %8.2f%c", ratio, short_of ? '*' : ' ');
+  char text[32];
+  snprintf(text, sizeof text, "%.2f", other / ours);
+  int short_of = target > 0 && atof(text) < target;
+  printf(" %7s%c |", text, short_of ? '*' : ' ');
   return short_of;
 }
 
-static void print_row(const row_kind *kind, const figures *found) {
-  printf("%-28s %-13s", kind->row, kind->set);
-  for (int k = 0; k < CONTENDERS; k++) print_figure(kind, found->seconds[k]);
-  printf(" %-8s", kind->unit);
-  int short_of = print_ratio(found->seconds[OURS], found->seconds[PEER], kind->target_peer);
-  short_of |= print_ratio(found->seconds[OURS], found->seconds[THIRD], kind->target_third);
-  if (found->seconds[THIRD] > 0) printf(" %s", kind->third ? kind->third : "plain C");
-  if (kind->most > 0) {
-    int above = figure_of(kind, found->seconds[OURS]) > kind->most;
-    printf(" at most %.0f%c", kind->most, above ? '*' : ' ');
-    short_of |= above;
-  }
-  printf("\n");
-  fflush(stdout);
-  below += short_of;
+/* What the targets of a row are. */
+static void print_wanted(const row_kind *kind, int is_above) {
+  char text[96] = "";
+  size_t len = 0;
+  if (kind->target_peer > 0) len += (size_t)snprintf(text + len, sizeof text - len, "at least %.2f", kind->target_peer);
+  if (kind->target_third > 0)
+    len += (size_t)snprintf(text + len, sizeof text - len, "%s%.2f of %s", len ? ", " : "at least ", kind->target_third,
+                            kind->third ? kind->third : "plain C");
+  if (kind->most > 0) len += (size_t)snprintf(text + len, sizeof text - len, "%sat most %.0f%s", len ? ", " : "", kind->most, is_above ? "*" : "");
+  if (kind->no_allocation) snprintf(text + len, sizeof text - len, "%sno allocation", len ? ", " : "");
+  printf(" %-25s |", text);
 }
 
-static void print_allocations(const row_kind *kind, const figures *found, double count) {
-  printf("%-28s %-13s", "  allocations", "");
-  for (int k = 0; k < CONTENDERS; k++) {
-    if (found->seconds[k] > 0)
-      printf(" %12.2f", found->allocations[k] / count);
-    else
-      printf(" %12s", "-");
+static void print_allocations(const figures *found, double count) {
+  const char *gap = " ";
+  for (int k = 0; count > 0 && k < CONTENDERS; k++) {
+    if (found->seconds[k] <= 0) continue;
+    printf("%s%.2f", gap, found->allocations[k] / count);
+    gap = ", ";
   }
-  printf(" %-8s\n", kind->one ? kind->one : "a list");
+  printf(" |\n");
+}
+
+static void print_row(const row_kind *kind, const figures *found, double lists) {
+  printf("| %-27s | %-17s |", kind->row, kind->set);
+  for (int k = 0; k < CONTENDERS; k++) print_figure(kind, found->seconds[k]);
+  printf(" %-8s |", kind->unit);
+  int short_of = print_ratio(found->seconds[OURS], found->seconds[PEER], kind->target_peer);
+  short_of |= print_ratio(found->seconds[OURS], found->seconds[THIRD], kind->target_third);
+  int is_above = kind->most > 0 && figure_of(kind, found->seconds[OURS]) > kind->most;
+  print_wanted(kind, is_above);
+  print_allocations(found, lists);
+  fflush(stdout);
+  below += short_of | is_above | (kind->no_allocation && found->allocations[OURS] > 0);
 }
 
 int is_measured(const char *row, const char *set) {
@@ -210,15 +234,23 @@ int is_measured(const char *row, const char *set) {
 
 void figure_row(const figure_kind *kind, double ours, double peers) {
   if (!is_measured(kind->row, kind->set)) return;
-  int short_of = kind->most > 0 && ours > kind->most;
-  printf("%-28s %-13s %12.3f %12.3f %12s %-8s %8.2f%c\n", kind->figure, "", ours, peers, "-", kind->unit, peers / ours,
-         short_of ? '*' : ' ');
+  int is_above = kind->most > 0 && ours > kind->most;
+  char wanted[32] = "", ratio[32] = "", peer[32] = "";
+  if (kind->most > 0) snprintf(wanted, sizeof wanted, "at most %.*f%s", kind->most < 10 ? 2 : 0, kind->most, is_above ? "*" : "");
+  if (peers > 0) {
+    snprintf(peer, sizeof peer, "%.3f", peers);
+    snprintf(ratio, sizeof ratio, "%.2f", peers / ours);
+  }
+  printf("| %-27s | %-17s | %9.3f | %9s | %9s | %-8s | %7s  | %8s | %-25s | |\n", kind->figure, kind->set, ours, peer, "", kind->unit, ratio, "",
+         wanted);
   fflush(stdout);
-  below += short_of;
+  below += is_above;
 }
 
 void size_row(const char *row, const char *set, double ours, double peers, double most) {
-  figure_row(&(figure_kind){row, set, "  size", "of plain", most}, ours, peers);
+  char figure[64];
+  snprintf(figure, sizeof figure, "size, %s", row);
+  figure_row(&(figure_kind){row, set, figure, "of plain", most}, ours, peers);
 }
 
 memory_held memory_of(const contender *c) {
@@ -229,21 +261,19 @@ memory_held memory_of(const contender *c) {
   return most_held;
 }
 
-void measure_step(const row_kind *kind, const contender *whole, const contender *part, double lists) {
+void measure_beyond(const row_kind *kind, const contender whole[CONTENDERS], const contender part[CONTENDERS], double lists) {
   if (!is_measured(kind->row, kind->set)) return;
-  const contender both[CONTENDERS] = {*whole, *part, {0}};
-  figures found = measure(both), step = {0};
-  step.seconds[OURS] = found.seconds[OURS] - found.seconds[PEER];
-  step.allocations[OURS] = found.allocations[OURS] - found.allocations[PEER];
-  print_row(kind, &step);
-  if (lists > 0) print_allocations(kind, &step, lists);
+  figures found = measure(whole, part);
+  print_row(kind, &found, lists);
 }
 
 void measure_row(const row_kind *kind, const contender contenders[CONTENDERS], double lists) {
-  if (!is_measured(kind->row, kind->set)) return;
-  figures found = measure(contenders);
-  print_row(kind, &found);
-  if (lists > 0) print_allocations(kind, &found, lists);
+  measure_beyond(kind, contenders, NULL, lists);
+}
+
+double seconds_of(const contender *c) {
+  const contender alone[CONTENDERS] = {*c, {0}, {0}};
+  return measure(alone, NULL).seconds[OURS];
 }
 
 int rows_below(void) { return below; }

@@ -1,4 +1,4 @@
-/* Times contenders in one run, in turn, and prints a row for them. */
+/* Times contenders in one run, in turn, and prints a row of a Markdown table for them. */
 #ifndef MEASURE_H
 #define MEASURE_H
 #include <stddef.h>
@@ -20,7 +20,7 @@ extern double measure_seconds;
 extern volatile uint64_t measure_sink;
 
 /* How a row shows its figures: `count` units a round, in `unit`, divided by `scale`; or, where `each` is set, the
- * nanoseconds of one unit. */
+ * nanoseconds of one unit, divided by `scale`. */
 typedef struct {
   const char *row, *set, *unit;
   double count, scale;
@@ -28,7 +28,7 @@ typedef struct {
   double target_peer, target_third; /* least ratios of throughput; 0: none */
   const char *third;                /* who the third contender is; NULL: plain C */
   double most;                      /* the greatest figure of ours; 0: none */
-  const char *one;                  /* what allocations are counted for; NULL: a list */
+  int no_allocation;                /* ours is to make none */
 } row_kind;
 
 void print_head(void);
@@ -41,8 +41,12 @@ int is_measured(const char *row, const char *set);
  * `work` is NULL for a contender that the row does not have. */
 void measure_row(const row_kind *kind, const contender contenders[CONTENDERS], double lists);
 
-/* Measures a step that cannot be taken alone: what `whole` takes beyond `part`, which does the same without it. */
-void measure_step(const row_kind *kind, const contender *whole, const contender *part, double lists);
+/* Measures steps that cannot be taken alone: what each contender of `whole` takes beyond that of `part`, which does the same
+ * without the step. */
+void measure_beyond(const row_kind *kind, const contender whole[CONTENDERS], const contender part[CONTENDERS], double lists);
+
+/* The seconds of one round, measured as a row is. */
+double seconds_of(const contender *c);
 
 /* Prints how large what is sent is, for ours and nghttp3; 1: as large as the plain bytes. `most`: the target of ours,
  * 0: none. */

@@ -9,16 +9,25 @@ void varint_rows(void);
 void huffman_rows(const field_lists *const *sets, size_t count, const char *set);
 void hostile_huffman_rows(void);
 void length_rows(void);
+/* The strings of these lists as values of one field. */
+void literal_rows(const field_lists *lists);
 void header_rows(const field_lists *lists);
 void wire_rows(void);
 void section_rows(const field_lists *lists);
-/* `batch` lists are sent before they are read and answered; what is sent has at most `most_size` of the bytes of the
- * lists (0: no target). */
-void session_rows(const field_lists *lists, size_t batch, double most_size);
-/* The same with tables of that capacity, in place of 4096. */
-void session_rows_in(const field_lists *lists, size_t capacity, size_t batch, double most_size);
+/* The same where other ratios to nghttp3 are wanted. */
+void section_rows_wanting(const field_lists *lists, double encode_target, double decode_target);
+/* Least ratios to nghttp3, of decoding to nghttp2 as well, and what is sent of the bytes of the lists at most; 0: no target. */
+typedef struct {
+  double encode, decode, decode_third, both, most_size;
+} session_targets;
+/* `batch` lists are sent before they are read and answered. */
+void session_rows(const field_lists *lists, size_t batch, session_targets targets);
+/* The time that encoding a field takes in lock-step, with tables of that capacity; at most so many nanoseconds (0: no target).
+ * The row is called as the lists are. */
+void field_row(const field_lists *lists, const char *set, size_t capacity, double most);
 /* What a stranger can drive up. */
 void hostile_rows(void);
+void hostile_decoder_rows(void);
 
 /* Ends the program where the static library gave a work up. */
 void done(const char *what, uint32_t status);

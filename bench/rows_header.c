@@ -48,10 +48,10 @@ static pack sections_of(const field_lists *lists) {
 
 void header_rows(const field_lists *lists) {
   header_work w = {lists, sections_of(lists)};
-  const contender whole = {read_headers, &w}, part = {decode_alone, &w};
+  const contender whole[CONTENDERS] = {{read_headers, &w}, {0}, {0}}, part[CONTENDERS] = {{decode_alone, &w}, {0}, {0}};
   const contender fields[CONTENDERS] = {{list_fields, &w}, {0}, {0}};
   double count = (double)lists->count;
-  measure_step(&(row_kind){"header of fields", lists->name, "ns", count, 1, 1, 0, 0, NULL, 700}, &whole, &part, count);
+  measure_beyond(&(row_kind){"header of fields", lists->name, "ns", count, 1, 1, 0, 0, NULL, 700}, whole, part, count);
   measure_row(&(row_kind){"fields of a header", lists->name, "ns", count, 1, 1, 0, 0, NULL, 200}, fields, count);
   free_pack(&w.sections);
 }

@@ -1,5 +1,5 @@
-/* What a stranger can drive up: many sections under way, many that wait, and fields that all have one slot of the
- * encoder's index. */
+/* What a stranger can drive up at an encoder: many sections under way, many that wait, and fields that all have one slot of
+ * its index. */
 #define _POSIX_C_SOURCE 200809L
 #include "measure.h"
 #include "peer_session.h"
@@ -12,15 +12,14 @@
 /* nghttp3 has its table used by so many streams at one time and no more: beyond that it writes literals. */
 enum { PEER_MOST = 1999 };
 
-/* A session of an encoder: each list is sent, and then each reply is read. */
+/* A session of an encoder: each list is sent, and then the replies are read, all at once. */
 typedef struct {
   field_lists lists;
   size_t capacity, limit;
   const uint8_t *first; /* what is read behind the first list: nothing, or that it came */
   size_t first_len;
-  pack *replies;
-  size_t reply_count;
-  pack steps; /* the same for our encoder */
+  pack replies;
+  pack steps[2]; /* for our encoder: with the replies, and without them */
   uint8_t *out;
   size_t room;
 } hostile;
@@ -33,28 +32,34 @@ static field_list one_field(const char *name, const char *value) {
   return list;
 }
 
-static void ours(void *data, uint64_t rounds) {
-  hostile *h = data;
+/* A round is a session; one is run where none is asked for. */
+static void ours(const hostile *h, int is_part, uint64_t rounds) {
   h3_report report;
+  const pack *steps = &h->steps[is_part];
   if (!rounds) return;
-  done("hostile", h3_bench_session_encode(rounds - 1, h->capacity, h->limit, h->steps.bytes, h->steps.len, h->out,
-                                          h->room, &report));
+  done("hostile", h3_bench_session_encode(rounds - 1, h->capacity, h->limit, steps->bytes, steps->len, h->out, h->room, &report));
 }
 
-static void peer_round(const hostile *h) {
+static void our_whole(void *data, uint64_t rounds) { ours(data, 0, rounds); }
+static void our_part(void *data, uint64_t rounds) { ours(data, 1, rounds); }
+
+static void peer_round(const hostile *h, int is_part) {
   peer_sender sender = peer_sender_new(h->capacity, h->limit);
   for (size_t i = 0; i < h->lists.count; i++) {
     nghttp3_buf_reset(&sender.instructions);
     peer_send(&sender, 4 * i, &h->lists.lists[i]);
     if (!i && h->first_len && !peer_sender_hear(&sender, h->first, h->first_len)) stop("nghttp3: first reply", 0);
   }
-  for (size_t i = 0; i < h->reply_count; i++)
-    if (!peer_sender_hear(&sender, h->replies[i].bytes, h->replies[i].len)) stop("nghttp3: reply", (long)i);
+  if (!is_part && !peer_sender_hear(&sender, h->replies.bytes, h->replies.len)) stop("nghttp3: replies", (long)h->replies.len);
   peer_sender_free(&sender);
 }
 
-static void peers(void *data, uint64_t rounds) {
-  for (; rounds; rounds--) peer_round(data);
+static void peer_whole(void *data, uint64_t rounds) {
+  for (; rounds; rounds--) peer_round(data, 0);
+}
+
+static void peer_part(void *data, uint64_t rounds) {
+  for (; rounds; rounds--) peer_round(data, 1);
 }
 
 static void prepare(hostile *h) {
@@ -64,30 +69,34 @@ static void prepare(hostile *h) {
     add_list(&steps, 4 * i, i);
     if (!i && h->first_len) add_heard(&steps, h->first, h->first_len);
   }
-  for (size_t i = 0; i < h->reply_count; i++) add_heard(&steps, h->replies[i].bytes, h->replies[i].len);
-  h->steps = pack_steps(&steps, &packed);
+  h->steps[1] = pack_steps(&steps, &packed);
+  add_heard(&steps, h->replies.bytes, h->replies.len);
+  h->steps[0] = pack_steps(&steps, &packed);
   free_pack(&steps.steps);
   free_pack(&packed);
-  h->room = 64 * (h->lists.count + h->reply_count) + 1024;
+  h->room = 64 * h->lists.count + 1024;
   h->out = malloc(h->room);
   if (!h->out) stop("no memory", (long)h->room);
 }
 
-static void measure_hostile(hostile *h, const char *row, int with_peer, size_t count) {
+/* The time of one reply: what sessions take beyond those that are sent alone. */
+static void measure_hostile(hostile *h, const char *row, int with_peer, size_t count, double most) {
   char set[32];
   snprintf(set, sizeof set, "%zu", count);
+  if (!is_measured(row, set)) return;
   prepare(h);
-  const contender both[CONTENDERS] = {{ours, h}, {with_peer ? peers : NULL, h}, {0}};
-  measure_row(&(row_kind){row, strdup(set), "ns each", (double)count, 1, 1, 0, 0}, both, 0);
-  free_pack(&h->steps);
+  const contender whole[CONTENDERS] = {{our_whole, h}, {with_peer ? peer_whole : NULL, h}, {0}};
+  const contender part[CONTENDERS] = {{our_part, h}, {with_peer ? peer_part : NULL, h}, {0}};
+  measure_beyond(&(row_kind){row, set, "ns", (double)count, 1, 1, 0, 0, NULL, most}, whole, part, 0);
+  free_pack(&h->steps[0]);
+  free_pack(&h->steps[1]);
   free(h->out);
 }
 
-static hostile new_hostile(size_t count, size_t capacity, size_t limit, size_t replies) {
-  hostile h = {.lists = {.name = "hostile", .count = count}, .capacity = capacity, .limit = limit, .reply_count = replies};
+static hostile new_hostile(size_t count, size_t capacity, size_t limit) {
+  hostile h = {.lists = {.name = "hostile", .count = count}, .capacity = capacity, .limit = limit};
   h.lists.lists = calloc(count, sizeof *h.lists.lists);
-  h.replies = calloc(replies, sizeof *h.replies);
-  if (!h.lists.lists || !h.replies) stop("no memory", (long)count);
+  if (!h.lists.lists) stop("no memory", (long)count);
   return h;
 }
 
@@ -97,33 +106,12 @@ static void free_hostile(hostile *h, size_t own_lists) {
     free((void *)h->lists.lists[i].fields[0].value);
     free(h->lists.lists[i].fields);
   }
-  for (size_t i = 0; i < h->reply_count; i++) free_pack(&h->replies[i]);
+  free_pack(&h->replies);
   free(h->lists.lists);
-  free(h->replies);
 }
 
-/* An integer below the flag of an instruction (RFC 9204, section 4.1.1). */
-static void put_integer(pack *to, uint8_t flag, unsigned bits, size_t n) {
-  size_t most = ((size_t)1 << bits) - 1;
-  uint8_t byte = (uint8_t)(flag | (n < most ? n : most));
-  put_bytes(to, &byte, 1);
-  if (n < most) return;
-  for (n -= most; n >= 128; n /= 128) {
-    byte = (uint8_t)(128 | n % 128);
-    put_bytes(to, &byte, 1);
-  }
-  byte = (uint8_t)n;
-  put_bytes(to, &byte, 1);
-}
-
-/* So many sections that name one entry are under way, and are acknowledged in an order that is none of sending. */
-static void tracked_row(size_t count) {
-  static const uint8_t came[] = {1, 128}; /* an increment of 1, and the acknowledgment of stream 0 */
-  hostile h = new_hostile(count + 1, 4096, 100, count);
-  field_list list = one_field("user-agent", "1");
-  for (size_t i = 0; i <= count; i++) h.lists.lists[i] = list;
-  h.first = came;
-  h.first_len = sizeof came;
+/* The numbers from 1 on, in an order that is none of counting. */
+static size_t *mixed(size_t count) {
   uint64_t random = 1;
   size_t *order = malloc(count * sizeof *order);
   if (!order) stop("no memory", (long)count);
@@ -134,41 +122,59 @@ static void tracked_row(size_t count) {
     order[i] = order[j];
     order[j] = kept;
   }
-  for (size_t i = 0; i < count; i++) put_integer(&h.replies[i], 128, 7, 4 * order[i]);
+  return order;
+}
+
+/* So many sections that name one entry are under way, one a stream, and are acknowledged, or canceled, in an order that is none
+ * of sending. */
+static void tracked_row(const char *row, uint8_t flag, unsigned bits, size_t count) {
+  static const uint8_t came[] = {1, 128}; /* an increment of 1, and the acknowledgment of stream 0 */
+  hostile h = new_hostile(count + 1, 4096, 100);
+  field_list list = one_field("user-agent", "1");
+  for (size_t i = 0; i <= count; i++) h.lists.lists[i] = list;
+  h.first = came;
+  h.first_len = sizeof came;
+  size_t *order = mixed(count);
+  for (size_t i = 0; i < count; i++) put_integer(&h.replies, flag, bits, 4 * order[i]);
   free(order);
-  measure_hostile(&h, "sent, then acknowledged", count <= PEER_MOST, count);
+  measure_hostile(&h, row, count <= PEER_MOST, count, 200);
   free_hostile(&h, 1);
+}
+
+static void tracked_rows(size_t count) {
+  tracked_row("section acknowledged", 128, 7, count);
+  tracked_row("section canceled", 64, 6, count);
 }
 
 /* So many sections wait, each for an insertion of its own, and increments of 1 make them known one after another. */
 static void waiting_row(size_t count) {
-  hostile h = new_hostile(count, 1 << 20, 65535, count);
+  hostile h = new_hostile(count, 1 << 22, 65535);
   for (size_t i = 0; i < count; i++) {
     char value[32];
     snprintf(value, sizeof value, "%zu", i);
     h.lists.lists[i] = one_field("user-agent", value);
-    put_integer(&h.replies[i], 0, 6, 1);
+    put_integer(&h.replies, 0, 6, 1);
   }
-  measure_hostile(&h, "waits, then an increment", count <= PEER_MOST, count);
+  measure_hostile(&h, "increment of 1, many wait", count <= PEER_MOST, count, 200);
   free_hostile(&h, count);
 }
 
 /* So many sections wait for one insertion, and as many increments of 0 come. nghttp3 refuses these. */
 static void idle_row(size_t count) {
-  hostile h = new_hostile(count, 4096, 65535, count);
+  hostile h = new_hostile(count, 4096, 65535);
   field_list list = one_field("user-agent", "1");
   for (size_t i = 0; i < count; i++) {
     h.lists.lists[i] = list;
-    put_integer(&h.replies[i], 0, 6, 0);
+    put_integer(&h.replies, 0, 6, 0);
   }
-  measure_hostile(&h, "waits, then increment of 0", 0, count);
+  measure_hostile(&h, "increment of 0, many wait", 0, count, 50);
   free_hostile(&h, 1);
 }
 
 /* Lists of 16 fields whose values differ in bytes alone that the slot of a field does not rest on. */
 static field_lists one_slot_lists(void) {
   enum { LISTS = 256, FIELDS = 16 };
-  field_lists to = {.name = "one slot", .count = LISTS, .lists = calloc(LISTS, sizeof(field_list))};
+  field_lists to = {.name = "field, all of one slot", .count = LISTS, .lists = calloc(LISTS, sizeof(field_list))};
   if (!to.lists) stop("no memory", LISTS);
   for (size_t i = 0; i < LISTS; i++) {
     to.lists[i] = (field_list){calloc(FIELDS, sizeof(nghttp3_nv)), FIELDS};
@@ -184,15 +190,20 @@ static field_lists one_slot_lists(void) {
   return to;
 }
 
-void hostile_rows(void) {
-  tracked_row(100);
-  tracked_row(PEER_MOST);
-  tracked_row(10000);
-  tracked_row(1000000);
-  waiting_row(PEER_MOST);
-  waiting_row(20000);
-  idle_row(65000);
+static void one_slot_rows(void) {
   field_lists one_slot = one_slot_lists();
-  session_rows_in(&one_slot, 4096, 1, 0);
-  session_rows_in(&one_slot, 65536, 1, 0);
+  field_row(&one_slot, "4096", 4096, 900);
+  /* linear in the capacity */
+  field_row(&one_slot, "65536", 65536, 16 * 900);
+}
+
+void hostile_rows(void) {
+  tracked_rows(PEER_MOST);
+  tracked_rows(10000);
+  tracked_rows(1000000);
+  waiting_row(PEER_MOST);
+  waiting_row(65000);
+  idle_row(65000);
+  one_slot_rows();
+  hostile_decoder_rows();
 }

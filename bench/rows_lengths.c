@@ -74,11 +74,23 @@ static field_lists empty_values(const char *set, size_t fields) {
   return all;
 }
 
+void literal_rows(const field_lists *lists) {
+  field_lists all = no_lists("literal lines", lists->count);
+  for (size_t i = 0; i < lists->count; i++)
+    for (size_t j = 0; j < lists->lists[i].count; j++) {
+      const nghttp3_nv *field = &lists->lists[i].fields[j];
+      add(&all, i, "zq", field->name, field->namelen);
+      add(&all, i, "zq", field->value, field->valuelen);
+    }
+  section_rows_wanting(&all, 1.3, 1.0);
+  free_lists(&all);
+}
+
 void length_rows(void) {
   static const struct {
     const char *set;
     size_t fields;
-  } counts[] = {{"8 fields", 8}, {"17 fields", 17}, {"32 fields", 32}, {"64 fields", 64}};
+  } counts[] = {{"8 fields", 8}, {"16 fields", 16}, {"17 fields", 17}, {"32 fields", 32}, {"64 fields", 64}};
   static const struct {
     const char *set;
     size_t len;
@@ -86,7 +98,7 @@ void length_rows(void) {
   for (size_t i = 0; i < sizeof counts / sizeof *counts; i++) {
     field_lists all = equal_lists(counts[i].set, LISTS, counts[i].fields);
     section_rows(&all);
-    session_rows(&all, 1, 0);
+    session_rows(&all, 1, (session_targets){1.2, 1.0, 0, 1.0, 0});
     free_lists(&all);
   }
   field_lists many = equal_lists("1000 fields", 1, 1000), empty = empty_values("empty values", 10000);

@@ -7,7 +7,7 @@
 #include <stdio.h>
 #include <stdlib.h>
 
-enum { LIMIT = 100, PASSES = 8, MOST_BATCH = 64 };
+enum { CAPACITY = 4096, LIMIT = 100, PASSES = 8, MOST_BATCH = 64 };
 
 typedef struct {
   const field_lists *lists;
@@ -183,26 +183,30 @@ static void free_work(session_work *w) {
   free(w->out);
 }
 
-void session_rows_in(const field_lists *lists, size_t capacity, size_t batch, double most_size) {
-  session_work w = prepare(lists, capacity, batch);
+void session_rows(const field_lists *lists, size_t batch, session_targets targets) {
+  session_work w = prepare(lists, CAPACITY, batch);
   /* HPACK acknowledges nothing, so it has lock-step alone */
-  peer_hpack *hpack = batch == 1 ? peer_hpack_new(lists, PASSES, capacity) : NULL;
+  peer_hpack *hpack = batch == 1 ? peer_hpack_new(lists, PASSES, CAPACITY) : NULL;
   const contender encode[CONTENDERS] = {{our_encode, &w}, {peer_encode, &w}, {hpack ? peer_hpack_encode : NULL, hpack}};
   const contender decode[CONTENDERS] = {{our_decode, &w}, {peer_decode, &w}, {hpack ? peer_hpack_decode : NULL, hpack}};
   const contender both[CONTENDERS] = {{our_both, &w}, {peer_both, &w}, {0}};
   double count = (double)lists_of(&w);
   char row[3][48];
   static const char *const works[] = {"encode", "decode", "both"};
-  for (int k = 0; k < 3; k++) snprintf(row[k], sizeof row[k], "%s, %zu/100, by %zu", works[k], capacity, batch);
-  measure_row(&(row_kind){row[0], lists->name, "klists/s", count, 1e3, 0, 1.0, 0, "nghttp2"}, encode, count);
-  measure_row(&(row_kind){row[1], lists->name, "klists/s", count, 1e3, 0, 1.0, 0, "nghttp2"}, decode, count);
-  measure_row(&(row_kind){row[2], lists->name, "klists/s", count, 1e3, 0, 1.0, 0}, both, count);
+  for (int k = 0; k < 3; k++) snprintf(row[k], sizeof row[k], "%s, %d/100, by %zu", works[k], CAPACITY, batch);
+  measure_row(&(row_kind){row[0], lists->name, "klists/s", count, 1e3, 0, targets.encode, 0, "nghttp2"}, encode, count);
+  measure_row(&(row_kind){row[1], lists->name, "klists/s", count, 1e3, 0, targets.decode, targets.decode_third, "nghttp2"}, decode, count);
+  measure_row(&(row_kind){row[2], lists->name, "klists/s", count, 1e3, 0, targets.both, 0}, both, count);
   double plain = PASSES * (double)lists->bytes;
-  size_row(row[2], lists->name, (double)w.both.bytes / plain, (double)w.peer_bytes / plain, most_size);
+  size_row(row[2], lists->name, (double)w.both.bytes / plain, (double)w.peer_bytes / plain, targets.most_size);
   if (hpack) peer_hpack_free(hpack);
   free_work(&w);
 }
 
-void session_rows(const field_lists *lists, size_t batch, double most_size) {
-  session_rows_in(lists, 4096, batch, most_size);
+void field_row(const field_lists *lists, const char *set, size_t capacity, double most) {
+  session_work w = prepare(lists, capacity, 1);
+  const contender encode[CONTENDERS] = {{our_encode, &w}, {peer_encode, &w}, {0}};
+  double fields = (double)(PASSES * lists->fields);
+  measure_row(&(row_kind){lists->name, set, "ns", fields, 1, 1, 0, 0, NULL, most}, encode, 0);
+  free_work(&w);
 }

@@ -42,3 +42,16 @@ const uint8_t *take_string(const uint8_t **place, size_t *len) {
   *place += *len;
   return string;
 }
+
+void put_integer(pack *to, uint8_t flag, unsigned bits, size_t n) {
+  size_t most = ((size_t)1 << bits) - 1;
+  uint8_t byte = (uint8_t)(flag | (n < most ? n : most));
+  put_bytes(to, &byte, 1);
+  if (n < most) return;
+  for (n -= most; n >= 128; n /= 128) {
+    byte = (uint8_t)(128 | n % 128);
+    put_bytes(to, &byte, 1);
+  }
+  byte = (uint8_t)n;
+  put_bytes(to, &byte, 1);
+}

@@ -19,4 +19,6 @@ pack pack_steps(const session_steps *of, const pack *head);
 /* The numbers and strings of what is handed out, from `place` on. */
 size_t take_number(const uint8_t **place);
 const uint8_t *take_string(const uint8_t **place, size_t *len);
+/* An integer below the flag of an instruction (RFC 9204, section 4.1.1). */
+void put_integer(pack *to, uint8_t flag, unsigned bits, size_t n);
 #endif

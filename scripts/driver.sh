@@ -8,17 +8,7 @@ bash scripts/peer.sh
 log=$(mktemp)
 trap 'rm -f "$log"' EXIT
 echo "proving and building crates/h3_bench and what it stands on: some minutes the first time" >&2
-python3 scripts/archive.py h3_bench >"$log" 2>&1 &
-proof=$!
-while kill -0 "$proof" 2>/dev/null; do
-  for _ in {1..30}; do
-    sleep 1
-    kill -0 "$proof" 2>/dev/null || break
-  done
-  kill -0 "$proof" 2>/dev/null && printf '%4d s: %s\n' "$SECONDS" "$(tail -n 1 "$log" | cut -c 1-100)" >&2
-done
-if ! wait "$proof"; then
-  tail -n 40 "$log" >&2
+if ! bash scripts/watched.sh "$log" python3 scripts/archive.py h3_bench; then
   echo "h3_bench was not built" >&2
   exit 1
 fi

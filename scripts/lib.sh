@@ -6,8 +6,8 @@ cd "$(dirname "$0")/.."
 
 log=$(mktemp)
 trap 'rm -f "$log"' EXIT
-if ! python3 scripts/archive.py h3_c >"$log" 2>&1; then
-  tail -n 40 "$log" >&2
+echo "proving and building crates/h3_c and what it stands on: some minutes the first time" >&2
+if ! bash scripts/watched.sh "$log" python3 scripts/archive.py h3_c; then
   echo "h3_c was not built" >&2
   exit 1
 fi
