@@ -7,7 +7,7 @@ ghost use Rattle.h3_connection.specs.Incoming.{Incoming};
 ghost use Rattle.h3_qpack.specs.Sizes.{IsLarge, IsWithin, last_value, told_size};
 ghost use Rattle.h3_connection.specs.declared.setup.Announced.{Announced};
 ghost use Rattle.h3_connection.specs.Announcing.{section_of};
-ghost use Rattle.h3_connection.specs.Pulling.{read_section, whole_head, whole_trailer, head_or_trailer, next_place, is_interim_text, is_interim, malformation_of};
+ghost use Rattle.h3_connection.specs.Pulling.{read_section, whole_head, whole_trailer, head_or_trailer, next_place, is_interim_text, is_interim, malformation_of, is_for, is_client};
 ghost use Rattle.h3_field.specs.Field.{Field};
 ghost use Rattle.h3_incoming.specs.Judging.{judged_as};
 
@@ -98,22 +98,33 @@ fn judge_head(side: Side, header: Header) -> Judged
     ensures { (id : ℕ) (i : Incoming) (replies : List DecoderInstruction) → i.place ≡ Place.BeforeHead
         → whole_head side id i replies header ≡ judged_as id i replies result }
 {
-    match side {
-        Side::Client => {
-            if !header.is_response() {
-                return Judged::Malformed(Malformation::WrongSide);
-            }
-            if is_interim(&header) {
-                return Judged::HandsOut(Item::Interim(header), Place::BeforeHead);
-            }
-        }
-        Side::Server => {
-            if !header.is_request() {
-                return Judged::Malformed(Malformation::WrongSide);
-            }
-        }
+    if !is_for(side, &header) {
+        drop(header);
+        Judged::Malformed(Malformation::WrongSide)
+    } else if is_client(side) && is_interim(&header) {
+        Judged::HandsOut(Item::Interim(header), Place::BeforeHead)
+    } else {
+        Judged::HandsOut(Item::Head(header), Place::InBody)
     }
-    Judged::HandsOut(Item::Head(header), Place::InBody)
+}
+
+// Whether a side reads such heads: a client those of responses, a server those of requests.
+fn is_for(side: Side, header: &Header) -> bool
+    ensures { result ≡ is_for side header.now }
+{
+    match side {
+        Side::Client => header.is_response(),
+        Side::Server => header.is_request(),
+    }
+}
+
+fn is_client(side: Side) -> bool
+    ensures { result ≡ is_client side }
+{
+    match side {
+        Side::Client => true,
+        Side::Server => false,
+    }
 }
 
 // A trailer, which has no pseudo-header field (RFC 9114, section 4.3).

@@ -38,7 +38,18 @@ fn reply_both(alloc: Global, stream: u64, replies: &mut Vec<u8>) -> Result<(), A
     ensures err { OnErr result (replies.new.items ≡ replies.old.items) }
 {
     let mut both = Vec::new(alloc);
-    ack_header(stream, &mut both)?;
-    stream_canceled(stream, &mut both)?;
-    replies.extend_from_slice(both.as_slice())
+    let answer = match write_both(stream, &mut both) {
+        Ok(()) => replies.extend_from_slice(both.as_slice()),
+        Err(e) => Err(e),
+    };
+    drop(both);
+    answer
+}
+
+fn write_both(stream: u64, both: &mut Vec<u8>) -> Result<(), AllocError>
+    requires { stream < 2 ^ 62 }
+    ensures { OnOk result (both.new.items ≡ both.old.items ++ encodings (replies_of stream true true)) }
+{
+    ack_header(stream, both)?;
+    stream_canceled(stream, both)
 }

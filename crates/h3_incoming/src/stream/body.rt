@@ -1,5 +1,6 @@
 //! The payload of DATA that is under way, and the bytes of a session.
-ghost use Rattle.std.specs.Prelude.{◌≡◌, true, false, None};
+ghost use Rattle.std.specs.Prelude.{◌≡◌, true, false, [], None};
+ghost use Rattle.h3_connection.specs.declared.event.Item.TheVariants.{End};
 ghost use Rattle.h3_connection.specs.Pulling.{just, in_payload, raw, is_memory};
 
 use super::IncomingStream;
@@ -9,6 +10,7 @@ use h3_proto::error::Code;
 use h3_wire::buf::BufList;
 use h3_wire::frame::FrameDecoder;
 use std::alloc::Global;
+use std::mem;
 
 impl IncomingStream {
     /// The next bytes of the payload under way. One that the end cuts short is a fault of the connection (RFC 9114, section 7.1).
@@ -40,14 +42,19 @@ impl IncomingStream {
         self.decoder = FrameDecoder::default();
         match self.unread.take_first_chunk() {
             Some(bytes) => Pull::Item(Item::Raw(bytes)),
-            None => {
-                if !self.ended {
-                    return Pull::Pending;
-                }
-                self.unread = BufList::new(alloc);
-                self.is_over = true;
-                Pull::Item(Item::End)
-            }
+            None if !self.ended => Pull::Pending,
+            None => self.finish(alloc),
         }
+    }
+
+    /// The end is handed out, and no buffer is kept.
+    pub(super) fn finish(&mut self, alloc: Global) -> Pull
+        ensures stream { self.new ≡ record self.old { unread = []; is_over = true } }
+        ensures answer { result ≡ Pull.Item End }
+    {
+        self.decoder = FrameDecoder::default();
+        drop(mem::replace(&mut self.unread, BufList::new(alloc)));
+        self.is_over = true;
+        Pull::Item(Item::End)
     }
 }

@@ -23,7 +23,6 @@ use h3_proto::frame::SettingsError;
 use h3_proto::stream::{Side, StreamId};
 use h3_proto::webtransport::SessionId;
 use h3_qpack::Decoder;
-use h3_wire::buf::BufList;
 use h3_wire::frame::{FrameDecoder, FrameProtocolError};
 use h3_wire::proto::frame::{Frame, PayloadLen};
 use std::alloc::Global;
@@ -79,10 +78,7 @@ impl IncomingStream {
             }
             return self.fail_message(alloc, Malformation::NoHead);
         }
-        self.unread = BufList::new(alloc);
-        self.decoder = FrameDecoder::default();
-        self.is_over = true;
-        Pull::Item(Item::End)
+        self.finish(alloc)
     }
 
     // A frame was read. It may not stand at any place.
@@ -155,9 +151,15 @@ fn unexpected() -> Pull
 fn refuse_promise(side: Side) -> Pull
     ensures { result ≡ Pull.Fault (Connection (promise_code side)) }
 {
+    Pull::Fault(Fault::Connection(promise_code(side)))
+}
+
+fn promise_code(side: Side) -> Code
+    ensures { result ≡ promise_code side }
+{
     match side {
-        Side::Client => Pull::Fault(Fault::Connection(Code::H3_ID_ERROR)),
-        Side::Server => unexpected(),
+        Side::Client => Code::H3_ID_ERROR,
+        Side::Server => Code::H3_FRAME_UNEXPECTED,
     }
 }
 

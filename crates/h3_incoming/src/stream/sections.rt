@@ -94,6 +94,7 @@ impl IncomingStream {
         match judged {
             Judged::HandsOut(item, place) => {
                 if reply(alloc, id, acknowledges, false, replies).is_err() {
+                    drop(item);
                     return Pull::Fault(Fault::Memory);
                 }
                 self.pass_section();
@@ -147,8 +148,12 @@ impl IncomingStream {
     fn pass_section(&mut self)
         ensures { self.new ≡ past_section self.old }
     {
-        self.tries = if self.waits_for == 0 { 1 } else { 2 };
+        self.tries = if self.waits_for == 0 {
+            1
+        } else {
+            self.tries + 1
+        };
         self.waits_for = 0;
-        self.section = None;
+        drop(self.section.take());
     }
 }
