@@ -3,7 +3,7 @@ use Rattle.std.proofs.Common.{◌≡◌, inl, inr, ℕ, zero, suc, ◌+◌, ◌-
 use Rattle.std.specs.Prelude.{◌==◌}
 use Rattle.std.specs.List.{AllByRecursion, list_any}
 use Rattle.std.proofs.lemmas.Grind.{common_steps}
-use Rattle.std.proofs.lemmas.List.{take-append-drop, take_at, length-take-le}
+use Rattle.std.proofs.lemmas.List.{take-append-drop, length-take-le}
 use Rattle.std.proofs.Math.Seq.{drop-append_seam}
 use Rattle.h3_field.specs.Reading.{Whole}
 use Rattle.h3_field.specs.Instruction.{DecoderInstruction, decoder_bytes}
@@ -20,54 +20,30 @@ use Rattle.h3_qpack.specs.Exchange.{Stream, unread, undelivered, arriving, readi
 use Rattle.h3_qpack.proofs.Drafts.{All-second}
 use Rattle.h3_qpack.proofs.Sessions.{reply_read}
 use Rattle.h3_qpack.proofs.EncoderStreams.{behind_front}
+use Rattle.h3_qpack.proofs.Units.{UnitLaws, AreUnits, NoUnit, NextUnit, FrontOfUnits, front_of_units}
 
-pub record FrontHeard (all : List DecoderInstruction) (n : ℕ) (is : List DecoderInstruction) (left : List ℕ) : Type 0 where
-  pub count : ℕ
-  pub within : count ≤ length all
-  pub are : is ≡ take count all
-  pub fits : length (flat_map decoder_bytes (take count all)) ≤ n
-  pub left_is : left ≡ take (n - length (flat_map decoder_bytes (take count all))) (flat_map decoder_bytes (drop count all))
+abbrev BeginsReply : List ℕ → DecoderInstruction → List ℕ → Type 0
+BeginsReply bytes i rest = decoder_instruction bytes ≡ Whole i rest
 
-nothing_heard : (bytes rest : List ℕ) (i : DecoderInstruction) → bytes ≡ [] → decoder_instruction bytes ≡ Whole i rest → ⊥
-nothing_heard bytes rest i e here = let none = rw e at here in cc
-
-first_heard : (j : DecoderInstruction) (all : List DecoderInstruction) (n : ℕ) (bytes rest : List ℕ) (i : DecoderInstruction) → IsReply j → n ≤ length (flat_map decoder_bytes (j ∷ all))
-    → bytes ≡ take n (flat_map decoder_bytes (j ∷ all)) → decoder_instruction bytes ≡ Whole i rest
-    → (i ≡ j) × (length (decoder_bytes j) ≤ n) × (rest ≡ take (n - length (decoder_bytes j)) (flat_map decoder_bytes all))
-first_heard j all n bytes rest i w fits e here =
-    let text = decoder_bytes j ++ flat_map decoder_bytes all in
-    let more = drop n text in
-    let whole : bytes ++ more ≡ text = ap (λ b. b ++ more) e ∙ take-append-drop n text in
-    let stable = decoder_instruction_stable bytes more in
-    let long : decoder_instruction (bytes ++ more) ≡ Whole i (rest ++ more) = rw here at stable in
-    let one = whole_same i j (rest ++ more) (flat_map decoder_bytes all) (sym long ∙ ap decoder_instruction whole ∙ reply_reads_back j (flat_map decoder_bytes all) w) in
-    let sizes : length rest + (length text - n) ≡ length (flat_map decoder_bytes all) = omega (arith, ap length one.1, length-append rest more, length-drop n text) in
-    let place : length rest ≡ n - length (decoder_bytes j) = omega (arith, sizes, fits, length-append (decoder_bytes j) (flat_map decoder_bytes all)) in (
-      one.0,
-      omega (arith, sizes, fits, length-append (decoder_bytes j) (flat_map decoder_bytes all)),
-      sym (take_at rest more (n - length (decoder_bytes j)) place) ∙ ap (take (n - length (decoder_bytes j))) one.1,
-    )
-
-pub front_heard : (all : List DecoderInstruction) (n : ℕ) (bytes left : List ℕ) (is : List DecoderInstruction) → AllByRecursion IsReply all → n ≤ length (flat_map decoder_bytes all)
-    → bytes ≡ take n (flat_map decoder_bytes all) → AreDecoderInstructions bytes is left → FrontHeard all n is left
-front_heard all n bytes left [] w fits e (NoDecoderInstruction b) =
-    let same : n - 0 ≡ n = omega arith in
-    record { count = 0; within = omega arith; are = refl; fits = omega arith; left_is = rw same e }
-front_heard [] n bytes left (i ∷ is) w fits e (NextDecoderInstruction b rest l k ks here others) =
-    let none : n ≡ 0 = omega (arith, fits) in
-    absurd (nothing_heard bytes rest i (e ∙ ap (λ m. take m []) none) here)
-front_heard (j ∷ all) n bytes left (i ∷ is) w fits e (NextDecoderInstruction b rest l k ks here others) =
-    let f = first_heard j all n bytes rest i w.0 fits e here in
-    let later = front_heard all (n - length (decoder_bytes j)) rest left is w.1 (omega (arith, fits, length-append (decoder_bytes j) (flat_map decoder_bytes all))) f.2 others in
-    let sum = length-append (decoder_bytes j) (flat_map decoder_bytes (take later.count all)) in
-    let same : n - length (decoder_bytes j) - length (flat_map decoder_bytes (take later.count all)) ≡ n - length (decoder_bytes j ++ flat_map decoder_bytes (take later.count all)) = omega (arith, sum) in
+written_replies : UnitLaws decoder_bytes IsReply BeginsReply
+written_replies =
     record {
-      count = suc later.count;
-      within = omega (arith, later.within);
-      are = ap (λ x. x ∷ is) f.0 ∙ ap (λ xs. j ∷ xs) later.are;
-      fits = omega (arith, later.fits, f.1, sum);
-      left_is = later.left_is ∙ ap (λ m. take m (flat_map decoder_bytes (drop later.count all))) same;
+      none = λ i rest h. nothing_here i rest h;
+      longer = λ bytes rest more i h. let stays = decoder_instruction_stable bytes more in rw h at stays;
+      back = reply_reads_back;
+      one = λ bytes rest other i j h k. whole_same i j rest other (sym h ∙ k);
     }
+  where
+    nothing_here : (i : DecoderInstruction) (rest : List ℕ) → BeginsReply [] i rest → ⊥
+    nothing_here i rest h = cc
+
+are_units : (bytes left : List ℕ) (is : List DecoderInstruction) → AreDecoderInstructions bytes is left → AreUnits BeginsReply bytes is left
+are_units bytes left [] (NoDecoderInstruction b) = NoUnit b
+are_units bytes left (i ∷ is) (NextDecoderInstruction b rest l k ks here others) = NextUnit b rest left i is here (are_units rest left is others)
+
+front_heard : (all : List DecoderInstruction) (n : ℕ) (bytes left : List ℕ) (is : List DecoderInstruction) → AllByRecursion IsReply all → n ≤ length (flat_map decoder_bytes all)
+    → bytes ≡ take n (flat_map decoder_bytes all) → AreDecoderInstructions bytes is left → FrontOfUnits decoder_bytes all n is left
+front_heard all n bytes left is w fits e h = front_of_units decoder_bytes IsReply BeginsReply written_replies all n bytes left is w fits e (are_units bytes left is h)
 
 take_none : (n : ℕ) → ◌≡◌ {A = List ℕ} (take n []) []
 take_none zero = refl

@@ -1,5 +1,5 @@
 -- The fields of the lines of a section, line by line.
-use Rattle.std.proofs.Common.{◌≡◌, ℕ, zero, suc, ◌<◌, ◌≤◌, List, [], ◌∷◌, ◌++◌, length, Option, Some, None, option_map, refl, ap, sym, ◌∙◌, arith, append_assoc, append-nil}
+use Rattle.std.proofs.Common.{◌≡◌, ℕ, zero, suc, ◌<◌, ◌≤◌, List, [], ◌∷◌, ◌++◌, length, Option, Some, None, option_map, refl, ap, sym, ◌∙◌, arith, append_assoc, append-nil, inl, inr}
 use Rattle.h3_field.specs.Field.{Field}
 use Rattle.h3_field.specs.Line.{FieldLine}
 use Rattle.h3_field.specs.LineReading.{LineForm, line}
@@ -7,8 +7,12 @@ use Rattle.h3_field.specs.Reading.{Reading, Whole, Unfinished, Bad}
 use Rattle.h3_field.specs.Section.{AreLines, NoLine, NextLine}
 use Rattle.h3_table.specs.TableState.{TableState}
 use Rattle.h3_qpack.specs.Meaning.{HaveFields}
-use Rattle.h3_qpack.specs.SectionAnswers.{BeginsWith, BeginsWithNone}
+use Rattle.h3_qpack.specs.SectionAnswers.{BeginsWith, BeginsWithNone, LinesAskMemory, IsReasonWith}
+use Rattle.h3_qpack.specs.ReasonLaws.{asks_memory}
 use Rattle.h3_field.specs.Values.{line_of}
+use Rattle.h3_field.specs.SectionAnswer.{BeginsWithString}
+use Rattle.h3_field.specs.declared.decoder_error.DecoderError.{DecoderError}
+use Rattle.h3_field.specs.declared.decoder_error.DecoderError.TheVariants.{OutOfMemory}
 use Rattle.h3_qpack.specs.DecodedSection.{field_of, then_fields, fields_from, fields_within, fields_in}
 use Rattle.h3_field.specs.ValueLaws.{line_some}
 use Rattle.h3_field.specs.ShorterLaws.{line_less}
@@ -83,6 +87,17 @@ pub all_read : (h : TableState) (base : ℕ) (bytes : List ℕ) (fields : List F
 unfolding fields_in
 all_read h base bytes fields [] read end = (read ∙ ap Some (append-nil fields), refl)
 all_read h base bytes fields (x ∷ rest) read end = absurd (omega (arith, end))
+
+-- Where the lines that are left ask for memory, all of them do.
+abbrev pub AskAlike : TableState → ℕ → List ℕ → List ℕ → Type 0
+AskAlike h base bytes rest = LinesAskMemory h base rest → LinesAskMemory h base bytes
+
+pub one_kept : (h : TableState) (base : ℕ) (bytes rest new : List ℕ) (f : Field) → AskAlike h base bytes rest → BeginsWith h base rest f new → LinesAskMemory h base bytes
+one_kept h base bytes rest new f asks b = asks (inr (f, new, b))
+
+pub line_asks : (h : TableState) (base : ℕ) (bytes rest : List ℕ) (e : DecoderError) → AskAlike h base bytes rest → IsReasonWith (BeginsWithString rest) (BeginsWithNone h base rest) (λ count. ⊥) e
+    → e ≡ OutOfMemory → LinesAskMemory h base bytes
+line_asks h base bytes rest e asks reason same = asks (inl (asks_memory _ _ e reason same))
 
 pub bad_read : (h : TableState) (base : ℕ) (bytes : List ℕ) (fields : List Field) (rest : List ℕ) → AreRead h base bytes fields rest → 0 < length rest → BeginsWithNone h base rest → fields_in h base bytes ≡ None
 bad_read h base bytes fields rest read above none = read ∙ ap (λ o. option_map (λ more. fields ++ more) o) (no_line h base rest above none)

@@ -71,7 +71,7 @@ refused place h says (Whole form rest) old new InvalidBase is k = absurd k.1
 refused place h says Unfinished old new e is k = absurd (cc)
 refused place h says Bad old new e is k =
     let same : e ≡ error_at place Overflow = cc in
-    rw same (bad_at (BeginsNoInsertion h old) place Overflow (inl is))
+    rw same (bad_at (Unit {0}) (BeginsNoInsertion h old) place Overflow (inl is))
 
 -- an insertion is no change of the capacity
 pub insertion_reads : (r : DecoderState) (i : EncoderInstruction) → is_insertion i ≡ true → decoder_after r i ≡ inserting r (insertion_of r.table i)

@@ -12,10 +12,11 @@ use Rattle.h3_field.specs.declared.prefix_int.Error.TheVariants.{Overflow, Unexp
 use Rattle.h3_field.specs.declared.prefix_string.Error as string
 use Rattle.h3_field.specs.declared.parse_error.ParseError.{ParseError}
 use Rattle.h3_field.specs.declared.parse_error.ParseError.TheVariants.{Integer, String, InvalidPrefix, InvalidBase, OutOfMemory}
+use Rattle.h3_field.specs.SectionAnswer.{BeginsWithString}
 use Rattle.h3_field.specs.SectionLaws.{has_line, line_one, whole_same}
 use Rattle.h3_table.specs.TableState.{TableState}
 use Rattle.h3_qpack.specs.Meaning.{field_at}
-use Rattle.h3_qpack.specs.SectionAnswers.{BeginsWith, BeginsWithNone, IsReasonFor}
+use Rattle.h3_qpack.specs.SectionAnswers.{BeginsWith, BeginsWithNone, IsReasonWith}
 
 -- the field of a line that was read
 pub begins_with : {L : Type 0} (place : Place) (h : TableState) (base : ℕ) (line_of : L → FieldLine) (read : List ℕ → Reading LineForm) (old new : List ℕ) (l : L) (f : Field)
@@ -42,17 +43,17 @@ not_said h base old rest form e none more k f here names =
     none k (rw (← same.0) at here.says)
 
 -- what is not whole, or out of range, is no want of memory
-pub bad_at : (bad : Type 0) (place : Place) (e : integer.Error) → bad → IsReasonFor bad (λ count. ⊥) (decoder_parse (error_at place e))
-bad_at bad AtInteger e h = h
-bad_at bad AtString UnexpectedEnd h = h
-bad_at bad AtString Overflow h = h
+pub bad_at : (memory bad : Type 0) (place : Place) (e : integer.Error) → bad → IsReasonWith memory bad (λ count. ⊥) (decoder_parse (error_at place e))
+bad_at memory bad AtInteger e h = h
+bad_at memory bad AtString UnexpectedEnd h = h
+bad_at memory bad AtString Overflow h = h
 
 -- a line that was refused
 pub refused_line : {L : Type 0} (place : Place) (h : TableState) (base : ℕ) (line_of : L → FieldLine) (r : Reading LineForm) (old new : List ℕ) (e : ParseError) → line old ≡ r
-    → AnswersLine line_of place r old new (Err e) → IsReasonFor (BeginsWithNone h base old) (λ count. ⊥) (decoder_parse e)
+    → AnswersLine line_of place r old new (Err e) → IsReasonWith (BeginsWithString old) (BeginsWithNone h base old) (λ count. ⊥) (decoder_parse e)
 refused_line place h base line_of (Whole form rest) old new (String string.TheVariants.HuffmanDecoding) is k = not_said h base old rest form is k.1
-refused_line place h base line_of (Whole form rest) old new OutOfMemory is k = tt
-refused_line place h base line_of (Whole form rest) old new (String string.TheVariants.OutOfMemory) is k = tt
+refused_line place h base line_of (Whole form rest) old new OutOfMemory is k = (form, rest, is, k.0, k.1)
+refused_line place h base line_of (Whole form rest) old new (String string.TheVariants.OutOfMemory) is k = absurd k.1
 refused_line place h base line_of (Whole form rest) old new (String string.TheVariants.UnexpectedEnd) is k = absurd k.1
 refused_line place h base line_of (Whole form rest) old new (String (string.TheVariants.Integer e)) is k = absurd k.1
 refused_line place h base line_of (Whole form rest) old new (String string.TheVariants.HuffmanEncoding) is k = absurd k.1
@@ -62,7 +63,7 @@ refused_line place h base line_of (Whole form rest) old new (InvalidPrefix first
 refused_line place h base line_of (Whole form rest) old new InvalidBase is k = absurd k.1
 refused_line place h base line_of Unfinished old new e is k =
     let same : e ≡ error_at place UnexpectedEnd = cc in
-    rw same (bad_at (BeginsWithNone h base old) place UnexpectedEnd (not_read h base old Unfinished is (λ form rest x. absurd (cc))))
+    rw same (bad_at (BeginsWithString old) (BeginsWithNone h base old) place UnexpectedEnd (not_read h base old Unfinished is (λ form rest x. absurd (cc))))
 refused_line place h base line_of Bad old new e is k =
     let same : e ≡ error_at place Overflow = cc in
-    rw same (bad_at (BeginsWithNone h base old) place Overflow (not_read h base old Bad is (λ form rest x. absurd (cc))))
+    rw same (bad_at (BeginsWithString old) (BeginsWithNone h base old) place Overflow (not_read h base old Bad is (λ form rest x. absurd (cc))))

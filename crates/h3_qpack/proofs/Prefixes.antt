@@ -1,9 +1,11 @@
 -- The prefix of a section stands for one required insert count and one base.
-use Rattle.std.proofs.Common.{◌≡◌, inl, inr, ℕ, ◌≤◌, Bool, true, false, List, Ok, refl, sym, ◌∙◌, arith, subst}
+use Rattle.std.proofs.Common.{◌≡◌, inl, inr, ℕ, ◌≤◌, Bool, true, false, List, Ok, Err, refl, sym, ◌∙◌, arith, subst}
 use Rattle.h3_field.specs.Reading.{Reading, Whole, Unfinished, Bad}
 use Rattle.h3_field.specs.PrefixReading.{EncodedPrefix, prefix, IsPrefix, IsCount, IsBase}
 use Rattle.h3_field.specs.PrefixAnswer.{AnswersPrefix, HasNoPrefix}
 use Rattle.h3_field.specs.Errors.{decoder_parse}
+use Rattle.h3_field.specs.declared.prefix_int.Error.TheVariants.{Overflow, UnexpectedEnd}
+use Rattle.h3_field.specs.declared.decoder_error.DecoderError.TheVariants as decoder
 use Rattle.h3_field.specs.declared.parse_error.ParseError.{ParseError}
 use Rattle.h3_field.specs.declared.parse_error.ParseError.TheVariants.{Integer, String, InvalidPrefix, InvalidBase, OutOfMemory}
 use Rattle.h3_qpack.specs.DecoderState.{DecoderState, count_capacity}
@@ -106,3 +108,23 @@ no_prefix r bytes new p inserted capacity InvalidBase b h = begins_nowhere r byt
 no_prefix r bytes new p inserted capacity (Integer e) b h = absurd h
 no_prefix r bytes new p inserted capacity (String e) b h = absurd h
 no_prefix r bytes new p inserted capacity OutOfMemory b h = absurd h
+
+-- no prefix is refused for want of memory
+pub prefix_takes_none : (bytes new : List ℕ) (e : ParseError) → AnswersPrefix (prefix bytes) bytes new (Err e) → decoder_parse e ≡ decoder.OutOfMemory → ⊥
+prefix_takes_none bytes new e h none = from (prefix bytes) h
+  where
+    from : (r : Reading EncodedPrefix) → AnswersPrefix r bytes new (Err e) → ⊥
+    from (Whole p rest) k = cc
+    from Unfinished k =
+        let is : e ≡ Integer UnexpectedEnd = cc in
+        let other = rw is at none in cc
+    from Bad k =
+        let is : e ≡ Integer Overflow = cc in
+        let other = rw is at none in cc
+
+pub count_takes_none : (capacity inserted : ℕ) (p : EncodedPrefix) (e : ParseError) → HasNoPrefix capacity inserted p e → decoder_parse e ≡ decoder.OutOfMemory → ⊥
+count_takes_none capacity inserted p (InvalidPrefix encoded) h none = cc
+count_takes_none capacity inserted p InvalidBase h none = cc
+count_takes_none capacity inserted p (Integer x) h none = absurd h
+count_takes_none capacity inserted p (String x) h none = absurd h
+count_takes_none capacity inserted p OutOfMemory h none = absurd h

@@ -1,18 +1,26 @@
 -- A reason for a refusal, by what it rests on.
+use Rattle.std.proofs.Common.{◌≡◌, subst}
 use Rattle.h3_field.specs.declared.decoder_error.DecoderError.{DecoderError}
 use Rattle.h3_field.specs.declared.decoder_error.DecoderError.TheVariants as error
-use Rattle.h3_qpack.specs.SectionAnswers.{IsReasonFor}
+use Rattle.h3_qpack.specs.SectionAnswers.{IsReasonFor, IsReasonWith}
+
+pub reason_with_map : (memory other a b : Type 0) (e : DecoderError) → (memory → other) → (a → b) → IsReasonWith memory a (λ count. ⊥) e → IsReasonWith other b (λ count. ⊥) e
+reason_with_map memory other a b error.OutOfMemory m f n = m n
+reason_with_map memory other a b (error.HeaderTooLong sum) m f n = absurd n
+reason_with_map memory other a b (error.InvalidInteger x) m f n = f n
+reason_with_map memory other a b (error.InvalidString x) m f n = f n
+reason_with_map memory other a b (error.InvalidIndex x) m f n = f n
+reason_with_map memory other a b (error.DynamicTable x) m f n = f n
+reason_with_map memory other a b (error.InvalidStaticIndex x) m f n = f n
+reason_with_map memory other a b (error.UnknownPrefix x) m f n = f n
+reason_with_map memory other a b (error.MissingRefs x) m f n = absurd n
+reason_with_map memory other a b error.BadBaseIndex m f n = f n
+reason_with_map memory other a b error.UnexpectedEnd m f n = f n
+reason_with_map memory other a b error.BufSize m f n = f n
 
 pub reason_map : (a b : Type 0) (e : DecoderError) → (a → b) → IsReasonFor a (λ count. ⊥) e → IsReasonFor b (λ count. ⊥) e
-reason_map a b error.OutOfMemory f n = tt
-reason_map a b (error.HeaderTooLong sum) f n = absurd n
-reason_map a b (error.InvalidInteger x) f n = f n
-reason_map a b (error.InvalidString x) f n = f n
-reason_map a b (error.InvalidIndex x) f n = f n
-reason_map a b (error.DynamicTable x) f n = f n
-reason_map a b (error.InvalidStaticIndex x) f n = f n
-reason_map a b (error.UnknownPrefix x) f n = f n
-reason_map a b (error.MissingRefs x) f n = absurd n
-reason_map a b error.BadBaseIndex f n = f n
-reason_map a b error.UnexpectedEnd f n = f n
-reason_map a b error.BufSize f n = f n
+reason_map a b e f n = reason_with_map (Unit {0}) (Unit {0}) a b e (λ m. m) f n
+
+-- a refusal for want of memory
+pub asks_memory : (memory bad : Type 0) (e : DecoderError) → IsReasonWith memory bad (λ count. ⊥) e → e ≡ error.OutOfMemory → memory
+asks_memory memory bad e n same = subst (λ x. IsReasonWith memory bad (λ count. ⊥) x) same n

@@ -1,17 +1,18 @@
 //! A decoder with its dynamic table (RFC 9204, sections 2.2 and 4).
-ghost use Rattle.std.specs.Prelude.{◌≡◌, ◌≤◌, ◌<◌, ◌^◌, ℕ, ◌-◌, List, [], true, false, length, min, nat_lt, drop, IfOk, IfErr, OnOk, OnErr, ◌++◌};
+ghost use Rattle.std.specs.Prelude.{◌≡◌, ◌≢◌, ◌≤◌, ◌<◌, ◌^◌, ℕ, ◌-◌, List, [], true, false, length, min, nat_lt, drop, IfOk, IfErr, OnOk, OnErr, ◌++◌};
 ghost use Rattle.h3_field.specs.Instruction.{decoder_bytes};
 ghost use Rattle.h3_field.specs.Instruction.DecoderInstruction.{Acknowledge, CancelStream};
 ghost use Rattle.h3_field.specs.Reading.{Unfinished};
 ghost use Rattle.h3_field.specs.InstructionReading.{instruction};
 ghost use Rattle.h3_qpack.specs.Increments.{increment_for};
 ghost use Rattle.h3_field.specs.Field.{Field, section_size};
+ghost use Rattle.h3_field.specs.declared.decoder_error.DecoderError.TheVariants.{OutOfMemory};
 ghost use Rattle.h3_field.specs.Shapes.{begins};
 ghost use Rattle.h3_qpack.specs.DecoderState.{DecoderState, announcing, greatest_capacity, count_capacity};
-ghost use Rattle.h3_qpack.specs.Meaning.{MeansFields};
+ghost use Rattle.h3_qpack.specs.Meaning.{HasPrefix, MeansFields};
 ghost use Rattle.h3_qpack.specs.DecodedSection.{decode_section, fields_in, with_fields, IsRefusalOf, Fields};
 ghost use Rattle.h3_qpack.specs.Sizes.{IsWithin};
-ghost use Rattle.h3_qpack.specs.SectionAnswers.{IsRefusal, IsReasonFor};
+ghost use Rattle.h3_qpack.specs.SectionAnswers.{MayAskMemory, IsRefusal, IsReasonFor};
 ghost use Rattle.h3_qpack.specs.InstructionAnswers.{AnswersInsertionRead, AnswersOne};
 ghost use Rattle.h3_qpack.specs.Instructions.{HasRead, BeginsBad};
 ghost use Rattle.h3_qpack.specs.Hearing.{heard, hear};
@@ -100,7 +101,9 @@ impl Decoder {
     /// were not read is refused.
     fn take_prefix(&self, buf: &mut SliceCursor<'_>) -> Result<(usize, usize), DecoderError>
         ensures ok { IfOk result (λ p. decode_section self.now buf.old ≡ with_fields p.0 (fields_in self.now.table p.1 buf.new)) }
+        ensures begins { IfOk result (λ p. HasPrefix self.now buf.old buf.new p.0 p.1 × (p.0 ≤ self.now.table.inserted)) }
         ensures err { IfErr result (IsRefusalOf (decode_section self.now buf.old)) }
+        ensures memory { IfErr result (λ e. e ≢ OutOfMemory) }
     {
         let prefix = match HeaderPrefix::decode(buf) {
             Ok(prefix) => prefix,
@@ -125,6 +128,7 @@ impl Decoder {
         ensures value { IfOk result (λ d. (count : ℕ) × (decode_section self.now buf.old ≡ Fields d.fields.items count) × (d.dyn_ref ≡ nat_lt 0 count)) }
         ensures err { IfErr result (λ e. IsRefusal self.now buf.old e × (buf.new ≡ buf.old)) }
         ensures refusal { IfErr result (IsRefusalOf (decode_section self.now buf.old)) }
+        ensures memory { IfErr result (λ e. e ≡ OutOfMemory → MayAskMemory self.now buf.old) }
     {
         match self.decode_header_within(buf, u64::MAX, &[]) {
             Ok(DecodedWithin::Fields(decoded)) => Ok(decoded),
@@ -138,7 +142,8 @@ impl Decoder {
     /// field: what it holds at one time is at most the fields up to the limit, one line and one value.
     ///
     /// Where the section needs insertions that were not read, no line is read. One that is bad is refused even where its
-    /// fields before that pass the limit. A refused read takes nothing.
+    /// fields before that pass the limit. A refused read takes nothing. No memory is asked for before the first line is read or has a
+    /// string.
     pub fn decode_header_within(
         &self,
         buf: &mut SliceCursor<'_>,
@@ -148,6 +153,7 @@ impl Decoder {
         ensures ok { IfOk result (λ d. (fields : List Field) × (count : ℕ) × (decode_section self.now buf.old ≡ Fields fields count)
             × IsWithin max name.now (nat_lt 0 count) fields d × (buf.new ≡ [])) }
         ensures err { IfErr result (λ e. IsRefusalOf (decode_section self.now buf.old) e × (buf.new ≡ buf.old)) }
+        ensures memory { IfErr result (λ e. e ≡ OutOfMemory → MayAskMemory self.now buf.old) }
     {
         let mut ahead = SliceCursor::new(buf.chunk());
         let (count, base) = match self.take_prefix(&mut ahead) {

@@ -1,12 +1,13 @@
 //! Field sections whose fields are kept up to a limit on the sum of their sizes, and only counted past it.
-ghost use Rattle.std.specs.Prelude.{◌≡◌, ◌<◌, ℕ, [], List, IfOk, OnOk, IfErr, Some, None};
+ghost use Rattle.std.specs.Prelude.{◌≡◌, ◌<◌, ℕ, [], ◌∷◌, ◌++◌, List, IfOk, OnOk, IfErr, Some, None};
 ghost use Rattle.h3_field.specs.Field.{Field};
+ghost use Rattle.h3_field.specs.declared.decoder_error.DecoderError.TheVariants.{OutOfMemory};
 ghost use Rattle.h3_qpack.specs.DecodedSection.{fields_in};
-ghost use Rattle.h3_qpack.specs.SectionAnswers.{IsReasonFor};
+ghost use Rattle.h3_qpack.specs.SectionAnswers.{LinesAskMemory, IsReasonFor};
 ghost use Rattle.h3_qpack.specs.Sizes.{IsWithin, IsTooLarge, counted, counted_on};
 
 use crate::lines::{LineField, Lines};
-use h3_field::{Decoded, DecoderError, SliceCursor};
+use h3_field::{Decoded, DecoderError, HeaderField, SliceCursor};
 use std::alloc::{AllocError, Global};
 use std::marker::Model;
 
@@ -32,6 +33,17 @@ pub struct LargeSection {
 
 /// How many fields get room at first: most sections have no more, and the list of their fields need not grow.
 const FIRST_ROOM: usize = 16;
+
+/// Adds a field behind which so many bytes are left: each may be a field.
+fn keep(fields: &mut Vec<HeaderField>, field: HeaderField, left: usize) -> Result<(), AllocError>
+    ensures { OnOk result (fields.new.items ≡ fields.old.items ++ field ∷ []) }
+{
+    if fields.is_empty() {
+        fields.reserve(left.min(FIRST_ROOM - 1) + 1)?;
+    }
+    fields.push(field)?;
+    Ok(())
+}
 
 /// Fields that are counted and not kept.
 #[derive(Drop)]
@@ -70,6 +82,7 @@ impl<'t> Lines<'t> {
     fn count(&self, buf: &mut SliceCursor<'_>, name: &[u8]) -> Result<Count, DecoderError>
         ensures ok { IfOk result (λ c. (fields : List Field) × (fields_in self.now.table self.now.base buf.old ≡ Some fields) × (c ≡ counted name.now fields) × (buf.new ≡ [])) }
         ensures err { IfErr result (IsReasonFor (fields_in self.now.table self.now.base buf.old ≡ None) (λ count. ⊥)) }
+        ensures memory { IfErr result (λ e. e ≡ OutOfMemory → LinesAskMemory self.now.table self.now.base buf.old) }
     {
         let mut count = Count { sum: 0, last: None };
         'lines: while buf.remaining() > 0 {
@@ -93,6 +106,7 @@ impl<'t> Lines<'t> {
     ) -> Result<DecodedWithin, DecoderError>
         ensures ok { IfOk result (λ d. (fields : List Field) × (fields_in self.now.table self.now.base buf.old ≡ Some fields) × IsTooLarge name.now dyn_ref fields d × (buf.new ≡ [])) }
         ensures err { IfErr result (IsReasonFor (fields_in self.now.table self.now.base buf.old ≡ None) (λ count. ⊥)) }
+        ensures memory { IfErr result (λ e. e ≡ OutOfMemory → LinesAskMemory self.now.table self.now.base buf.old) }
     {
         match self.count(buf, name) {
             Ok(count) => Ok(DecodedWithin::TooLarge(LargeSection {
@@ -105,7 +119,8 @@ impl<'t> Lines<'t> {
     }
 
     /// Reads the lines, to the end of `buf`. Their fields are kept as long as they sum to at most `max`. Once they pass
-    /// it they are let go, and all lines are read anew and counted.
+    /// it they are let go, and all lines are read anew and counted. No memory is asked for before the first line is read or has a
+    /// string.
     pub(crate) fn take_within(
         &self,
         buf: &mut SliceCursor<'_>,
@@ -115,12 +130,10 @@ impl<'t> Lines<'t> {
     ) -> Result<DecodedWithin, DecoderError>
         ensures ok { IfOk result (λ d. (fields : List Field) × (fields_in self.now.table self.now.base buf.old ≡ Some fields) × IsWithin max name.now dyn_ref fields d × (buf.new ≡ [])) }
         ensures err { IfErr result (IsReasonFor (fields_in self.now.table self.now.base buf.old ≡ None) (λ count. ⊥)) }
+        ensures memory { IfErr result (λ e. e ≡ OutOfMemory → LinesAskMemory self.now.table self.now.base buf.old) }
     {
         let mut ahead = SliceCursor::new(buf.chunk());
         let mut fields = Vec::new(self.alloc());
-        if fields.reserve(ahead.remaining().min(FIRST_ROOM)).is_err() {
-            return Err(DecoderError::OutOfMemory);
-        }
         let mut mem_size: u64 = 0;
         'lines: while ahead.remaining() > 0 {
             let line = match self.take(&mut ahead) {
@@ -135,7 +148,7 @@ impl<'t> Lines<'t> {
             let Ok(field) = line.into_field(self.alloc()) else {
                 return Err(DecoderError::OutOfMemory);
             };
-            let Ok(()) = fields.push(field) else {
+            let Ok(()) = keep(&mut fields, field, ahead.remaining()) else {
                 return Err(DecoderError::OutOfMemory);
             };
         }
