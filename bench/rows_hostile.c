@@ -14,8 +14,9 @@ enum { PEER_MOST = 1999 };
 
 /* A session of an encoder: each list is sent, and then the replies are read, all at once. */
 typedef struct {
-  field_lists lists;
-  size_t capacity, limit;
+  field_lists lists; /* that are not the same */
+  size_t sent;       /* how many are sent: the lists, in turn */
+  size_t capacity, limit, step; /* between the streams of two lists; 0: all are on one stream */
   const uint8_t *first; /* what is read behind the first list: nothing, or that it came */
   size_t first_len;
   pack replies;
@@ -45,9 +46,9 @@ static void our_part(void *data, uint64_t rounds) { ours(data, 1, rounds); }
 
 static void peer_round(const hostile *h, int is_part) {
   peer_sender sender = peer_sender_new(h->capacity, h->limit);
-  for (size_t i = 0; i < h->lists.count; i++) {
+  for (size_t i = 0; i < h->sent; i++) {
     nghttp3_buf_reset(&sender.instructions);
-    peer_send(&sender, 4 * i, &h->lists.lists[i]);
+    peer_send(&sender, h->step * i, &h->lists.lists[i % h->lists.count]);
     if (!i && h->first_len && !peer_sender_hear(&sender, h->first, h->first_len)) stop("nghttp3: first reply", 0);
   }
   if (!is_part && !peer_sender_hear(&sender, h->replies.bytes, h->replies.len)) stop("nghttp3: replies", (long)h->replies.len);
@@ -65,8 +66,8 @@ static void peer_part(void *data, uint64_t rounds) {
 static void prepare(hostile *h) {
   session_steps steps = {0};
   pack packed = pack_lists(&h->lists);
-  for (size_t i = 0; i < h->lists.count; i++) {
-    add_list(&steps, 4 * i, i);
+  for (size_t i = 0; i < h->sent; i++) {
+    add_list(&steps, h->step * i, i % h->lists.count);
     if (!i && h->first_len) add_heard(&steps, h->first, h->first_len);
   }
   h->steps[1] = pack_steps(&steps, &packed);
@@ -74,7 +75,7 @@ static void prepare(hostile *h) {
   h->steps[0] = pack_steps(&steps, &packed);
   free_pack(&steps.steps);
   free_pack(&packed);
-  h->room = 64 * h->lists.count + 1024;
+  h->room = 64 * h->sent + 1024;
   h->out = malloc(h->room);
   if (!h->out) stop("no memory", (long)h->room);
 }
@@ -82,7 +83,7 @@ static void prepare(hostile *h) {
 /* The time of one reply: what sessions take beyond those that are sent alone. */
 static void measure_hostile(hostile *h, const char *row, int with_peer, size_t count, double most) {
   char set[32];
-  snprintf(set, sizeof set, "%zu", count);
+  snprintf(set, sizeof set, h->step ? "%zu" : "%zu, one stream", count);
   if (!is_measured(row, set)) return;
   prepare(h);
   const contender whole[CONTENDERS] = {{our_whole, h}, {with_peer ? peer_whole : NULL, h}, {0}};
@@ -93,15 +94,15 @@ static void measure_hostile(hostile *h, const char *row, int with_peer, size_t c
   free(h->out);
 }
 
-static hostile new_hostile(size_t count, size_t capacity, size_t limit) {
-  hostile h = {.lists = {.name = "hostile", .count = count}, .capacity = capacity, .limit = limit};
-  h.lists.lists = calloc(count, sizeof *h.lists.lists);
-  if (!h.lists.lists) stop("no memory", (long)count);
+static hostile new_hostile(size_t sent, size_t lists, size_t capacity, size_t limit) {
+  hostile h = {.lists = {.name = "hostile", .count = lists}, .sent = sent, .capacity = capacity, .limit = limit, .step = 4};
+  h.lists.lists = calloc(lists, sizeof *h.lists.lists);
+  if (!h.lists.lists) stop("no memory", (long)lists);
   return h;
 }
 
-static void free_hostile(hostile *h, size_t own_lists) {
-  for (size_t i = 0; i < own_lists; i++) {
+static void free_hostile(hostile *h) {
+  for (size_t i = 0; i < h->lists.count; i++) {
     free((void *)h->lists.lists[i].fields[0].name);
     free((void *)h->lists.lists[i].fields[0].value);
     free(h->lists.lists[i].fields);
@@ -125,30 +126,30 @@ static size_t *mixed(size_t count) {
   return order;
 }
 
-/* So many sections that name one entry are under way, one a stream, and are acknowledged, or canceled, in an order that is none
- * of sending. */
-static void tracked_row(const char *row, uint8_t flag, unsigned bits, size_t count) {
+/* So many sections that name one entry are under way, one a stream or all on one, and are acknowledged, or their streams canceled,
+ * in an order that is none of sending. */
+static void tracked_row(const char *row, uint8_t flag, unsigned bits, size_t count, size_t step) {
   static const uint8_t came[] = {1, 128}; /* an increment of 1, and the acknowledgment of stream 0 */
-  hostile h = new_hostile(count + 1, 4096, 100);
-  field_list list = one_field("user-agent", "1");
-  for (size_t i = 0; i <= count; i++) h.lists.lists[i] = list;
+  hostile h = new_hostile(count + 1, 1, 4096, 100);
+  h.lists.lists[0] = one_field("user-agent", "1");
+  h.step = step;
   h.first = came;
   h.first_len = sizeof came;
   size_t *order = mixed(count);
-  for (size_t i = 0; i < count; i++) put_integer(&h.replies, flag, bits, 4 * order[i]);
+  for (size_t i = 0; i < count; i++) put_integer(&h.replies, flag, bits, step * order[i]);
   free(order);
   measure_hostile(&h, row, count <= PEER_MOST, count, 200);
-  free_hostile(&h, 1);
+  free_hostile(&h);
 }
 
 static void tracked_rows(size_t count) {
-  tracked_row("section acknowledged", 128, 7, count);
-  tracked_row("section canceled", 64, 6, count);
+  tracked_row("section acknowledged", 128, 7, count, 4);
+  tracked_row("section canceled", 64, 6, count, 4);
 }
 
 /* So many sections wait, each for an insertion of its own, and increments of 1 make them known one after another. */
 static void waiting_row(size_t count) {
-  hostile h = new_hostile(count, 1 << 22, 65535);
+  hostile h = new_hostile(count, count, 1 << 22, 65535);
   for (size_t i = 0; i < count; i++) {
     char value[32];
     snprintf(value, sizeof value, "%zu", i);
@@ -156,19 +157,16 @@ static void waiting_row(size_t count) {
     put_integer(&h.replies, 0, 6, 1);
   }
   measure_hostile(&h, "increment of 1, many wait", count <= PEER_MOST, count, 200);
-  free_hostile(&h, count);
+  free_hostile(&h);
 }
 
 /* So many sections wait for one insertion, and as many increments of 0 come. nghttp3 refuses these. */
 static void idle_row(size_t count) {
-  hostile h = new_hostile(count, 4096, 65535);
-  field_list list = one_field("user-agent", "1");
-  for (size_t i = 0; i < count; i++) {
-    h.lists.lists[i] = list;
-    put_integer(&h.replies, 0, 6, 0);
-  }
+  hostile h = new_hostile(count, 1, 4096, 65535);
+  h.lists.lists[0] = one_field("user-agent", "1");
+  for (size_t i = 0; i < count; i++) put_integer(&h.replies, 0, 6, 0);
   measure_hostile(&h, "increment of 0, many wait", 0, count, 50);
-  free_hostile(&h, 1);
+  free_hostile(&h);
 }
 
 /* Lists of 16 fields whose values differ in bytes alone that the slot of a field does not rest on. */
@@ -200,6 +198,7 @@ static void one_slot_rows(void) {
 void hostile_rows(void) {
   tracked_rows(PEER_MOST);
   tracked_rows(10000);
+  tracked_row("section acknowledged", 128, 7, 10000, 0);
   tracked_rows(1000000);
   waiting_row(PEER_MOST);
   waiting_row(65000);
