@@ -7,20 +7,20 @@ use Rattle.std.proofs.lemmas.List.{take-append-drop}
 use Rattle.std.proofs.lemmas.Bool.{and_parts}
 use Rattle.h3_field.specs.Field.{Field}
 use Rattle.h3_field.specs.Line.{FieldLine}
-use Rattle.h3_field.specs.Line.FieldLine.{StaticField, RelativeField, PostBaseField, StaticName, RelativeName, PostBaseName, Literal}
+use Rattle.h3_field.specs.Line.FieldLine.{RelativeName, PostBaseName}
 use Rattle.h3_field.specs.StaticTable.{static_field, static_name}
 use Rattle.h3_field.specs.Prefix.{most_entries, IsRequiredCount}
 use Rattle.h3_qpack.proofs.Counts.{few_entries}
 use Rattle.h3_table.specs.Table.{table, evictions}
 use Rattle.h3_qpack.specs.EncoderHistory.{EncoderHistory, UnacknowledgedSection}
-use Rattle.h3_qpack.specs.NamedFields.{insertion_at, named_field, StandFor, entry_number}
+use Rattle.h3_qpack.specs.NamedFields.{insertion_at, StandFor, entry_number}
 use Rattle.h3_qpack.specs.SectionEncoding.{Draft, found, found_name, is_insertable, add_line, add_literal, add_inserted, add_field, draft_of, required_insert_count}
 use Rattle.h3_qpack.specs.Session.{Session, UndecodedSection, oldest, without_oldest, count_of, references_of, undecoded_references, tracked_references, acknowledgments, is_canceled, IsWrittenOver, IsSound, DecodesTo}
 use Rattle.h3_table.specs.TableLaws.{evictions-append}
 use Rattle.h3_qpack.proofs.Newest.{chosen, newest_from-passes}
 use Rattle.h3_qpack.proofs.Drafts.{either_way, All-first}
 use Rattle.h3_table.specs.ReleasingLaws.{All-join}
-use Rattle.h3_qpack.proofs.NamedFieldsOf.{section_stands, StandFor-append, with_value-more}
+use Rattle.h3_qpack.proofs.NamedFieldsOf.{section_stands, StandFor-append, lines_alike}
 use Rattle.h3_qpack.proofs.Sessions.{taken_names}
 
 -- each line names an entry up to the required count, and each entry has a number above 0
@@ -132,20 +132,9 @@ insertion_at-take : (fs : List Field) (n number : ℕ) (f : Field) → number �
 insertion_at-take fs n zero f le h = h
 insertion_at-take fs n (suc number) f le h = slice_get-take fs n number f (omega (arith, le)) h
 
-named_field-take : (fs : List Field) (n base : ℕ) (line : FieldLine) (f : Field) → entry_number base line ≤ n → named_field fs base line ≡ Some f → named_field (take n fs) base line ≡ Some f
-named_field-take fs n base (StaticField index) f le h = h
-named_field-take fs n base (RelativeField index) f le h = insertion_at-take fs n (base - index) f le h
-named_field-take fs n base (PostBaseField index) f le h = insertion_at-take fs n (base + index + 1) f le h
-named_field-take fs n base (StaticName index value) f le h = h
-named_field-take fs n base (RelativeName index value) f le h = with_value-more value _ _ f (λ g e. insertion_at-take fs n (base - index) g le e) h
-named_field-take fs n base (PostBaseName index value) f le h = with_value-more value _ _ f (λ g e. insertion_at-take fs n (base + index + 1) g le e) h
-named_field-take fs n base (Literal name value) f le h = h
-
 StandFor-take : (fs : List Field) (n base : ℕ) (lines : List FieldLine) (fields : List Field) → AllByRecursion (λ line. entry_number base line ≤ n) lines → StandFor fs base lines fields → StandFor (take n fs) base lines fields
-StandFor-take fs n base [] [] le h = h
-StandFor-take fs n base (l ∷ ls) (f ∷ fields) le h = (named_field-take fs n base l f le.0 h.0, StandFor-take fs n base ls fields le.1 h.1)
-StandFor-take fs n base [] (f ∷ fields) le h = h
-StandFor-take fs n base (l ∷ ls) [] le h = h
+StandFor-take fs n base lines fields le h =
+    lines_alike (λ line. entry_number base line ≤ n) (insertion_at fs) (insertion_at (take n fs)) base base lines fields (λ line few g e. insertion_at-take fs n (entry_number base line) g few e) le h
 
 -- what holds of each section holds of the oldest
 pub oldest_holds : (P : UndecodedSection → Type 0) (stream : ℕ) (sections : List UndecodedSection) (b : UndecodedSection) → AllByRecursion P sections → oldest stream sections ≡ Some b → P b

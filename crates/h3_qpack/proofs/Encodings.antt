@@ -12,7 +12,7 @@ use Rattle.h3_table.specs.Table.{evictions}
 use Rattle.h3_qpack.specs.EncoderHistory.{EncoderHistory}
 use Rattle.h3_table.specs.TableState.{TableState, entry_at}
 use Rattle.h3_qpack.specs.TableHistory.{table_state, table_of}
-use Rattle.h3_qpack.specs.NamedFields.{insertion_at, named_field, StandFor, entry_number}
+use Rattle.h3_qpack.specs.NamedFields.{insertion_at, StandFor, entry_number}
 use Rattle.h3_qpack.specs.Meaning.{field_at, HaveFields}
 use Rattle.h3_qpack.specs.SectionEncoding.{Draft, found, found_name, is_insertable, add_line, add_literal, add_inserted, add_field, draft_of}
 use Rattle.h3_qpack.specs.Encodings.{IsWrittenLine}
@@ -33,7 +33,7 @@ use Rattle.h3_qpack.specs.DecoderState.{DecoderState, count_capacity}
 use Rattle.h3_qpack.specs.SectionEncoding.{encoded_section}
 use Rattle.h3_qpack.specs.Encodings.{decoder_of, IsWritten}
 use Rattle.h3_qpack.specs.Session.{Session, UndecodedSection, oldest, is_canceled, count_of, IsSound, DecodesTo}
-use Rattle.h3_qpack.proofs.NamedFieldsOf.{with_value-more}
+use Rattle.h3_qpack.proofs.NamedFieldsOf.{lines_alike}
 use Rattle.h3_qpack.proofs.Decoding.{found_back, name_back, section_counted, section_decodes, count_in_window}
 
 -- written lines are read one behind the other
@@ -130,47 +130,22 @@ held_field capacity fs number f (inr there) h =
     let yes : nat_lt (evictions capacity fs) number ≡ true = grind (arith, common_steps) in
     rw (evicted, yes) (still_held fs (evictions capacity fs) number f there (omega arith) h)
 
-line_held : (capacity : ℕ) (fs : List Field) (base : ℕ) (line : FieldLine) (f : Field) → Names (λ n. evictions capacity fs < n) base line → named_field fs base line ≡ Some f
-    → field_at (table_state (table_of capacity fs)) base line ≡ Some f
-line_held capacity fs base (StaticField index) f names h = h
-line_held capacity fs base (RelativeField index) f names h = held_field capacity fs (base - index) f names h
-line_held capacity fs base (PostBaseField index) f names h = held_field capacity fs (base + index + 1) f names h
-line_held capacity fs base (StaticName index value) f names h = h
-line_held capacity fs base (RelativeName index value) f names h = with_value-more value _ _ f (λ g e. held_field capacity fs (base - index) g names e) h
-line_held capacity fs base (PostBaseName index value) f names h = with_value-more value _ _ f (λ g e. held_field capacity fs (base + index + 1) g names e) h
-line_held capacity fs base (Literal name value) f names h = h
-
 lines_held : (capacity : ℕ) (fs : List Field) (base : ℕ) (lines : List FieldLine) (fields : List Field) → AllByRecursion (Names (λ n. evictions capacity fs < n) base) lines
     → StandFor fs base lines fields → HaveFields (table_state (table_of capacity fs)) base lines fields
-lines_held capacity fs base [] [] names h = tt
-lines_held capacity fs base (l ∷ ls) (f ∷ fields) names h = (line_held capacity fs base l f names.0 h.0, lines_held capacity fs base ls fields names.1 h.1)
-lines_held capacity fs base [] (f ∷ fields) names h = h
-lines_held capacity fs base (l ∷ ls) [] names h = h
+lines_held capacity fs base lines fields names h =
+    lines_alike (Names (λ n. evictions capacity fs < n) base) (insertion_at fs) (entry_at (table_state (table_of capacity fs))) base base lines fields
+    (λ line named g e. held_field capacity fs (entry_number base line) g named e) names h
 
 -- lines that name no entry are of the same fields for every base and table
 nothing_at : (fs : List Field) (n : ℕ) (f : Field) → n ≡ 0 → insertion_at fs n ≡ Some f → ⊥
 nothing_at fs zero f e h = cc
 nothing_at fs (suc n) f e h = omega (arith, e)
 
-none_with : (value : List ℕ) (o : Option Field) (f : Field) → ((g : Field) → o ≡ Some g → ⊥) → with_value value o ≡ Some f → ⊥
-none_with value None f none h = cc
-none_with value (Some g) f none h = none g refl
-
-line_plain : (h : TableState) (fs : List Field) (base : ℕ) (line : FieldLine) (f : Field) → entry_number base line ≤ 0 → named_field fs base line ≡ Some f → field_at h 0 line ≡ Some f
-line_plain h fs base (StaticField index) f none e = e
-line_plain h fs base (RelativeField index) f none e = absurd (nothing_at fs (base - index) f (omega (arith, none)) e)
-line_plain h fs base (PostBaseField index) f none e = absurd (omega (arith, none))
-line_plain h fs base (StaticName index value) f none e = e
-line_plain h fs base (RelativeName index value) f none e = absurd (none_with value (insertion_at fs (base - index)) f (λ g k. nothing_at fs (base - index) g (omega (arith, none)) k) e)
-line_plain h fs base (PostBaseName index value) f none e = absurd (omega (arith, none))
-line_plain h fs base (Literal name value) f none e = e
-
 lines_plain : (h : TableState) (fs : List Field) (base : ℕ) (lines : List FieldLine) (fields : List Field) → AllByRecursion (λ line. entry_number base line ≤ 0) lines
     → StandFor fs base lines fields → HaveFields h 0 lines fields
-lines_plain h fs base [] [] none e = tt
-lines_plain h fs base (l ∷ ls) (f ∷ fields) none e = (line_plain h fs base l f none.0 e.0, lines_plain h fs base ls fields none.1 e.1)
-lines_plain h fs base [] (f ∷ fields) none e = e
-lines_plain h fs base (l ∷ ls) [] none e = e
+lines_plain h fs base lines fields none e =
+    lines_alike (λ line. entry_number base line ≤ 0) (insertion_at fs) (entry_at h) base 0 lines fields
+    (λ line few g named. absurd (nothing_at fs (entry_number base line) g (omega (arith, few)) named)) none e
 
 -- the prefix that is written is read
 pub prefix_read : (capacity count base : ℕ) (rest : List ℕ) → count < 2 ^ 62 → base < 2 ^ 62 → prefix (prefix_bytes capacity count base ++ rest) ≡ Whole (written_prefix capacity count base) rest

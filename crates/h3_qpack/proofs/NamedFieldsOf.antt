@@ -3,7 +3,7 @@ use Rattle.std.proofs.Common.{◌≡◌, ℕ, zero, suc, ◌+◌, ◌-◌, ◌<�
 use Rattle.std.proofs.lemmas.Grind.{common_steps}
 use Rattle.std.proofs.lemmas.List.Quantifiers.{position-Some}
 use Rattle.std.proofs.lemmas.Option.{slice_get-get_or}
-use Rattle.std.specs.List.{position}
+use Rattle.std.specs.List.{AllByRecursion, position}
 use Rattle.std.proofs.Common.{get_or}
 use Rattle.std.proofs.lemmas.Bool.{and_parts}
 use Rattle.h3_field.specs.FieldLaws.{same_bytes, same_field}
@@ -15,7 +15,7 @@ use Rattle.h3_field.specs.StaticTable.{static_table, static_field, static_name}
 use Rattle.h3_table.specs.Table.{newest}
 use Rattle.h3_qpack.specs.EncoderHistory.{EncoderHistory}
 use Rattle.h3_qpack.specs.SectionEncoding.{Draft, is_usable, found, found_name, is_insertable, add_line, add_literal, add_inserted, add_field, draft_of, entry_name_line}
-use Rattle.h3_qpack.specs.NamedFields.{insertion_at, named_field, StandFor}
+use Rattle.h3_qpack.specs.NamedFields.{entry_number, line_field_by, AreOf, insertion_at, named_field, StandFor}
 use Rattle.h3_qpack.proofs.Newest.{chosen, newest_from-passes}
 use Rattle.h3_qpack.proofs.Drafts.{either_way}
 
@@ -32,23 +32,37 @@ pub with_value-more : (value : List ℕ) (a b : Option Field) (f : Field) → ((
 with_value-more value None b f more h = cc
 with_value-more value (Some g) b f more h = ap (with_value value) (more g refl) ∙ h
 
+-- a line is of the same field, where what it names here is there too
+pub line_alike : (here there : ℕ → Option Field) (base other : ℕ) (line : FieldLine) (f : Field) → ((g : Field) → here (entry_number base line) ≡ Some g → there (entry_number other line) ≡ Some g)
+    → line_field_by here base line ≡ Some f → line_field_by there other line ≡ Some f
+line_alike here there base other (StaticField index) f same h = h
+line_alike here there base other (RelativeField index) f same h = same f h
+line_alike here there base other (PostBaseField index) f same h = same f h
+line_alike here there base other (StaticName index value) f same h = h
+line_alike here there base other (RelativeName index value) f same h = with_value-more value _ _ f same h
+line_alike here there base other (PostBaseName index value) f same h = with_value-more value _ _ f same h
+line_alike here there base other (Literal name value) f same h = h
+
+pub lines_alike : (P : FieldLine → Type 0) (here there : ℕ → Option Field) (base other : ℕ) (lines : List FieldLine) (fields : List Field)
+    → ((line : FieldLine) → P line → (g : Field) → here (entry_number base line) ≡ Some g → there (entry_number other line) ≡ Some g)
+    → AllByRecursion P lines → AreOf (line_field_by here base) lines fields → AreOf (line_field_by there other) lines fields
+lines_alike P here there base other [] [] same all h = tt
+lines_alike P here there base other (line ∷ lines) (f ∷ fields) same all h =
+    (line_alike here there base other line f (same line all.0) h.0, lines_alike P here there base other lines fields same all.1 h.1)
+lines_alike P here there base other [] (f ∷ fields) same all h = absurd h
+lines_alike P here there base other (line ∷ lines) [] same all h = absurd h
+
 -- what a line names it names after further insertions
 named_field-append : (fs gs : List Field) (base : ℕ) (line : FieldLine) (f : Field) → named_field fs base line ≡ Some f → named_field (fs ++ gs) base line ≡ Some f
-named_field-append fs gs base (StaticField index) f h = h
-named_field-append fs gs base (RelativeField index) f h = insertion_at-append fs gs (base - index) f h
-named_field-append fs gs base (PostBaseField index) f h = insertion_at-append fs gs (base + index + 1) f h
-named_field-append fs gs base (StaticName index value) f h = h
-named_field-append fs gs base (RelativeName index value) f h =
-    with_value-more value _ _ f (λ g e. insertion_at-append fs gs (base - index) g e) h
-named_field-append fs gs base (PostBaseName index value) f h =
-    with_value-more value _ _ f (λ g e. insertion_at-append fs gs (base + index + 1) g e) h
-named_field-append fs gs base (Literal name value) f h = h
+named_field-append fs gs base line f h = line_alike (insertion_at fs) (insertion_at (fs ++ gs)) base base line f (λ g e. insertion_at-append fs gs (entry_number base line) g e) h
 
 pub StandFor-append : (fs gs : List Field) (base : ℕ) (lines : List FieldLine) (fields : List Field) → StandFor fs base lines fields → StandFor (fs ++ gs) base lines fields
-StandFor-append fs gs base [] [] h = h
-StandFor-append fs gs base (line ∷ lines) (f ∷ fields) h = (named_field-append fs gs base line f h.0, StandFor-append fs gs base lines fields h.1)
-StandFor-append fs gs base [] (f ∷ fields) h = h
-StandFor-append fs gs base (line ∷ lines) [] h = h
+StandFor-append fs gs base lines fields h =
+    lines_alike (λ line. Unit {0}) (insertion_at fs) (insertion_at (fs ++ gs)) base base lines fields (λ line any g e. insertion_at-append fs gs (entry_number base line) g e) (any_of lines) h
+  where
+    any_of : (lines : List FieldLine) → AllByRecursion (λ line. Unit {0}) lines
+    any_of [] = tt
+    any_of (line ∷ lines) = (tt, any_of lines)
 
 one_more : (inserted : List Field) (base : ℕ) (lines : List FieldLine) (fields : List Field) (line : FieldLine) (f : Field)
     → StandFor inserted base lines fields → named_field inserted base line ≡ Some f → StandFor inserted base (lines ++ line ∷ []) (fields ++ f ∷ [])

@@ -5,7 +5,6 @@ use Rattle.std.proofs.lemmas.Grind.{common_steps}
 use Rattle.std.proofs.lemmas.List.{take_more, length-take-le}
 use Rattle.std.proofs.lemmas.Bool.{and_parts}
 use Rattle.h3_field.specs.Field.{Field, field_size}
-use Rattle.h3_field.specs.Section.{with_value}
 use Rattle.h3_field.specs.Instruction.{EncoderInstruction}
 use Rattle.h3_field.specs.Instruction.EncoderInstruction.{SetCapacity, InsertWithStaticName, InsertWithEntryName, InsertLiteral, Duplicate}
 use Rattle.h3_table.specs.Table.{evictions}
@@ -19,6 +18,7 @@ use Rattle.h3_qpack.proofs.TableStates.{table_state_of, table-end, with_entry-he
 use Rattle.h3_qpack.proofs.Insertions.{table_after_all-append}
 use Rattle.h3_qpack.specs.InstructionLaws.{decoder_after_all-append}
 use Rattle.h3_qpack.proofs.Encodings.{still_held}
+use Rattle.h3_qpack.proofs.NamedFieldsOf.{with_value-more}
 
 -- a decoder that has read these insertions, and the capacity before them
 abbrev pub decoder_at : ℕ → List Field → DecoderState
@@ -43,16 +43,12 @@ still_there capacity fs n f h = by_test (nat_lt (evictions capacity fs) n) refl 
         rw (left, e) (still_held fs (evictions capacity fs) n f there (omega arith) h)
     by_test false e h = absurd (cc)
 
-with_value_more : (value : List ℕ) (a b : Option Field) (f : Field) → ((g : Field) → a ≡ Some g → b ≡ Some g) → with_value value a ≡ Some f → with_value value b ≡ Some f
-with_value_more value None b f more h = absurd (cc)
-with_value_more value (Some g) b f more h = ap (with_value value) (more g refl) ∙ h
-
 -- what an insertion names at the decoder
 names_same : (capacity : ℕ) (fs : List Field) (i : EncoderInstruction) (f : Field) → field_inserted (table_of capacity fs) i ≡ Some f → insertion_of (table_state (table_of capacity fs)) i ≡ Some f
 names_same capacity fs (SetCapacity c) f h = absurd (cc)
 names_same capacity fs (InsertWithStaticName index value) f h = h
 names_same capacity fs (InsertWithEntryName index value) f h =
-    with_value_more value (entry_still_at (table_of capacity fs) (length fs - index)) _ f (λ g e. still_there capacity fs (length fs - index) g e) h
+    with_value-more value (entry_still_at (table_of capacity fs) (length fs - index)) _ f (λ g e. still_there capacity fs (length fs - index) g e) h
 names_same capacity fs (InsertLiteral name value) f h = h
 names_same capacity fs (Duplicate index) f h = still_there capacity fs (length fs - index) f h
 

@@ -1,10 +1,9 @@
 -- A decoder's table, and what an encoder instruction makes of it (RFC 9204, sections 3.2.2, 3.2.3 and 4.3).
-use Rattle.std.specs.Prelude.{ℕ, ◌-◌, ◌^◌, List, [], ◌∷◌, slice_get, nat_le, if◌then◌else◌, Option, Some, None, unwrap_or}
+use Rattle.std.specs.Prelude.{ℕ, ◌-◌, ◌^◌, List, [], ◌∷◌, nat_le, if◌then◌else◌, Option, Some, None, unwrap_or}
 use Rattle.h3_field.specs.Field.{Field}
-use Rattle.h3_field.specs.Section.{with_value}
-use Rattle.h3_field.specs.StaticTable.{static_table}
 use Rattle.h3_field.specs.Instruction.{EncoderInstruction}
-use Rattle.h3_field.specs.Instruction.EncoderInstruction.{SetCapacity, InsertWithStaticName, InsertWithEntryName, InsertLiteral, Duplicate}
+use Rattle.h3_field.specs.Instruction.EncoderInstruction.{SetCapacity}
+use Rattle.h3_qpack.specs.NamedFields.{insertion_by}
 use Rattle.h3_table.specs.TableState.{TableState, no_entries, entry_at, has_room, with_entry, with_capacity}
 
 pub record DecoderState : Type 0 where
@@ -26,11 +25,7 @@ count_capacity r = unwrap_or r.announced r.table.capacity
 
 -- the field that an instruction inserts, or none where it names none
 abbrev pub insertion_of : TableState → EncoderInstruction → Option Field
-insertion_of h (SetCapacity capacity) = None
-insertion_of h (InsertWithStaticName index value) = with_value value (slice_get static_table index)
-insertion_of h (InsertWithEntryName index value) = with_value value (entry_at h (h.inserted - index))
-insertion_of h (InsertLiteral name value) = Some (record { name = name; value = value })
-insertion_of h (Duplicate index) = entry_at h (h.inserted - index)
+insertion_of h instruction = insertion_by (entry_at h) h.inserted instruction
 
 abbrev pub inserting : DecoderState → Option Field → Option DecoderState
 inserting r None = None

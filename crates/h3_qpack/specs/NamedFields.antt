@@ -1,34 +1,14 @@
--- What the lines of a section name, over the list of all insertions.
+-- What the lines of a section name, and what an instruction inserts, by what is at the number of each entry.
 use Rattle.std.specs.Prelude.{◌≡◌, ℕ, zero, suc, ◌+◌, ◌-◌, List, [], ◌∷◌, slice_get, Option, Some, None}
 use Rattle.h3_field.specs.Field.{Field}
 use Rattle.h3_field.specs.Section.{with_value}
 use Rattle.h3_field.specs.StaticTable.{static_table}
 use Rattle.h3_field.specs.Line.{FieldLine}
 use Rattle.h3_field.specs.Line.FieldLine.{StaticField, RelativeField, PostBaseField, StaticName, RelativeName, PostBaseName, Literal}
+use Rattle.h3_field.specs.Instruction.{EncoderInstruction}
+use Rattle.h3_field.specs.Instruction.EncoderInstruction.{SetCapacity, InsertWithStaticName, InsertWithEntryName, InsertLiteral, Duplicate}
 
--- the insertion of that number
-abbrev pub insertion_at : List Field → ℕ → Option Field
-insertion_at inserted zero = None
-insertion_at inserted (suc n) = slice_get inserted n
-
--- the field that a line stands for, where the section has this base
-abbrev pub named_field : List Field → ℕ → FieldLine → Option Field
-named_field inserted base (StaticField index) = slice_get static_table index
-named_field inserted base (RelativeField index) = insertion_at inserted (base - index)
-named_field inserted base (PostBaseField index) = insertion_at inserted (base + index + 1)
-named_field inserted base (StaticName index value) = with_value value (slice_get static_table index)
-named_field inserted base (RelativeName index value) = with_value value (insertion_at inserted (base - index))
-named_field inserted base (PostBaseName index value) = with_value value (insertion_at inserted (base + index + 1))
-named_field inserted base (Literal name value) = Some (record { name = name; value = value })
-
--- the lines stand for these fields, in order
-abbrev pub StandFor : List Field → ℕ → List FieldLine → List Field → Type 0
-StandFor inserted base [] [] = Unit {0}
-StandFor inserted base (line ∷ lines) (field ∷ fields) = (named_field inserted base line ≡ Some field) × StandFor inserted base lines fields
-StandFor inserted base [] (field ∷ fields) = ⊥
-StandFor inserted base (line ∷ lines) [] = ⊥
-
--- the number of the insertion that a line names, or 0
+-- the number of the entry that a line names, or 0 (RFC 9204, sections 3.2.4 to 3.2.6)
 abbrev pub entry_number : ℕ → FieldLine → ℕ
 entry_number base (StaticField index) = 0
 entry_number base (RelativeField index) = base - index
@@ -37,3 +17,40 @@ entry_number base (StaticName index value) = 0
 entry_number base (RelativeName index value) = base - index
 entry_number base (PostBaseName index value) = base + index + 1
 entry_number base (Literal name value) = 0
+
+-- the field of a line, where what it names is there
+abbrev pub line_field_by : (ℕ → Option Field) → ℕ → FieldLine → Option Field
+line_field_by entry base (StaticField index) = slice_get static_table index
+line_field_by entry base (RelativeField index) = entry (base - index)
+line_field_by entry base (PostBaseField index) = entry (base + index + 1)
+line_field_by entry base (StaticName index value) = with_value value (slice_get static_table index)
+line_field_by entry base (RelativeName index value) = with_value value (entry (base - index))
+line_field_by entry base (PostBaseName index value) = with_value value (entry (base + index + 1))
+line_field_by entry base (Literal name value) = Some (record { name = name; value = value })
+
+-- The lines are of these fields, one of each.
+abbrev pub AreOf : (FieldLine → Option Field) → List FieldLine → List Field → Type 0
+AreOf field_of [] [] = Unit {0}
+AreOf field_of (line ∷ lines) (field ∷ fields) = (field_of line ≡ Some field) × AreOf field_of lines fields
+AreOf field_of [] (field ∷ fields) = ⊥
+AreOf field_of (line ∷ lines) [] = ⊥
+
+-- the field that an instruction inserts behind so many insertions, or none where it names none
+abbrev pub insertion_by : (ℕ → Option Field) → ℕ → EncoderInstruction → Option Field
+insertion_by entry inserted (SetCapacity capacity) = None
+insertion_by entry inserted (InsertWithStaticName index value) = with_value value (slice_get static_table index)
+insertion_by entry inserted (InsertWithEntryName index value) = with_value value (entry (inserted - index))
+insertion_by entry inserted (InsertLiteral name value) = Some (record { name = name; value = value })
+insertion_by entry inserted (Duplicate index) = entry (inserted - index)
+
+-- the insertion of that number, of the list of all
+abbrev pub insertion_at : List Field → ℕ → Option Field
+insertion_at inserted zero = None
+insertion_at inserted (suc n) = slice_get inserted n
+
+-- the field of a line over the list of all insertions
+abbrev pub named_field : List Field → ℕ → FieldLine → Option Field
+named_field inserted base line = line_field_by (insertion_at inserted) base line
+
+abbrev pub StandFor : List Field → ℕ → List FieldLine → List Field → Type 0
+StandFor inserted base lines fields = AreOf (named_field inserted base) lines fields

@@ -1,12 +1,10 @@
 -- A table by the plain list of all insertions: its entries are an end of that list, and what is evicted does not come back
 -- (RFC 9204, sections 3.2.2 and 3.2.3).
-use Rattle.std.specs.Prelude.{◌≡◌, take, ℕ, ◌+◌, ◌-◌, ◌^◌, ◌≤◌, ◌&&◌, List, [], ◌∷◌, ◌++◌, length, drop, max, slice_get, nat_lt, nat_le, if◌then◌else◌, Option, Some, None}
+use Rattle.std.specs.Prelude.{◌≡◌, take, ℕ, ◌+◌, ◌^◌, ◌≤◌, ◌&&◌, List, [], ◌∷◌, ◌++◌, length, drop, max, nat_lt, nat_le, if◌then◌else◌, Option, Some, None}
 use Rattle.h3_field.specs.Field.{Field, field_size}
-use Rattle.h3_field.specs.Section.{with_value}
-use Rattle.h3_field.specs.StaticTable.{static_table}
 use Rattle.h3_field.specs.Instruction.{EncoderInstruction}
-use Rattle.h3_field.specs.Instruction.EncoderInstruction.{SetCapacity, InsertWithStaticName, InsertWithEntryName, InsertLiteral, Duplicate}
-use Rattle.h3_qpack.specs.NamedFields.{insertion_at}
+use Rattle.h3_field.specs.Instruction.EncoderInstruction.{SetCapacity}
+use Rattle.h3_qpack.specs.NamedFields.{insertion_at, insertion_by}
 use Rattle.h3_table.specs.Table.{evictions}
 use Rattle.h3_table.specs.TableState.{TableState}
 
@@ -28,11 +26,7 @@ abbrev pub entry_still_at : TableHistory → ℕ → Option Field
 entry_still_at h number = if nat_lt h.evicted number then insertion_at h.inserted number else None
 
 abbrev pub field_inserted : TableHistory → EncoderInstruction → Option Field
-field_inserted h (SetCapacity capacity) = None
-field_inserted h (InsertWithStaticName index value) = with_value value (slice_get static_table index)
-field_inserted h (InsertWithEntryName index value) = with_value value (entry_still_at h (length h.inserted - index))
-field_inserted h (InsertLiteral name value) = Some (record { name = name; value = value })
-field_inserted h (Duplicate index) = entry_still_at h (length h.inserted - index)
+field_inserted h instruction = insertion_by (entry_still_at h) (length h.inserted) instruction
 
 abbrev pub table_after_insertion : TableHistory → Option Field → Option TableHistory
 table_after_insertion h None = None
