@@ -22,7 +22,6 @@ pub use kind::FieldKind;
 use pseudo::Pseudo;
 use std::alloc::{AllocError, Global};
 use std::marker::Model;
-use store::Store;
 
 mod authority;
 mod error;
@@ -68,11 +67,18 @@ impl Header {
         ensures err { IfErr result (λ e. authority_refusal (uri_authority uri) (host_of fields)
             ≡ Some e) }
     {
-        if let Some(e) = find_refusal(authority_text(uri.authority()), &fields) {
-            return Err(e);
+        match find_refusal(authority_text(uri.authority()), &fields) {
+            Some(e) => {
+                drop(method);
+                drop(uri);
+                drop(fields);
+                Err(e)
+            }
+            None => {
+                let pseudo = Pseudo::request(method, uri, protocol);
+                Ok(Header { pseudo, fields })
+            }
         }
-        let pseudo = Pseudo::request(method, uri, protocol);
-        Ok(Header { pseudo, fields })
     }
 
     /// The header of a response (RFC 9114, 4.3.2).
@@ -109,6 +115,7 @@ impl Header {
         ensures err { IfErr result (RefusesRequest self) }
     {
         if let Some(e) = self.request_refusal() {
+            drop(self);
             return Err(e);
         }
         let Header { pseudo, fields } = self;
@@ -116,7 +123,11 @@ impl Header {
         let Some(method) = method else { unreachable!() };
         match uri_of(alloc, parts, &fields) {
             Ok(uri) => Ok((method, uri, protocol, fields)),
-            Err(e) => Err(e),
+            Err(e) => {
+                drop(method);
+                drop(fields);
+                Err(e)
+            }
         }
     }
 
@@ -142,7 +153,10 @@ impl Header {
     {
         match self.status() {
             Some(status) => Ok((status, self.into_fields())),
-            None => Err(HeaderError::MissingStatus),
+            None => {
+                drop(self);
+                Err(HeaderError::MissingStatus)
+            }
         }
     }
 
@@ -150,7 +164,9 @@ impl Header {
     pub fn into_fields(self) -> HeaderMap
         ensures { result ≡ self.regular }
     {
-        self.fields
+        let Header { pseudo, fields } = self;
+        drop(pseudo);
+        fields
     }
 
     /// The number of fields, at most the greatest `usize`.
@@ -249,13 +265,16 @@ impl Header {
     {
         let mut pseudo = Pseudo::none();
         let mut map = store::map_for(alloc, &fields);
-        let mut kept = Store::of(alloc, &fields);
-        for field in fields {
-            read::read_field(alloc, &mut pseudo, &mut map, &mut kept, field)?;
+        match read::read_fields(alloc, &mut pseudo, &mut map, fields) {
+            Ok(()) => Ok(Header {
+                pseudo,
+                fields: map,
+            }),
+            Err(e) => {
+                drop(pseudo);
+                drop(map);
+                Err(e)
+            }
         }
-        Ok(Header {
-            pseudo,
-            fields: map,
-        })
     }
 }

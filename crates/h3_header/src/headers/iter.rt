@@ -69,16 +69,24 @@ impl Pseudo {
         ensures { TakesField (fields_of_pseudo self.old) result (fields_of_pseudo self.new) }
     {
         if let Some(part) = self.method.take() {
-            return Some(pseudo_field(alloc, b":method", part.as_str()));
+            let field = pseudo_field(alloc, b":method", part.as_str());
+            drop(part);
+            return Some(field);
         }
         if let Some(part) = self.scheme.take() {
-            return Some(pseudo_field(alloc, b":scheme", part.as_str()));
+            let field = pseudo_field(alloc, b":scheme", part.as_str());
+            drop(part);
+            return Some(field);
         }
         if let Some(part) = self.authority.take() {
-            return Some(pseudo_field(alloc, b":authority", part.as_str()));
+            let field = pseudo_field(alloc, b":authority", part.as_str());
+            drop(part);
+            return Some(field);
         }
         if let Some(part) = self.path.take() {
-            return Some(pseudo_field(alloc, b":path", part.as_str()));
+            let field = pseudo_field(alloc, b":path", part.as_str());
+            drop(part);
+            return Some(field);
         }
         if let Some(part) = self.status.take() {
             return Some(Ok(static_field(b":status", part.as_str())));

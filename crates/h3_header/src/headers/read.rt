@@ -1,5 +1,5 @@
 //! The parts of a header, read from the bytes of a field's name and value.
-ghost use Rattle.std.specs.Prelude.{◌≡◌, ⊤, IfOk, OnOk, IfErr, OnErr};
+ghost use Rattle.std.specs.Prelude.{◌≡◌, ⊤, IfOk, OnOk, IfErr, OnErr, MatchResult, Ok, Err, Some, fold};
 ghost use Rattle.std.specs.Cow.{cow_slice_items};
 ghost use Rattle.http_header.specs.Token.{IsToken};
 ghost use Rattle.http_header.specs.FieldName.{IsHeaderName};
@@ -9,7 +9,7 @@ ghost use Rattle.http.specs.StatusCode.{IsCodeText};
 ghost use Rattle.http_uri.specs.Grammar.{IsScheme, IsAuthority, IsPathInput, without_fragment};
 ghost use Rattle.h3_header.specs.ProtocolText.{IsProtocolText};
 ghost use Rattle.h3_header.specs.declared.headers.kind.FieldKind.TheVariants as field;
-ghost use Rattle.h3_header.specs.Reads.{IsShortMethod, IsValueAt, status_number, RefusesName, RefusesValue, RefusesRegular, RefusesPseudo, Accepts, Refuses, with_field, with_pseudo};
+ghost use Rattle.h3_header.specs.Reads.{IsShortMethod, IsValueAt, status_number, RefusesName, RefusesValue, RefusesRegular, RefusesPseudo, Accepts, Refuses, AcceptsAll, RefusesOne, with_field, with_pseudo};
 ghost use Rattle.h3_header.specs.Parts.{head_of_parts};
 
 use super::authority::{https, root};
@@ -104,7 +104,7 @@ fn read_protocol(alloc: Global, value: &[u8]) -> Result<Protocol, HeaderError>
     }
 }
 
-/// A header name, which is in lower case. A standard one takes no memory.
+/// A header name, which is in lower case. A static one takes no memory.
 fn read_name(
     alloc: Global,
     store: &mut Store,
@@ -114,18 +114,13 @@ fn read_name(
         × (n ≡ cow_slice_items name.now)) }
     ensures err { IfErr result (RefusesName (IsHeaderName (cow_slice_items name.now))) }
 {
-    if let Some(standard) = HeaderName::standard(name.as_slice()) {
-        if standard.as_bytes() == name.as_slice() {
-            return Ok(standard);
-        }
-        return Err(HeaderError::invalid_name(alloc, name.as_slice()));
-    }
     match HeaderName::from_shared(alloc, store.keep(name)?) {
         Ok(made) => {
             // `from_shared` takes letters of any case, and makes them lower case.
             if made.as_bytes() == name.as_slice() {
                 return Ok(made);
             }
+            drop(made);
             Err(HeaderError::invalid_name(alloc, name.as_slice()))
         }
         Err(HeaderNameError::Invalid) => { Err(HeaderError::invalid_name(alloc, name.as_slice())) }
@@ -175,8 +170,26 @@ fn append_field(
     }
 }
 
-/// Reads one field into the parts of a header, and keeps its bytes in the store.
-pub(crate) fn read_field(
+/// Reads the fields in order into the parts of a header, up to the first one that is refused.
+pub(crate) fn read_fields(
+    alloc: Global,
+    pseudo: &mut Pseudo,
+    map: &mut HeaderMap,
+    fields: Vec<HeaderField>,
+) -> Result<(), HeaderError>
+    ensures ok { OnOk result (AcceptsAll (head_of_parts pseudo.old map.old) fields.items
+        × (head_of_parts pseudo.new map.new ≡ fold with_field (head_of_parts pseudo.old map.old) fields.items)) }
+    ensures err { IfErr result (RefusesOne (head_of_parts pseudo.old map.old) fields.items) }
+{
+    let mut store = Store::of(alloc, &fields);
+    for field in fields {
+        read_field(alloc, pseudo, map, &mut store, field)?;
+    }
+    Ok(())
+}
+
+// Reads one field into the parts of a header, and keeps its bytes in the store.
+fn read_field(
     alloc: Global,
     pseudo: &mut Pseudo,
     map: &mut HeaderMap,
@@ -208,49 +221,22 @@ fn read_pseudo(
         × (pseudo.new ≡ with_pseudo kind pseudo.old (cow_slice_items value.now))) }
     ensures err { IfErr result (RefusesPseudo kind (cow_slice_items value.now)) }
 {
+    let text = value.as_slice();
     match kind {
-        FieldKind::Method => match read_method(alloc, value.as_slice()) {
-            Ok(method) => {
-                pseudo.method = Some(method);
-                Ok(())
-            }
-            Err(e) => Err(e),
-        },
-        FieldKind::Scheme => match read_scheme(alloc, value.as_slice()) {
-            Ok(scheme) => {
-                pseudo.scheme = Some(scheme);
-                Ok(())
-            }
-            Err(e) => Err(e),
-        },
-        FieldKind::Authority => match read_authority(alloc, store, value) {
-            Ok(authority) => {
-                pseudo.authority = Some(authority);
-                Ok(())
-            }
-            Err(e) => Err(e),
-        },
-        FieldKind::Path => match read_path(alloc, store, value) {
-            Ok(path) => {
-                pseudo.path = Some(path);
-                Ok(())
-            }
-            Err(e) => Err(e),
-        },
-        FieldKind::Status => match read_status(alloc, value.as_slice()) {
-            Ok(status) => {
-                pseudo.status = Some(status);
-                Ok(())
-            }
-            Err(e) => Err(e),
-        },
-        FieldKind::Protocol => match read_protocol(alloc, value.as_slice()) {
-            Ok(protocol) => {
-                pseudo.protocol = Some(protocol);
-                Ok(())
-            }
-            Err(e) => Err(e),
-        },
+        FieldKind::Method => put(&mut pseudo.method, read_method(alloc, text)),
+        FieldKind::Scheme => put(&mut pseudo.scheme, read_scheme(alloc, text)),
+        FieldKind::Authority => put(&mut pseudo.authority, read_authority(alloc, store, value)),
+        FieldKind::Path => put(&mut pseudo.path, read_path(alloc, store, value)),
+        FieldKind::Status => put(&mut pseudo.status, read_status(alloc, text)),
+        FieldKind::Protocol => put(&mut pseudo.protocol, read_protocol(alloc, text)),
         FieldKind::Regular => unreachable!(),
     }
+}
+
+// A part that was read takes the place of an earlier one.
+fn put<T: Drop>(place: &mut Option<T>, read: Result<T, HeaderError>) -> Result<(), HeaderError>
+    ensures { MatchResult read (λ part. (result ≡ Ok tt) × (place.new ≡ Some part)) (λ e. (result ≡ Err e) × (place.new ≡ place.old)) }
+{
+    *place = Some(read?);
+    Ok(())
 }
