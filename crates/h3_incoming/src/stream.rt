@@ -43,6 +43,7 @@ pub struct IncomingStream {
 }
 
 impl Model for IncomingStream {
+    ghost use Rattle.std.specs.List.{concat};
     ghost use Rattle.h3_wire.specs.Tries.{Expects};
     ghost use Rattle.h3_connection.specs.Incoming.{Incoming};
 
@@ -64,7 +65,7 @@ impl Model for IncomingStream {
     ghost use Rattle.std.specs.Prelude.{◌≡◌, ◌<◌, ◌≤◌, true, [], None};
     ghost use Rattle.std.specs.Option.{is_some};
 
-    ghost invariant = { λ s. Expects s.decoder s.unread.bytes
+    ghost invariant = { λ s. Expects s.decoder (concat s.unread.pieces)
         × (0 < s.body_left → s.decoder.expected ≡ None)
         × (is_some s.fault ≡ true → s.unread.pieces ≡ [])
         × (s.tries ≤ 2)
@@ -103,7 +104,6 @@ impl IncomingStream {
         if self.fault.is_some() {
             return Ok(());
         }
-        self.unread.known();
         match self.unread.push(bytes) {
             Ok(()) => Ok(()),
             Err(e) => Err(e.value),
@@ -180,7 +180,6 @@ impl IncomingStream {
     pub fn unread(&self) -> usize
         ensures { result ≡ length (concat self.now.unread) }
     {
-        self.unread.known();
         self.unread.remaining()
     }
 

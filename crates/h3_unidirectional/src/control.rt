@@ -31,14 +31,15 @@ pub struct PeerControl {
 }
 
 impl Model for PeerControl {
+    ghost use Rattle.std.specs.List.{concat};
     ghost use Rattle.h3_wire.specs.Tries.{Expects};
     ghost use Rattle.h3_connection.specs.PeerReading.{Peer};
 
     ghost Value = { Peer };
 
-    ghost view = { λ p. record { unread = p.unread.bytes; settings = p.settings; goaways = p.goaways.items; most_pushes = p.most_pushes } };
+    ghost view = { λ p. record { unread = concat p.unread.pieces; settings = p.settings; goaways = p.goaways.items; most_pushes = p.most_pushes } };
 
-    ghost invariant = { λ p. Expects p.decoder p.unread.bytes };
+    ghost invariant = { λ p. Expects p.decoder (concat p.unread.pieces) };
 }
 
 /// What a frame does.

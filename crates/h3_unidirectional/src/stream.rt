@@ -169,7 +169,6 @@ impl UnidirectionalStream {
     pub fn unread_len(&self) -> usize
         ensures { result ≡ length (concat self.now.unread) }
     {
-        self.unread.known();
         self.unread.remaining()
     }
 
@@ -194,7 +193,6 @@ impl UnidirectionalStream {
         ensures ok { OnOk result (self.new ≡ with_bytes self.old (Session session, drop passed bytes)) }
         ensures err { IfErr result (λ back. (back ≡ bytes) × (self.new ≡ self.old)) }
     {
-        self.unread.known();
         if self.unread.reserve().is_err() {
             return Err(bytes);
         }

@@ -1,5 +1,7 @@
 -- Pieces joined, one more and one less.
 use Rattle.std.proofs.Common.{◌≡◌, ℕ, ◌+◌, ◌<◌, List, [], ◌∷◌, ◌++◌, length, drop, get_or, append-nil, append_assoc, length-append, ap, sym, refl, ◌∙◌, inl, inr, arith, Option, Some, None}
+use Rattle.std.specs.List.{concat}
+use Rattle.std.proofs.lemmas.List.Folds.{concat-append}
 use Rattle.std.proofs.lemmas.List.{drop-drop, drop_more, drop_at, drop_all, length-drop}
 use Rattle.std.proofs.lemmas.Bool.{cases_lt}
 use Rattle.h3_wire.specs.Pieces.{joined, with_piece, first_of}
@@ -41,6 +43,12 @@ some_piece unread items i p f same some =
 pub with_piece-some : (pieces : List (List ℕ)) (x : List ℕ) → 0 < length x → with_piece pieces x ≡ pieces ++ x ∷ []
 with_piece-some pieces [] h = absurd (omega arith)
 with_piece-some pieces (byte ∷ bytes) h = refl
+
+-- the bytes with one piece more
+pub concat-with_piece : (pieces : List (List ℕ)) (x : List ℕ) → concat (with_piece pieces x) ≡ concat pieces ++ x
+concat-with_piece pieces [] = sym (append-nil (concat pieces))
+concat-with_piece pieces (byte ∷ bytes) =
+    concat-append pieces ((byte ∷ bytes) ∷ []) ∙ ap (λ l. concat pieces ++ l) (append-nil (byte ∷ bytes))
 
 -- and an empty one is not
 pub with_piece-none : (pieces : List (List ℕ)) (x : List ℕ) → length x ≡ 0 → with_piece pieces x ≡ pieces

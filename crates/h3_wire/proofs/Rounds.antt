@@ -1,6 +1,6 @@
 -- One round of reading frames, and one read of a payload.
 use Rattle.std.proofs.Common.{◌≡◌, ℕ, ◌<◌, Bool, inr, ap₂, append_assoc, length-append, true, false, List, [], ◌∷◌, ◌++◌, length, arith, sym, ◌∙◌, ap, subst, refl, Result, Ok, Err, Option, Some, None}
-use Rattle.h3_wire.specs.declared.quic.Poll.{Poll}
+use Rattle.std.specs.List.{concat}
 use Rattle.h3_wire.specs.declared.quic.Poll.TheVariants.{Ready, Pending}
 use Rattle.h3_wire.specs.declared.proto.frame.PayloadLen.{PayloadLen}
 use Rattle.h3_wire.specs.declared.proto.frame.Frame.{Frame}
@@ -16,7 +16,7 @@ use Rattle.h3_wire.specs.Tries.{Decoding}
 use Rattle.h3_wire.specs.Asking.{Asks, Looks, IsRound, Rounds, read_fails, payload_found, at_end_of, ReadsOnce, no_memory, takes, is_short, data_of, TakesFirst}
 
 abbrev pub framed : {S : Type 0} → Buffered S → PayloadLeft → Decoding → Framing S
-framed s p d = record { buffered = s.buffered; pieces = s.pieces; source = s.source; is_eos = s.is_eos; payload = p; decoder = d }
+framed s p d = record { pieces = s.pieces; source = s.source; is_eos = s.is_eos; payload = p; decoder = d }
 
 -- a read, a look, and the payload behind what was found
 pub round : {S : Type 0} (answers : S → Answer → S → Type 0) (now inside : Framing S) (told : Received) (read took : Buffered S) (found : Result (Option (Frame PayloadLen)) FrameStreamError) (after : Decoding) (left : PayloadLeft)
@@ -62,27 +62,27 @@ some_taken : {S : Type 0} (rest : S → List ℕ) (old mid new : Framing S) (byt
 some_taken rest old mid new bytes all same took source is_eos =
     let there = coming mid.is_eos (rest mid.source) in (
       took.0,
-      sym all ∙ ap (λ b. b ++ there) took.1 ∙ append_assoc bytes new.buffered there ∙ ap₂ (λ e s. bytes ++ (new.buffered ++ coming e (rest s))) (sym is_eos) (sym source),
+      sym all ∙ ap (λ b. b ++ there) took.1 ∙ append_assoc bytes (concat new.pieces) there ∙ ap₂ (λ e s. bytes ++ (concat new.pieces ++ coming e (rest s))) (sym is_eos) (sym source),
       subst (λ p. TakesPayload (length bytes) p new.payload) same took.2,
     )
 
 none_taken : {S : Type 0} (rest : S → List ℕ) (old mid new : Framing S)
-    → left rest mid ≡ left rest old → mid.buffered ≡ [] → new.buffered ≡ [] → new.source ≡ mid.source → new.is_eos ≡ mid.is_eos → left rest new ≡ left rest old
+    → left rest mid ≡ left rest old → concat mid.pieces ≡ [] → concat new.pieces ≡ [] → new.source ≡ mid.source → new.is_eos ≡ mid.is_eos → left rest new ≡ left rest old
 none_taken rest old mid new all was is source is_eos =
-    ap₂ (λ e s. new.buffered ++ coming e (rest s)) is_eos source ∙ ap (λ b. b ++ coming mid.is_eos (rest mid.source)) (is ∙ sym was) ∙ all
+    ap₂ (λ e s. concat new.pieces ++ coming e (rest s)) is_eos source ∙ ap (λ b. b ++ coming mid.is_eos (rest mid.source)) (is ∙ sym was) ∙ all
 
 -- bytes of the payload are taken behind a read, or none is there
 pub polls_taken : {S : Type 0} (rest : S → List ℕ) (answers : S → Answer → S → Type 0) (old mid new : Framing S) (told : Received) (taken : Option (List ℕ))
     → left rest mid ≡ left rest old → mid.payload ≡ old.payload → is_open old.payload ≡ true → Tells rest answers (Ok told) (stream_part old) (stream_part mid)
     → TakesData (Ok taken) mid new → new.source ≡ mid.source → new.is_eos ≡ mid.is_eos
-    → (told ≡ received.End → mid.buffered ≡ [] → is_open mid.payload ≡ true → mid.payload ≡ payload.ToEnd)
+    → (told ≡ received.End → concat mid.pieces ≡ [] → is_open mid.payload ≡ true → mid.payload ≡ payload.ToEnd)
     → PollsData rest answers (data_of told taken) old new
 polls_taken rest answers old mid new received.More (Some bytes) all same under_way tells took source is_eos whole = some_taken rest old mid new bytes all same took source is_eos
 polls_taken rest answers old mid new received.Nothing (Some bytes) all same under_way tells took source is_eos whole = some_taken rest old mid new bytes all same took source is_eos
 polls_taken rest answers old mid new received.End (Some bytes) all same under_way tells took source is_eos whole = some_taken rest old mid new bytes all same took source is_eos
 polls_taken rest answers old mid new received.More None all same under_way tells took source is_eos whole =
-    let there : length (mid.buffered ++ coming mid.is_eos (rest mid.source)) ≡ length (old.buffered ++ coming old.is_eos (rest old.source)) = ap length all in
-    absurd (omega (arith, tells.0, there, ap length took.0, length-append mid.buffered (coming mid.is_eos (rest mid.source)), length-append old.buffered (coming old.is_eos (rest old.source))))
+    let there : length (concat mid.pieces ++ coming mid.is_eos (rest mid.source)) ≡ length (concat old.pieces ++ coming old.is_eos (rest old.source)) = ap length all in
+    absurd (omega (arith, tells.0, there, ap length took.0, length-append (concat mid.pieces) (coming mid.is_eos (rest mid.source)), length-append (concat old.pieces) (coming old.is_eos (rest old.source))))
 polls_taken rest answers old mid new received.Nothing None all same under_way tells took source is_eos whole =
     (none_taken rest old mid new all took.0 took.1 source is_eos, took.1, (tells.0, subst (λ x. answers tells.0 Pending x) (sym source) tells.1), took.2 ∙ same)
 polls_taken rest answers old mid new received.End None all same under_way tells took source is_eos whole =

@@ -1,51 +1,49 @@
 -- What taking a frame off the buffer says of all the bytes that are left.
-use Rattle.std.proofs.Common.{◌≡◌, ℕ, ◌<◌, ◌≤◌, List, [], ◌++◌, length, arith, sym, ◌∙◌, ap, ap₂, subst, append-nil, length-append, Result, Ok, Err, Option, Some, None}
+use Rattle.std.proofs.Common.{◌≡◌, ℕ, ◌≤◌, List, [], ◌++◌, length, arith, sym, ◌∙◌, ap, ap₂, subst, append-nil, length-append, Result, Ok, Err, Option, Some, None}
+use Rattle.std.specs.List.{concat}
 use Rattle.h3_wire.specs.declared.quic.Poll.{Poll}
 use Rattle.h3_wire.specs.declared.quic.Poll.TheVariants.{Ready, Pending}
 use Rattle.h3_wire.specs.declared.proto.frame.PayloadLen.{PayloadLen}
 use Rattle.h3_wire.specs.declared.proto.frame.Frame.{Frame}
-use Rattle.h3_wire.specs.declared.proto.frame.FrameError.{FrameError}
 use Rattle.h3_wire.specs.declared.frame.errors.FrameStreamError.{FrameStreamError}
 use Rattle.h3_wire.specs.declared.frame.errors.FrameStreamError.TheVariants as stream
 use Rattle.h3_wire.specs.Source.{Answer, coming}
-use Rattle.h3_wire.specs.Frames.{Front, Whole, Unknown, Refused, Unfinished, frame_at}
-use Rattle.h3_wire.specs.FrameLaws.{IsFinished, with_more, IsShorter, frame_at-more, frame_at-shorter}
+use Rattle.h3_wire.specs.Frames.{Whole, frame_at}
 use Rattle.h3_wire.specs.GivesLaws.{whole_behind, refused_behind, same_behind, gives_fewer}
 use Rattle.h3_wire.specs.Known.{known, Gives, IsWaiting, refusal}
-use Rattle.h3_wire.specs.KnownLaws.{IsKnown, known-more, known-other, known_is, known-length}
 use Rattle.h3_wire.specs.Streams.{Buffered, Framing, left, Tells, PollsFrame}
 
 -- What was read, and what comes behind it, before and after a frame was taken.
 pub record Taken {S : Type 0} (rest : S → List ℕ) (old new : Framing S) (read behind : List ℕ) : Type 0 where
   pub before : left rest old ≡ read ++ behind
-  pub after : left rest new ≡ new.buffered ++ behind
+  pub after : left rest new ≡ concat new.pieces ++ behind
 
-pub taken_fewer : {S : Type 0} (rest : S → List ℕ) (old new : Framing S) (read behind : List ℕ) (r : Result (Option (Frame PayloadLen)) FrameStreamError) → Taken rest old new read behind → Gives r read new.buffered → length (left rest new) ≤ length (left rest old)
+pub taken_fewer : {S : Type 0} (rest : S → List ℕ) (old new : Framing S) (read behind : List ℕ) (r : Result (Option (Frame PayloadLen)) FrameStreamError) → Taken rest old new read behind → Gives r read (concat new.pieces) → length (left rest new) ≤ length (left rest old)
 taken_fewer rest old new read behind r t g =
-    omega (arith, ap length t.before, ap length t.after, length-append read behind, length-append new.buffered behind, gives_fewer r read new.buffered g)
+    omega (arith, ap length t.before, ap length t.after, length-append read behind, length-append (concat new.pieces) behind, gives_fewer r read (concat new.pieces) g)
 
-pub polls_error : {S : Type 0} (rest : S → List ℕ) (answers : S → Answer → S → Type 0) (old new : Framing S) (read behind : List ℕ) (e : FrameStreamError) → Taken rest old new read behind → Gives (Err e) read new.buffered → new.payload ≡ old.payload
+pub polls_error : {S : Type 0} (rest : S → List ℕ) (answers : S → Answer → S → Type 0) (old new : Framing S) (read behind : List ℕ) (e : FrameStreamError) → Taken rest old new read behind → Gives (Err e) read (concat new.pieces) → new.payload ≡ old.payload
     → PollsFrame rest answers (Ready (Err e)) old new
 polls_error rest answers old new read behind (stream.Proto e) t g p =
-    let r = refused_behind (refusal e) read new.buffered behind g.0 g.1 in
+    let r = refused_behind (refusal e) read (concat new.pieces) behind g.0 g.1 in
     (t.after ∙ r.0 ∙ ap known (sym t.before), ap frame_at t.after ∙ r.1, p)
-polls_error rest answers old new read behind stream.OutOfMemory t g p = (ap known t.after ∙ same_behind read new.buffered behind g.0 ∙ ap known (sym t.before), p)
+polls_error rest answers old new read behind stream.OutOfMemory t g p = (ap known t.after ∙ same_behind read (concat new.pieces) behind g.0 ∙ ap known (sym t.before), p)
 polls_error rest answers old new read behind (stream.Quic e) t g p = absurd g
 polls_error rest answers old new read behind stream.UnexpectedEnd t g p = absurd g
 
-pub polls_frame : {S : Type 0} (rest : S → List ℕ) (old new : Framing S) (read behind : List ℕ) (f : Frame PayloadLen) → Taken rest old new read behind → Gives (Ok (Some f)) read new.buffered
+pub polls_frame : {S : Type 0} (rest : S → List ℕ) (old new : Framing S) (read behind : List ℕ) (f : Frame PayloadLen) → Taken rest old new read behind → Gives (Ok (Some f)) read (concat new.pieces)
     → frame_at (known (left rest old)) ≡ Whole f (left rest new)
 polls_frame rest old new read behind f t g =
-    ap (λ l. frame_at (known l)) t.before ∙ whole_behind f read new.buffered behind g ∙ ap (Whole f) (sym t.after)
+    ap (λ l. frame_at (known l)) t.before ∙ whole_behind f read (concat new.pieces) behind g ∙ ap (Whole f) (sym t.after)
 
-pub polls_same : {S : Type 0} (rest : S → List ℕ) (old new : Framing S) (read behind : List ℕ) → Taken rest old new read behind → Gives (Ok None) read new.buffered → known (left rest new) ≡ known (left rest old)
-polls_same rest old new read behind t g = ap known t.after ∙ same_behind read new.buffered behind g.0 ∙ ap known (sym t.before)
+pub polls_same : {S : Type 0} (rest : S → List ℕ) (old new : Framing S) (read behind : List ℕ) → Taken rest old new read behind → Gives (Ok None) read (concat new.pieces) → known (left rest new) ≡ known (left rest old)
+polls_same rest old new read behind t g = ap known t.after ∙ same_behind read (concat new.pieces) behind g.0 ∙ ap known (sym t.before)
 
 -- at the end nothing comes behind
-pub polls_end : {S : Type 0} (rest : S → List ℕ) (old new : Framing S) (read behind : List ℕ) → Taken rest old new read behind → Gives (Ok None) read new.buffered → behind ≡ []
-    → (left rest new ≡ known (left rest old)) × IsWaiting (frame_at (left rest new)) × (left rest new ≡ new.buffered)
+pub polls_end : {S : Type 0} (rest : S → List ℕ) (old new : Framing S) (read behind : List ℕ) → Taken rest old new read behind → Gives (Ok None) read (concat new.pieces) → behind ≡ []
+    → (left rest new ≡ known (left rest old)) × IsWaiting (frame_at (left rest new)) × (left rest new ≡ concat new.pieces)
 polls_end rest old new read behind t g none =
-    let after : left rest new ≡ new.buffered = t.after ∙ ap (λ l. new.buffered ++ l) none ∙ append-nil new.buffered in
+    let after : left rest new ≡ concat new.pieces = t.after ∙ ap (λ l. concat new.pieces ++ l) none ∙ append-nil (concat new.pieces) in
     let before : left rest old ≡ read = t.before ∙ ap (λ l. read ++ l) none ∙ append-nil read in
     (after ∙ g.0 ∙ ap known (sym before), subst (λ l. IsWaiting (frame_at l)) (sym after) g.1, after)
 
@@ -67,10 +65,10 @@ polls_on rest answers start old new (Ready (Err stream.UnexpectedEnd)) k p h = (
 polls_on rest answers start old new (Ready (Err stream.OutOfMemory)) k p h = (h.0 ∙ k, h.1 ∙ p)
 polls_on rest answers start old new Pending k p h = (h.0 ∙ k, h.1, h.2, h.3 ∙ p)
 
-pub taken : {S : Type 0} (rest : S → List ℕ) (now inside new : Framing S) (mid took : Buffered S) → inside ≡ now → mid.buffered ++ coming mid.is_eos (rest mid.source) ≡ left rest inside
-    → took.source ≡ mid.source → took.is_eos ≡ mid.is_eos → new.buffered ≡ took.buffered → new.source ≡ took.source → new.is_eos ≡ took.is_eos
-    → Taken rest now new mid.buffered (coming mid.is_eos (rest mid.source))
+pub taken : {S : Type 0} (rest : S → List ℕ) (now inside new : Framing S) (mid took : Buffered S) → inside ≡ now → concat mid.pieces ++ coming mid.is_eos (rest mid.source) ≡ left rest inside
+    → took.source ≡ mid.source → took.is_eos ≡ mid.is_eos → concat new.pieces ≡ concat took.pieces → new.source ≡ took.source → new.is_eos ≡ took.is_eos
+    → Taken rest now new (concat mid.pieces) (coming mid.is_eos (rest mid.source))
 taken rest now inside new mid took view all source is_eos b s e = record {
   before = ap (left rest) (sym view) ∙ sym all;
-  after = ap₂ (λ t x. new.buffered ++ coming t (rest x)) (e ∙ is_eos) (s ∙ source);
+  after = ap₂ (λ t x. concat new.pieces ++ coming t (rest x)) (e ∙ is_eos) (s ∙ source);
 }

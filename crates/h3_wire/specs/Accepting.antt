@@ -1,5 +1,6 @@
 -- What the bytes of a one-way stream begin with (RFC 9114, section 6.2).
 use Rattle.std.specs.Prelude.{◌≡◌, ◌⊎◌, ℕ, Bool, true, false, ◌==◌, ◌||◌, List, ◌++◌, Option, Some, None, Result, Ok, Err, if◌then◌else◌}
+use Rattle.std.specs.List.{concat}
 use Rattle.h3_coding.specs.Varint.{varint_at}
 use Rattle.h3_wire.specs.declared.quic.Poll.{Poll}
 use Rattle.h3_wire.specs.declared.quic.Poll.TheVariants.{Ready, Pending}
@@ -42,10 +43,9 @@ resolved None id = false
 resolved (Some kind) None = if has_id kind then false else true
 resolved (Some kind) (Some id) = true
 
--- What is seen of a one-way stream whose type is read: the bytes that were read and not yet taken, the pieces that they
--- lie in, where the rest comes from, whether the end was told, and type and id as far as they were read.
+-- What is seen of a one-way stream whose type is read: the pieces of what was read and not yet taken, where the rest comes
+-- from, whether the end was told, and type and id as far as they were read.
 pub record Accepting (S : Type 0) : Type 0 where
-  pub buffered : List ℕ
   pub pieces : List (List ℕ)
   pub source : S
   pub is_eos : Bool
@@ -53,11 +53,11 @@ pub record Accepting (S : Type 0) : Type 0 where
   pub id : Option ℕ
 
 abbrev pub stream_of : {S : Type 0} → Accepting S → Buffered S
-stream_of s = record { buffered = s.buffered; pieces = s.pieces; source = s.source; is_eos = s.is_eos }
+stream_of s = record { pieces = s.pieces; source = s.source; is_eos = s.is_eos }
 
 -- the bytes that are left
 abbrev pub all_left : {S : Type 0} → (S → List ℕ) → Accepting S → List ℕ
-all_left rest s = s.buffered ++ coming s.is_eos (rest s.source)
+all_left rest s = concat s.pieces ++ coming s.is_eos (rest s.source)
 
 -- a number is taken where it is whole, and else nothing
 abbrev pub TakesNumber : Option ℕ → List ℕ → List ℕ → Type 0
@@ -80,8 +80,8 @@ IsStop _ = ⊥
 abbrev pub PollsType : {S : Type 0} → (S → Answer → S → Type 0) → Poll (Result (Unit {0}) PollTypeError) → Accepting S → Type 0
 PollsType answers (Ready (Ok _)) new = resolved new.kind new.id ≡ true
 PollsType answers (Ready (Err failed.EndOfStream)) new =
-    ((new.is_eos ≡ true) × (start_from new.kind new.id new.buffered ≡ Short))
+    ((new.is_eos ≡ true) × (start_from new.kind new.id (concat new.pieces) ≡ Short))
     ⊎ ((e : StreamErrorIncoming) × (resolved new.kind new.id ≡ false) × IsStop e × Answered answers (Ready (Err e)) new.source)
 PollsType answers (Ready (Err (failed.IncomingError code))) new = (resolved new.kind new.id ≡ false) × Answered answers (Ready (Err (incoming.ConnectionErrorIncoming code))) new.source
 PollsType answers (Ready (Err failed.OutOfMemory)) new = resolved new.kind new.id ≡ false
-PollsType answers Pending new = (start_from new.kind new.id new.buffered ≡ Short) × Answered answers Pending new.source
+PollsType answers Pending new = (start_from new.kind new.id (concat new.pieces) ≡ Short) × Answered answers Pending new.source

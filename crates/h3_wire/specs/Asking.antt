@@ -32,13 +32,13 @@ pub data Asks {S : Type 0} (answers : S → Answer → S → Type 0) (old : Buff
   at_end : old.is_eos ≡ true → told ≡ Ok received.End → new ≡ old → Asks answers old told new
   no_room : old.is_eos ≡ false → told ≡ Err stream.OutOfMemory → new ≡ old → Asks answers old told new
   once : (answer : Answer) → old.is_eos ≡ false → answers old.source answer new.source → told ≡ told_by answer
-      → new.buffered ≡ old.buffered ++ concat (piece_in answer) → new.pieces ≡ old.pieces ++ piece_in answer → new.is_eos ≡ ends answer → Asks answers old told new
+      → new.pieces ≡ old.pieces ++ piece_in answer → new.is_eos ≡ ends answer → Asks answers old told new
 
 -- A look at what was read: the next known frame is taken, and the tries are counted.
 pub record Looks {S : Type 0} (old : Buffered S) (before : Decoding) (found : Result (Option (Frame PayloadLen)) FrameStreamError) (new : Buffered S) (after : Decoding) : Type 0 where
-  pub gives : Gives found old.buffered new.buffered
-  pub counts : Counts before old.buffered found after
-  pub pieces : new.pieces ≡ ending (length new.buffered) old.pieces
+  pub gives : Gives found (concat old.pieces) (concat new.pieces)
+  pub counts : Counts before (concat old.pieces) found after
+  pub pieces : new.pieces ≡ ending (length (concat new.pieces)) old.pieces
   pub source : new.source ≡ old.source
   pub is_eos : new.is_eos ≡ old.is_eos
 
@@ -69,16 +69,16 @@ pub record IsRound {S : Type 0} (answers : S → Answer → S → Type 0) (old :
 
 -- a round that another one follows
 abbrev pub IsRoundBefore : {S : Type 0} → (S → Answer → S → Type 0) → Framing S → Framing S → Type 0
-IsRoundBefore answers old new = (told : Received) × (found : Result (Option (Frame PayloadLen)) FrameStreamError) × IsRound answers old told found new × (answer_of told found new.buffered ≡ None)
+IsRoundBefore answers old new = (told : Received) × (found : Result (Option (Frame PayloadLen)) FrameStreamError) × IsRound answers old told found new × (answer_of told found (concat new.pieces) ≡ None)
 
 -- `poll_next` goes in rounds: an error of the read is answered at once, and another round comes only where more bytes came
 -- that end no frame.
 pub data Rounds {S : Type 0} (answers : S → Answer → S → Type 0) : Framing S → Poll (Result (Option (Frame PayloadLen)) FrameStreamError) → Framing S → Type 0 where
   read_fails : (old new : Framing S) (e : FrameStreamError) → Asks answers (stream_part old) (Err e) (stream_part new) → new.payload ≡ old.payload → new.decoder ≡ old.decoder → Rounds answers old (Ready (Err e)) new
   answers_with : (old new : Framing S) (told : Received) (found : Result (Option (Frame PayloadLen)) FrameStreamError) (answer : Poll (Result (Option (Frame PayloadLen)) FrameStreamError)) → IsRound answers old told found new
-      → answer_of told found new.buffered ≡ Some answer → Rounds answers old answer new
+      → answer_of told found (concat new.pieces) ≡ Some answer → Rounds answers old answer new
   goes_on : (old mid new : Framing S) (told : Received) (found : Result (Option (Frame PayloadLen)) FrameStreamError) (answer : Poll (Result (Option (Frame PayloadLen)) FrameStreamError)) → IsRound answers old told found mid
-      → answer_of told found mid.buffered ≡ None → Rounds answers mid answer new → Rounds answers old answer new
+      → answer_of told found (concat mid.pieces) ≡ None → Rounds answers mid answer new → Rounds answers old answer new
 
 abbrev pub bytes_of : Option (List ℕ) → List ℕ
 bytes_of None = []
@@ -91,13 +91,13 @@ payload_without bytes payload.ToEnd = payload.ToEnd
 
 -- the end is known, and cuts the payload short in what was read
 abbrev pub is_short : {S : Type 0} → Received → PayloadLeft → Buffered S → Bool
-is_short received.End left s = is_cut_short left (length s.buffered) (length s.pieces)
+is_short received.End left s = is_cut_short left (length (concat s.pieces)) (length s.pieces)
 is_short _ left s = false
 
 -- The first piece that was read is taken, as far as the payload goes.
 pub record TakesFirst {S : Type 0} (old : Buffered S) (left : PayloadLeft) (taken : Option (List ℕ)) (new : Framing S) : Type 0 where
   pub pieces : (taken, new.pieces) ≡ cut left old.pieces
-  pub buffered : old.buffered ≡ bytes_of taken ++ new.buffered
+  pub buffered : concat old.pieces ≡ bytes_of taken ++ concat new.pieces
   pub payload : new.payload ≡ payload_without (bytes_of taken) left
   pub source : new.source ≡ old.source
   pub is_eos : new.is_eos ≡ old.is_eos

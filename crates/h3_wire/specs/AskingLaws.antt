@@ -1,10 +1,9 @@
 -- What a call answers and leaves rests on its own buffer and source alone: where a source answers in one way, so does each call,
 -- want of memory aside.
-use Rattle.std.proofs.Common.{◌≡◌, ◌⊎◌, inl, inr, ℕ, ◌<◌, Bool, true, false, List, [], ◌∷◌, ◌++◌, length, arith, refl, sym, ◌∙◌, ap, ap₂, subst, length-append, Result, Ok, Err, Option, Some, None}
+use Rattle.std.proofs.Common.{◌≡◌, ◌⊎◌, inl, inr, ℕ, Bool, true, false, List, [], ◌∷◌, ◌++◌, length, refl, sym, ◌∙◌, ap, ap₂, subst, Result, Ok, Err, Option, Some, None}
 use Rattle.std.specs.List.{concat}
-use Rattle.std.proofs.lemmas.List.{append_cancel_left}
 use Rattle.h3_wire.specs.declared.quic.Poll.{Poll}
-use Rattle.h3_wire.specs.declared.quic.Poll.TheVariants.{Ready, Pending}
+use Rattle.h3_wire.specs.declared.quic.Poll.TheVariants.{Ready}
 use Rattle.h3_wire.specs.declared.proto.frame.PayloadLen.{PayloadLen}
 use Rattle.h3_wire.specs.declared.proto.frame.Frame.{Frame}
 use Rattle.h3_wire.specs.declared.proto.frame.FrameError.{FrameError}
@@ -22,7 +21,7 @@ use Rattle.h3_wire.specs.Given.{piece_in}
 use Rattle.h3_wire.specs.Known.{known, refusal, IsWaiting, Gives}
 use Rattle.h3_wire.specs.Pieces.{ending}
 use Rattle.h3_wire.specs.Cut.{cut}
-use Rattle.h3_wire.specs.Streams.{Buffered, Framing, stream_part, is_open}
+use Rattle.h3_wire.specs.Streams.{Buffered, Framing, stream_part}
 use Rattle.h3_wire.specs.Tries.{Decoding}
 use Rattle.h3_wire.specs.Asking.{Asks, at_end, no_room, once, told_by, Looks, IsRound, answer_of, payload_found, Rounds, bytes_of, payload_without, TakesFirst, is_short, data_of, ReadsOnce, read_fails, answers_with, goes_on, closed, fails, cut_short, no_memory, takes}
 
@@ -40,15 +39,17 @@ OneAnswer {S} {T} call = (old new new' : Framing S) (r r' : Poll (Result T Frame
     → IsMemory r ⊎ (IsMemory r' ⊎ ((r ≡ r') × (stream_part new ≡ stream_part new') × (new.payload ≡ new'.payload)))
 
 -- streams of which the same is seen
-pub same_buffered : {S : Type 0} (a b : Buffered S) → a.buffered ≡ b.buffered → a.pieces ≡ b.pieces → a.source ≡ b.source → a.is_eos ≡ b.is_eos → a ≡ b
-same_buffered {S} a b bytes pieces source is_eos =
-    ap (λ (x : List ℕ). record a { buffered = x }) bytes
-    ∙ ap (λ (x : List (List ℕ)). record a { buffered = b.buffered; pieces = x }) pieces
-    ∙ ap (λ (x : S). record a { buffered = b.buffered; pieces = b.pieces; source = x }) source
-    ∙ ap (λ (x : Bool). record a { buffered = b.buffered; pieces = b.pieces; source = b.source; is_eos = x }) is_eos
+pub same_buffered : {S : Type 0} (a b : Buffered S) → a.pieces ≡ b.pieces → a.source ≡ b.source → a.is_eos ≡ b.is_eos → a ≡ b
+same_buffered {S} a b pieces source is_eos =
+    ap (λ (x : List (List ℕ)). record a { pieces = x }) pieces
+    ∙ ap (λ (x : S). record a { pieces = b.pieces; source = x }) source
+    ∙ ap (λ (x : Bool). record a { pieces = b.pieces; source = b.source; is_eos = x }) is_eos
 
 truth_apart : {A : Type 0} → true ≡ false → A
 truth_apart e = absurd (cc)
+
+no_piece : {A : Type 0} (piece : List ℕ) (pieces : List (List ℕ)) → piece ∷ pieces ≡ [] → A
+no_piece piece pieces e = absurd (cc)
 
 error_apart : {A T : Type 0} (e : FrameStreamError) (v : T) → Ok v ≡ Err e → A
 error_apart e v h = absurd (cc)
@@ -59,15 +60,15 @@ module _ {S : Type 0} (answers : S → Answer → S → Type 0) (one : IsFunctio
       → (told ≡ Err stream.OutOfMemory) ⊎ ((told' ≡ Err stream.OutOfMemory) ⊎ ((told ≡ told') × (new ≡ new')))
   same_asks old new new' told told' (at_end e t n) (at_end e' t' n') = inr (inr (t ∙ sym t', n ∙ sym n'))
   same_asks old new new' told told' (at_end e t n) (no_room e' t' n') = truth_apart (sym e ∙ e')
-  same_asks old new new' told told' (at_end e t n) (once a e' s t' b p k) = truth_apart (sym e ∙ e')
+  same_asks old new new' told told' (at_end e t n) (once a e' s t' p k) = truth_apart (sym e ∙ e')
   same_asks old new new' told told' (no_room e t n) h = inl t
-  same_asks old new new' told told' (once a e s t b p k) (at_end e' t' n') = truth_apart (sym e' ∙ e)
-  same_asks old new new' told told' (once a e s t b p k) (no_room e' t' n') = inr (inl t')
-  same_asks old new new' told told' (once a e s t b p k) (once a' e' s' t' b' p' k') =
+  same_asks old new new' told told' (once a e s t p k) (at_end e' t' n') = truth_apart (sym e' ∙ e)
+  same_asks old new new' told told' (once a e s t p k) (no_room e' t' n') = inr (inl t')
+  same_asks old new new' told told' (once a e s t p k) (once a' e' s' t' p' k') =
       let f = one old.source new.source new'.source a a' s s' in
       inr (inr (
         t ∙ ap told_by f.0 ∙ sym t',
-        same_buffered new new' (b ∙ ap (λ x. old.buffered ++ concat (piece_in x)) f.0 ∙ sym b') (p ∙ ap (λ x. old.pieces ++ piece_in x) f.0 ∙ sym p') f.1 (k ∙ ap ends f.0 ∙ sym k'),
+        same_buffered new new' (p ∙ ap (λ x. old.pieces ++ piece_in x) f.0 ∙ sym p') f.1 (k ∙ ap ends f.0 ∙ sym k'),
       ))
 
 ok_same : {A E : Type 0} (v w : A) (a b : Result A E) → a ≡ Ok v → b ≡ Ok w → a ≡ b → v ≡ w
@@ -87,7 +88,7 @@ result_apart v e a b p q r = absurd (cc)
 
 pub same_framing : {S : Type 0} (a b : Framing S) → stream_part a ≡ stream_part b → a.payload ≡ b.payload → a.decoder ≡ b.decoder → a ≡ b
 same_framing {S} a b stream payload decoder =
-    ap (λ (x : Buffered S). record a { buffered = x.buffered; pieces = x.pieces; source = x.source; is_eos = x.is_eos }) stream
+    ap (λ (x : Buffered S). record a { pieces = x.pieces; source = x.source; is_eos = x.is_eos }) stream
     ∙ ap (λ (x : PayloadLeft). record b { payload = x; decoder = a.decoder }) payload
     ∙ ap (λ (x : Decoding). record b { decoder = x }) decoder
 
@@ -150,11 +151,11 @@ same_gives found found' old new new' g h = elim (given_is found old new g) [
 
 same_looks : {S : Type 0} (old new new' : Buffered S) (before before' after after' : Decoding) (found found' : Result (Option (Frame PayloadLen)) FrameStreamError) → Looks old before found new after → Looks old before' found' new' after'
     → (found ≡ Err stream.OutOfMemory) ⊎ ((found' ≡ Err stream.OutOfMemory) ⊎ ((found ≡ found') × (new ≡ new')))
-same_looks old new new' before before' after after' found found' l m = elim (same_gives found found' old.buffered new.buffered new'.buffered l.gives m.gives) [
+same_looks old new new' before before' after after' found found' l m = elim (same_gives found found' (concat old.pieces) (concat new.pieces) (concat new'.pieces) l.gives m.gives) [
   | inl x ↦ inl x
   | inr r ↦ elim r [
     | inl x ↦ inr (inl x)
-    | inr s ↦ inr (inr (s.0, same_buffered new new' s.1 (l.pieces ∙ ap (λ x. ending (length x) old.pieces) s.1 ∙ sym m.pieces) (l.source ∙ sym m.source) (l.is_eos ∙ sym m.is_eos)))
+    | inr s ↦ inr (inr (s.0, same_buffered new new' (l.pieces ∙ ap (λ x. ending (length x) old.pieces) s.1 ∙ sym m.pieces) (l.source ∙ sym m.source) (l.is_eos ∙ sym m.is_eos)))
   ]
 ]
 
@@ -173,9 +174,9 @@ record SameRound {S : Type 0} (told told' : Received) (found found' : Result (Op
   payload : new.payload ≡ new'.payload
 
 same_answer_of : {S : Type 0} (told told' : Received) (found found' : Result (Option (Frame PayloadLen)) FrameStreamError) (new new' : Framing S) → SameRound told told' found found' new new'
-    → answer_of told found new.buffered ≡ answer_of told' found' new'.buffered
+    → answer_of told found (concat new.pieces) ≡ answer_of told' found' (concat new'.pieces)
 same_answer_of {S} told told' found found' new new' s =
-    ap₂ (λ t f. answer_of t f new.buffered) s.same_told s.same_found ∙ ap (λ (x : Buffered S). answer_of told' found' x.buffered) s.stream
+    ap₂ (λ t f. answer_of t f (concat new.pieces)) s.same_told s.same_found ∙ ap (λ (x : Buffered S). answer_of told' found' (concat x.pieces)) s.stream
 
 module _ {S : Type 0} (answers : S → Answer → S → Type 0) (one : IsFunction answers) where
   -- a read that is no error
@@ -233,17 +234,17 @@ module _ {S : Type 0} (answers : S → Answer → S → Type 0) (one : IsFunctio
       inr (inl (ap (λ y. Ready (Err y)) (error_alone (stream_part a') (stream_part b') round.read e told x (subst (λ s. Asks answers s (Ok told) round.read) same round.asks))))
   same_rounds old old' new new' r r' same left (answers_with a b told found answer round is) (answers_with a' b' told' found' answer' round' is') =
       elim (same_round a a' b b' told told' found found' same left round round') [
-        | inl m ↦ inl (memory_answer told b.buffered answer found m is)
+        | inl m ↦ inl (memory_answer told (concat b.pieces) answer found m is)
         | inr u ↦ elim u [
-          | inl m ↦ inr (inl (memory_answer told' b'.buffered answer' found' m is'))
+          | inl m ↦ inr (inl (memory_answer told' (concat b'.pieces) answer' found' m is'))
           | inr s ↦ inr (inr (some_same answer answer' _ _ is is' (same_answer_of told told' found found' b b' s), s.stream, s.payload))
         ]
       ]
   same_rounds old old' new new' r r' same left (answers_with a b told found answer round is) (goes_on a' m' b' told' found' answer' round' is' h) =
       elim (same_round a a' b m' told told' found found' same left round round') [
-        | inl m ↦ inl (memory_answer told b.buffered answer found m is)
+        | inl m ↦ inl (memory_answer told (concat b.pieces) answer found m is)
         | inr u ↦ elim u [
-          | inl m ↦ memory_ends told' m'.buffered found' m is'
+          | inl m ↦ memory_ends told' (concat m'.pieces) found' m is'
           | inr s ↦ some_apart answer _ _ is is' (same_answer_of told told' found found' b m' s)
         ]
       ]
@@ -251,17 +252,17 @@ module _ {S : Type 0} (answers : S → Answer → S → Type 0) (one : IsFunctio
       inr (inl (ap (λ y. Ready (Err y)) (error_alone (stream_part a') (stream_part b') round.read e told x (subst (λ s. Asks answers s (Ok told) round.read) same round.asks))))
   same_rounds old old' new new' r r' same left (goes_on a m b told found answer round is h) (answers_with a' b' told' found' answer' round' is') =
       elim (same_round a a' m b' told told' found found' same left round round') [
-        | inl n ↦ memory_ends told m.buffered found n is
+        | inl n ↦ memory_ends told (concat m.pieces) found n is
         | inr u ↦ elim u [
-          | inl n ↦ inr (inl (memory_answer told' b'.buffered answer' found' n is'))
+          | inl n ↦ inr (inl (memory_answer told' (concat b'.pieces) answer' found' n is'))
           | inr s ↦ some_apart answer' _ _ is' is (sym (same_answer_of told told' found found' m b' s))
         ]
       ]
   same_rounds old old' new new' r r' same left (goes_on a m b told found answer round is h) (goes_on a' m' b' told' found' answer' round' is' h') =
       elim (same_round a a' m m' told told' found found' same left round round') [
-        | inl n ↦ memory_ends told m.buffered found n is
+        | inl n ↦ memory_ends told (concat m.pieces) found n is
         | inr u ↦ elim u [
-          | inl n ↦ memory_ends told' m'.buffered found' n is'
+          | inl n ↦ memory_ends told' (concat m'.pieces) found' n is'
           | inr s ↦ same_rounds m m' b b' answer answer' s.stream s.payload h h'
         ]
       ]
@@ -271,11 +272,9 @@ module _ {S : Type 0} (answers : S → Answer → S → Type 0) (one : IsFunctio
   same_first read read' left taken taken' new new' same f f' =
       let both = f.pieces ∙ ap (λ (x : Buffered S). cut left x.pieces) same ∙ sym f'.pieces in
       let bytes : taken ≡ taken' = ap (λ (x : Option (List ℕ) × List (List ℕ)). x.0) both in
-      let pieces : new.pieces ≡ new'.pieces = ap (λ (x : Option (List ℕ) × List (List ℕ)). x.1) both in
-      let all : bytes_of taken ++ new.buffered ≡ bytes_of taken ++ new'.buffered =
-      sym f.buffered ∙ ap (λ (x : Buffered S). x.buffered) same ∙ f'.buffered ∙ ap (λ t. bytes_of t ++ new'.buffered) (sym bytes) in (
+      let pieces : new.pieces ≡ new'.pieces = ap (λ (x : Option (List ℕ) × List (List ℕ)). x.1) both in (
         bytes,
-        same_buffered (stream_part new) (stream_part new') (append_cancel_left (bytes_of taken) new.buffered new'.buffered all) pieces
+        same_buffered (stream_part new) (stream_part new') pieces
             (f.source ∙ ap (λ (x : Buffered S). x.source) same ∙ sym f'.source) (f.is_eos ∙ ap (λ (x : Buffered S). x.is_eos) same ∙ sym f'.is_eos),
         f.payload ∙ ap (λ t. payload_without (bytes_of t) left) bytes ∙ sym f'.payload,
       )
@@ -327,28 +326,27 @@ module _ {S : Type 0} (answers : S → Answer → S → Type 0) (one : IsFunctio
 
   -- **A source with a buffer before it has one answer where the source has one.**
   pub buffered_is_function : IsFunction (AnswersFrom answers)
-  buffered_is_function s t u a b (buffered piece is some all parts source is_eos) (buffered piece' is' some' all' parts' source' is_eos') =
+  buffered_is_function s t u a b (buffered piece is some parts source is_eos) (buffered piece' is' some' parts' source' is_eos') =
       let both : piece ∷ t.pieces ≡ piece' ∷ u.pieces = sym parts ∙ parts' in
       let same : piece ≡ piece' = cc in
-      let others : t.pieces ≡ u.pieces = cc in
-      let bytes : piece ++ t.buffered ≡ piece ++ u.buffered = sym all ∙ all' ∙ ap (λ p. p ++ u.buffered) (sym same) in (
+      let others : t.pieces ≡ u.pieces = cc in (
         is ∙ ap (λ p. Ready (Ok (Some p))) same ∙ sym is',
-        same_buffered t u (append_cancel_left piece t.buffered u.buffered bytes) others (source ∙ sym source') (is_eos ∙ sym is_eos'),
+        same_buffered t u others (source ∙ sym source') (is_eos ∙ sym is_eos'),
       )
-  buffered_is_function s t u a b (buffered piece is some all parts source is_eos) (ended is' none at_end' same) =
-      absurd (omega (arith, ap length (sym all ∙ none), length-append piece t.buffered, some))
-  buffered_is_function s t u a b (buffered piece is some all parts source is_eos) (asked none no_piece open_here h nothing still told) =
-      absurd (omega (arith, ap length (sym all ∙ none), length-append piece t.buffered, some))
-  buffered_is_function s t u a b (ended is none at_end' same) (buffered piece is' some all parts source is_eos) =
-      absurd (omega (arith, ap length (sym all ∙ none), length-append piece u.buffered, some))
+  buffered_is_function s t u a b (buffered piece is some parts source is_eos) (ended is' none at_end' same) =
+      no_piece piece t.pieces (sym parts ∙ none)
+  buffered_is_function s t u a b (buffered piece is some parts source is_eos) (asked none open_here h still told) =
+      no_piece piece t.pieces (sym parts ∙ none)
+  buffered_is_function s t u a b (ended is none at_end' same) (buffered piece is' some parts source is_eos) =
+      no_piece piece u.pieces (sym parts ∙ none)
   buffered_is_function s t u a b (ended is none at_end' same) (ended is' none' at_end'' same') = (is ∙ sym is', same ∙ sym same')
-  buffered_is_function s t u a b (ended is none at_end' same) (asked none' no_piece open_here h nothing still told) = truth_apart (sym at_end' ∙ open_here)
-  buffered_is_function s t u a b (asked none no_piece open_here h nothing still told) (buffered piece is some all parts source is_eos) =
-      absurd (omega (arith, ap length (sym all ∙ none), length-append piece u.buffered, some))
-  buffered_is_function s t u a b (asked none no_piece open_here h nothing still told) (ended is none' at_end' same) = truth_apart (sym at_end' ∙ open_here)
-  buffered_is_function s t u a b (asked none no_piece open_here h nothing still told) (asked none' no_piece' open_here' h' nothing' still' told') =
+  buffered_is_function s t u a b (ended is none at_end' same) (asked none' open_here h still told) = truth_apart (sym at_end' ∙ open_here)
+  buffered_is_function s t u a b (asked none open_here h still told) (buffered piece is some parts source is_eos) =
+      no_piece piece u.pieces (sym parts ∙ none)
+  buffered_is_function s t u a b (asked none open_here h still told) (ended is none' at_end' same) = truth_apart (sym at_end' ∙ open_here)
+  buffered_is_function s t u a b (asked none open_here h still told) (asked none' open_here' h' still' told') =
       let f = one s.source t.source u.source a b h h' in
-      (f.0, same_buffered t u (nothing ∙ sym nothing') (still ∙ sym still') f.1 (told ∙ ap ends f.0 ∙ sym told'))
+      (f.0, same_buffered t u (still ∙ sym still') f.1 (told ∙ ap ends f.0 ∙ sym told'))
 
   pub one_frame : OneAnswer (Rounds answers)
   one_frame old new new' r r' h h' = same_rounds old old new new' r r' refl refl h h'

@@ -6,10 +6,9 @@ use Rattle.std.specs.List.{concat}
 abbrev pub joined : {T : Type 0} → (T → List ℕ) → List T → List ℕ
 joined unread pieces = concat (map unread pieces)
 
--- What is seen of a list of pieces: the pieces, the bytes of all of them, and how many more pieces fit with no allocation.
+-- What is seen of a list of pieces: the pieces, and how many more fit with no allocation. Its bytes are the pieces joined.
 pub record Listed : Type 0 where
   pub pieces : List (List ℕ)
-  pub bytes : List ℕ
   pub room : ℕ
 
 -- the pieces with one more at the end; an empty one is none

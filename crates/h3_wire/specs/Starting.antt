@@ -1,5 +1,6 @@
 -- How the type of a stream is read: what was read of it is taken, and then the source is asked, in rounds.
 use Rattle.std.specs.Prelude.{◌≡◌, ℕ, Bool, true, false, List, length, Result, Ok, Err, Option, Some, None, if◌then◌else◌}
+use Rattle.std.specs.List.{concat}
 use Rattle.h3_coding.specs.Varint.{varint_at}
 use Rattle.h3_wire.specs.declared.quic.Poll.{Poll}
 use Rattle.h3_wire.specs.declared.quic.Poll.TheVariants.{Ready, Pending}
@@ -45,10 +46,10 @@ behind_id_read kind id bytes = if wants_id kind id then behind_read (varint_at b
 
 -- What was read of type and id is taken, as far as it is whole.
 pub record Starts {S : Type 0} (old new : Accepting S) : Type 0 where
-  pub kind : new.kind ≡ type_read old.kind old.buffered
-  pub id : new.id ≡ id_read new.kind old.id (behind_type_read old.kind old.buffered)
-  pub buffered : new.buffered ≡ behind_id_read new.kind old.id (behind_type_read old.kind old.buffered)
-  pub pieces : new.pieces ≡ ending (length new.buffered) old.pieces
+  pub kind : new.kind ≡ type_read old.kind (concat old.pieces)
+  pub id : new.id ≡ id_read new.kind old.id (behind_type_read old.kind (concat old.pieces))
+  pub buffered : concat new.pieces ≡ behind_id_read new.kind old.id (behind_type_read old.kind (concat old.pieces))
+  pub pieces : new.pieces ≡ ending (length (concat new.pieces)) old.pieces
   pub source : new.source ≡ old.source
   pub is_eos : new.is_eos ≡ old.is_eos
 

@@ -1,7 +1,8 @@
 -- What `poll_type` answers and leaves rests on its own buffer and source alone.
-use Rattle.std.proofs.Common.{◌≡◌, ◌⊎◌, inl, inr, ℕ, Bool, true, false, List, length, arith, refl, sym, ◌∙◌, ap, ap₂, subst, Result, Ok, Err, Option, Some, None}
+use Rattle.std.proofs.Common.{◌≡◌, ◌⊎◌, inl, inr, ℕ, true, false, length, refl, sym, ◌∙◌, ap, subst, Result, Err, Option, Some, None}
+use Rattle.std.specs.List.{concat}
 use Rattle.h3_wire.specs.declared.quic.Poll.{Poll}
-use Rattle.h3_wire.specs.declared.quic.Poll.TheVariants.{Ready, Pending}
+use Rattle.h3_wire.specs.declared.quic.Poll.TheVariants.{Ready}
 use Rattle.h3_wire.specs.declared.stream.Received.{Received}
 use Rattle.h3_wire.specs.declared.frame.errors.FrameStreamError.{FrameStreamError}
 use Rattle.h3_wire.specs.declared.frame.errors.FrameStreamError.TheVariants as stream
@@ -13,7 +14,7 @@ use Rattle.h3_wire.specs.Streams.{Buffered}
 use Rattle.h3_wire.specs.Accepting.{Accepting, stream_of, resolved}
 use Rattle.h3_wire.specs.Asking.{Asks}
 use Rattle.h3_wire.specs.AskingLaws.{IsFunction, same_asks, same_buffered}
-use Rattle.h3_wire.specs.Starting.{Starts, StartRounds, starts, stops, reads_on, type_read, behind_type_read, id_read, behind_id_read, type_answer}
+use Rattle.h3_wire.specs.Starting.{Starts, StartRounds, starts, stops, reads_on, behind_type_read, id_read, behind_id_read, type_answer}
 
 -- there was no memory
 abbrev pub IsStartMemory : Poll (Result (Unit {0}) PollTypeError) → Type 0
@@ -25,7 +26,7 @@ OneStart {S} call = (old new new' : Accepting S) (r r' : Poll (Result (Unit {0})
 
 same_accepting : {S : Type 0} (a b : Accepting S) → stream_of a ≡ stream_of b → a.kind ≡ b.kind → a.id ≡ b.id → a ≡ b
 same_accepting {S} a b stream kind id =
-    ap (λ (x : Buffered S). record a { buffered = x.buffered; pieces = x.pieces; source = x.source; is_eos = x.is_eos }) stream
+    ap (λ (x : Buffered S). record a { pieces = x.pieces; source = x.source; is_eos = x.is_eos }) stream
     ∙ ap (λ (x : Option ℕ). record b { kind = x; id = a.id }) kind
     ∙ ap (λ (x : Option ℕ). record b { id = x }) id
 
@@ -34,10 +35,10 @@ same_starts : {S : Type 0} (old old' new new' : Accepting S) → old ≡ old' �
 same_starts {S} old old' new new' same s h =
     let t = subst (λ o. Starts o new') (sym same) h in
     let kind = s.kind ∙ sym t.kind in
-    let id = s.id ∙ ap (λ k. id_read k old.id (behind_type_read old.kind old.buffered)) kind ∙ sym t.id in
-    let bytes = s.buffered ∙ ap (λ k. behind_id_read k old.id (behind_type_read old.kind old.buffered)) kind ∙ sym t.buffered in
+    let id = s.id ∙ ap (λ k. id_read k old.id (behind_type_read old.kind (concat old.pieces))) kind ∙ sym t.id in
+    let bytes = s.buffered ∙ ap (λ k. behind_id_read k old.id (behind_type_read old.kind (concat old.pieces))) kind ∙ sym t.buffered in
     let pieces = s.pieces ∙ ap (λ l. ending (length l) old.pieces) bytes ∙ sym t.pieces in
-    same_accepting new new' (same_buffered (stream_of new) (stream_of new') bytes pieces (s.source ∙ sym t.source) (s.is_eos ∙ sym t.is_eos)) kind id
+    same_accepting new new' (same_buffered (stream_of new) (stream_of new') pieces (s.source ∙ sym t.source) (s.is_eos ∙ sym t.is_eos)) kind id
 
 truth_apart : {A : Type 0} → true ≡ false → A
 truth_apart e = absurd (cc)

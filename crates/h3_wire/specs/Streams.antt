@@ -1,5 +1,6 @@
 -- What is seen of a stream, of its frames, and what its calls do.
 use Rattle.std.specs.Prelude.{◌≡◌, ◌⊎◌, ℕ, ◌-◌, ◌<◌, ◌≤◌, nat_lt, Bool, true, false, List, [], ◌++◌, length, Result, Ok, Err, Option, Some, None}
+use Rattle.std.specs.List.{concat}
 use Rattle.h3_wire.specs.declared.quic.Poll.{Poll}
 use Rattle.h3_wire.specs.declared.quic.Poll.TheVariants.{Ready, Pending}
 use Rattle.h3_wire.specs.declared.quic.StreamErrorIncoming.{StreamErrorIncoming}
@@ -19,17 +20,14 @@ use Rattle.h3_wire.specs.Frames.{Whole, Refused, frame_at}
 use Rattle.h3_wire.specs.Known.{known, refusal, IsWaiting}
 use Rattle.h3_wire.specs.Tries.{Decoding}
 
--- the bytes that were read and not yet taken, the pieces that they lie in, where the rest comes from, and whether the end
--- was told
+-- the pieces of what was read and not yet taken, where the rest comes from, and whether the end was told
 pub record Buffered (S : Type 0) : Type 0 where
-  pub buffered : List ℕ
   pub pieces : List (List ℕ)
   pub source : S
   pub is_eos : Bool
 
 -- the same, what is left of the payload under way, and the decoder of frames
 pub record Framing (S : Type 0) : Type 0 where
-  pub buffered : List ℕ
   pub pieces : List (List ℕ)
   pub source : S
   pub is_eos : Bool
@@ -38,15 +36,15 @@ pub record Framing (S : Type 0) : Type 0 where
 
 -- the bytes that are left
 abbrev pub left : {S : Type 0} → (S → List ℕ) → Framing S → List ℕ
-left rest s = s.buffered ++ coming s.is_eos (rest s.source)
+left rest s = concat s.pieces ++ coming s.is_eos (rest s.source)
 
 -- what a read adds: a piece, the end, or nothing
 abbrev pub ReadsMore : {S : Type 0} → (S → Answer → S → Type 0) → Poll (Result Bool StreamErrorIncoming) → Buffered S → Buffered S → Type 0
-ReadsMore answers (Ready (Ok false)) old new = (piece : List ℕ) × answers old.source (Ready (Ok (Some piece))) new.source × (new.buffered ≡ old.buffered ++ piece) × (new.is_eos ≡ old.is_eos) × (new.pieces ≡ with_piece old.pieces piece)
-ReadsMore answers (Ready (Ok true)) old new = answers old.source (Ready (Ok None)) new.source × (new.buffered ≡ old.buffered) × (new.is_eos ≡ true) × (new.pieces ≡ old.pieces)
-ReadsMore answers (Ready (Err incoming.OutOfMemory)) old new = (new.buffered ≡ old.buffered) × (new.is_eos ≡ old.is_eos) × ((new.source ≡ old.source) ⊎ answers old.source (Ready (Err incoming.OutOfMemory)) new.source) × (new.pieces ≡ old.pieces)
-ReadsMore answers (Ready (Err e)) old new = (new.buffered ≡ old.buffered) × (new.is_eos ≡ old.is_eos) × answers old.source (Ready (Err e)) new.source × (new.pieces ≡ old.pieces)
-ReadsMore answers Pending old new = answers old.source Pending new.source × (new.buffered ≡ old.buffered) × (new.is_eos ≡ old.is_eos) × (new.pieces ≡ old.pieces)
+ReadsMore answers (Ready (Ok false)) old new = (piece : List ℕ) × answers old.source (Ready (Ok (Some piece))) new.source × (new.is_eos ≡ old.is_eos) × (new.pieces ≡ with_piece old.pieces piece)
+ReadsMore answers (Ready (Ok true)) old new = answers old.source (Ready (Ok None)) new.source × (new.is_eos ≡ true) × (new.pieces ≡ old.pieces)
+ReadsMore answers (Ready (Err incoming.OutOfMemory)) old new = (new.is_eos ≡ old.is_eos) × ((new.source ≡ old.source) ⊎ answers old.source (Ready (Err incoming.OutOfMemory)) new.source) × (new.pieces ≡ old.pieces)
+ReadsMore answers (Ready (Err e)) old new = (new.is_eos ≡ old.is_eos) × answers old.source (Ready (Err e)) new.source × (new.pieces ≡ old.pieces)
+ReadsMore answers Pending old new = answers old.source Pending new.source × (new.is_eos ≡ old.is_eos) × (new.pieces ≡ old.pieces)
 
 -- the payload that is under way behind a frame
 abbrev pub payload_behind : Frame PayloadLen → PayloadLeft
@@ -89,7 +87,7 @@ PollsFrame rest answers (Ready (Err stream.UnexpectedEnd)) old new =
     (left rest new ≡ known (left rest old)) × IsWaiting (frame_at (left rest new)) × (0 < length (left rest new)) × (new.is_eos ≡ true) × (new.payload ≡ old.payload)
 PollsFrame rest answers (Ready (Err stream.OutOfMemory)) old new = (known (left rest new) ≡ known (left rest old)) × (new.payload ≡ old.payload)
 PollsFrame rest answers Pending old new =
-    (known (left rest new) ≡ known (left rest old)) × IsWaiting (frame_at new.buffered) × Answered answers Pending new.source × (new.payload ≡ old.payload)
+    (known (left rest new) ≡ known (left rest old)) × IsWaiting (frame_at (concat new.pieces)) × Answered answers Pending new.source × (new.payload ≡ old.payload)
 
 -- count bytes of a payload are taken
 abbrev pub TakesPayload : ℕ → PayloadLeft → PayloadLeft → Type 0
@@ -113,7 +111,7 @@ PollsData rest answers (Ready (Err (stream.Proto e))) old new = ⊥
 PollsData rest answers (Ready (Err (stream.Quic e))) old new = (left rest new ≡ left rest old) × Answered answers (Ready (Err e)) new.source × (new.payload ≡ old.payload)
 PollsData rest answers (Ready (Err stream.UnexpectedEnd)) old new = (left rest new ≡ left rest old) × IsCutShort (length (left rest new)) new.payload × (new.is_eos ≡ true) × (new.payload ≡ old.payload)
 PollsData rest answers (Ready (Err stream.OutOfMemory)) old new = (left rest new ≡ left rest old) × (new.payload ≡ old.payload)
-PollsData rest answers Pending old new = (left rest new ≡ left rest old) × (new.buffered ≡ []) × Answered answers Pending new.source × (new.payload ≡ old.payload)
+PollsData rest answers Pending old new = (left rest new ≡ left rest old) × (concat new.pieces ≡ []) × Answered answers Pending new.source × (new.payload ≡ old.payload)
 
 -- no frame has ended, and less is to come
 abbrev pub Continues : {S : Type 0} → (S → List ℕ) → Framing S → Framing S → Type 0
@@ -121,13 +119,13 @@ Continues rest old new = (known (left rest new) ≡ known (left rest old)) × (l
 
 -- what is seen of the stream under the frames
 abbrev pub stream_part : {S : Type 0} → Framing S → Buffered S
-stream_part s = record { buffered = s.buffered; pieces = s.pieces; source = s.source; is_eos = s.is_eos }
+stream_part s = record { pieces = s.pieces; source = s.source; is_eos = s.is_eos }
 
 -- bytes at the front of what was read are taken, as far as the payload goes; none where none was read
 abbrev pub TakesData : {S : Type 0} → Result (Option (List ℕ)) FrameStreamError → Framing S → Framing S → Type 0
-TakesData (Ok (Some bytes)) old new = (0 < length bytes) × (old.buffered ≡ bytes ++ new.buffered) × TakesPayload (length bytes) old.payload new.payload
-TakesData (Ok None) old new = (old.buffered ≡ []) × (new.buffered ≡ []) × (new.payload ≡ old.payload)
-TakesData (Err stream.OutOfMemory) old new = (new.buffered ≡ old.buffered) × (new.payload ≡ old.payload)
+TakesData (Ok (Some bytes)) old new = (0 < length bytes) × (concat old.pieces ≡ bytes ++ concat new.pieces) × TakesPayload (length bytes) old.payload new.payload
+TakesData (Ok None) old new = (concat old.pieces ≡ []) × (concat new.pieces ≡ []) × (new.payload ≡ old.payload)
+TakesData (Err stream.OutOfMemory) old new = (concat new.pieces ≡ concat old.pieces) × (new.payload ≡ old.payload)
 TakesData (Err _) old new = ⊥
 
 -- the end is known as before, or the source told it now

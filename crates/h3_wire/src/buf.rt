@@ -15,8 +15,8 @@ mod pieces;
 
 pub use pieces::{Cursor, Piece};
 
-/// Pieces, none of them empty. A contract sees the pieces as byte lists, the bytes of all of them
-/// joined, and how many more pieces fit.
+/// Pieces, none of them empty. A contract sees the pieces as byte lists, of which `concat` is all
+/// their bytes, and how many more pieces fit.
 #[derive(Drop)]
 pub struct BufList<T: Buf> {
     bufs: VecDeque<T>,
@@ -32,7 +32,6 @@ impl<T: Buf> Model for BufList<T> {
 
     ghost view = { λ b. record {
       pieces = map T.unread b.bufs.items;
-      bytes = joined T.unread b.bufs.items;
       room = deque_capacity b.bufs - deque_len b.bufs;
     } };
 
@@ -42,7 +41,7 @@ impl<T: Buf> Model for BufList<T> {
 impl<T: Buf> BufList<T> {
     pub fn new(alloc: Global) -> BufList<T>
         ensures pieces { result.pieces ≡ [] }
-        ensures bytes { result.bytes ≡ [] }
+        ensures bytes { concat result.pieces ≡ [] }
     {
         BufList {
             bufs: VecDeque::new(alloc),
@@ -53,7 +52,7 @@ impl<T: Buf> BufList<T> {
     /// A cursor at the first byte.
     pub fn cursor(&self) -> Cursor<'_, T>
         ensures position { result.position ≡ 0 }
-        ensures all { result.all ≡ self.now.bytes }
+        ensures all { result.all ≡ concat self.now.pieces }
     {
         Cursor::new(&self.bufs, self.len)
     }
@@ -62,10 +61,10 @@ impl<T: Buf> BufList<T> {
     pub fn push(&mut self, piece: T) -> Result<(), AllocFailed<T>>
     where
         T: Drop,
-        requires fits { length self.old.bytes + length (T.unread piece) < 2 ^ 64 }
+        requires fits { length (concat self.old.pieces) + length (T.unread piece) < 2 ^ 64 }
         ensures pieces { OnOk result (self.new.pieces ≡ with_piece self.old.pieces (T.unread piece)) }
-        ensures bytes { OnOk result (self.new.bytes ≡ self.old.bytes ++ T.unread piece) }
-        ensures same { OnErr result ((self.new.pieces ≡ self.old.pieces) × (self.new.bytes ≡ self.old.bytes)) }
+        ensures bytes { OnOk result (concat self.new.pieces ≡ concat self.old.pieces ++ T.unread piece) }
+        ensures same { OnErr result (self.new.pieces ≡ self.old.pieces) }
         ensures value { IfErr result (λ e. e.value ≡ piece) }
     {
         if self.reserve().is_err() {
@@ -79,7 +78,6 @@ impl<T: Buf> BufList<T> {
     /// there was none, and changes nothing.
     pub fn reserve(&mut self) -> Result<(), AllocError>
         ensures pieces { self.new.pieces ≡ self.old.pieces }
-        ensures bytes { self.new.bytes ≡ self.old.bytes }
         ensures room { OnOk result (0 < self.new.room) }
         ensures full { OnErr result (self.old.room < 1) }
         ensures kept { self.old.room ≤ self.new.room }
@@ -93,9 +91,9 @@ impl<T: Buf> BufList<T> {
     where
         T: Drop,
         requires room { 0 < self.old.room }
-        requires fits { length self.old.bytes + length (T.unread piece) < 2 ^ 64 }
+        requires fits { length (concat self.old.pieces) + length (T.unread piece) < 2 ^ 64 }
         ensures pieces { self.new.pieces ≡ with_piece self.old.pieces (T.unread piece) }
-        ensures bytes { self.new.bytes ≡ self.old.bytes ++ T.unread piece }
+        ensures bytes { concat self.new.pieces ≡ concat self.old.pieces ++ T.unread piece }
         ensures left { self.old.room ≤ self.new.room + 1 }
     {
         let len = piece.remaining();
@@ -104,13 +102,6 @@ impl<T: Buf> BufList<T> {
         }
         self.len += len;
         self.bufs.push_back_reserved(piece);
-    }
-
-    /// The bytes are the pieces joined. This does nothing.
-    pub fn known(&self)
-        ensures { self.now.bytes ≡ concat self.now.pieces }
-    {
-        let _ = &self.bufs;
     }
 
     // Whether there is at most one piece.
@@ -122,7 +113,7 @@ impl<T: Buf> BufList<T> {
 }
 
 impl<T: Buf + Drop> Buf for BufList<T> {
-    ghost unread = { λ b. b.bytes };
+    ghost unread = { λ b. concat b.pieces };
 
     fn remaining(&self) -> usize {
         self.len
@@ -136,8 +127,8 @@ impl<T: Buf + Drop> Buf for BufList<T> {
     }
 
     fn advance(&mut self, cnt: usize)
-        requires { cnt ≤ length self.old.bytes }
-        ensures value { self.new.bytes ≡ drop cnt self.old.bytes }
+        requires { cnt ≤ length (concat self.old.pieces) }
+        ensures value { concat self.new.pieces ≡ drop cnt (concat self.old.pieces) }
         ensures pieces { self.new.pieces ≡ without cnt self.old.pieces }
     {
         let mut left = cnt;
@@ -150,9 +141,9 @@ impl<T: Buf + Drop> Buf for BufList<T> {
 impl<T: Buf + Drop> BufList<T> {
     // Passes up to `cnt` bytes of the first piece, and answers how many.
     fn advance_first(&mut self, cnt: usize) -> usize
-        requires { (0 < cnt) × (cnt ≤ length self.old.bytes) }
+        requires { (0 < cnt) × (cnt ≤ length (concat self.old.pieces)) }
         ensures count { (0 < result) × (result ≤ cnt) }
-        ensures rest { self.new.bytes ≡ drop result self.old.bytes }
+        ensures rest { concat self.new.pieces ≡ drop result (concat self.old.pieces) }
         ensures pieces { without (cnt - result) self.new.pieces ≡ without cnt self.old.pieces }
     {
         let Some(mut first) = self.bufs.pop_front() else {
@@ -183,11 +174,10 @@ impl BufList<Bytes> {
     /// Otherwise nothing changes.
     #[tactic(auto, using(crate::specs::PieceLaws::rest_same))]
     pub fn take_var(&mut self) -> Option<u64>
-        ensures takes { TakesNumber result self.old.bytes self.new.bytes }
+        ensures takes { TakesNumber result (concat self.old.pieces) (concat self.new.pieces) }
         ensures below { IfSome result (λ n. n < 2 ^ 62) }
-        ensures pieces { self.new.pieces ≡ ending (length self.new.bytes) self.old.pieces }
+        ensures pieces { self.new.pieces ≡ ending (length (concat self.new.pieces)) self.old.pieces }
     {
-        self.known();
         let mut cursor = self.cursor();
         let number = cursor.get_var();
         let position = cursor.position();
@@ -203,8 +193,8 @@ impl BufList<Bytes> {
     /// The first piece, which leaves the list.
     pub fn take_first_chunk(&mut self) -> Option<Bytes>
         ensures pieces { (result, self.new.pieces) ≡ first_of self.old.pieces }
-        ensures bytes { MatchOption result ((self.old.bytes ≡ []) × (self.new.bytes ≡ []))
-            (λ b. (self.old.bytes ≡ b ++ self.new.bytes) × (0 < length b)) }
+        ensures bytes { MatchOption result ((concat self.old.pieces ≡ []) × (concat self.new.pieces ≡ []))
+            (λ b. (concat self.old.pieces ≡ b ++ concat self.new.pieces) × (0 < length b)) }
     {
         let first = self.bufs.pop_front()?;
         self.len -= first.len();
@@ -215,9 +205,9 @@ impl BufList<Bytes> {
     /// nothing.
     pub fn take_chunk(&mut self, max: usize) -> Result<Option<Bytes>, AllocError>
         ensures pieces { IfOk result (λ o. (o, self.new.pieces) ≡ chunk_of max self.old.pieces) }
-        ensures some { IfOk result (λ o. MatchOption o ((self.old.bytes ≡ []) × (self.new.bytes ≡ []))
-            (λ b. (self.old.bytes ≡ b ++ self.new.bytes) × (length b ≤ max) × (0 < max → 0 < length b))) }
-        ensures err { OnErr result ((self.new.pieces ≡ self.old.pieces) × (self.new.bytes ≡ self.old.bytes)) }
+        ensures some { IfOk result (λ o. MatchOption o ((concat self.old.pieces ≡ []) × (concat self.new.pieces ≡ []))
+            (λ b. (concat self.old.pieces ≡ b ++ concat self.new.pieces) × (length b ≤ max) × (0 < max → 0 < length b))) }
+        ensures err { OnErr result (self.new.pieces ≡ self.old.pieces) }
     {
         let Some(mut first) = self.bufs.pop_front() else {
             return Ok(None);
@@ -242,11 +232,11 @@ impl BufList<Bytes> {
     /// Adds all of a buffer at the end, as one piece, which is a copy. An empty one keeps nothing.
     /// An `Err` leaves the list as it was, and the buffer with a front of its bytes taken.
     pub fn push_bytes<B: Buf>(&mut self, alloc: Global, buf: &mut B) -> Result<(), AllocError>
-        requires fits { length self.old.bytes + length (B.unread buf.old) < 2 ^ 64 }
+        requires fits { length (concat self.old.pieces) + length (B.unread buf.old) < 2 ^ 64 }
         ensures pieces { OnOk result (self.new.pieces ≡ with_piece self.old.pieces (B.unread buf.old)) }
-        ensures bytes { OnOk result (self.new.bytes ≡ self.old.bytes ++ B.unread buf.old) }
+        ensures bytes { OnOk result (concat self.new.pieces ≡ concat self.old.pieces ++ B.unread buf.old) }
         ensures drained { OnOk result (B.unread buf.new ≡ []) }
-        ensures same { OnErr result ((self.new.pieces ≡ self.old.pieces) × (self.new.bytes ≡ self.old.bytes)) }
+        ensures same { OnErr result (self.new.pieces ≡ self.old.pieces) }
         ensures kept { B.kept buf.new ≡ B.kept buf.old }
     {
         self.reserve()?;

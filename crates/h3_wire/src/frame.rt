@@ -40,14 +40,15 @@ pub struct FrameStream<S> {
 
 impl<S> Model for FrameStream<S> {
     ghost use Rattle.std.specs.Prelude.{◌≡◌, true, None};
+    ghost use Rattle.std.specs.List.{concat};
     ghost use Rattle.h3_wire.specs.Tries.{Expects};
     ghost use Rattle.h3_wire.specs.Streams.{Framing, is_open};
 
     ghost Value = { Framing S };
 
-    ghost view = { λ s. record { buffered = s.stream.buffered; pieces = s.stream.pieces; source = s.stream.source; is_eos = s.stream.is_eos; payload = s.payload; decoder = s.decoder } };
+    ghost view = { λ s. record { pieces = s.stream.pieces; source = s.stream.source; is_eos = s.stream.is_eos; payload = s.payload; decoder = s.decoder } };
 
-    ghost invariant = { λ s. Expects s.decoder s.stream.buffered × (is_open s.payload ≡ true → s.decoder.expected ≡ None) };
+    ghost invariant = { λ s. Expects s.decoder (concat s.stream.pieces) × (is_open s.payload ≡ true → s.decoder.expected ≡ None) };
 }
 
 // The payload that is under way behind a frame.
@@ -64,7 +65,7 @@ fn payload_of(frame: &Frame<PayloadLen>) -> PayloadLeft
 impl<S> FrameStream<S> {
     /// Reads frames from here on. What was read of the stream and not yet taken comes first.
     pub fn new(alloc: Global, stream: BufRecvStream<S>) -> Self
-        ensures buffered { result.buffered ≡ stream.buffered }
+        ensures bytes { concat result.pieces ≡ concat stream.pieces }
         ensures pieces { result.pieces ≡ stream.pieces }
         ensures source { result.source ≡ stream.source }
         ensures is_eos { result.is_eos ≡ stream.is_eos }
@@ -81,7 +82,6 @@ impl<S> FrameStream<S> {
 
     /// The stream with the bytes that no call took.
     pub fn into_inner(self) -> BufRecvStream<S>
-        ensures buffered { result.buffered ≡ self.buffered }
         ensures pieces { result.pieces ≡ self.pieces }
         ensures source { result.source ≡ self.source }
         ensures is_eos { result.is_eos ≡ self.is_eos }
@@ -106,13 +106,6 @@ impl<S> FrameStream<S> {
         ensures bound { result ≤ 17 }
     {
         self.decoder.tries()
-    }
-
-    /// The bytes are the pieces joined. This does nothing.
-    pub fn known(&self)
-        ensures { self.now.buffered ≡ concat self.now.pieces }
-    {
-        self.stream.known();
     }
 
     /// Lends the source, so that more can be put into it.
@@ -144,11 +137,9 @@ impl<S: RecvStream> FrameStream<S> {
         ensures asked { Asked S.answers self.old.source self.new.source }
         ensures ended { EndIsTold S.answers self.new.source self.old.is_eos self.new.is_eos }
         ensures first { self.old.is_eos ≡ false → AsksFirst S.answers self.old.source (poll_error result) }
-        ensures pieces { LeavesPieces S.answers (length self.new.buffered) self.old.source self.old.pieces self.new.source self.new.pieces }
+        ensures pieces { LeavesPieces S.answers (length (concat self.new.pieces)) self.old.source self.old.pieces self.new.source self.new.pieces }
     {
-        let answer = self.poll_frame();
-        self.known();
-        answer
+        self.poll_frame()
     }
 
     fn poll_frame(&mut self) -> Poll<Result<Option<Frame<PayloadLen>>, FrameStreamError>>
@@ -259,13 +250,10 @@ impl<S: RecvStream> FrameStream<S> {
         ensures first { self.old.is_eos ≡ false → AsksFirst S.answers self.old.source (error_of result) }
         ensures pieces { AddsPieces S.answers self.old.source self.old.pieces self.new.source self.new.pieces }
         ensures end { TellsEnd result self.new.is_eos }
-        ensures joined { self.new.buffered ≡ concat self.new.pieces }
         ensures asks { Asks S.answers (stream_part self.old) result (stream_part self.new) }
         ensures decoder { self.new.decoder ≡ self.old.decoder }
     {
-        let received = self.stream.receive();
-        self.stream.known();
-        received
+        self.stream.receive()
     }
 }
 
@@ -289,8 +277,8 @@ impl<S> FrameStream<S> {
     // Whether the end is known, and cuts the payload short in what was read.
     fn ends_short(&self, received: Received) -> bool
         ensures is { result ≡ is_short received self.now.payload (stream_part self.now) }
-        ensures short { result ≡ true → (received ≡ end.End) × IsCutShort (length self.now.buffered) self.now.payload }
-        ensures whole { result ≡ false → received ≡ end.End → self.now.buffered ≡ [] → is_open self.now.payload ≡ true → self.now.payload ≡ PayloadLeft.ToEnd }
+        ensures short { result ≡ true → (received ≡ end.End) × IsCutShort (length (concat self.now.pieces)) self.now.payload }
+        ensures whole { result ≡ false → received ≡ end.End → concat self.now.pieces ≡ [] → is_open self.now.payload ≡ true → self.now.payload ≡ PayloadLeft.ToEnd }
     {
         match received {
             Received::End => self.is_cut_short(),
@@ -300,9 +288,9 @@ impl<S> FrameStream<S> {
 
     // Whether all that was read is the last piece of a payload that is longer.
     fn is_cut_short(&self) -> bool
-        ensures is { result ≡ is_cut_short self.now.payload (length self.now.buffered) (length self.now.pieces) }
-        ensures short { result ≡ true → IsCutShort (length self.now.buffered) self.now.payload }
-        ensures whole { result ≡ false → self.now.buffered ≡ [] → is_open self.now.payload ≡ true → self.now.payload ≡ PayloadLeft.ToEnd }
+        ensures is { result ≡ is_cut_short self.now.payload (length (concat self.now.pieces)) (length self.now.pieces) }
+        ensures short { result ≡ true → IsCutShort (length (concat self.now.pieces)) self.now.payload }
+        ensures whole { result ≡ false → concat self.now.pieces ≡ [] → is_open self.now.payload ≡ true → self.now.payload ≡ PayloadLeft.ToEnd }
     {
         match self.payload {
             PayloadLeft::Bytes(count) => {

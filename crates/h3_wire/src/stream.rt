@@ -48,12 +48,12 @@ impl<S> Model for BufRecvStream<S> {
 
     ghost Value = { Buffered S };
 
-    ghost view = { λ s. record { buffered = s.buf.bytes; pieces = s.buf.pieces; source = s.stream; is_eos = s.eos } };
+    ghost view = { λ s. record { pieces = s.buf.pieces; source = s.stream; is_eos = s.eos } };
 }
 
 impl<S> BufRecvStream<S> {
     pub fn new(alloc: Global, stream: S) -> Self
-        ensures buffered { result.buffered ≡ [] }
+        ensures bytes { concat result.pieces ≡ [] }
         ensures pieces { result.pieces ≡ [] }
         ensures source { result.source ≡ stream }
         ensures is_eos { result.is_eos ≡ false }
@@ -75,24 +75,24 @@ impl<S> BufRecvStream<S> {
 
     /// How many bytes were read and not yet taken.
     pub fn remaining(&self) -> usize
-        ensures { result ≡ length self.now.buffered }
+        ensures { result ≡ length (concat self.now.pieces) }
     {
         self.buf.remaining()
     }
 
     /// Whether bytes were read and not yet taken.
     pub fn has_remaining(&self) -> bool
-        ensures { IsTrue result ↔ (0 < length self.now.buffered) }
+        ensures { IsTrue result ↔ (0 < length (concat self.now.pieces)) }
     {
         self.buf.has_remaining()
     }
 
     /// Takes the first piece's first bytes, `max` or all of it.
     pub fn take_chunk(&mut self, max: usize) -> Result<Option<Bytes>, AllocError>
-        ensures some { IfOk result (λ o. MatchOption o ((self.old.buffered ≡ []) × (self.new.buffered ≡ []))
-            (λ b. (self.old.buffered ≡ b ++ self.new.buffered) × (length b ≤ max) × (0 < max → 0 < length b))) }
+        ensures some { IfOk result (λ o. MatchOption o ((concat self.old.pieces ≡ []) × (concat self.new.pieces ≡ []))
+            (λ b. (concat self.old.pieces ≡ b ++ concat self.new.pieces) × (length b ≤ max) × (0 < max → 0 < length b))) }
         ensures pieces { IfOk result (λ o. (o, self.new.pieces) ≡ chunk_of max self.old.pieces) }
-        ensures err { OnErr result ((self.new.buffered ≡ self.old.buffered) × (self.new.pieces ≡ self.old.pieces)) }
+        ensures err { OnErr result (self.new.pieces ≡ self.old.pieces) }
         ensures source { self.new.source ≡ self.old.source }
         ensures is_eos { self.new.is_eos ≡ self.old.is_eos }
     {
@@ -101,8 +101,8 @@ impl<S> BufRecvStream<S> {
 
     // Takes the first piece.
     pub(crate) fn take_first_chunk(&mut self) -> Option<Bytes>
-        ensures some { MatchOption result ((self.old.buffered ≡ []) × (self.new.buffered ≡ []))
-            (λ b. (self.old.buffered ≡ b ++ self.new.buffered) × (0 < length b)) }
+        ensures some { MatchOption result ((concat self.old.pieces ≡ []) × (concat self.new.pieces ≡ []))
+            (λ b. (concat self.old.pieces ≡ b ++ concat self.new.pieces) × (0 < length b)) }
         ensures pieces { (result, self.new.pieces) ≡ first_of self.old.pieces }
         ensures source { self.new.source ≡ self.old.source }
         ensures is_eos { self.new.is_eos ≡ self.old.is_eos }
@@ -110,16 +110,9 @@ impl<S> BufRecvStream<S> {
         self.buf.take_first_chunk()
     }
 
-    /// The bytes are the pieces joined. This does nothing.
-    pub fn known(&self)
-        ensures { self.now.buffered ≡ concat self.now.pieces }
-    {
-        self.buf.known();
-    }
-
     // Takes the number at the front of what was read, where it is whole.
     fn take_number(&mut self) -> Option<u64>
-        ensures takes { TakesNumber result self.old.buffered self.new.buffered }
+        ensures takes { TakesNumber result (concat self.old.pieces) (concat self.new.pieces) }
         ensures below { IfSome result (λ n. n < 2 ^ 62) }
         ensures rest { IsRest self.old.pieces self.new.pieces }
         ensures source { self.new.source ≡ self.old.source }
@@ -138,7 +131,6 @@ impl<S> BufRecvStream<S> {
     /// The bytes that were read and not yet taken, and the source. `is_eos` tells whether its end
     /// was told.
     pub fn into_parts(self) -> (BufList<Bytes>, S)
-        ensures bytes { result.0.bytes ≡ self.buffered }
         ensures pieces { result.0.pieces ≡ self.pieces }
         ensures source { result.1 ≡ self.source }
     {
@@ -164,7 +156,7 @@ pub(crate) enum Received {
 impl<S: RecvStream> BufRecvStream<S> {
     /// Reads a piece into the buffer, and answers whether the end came. Room is taken before the source is asked.
     pub fn poll_read(&mut self) -> Poll<Result<bool, StreamErrorIncoming>>
-        requires { length self.old.buffered + length (S.rest self.old.source) < 2 ^ 62 }
+        requires { length (concat self.old.pieces) + length (S.rest self.old.source) < 2 ^ 62 }
         ensures { ReadsMore S.answers result self.old self.new }
     {
         if self.buf.reserve().is_err() {
@@ -186,10 +178,10 @@ impl<S: RecvStream> BufRecvStream<S> {
 
     // Reads more, unless the end was told.
     pub(crate) fn receive(&mut self) -> Result<Received, FrameStreamError>
-        requires { length (self.old.buffered ++ coming self.old.is_eos (S.rest self.old.source)) < 2 ^ 62 }
-        ensures all { self.new.buffered ++ coming self.new.is_eos (S.rest self.new.source) ≡ self.old.buffered ++ coming self.old.is_eos (S.rest self.old.source) }
-        ensures grows { (more : List ℕ) × (self.new.buffered ≡ self.old.buffered ++ more) }
-        ensures adds { Adds result self.old.buffered self.new.buffered }
+        requires { length (concat self.old.pieces ++ coming self.old.is_eos (S.rest self.old.source)) < 2 ^ 62 }
+        ensures all { concat self.new.pieces ++ coming self.new.is_eos (S.rest self.new.source) ≡ concat self.old.pieces ++ coming self.old.is_eos (S.rest self.old.source) }
+        ensures grows { (more : List ℕ) × (concat self.new.pieces ≡ concat self.old.pieces ++ more) }
+        ensures adds { Adds result (concat self.old.pieces) (concat self.new.pieces) }
         ensures tells { Tells S.rest S.answers result self.old self.new }
         ensures asked { Asked S.answers self.old.source self.new.source }
         ensures ended { EndIsTold S.answers self.new.source self.old.is_eos self.new.is_eos }
@@ -215,12 +207,12 @@ impl<S: RecvStream> BufRecvStream<S> {
         alloc: Global,
         decoder: &mut FrameDecoder,
     ) -> Result<Option<Frame<PayloadLen>>, FrameStreamError>
-        requires expects { Expects decoder.old self.old.buffered }
-        ensures gives { Gives result self.old.buffered self.new.buffered }
-        ensures expects { Expects decoder.new self.new.buffered }
-        ensures counts { Counts decoder.old self.old.buffered result decoder.new }
+        requires expects { Expects decoder.old (concat self.old.pieces) }
+        ensures gives { Gives result (concat self.old.pieces) (concat self.new.pieces) }
+        ensures expects { Expects decoder.new (concat self.new.pieces) }
+        ensures counts { Counts decoder.old (concat self.old.pieces) result decoder.new }
         ensures fresh { IfOk result (λ o. IfSome o (λ f. decoder.new.expected ≡ None)) }
-        ensures pieces { self.new.pieces ≡ ending (length self.new.buffered) self.old.pieces }
+        ensures pieces { self.new.pieces ≡ ending (length (concat self.new.pieces)) self.old.pieces }
         ensures source { self.new.source ≡ self.old.source }
         ensures is_eos { self.new.is_eos ≡ self.old.is_eos }
     {

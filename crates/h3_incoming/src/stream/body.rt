@@ -18,7 +18,6 @@ impl IncomingStream {
         ensures answer { is_memory result ≡ false → in_payload self.old ≡ just result self.new }
         ensures memory { is_memory result ≡ true → self.new ≡ self.old }
     {
-        self.unread.known();
         if self.ended && self.unread.remaining() < self.body_left {
             return Pull::Fault(Fault::Connection(Code::H3_FRAME_ERROR));
         }

@@ -65,7 +65,6 @@ impl IncomingStream {
             → Gives (next_frame side own id r self.old (concat self.old.unread)) result self.new replies.old.items replies.new.items }
         ensures memory { is_memory result ≡ true → (self.new ≡ self.old) × (replies.new.items ≡ replies.old.items) }
     {
-        self.unread.known();
         if !self.ended {
             return Pull::Pending;
         }

@@ -51,10 +51,7 @@ impl IncomingStream {
         ensures err { OnErr result (PassesFrames (is_body self.old.place) (concat self.old.unread) (concat self.new.unread)) }
         ensures passes { Passes self.old self.new }
     {
-        self.unread.known();
-        let answer = self.decoder.decode(alloc, &mut self.unread);
-        self.unread.known();
-        match answer {
+        match self.decoder.decode(alloc, &mut self.unread) {
             Ok(None) => Ok(Some(Found::Unfinished)),
             Ok(Some(frame)) => {
                 if self.is_in_body() && is_empty_data(&frame) {

@@ -1,5 +1,6 @@
 //! Reading the frames of a buffer, one after another.
 ghost use Rattle.std.specs.Prelude.{◌≡◌, ◌+◌, ◌^◌, ◌<◌, ◌≤◌, None, false, length, IfOk, IfSome};
+ghost use Rattle.std.specs.List.{concat};
 ghost use Rattle.h3_wire.specs.Frames.{frame_at, has_head, IsHeadersFrame};
 ghost use Rattle.h3_wire.specs.Known.{Gives, Tries};
 ghost use Rattle.h3_wire.specs.Pieces.{IsRest, ending, first_size};
@@ -93,16 +94,14 @@ impl FrameDecoder {
         alloc: Global,
         src: &mut BufList<Bytes>,
     ) -> Result<Option<Frame<PayloadLen>>, FrameStreamError>
-        requires expects { Expects self.old src.old.bytes }
-        ensures gives { Gives result src.old.bytes src.new.bytes }
-        ensures expects { Expects self.new src.new.bytes }
+        requires expects { Expects self.old (concat src.old.pieces) }
+        ensures gives { Gives result (concat src.old.pieces) (concat src.new.pieces) }
+        ensures expects { Expects self.new (concat src.new.pieces) }
         ensures fresh { IfOk result (λ o. IfSome o (λ f. self.new.expected ≡ None)) }
-        ensures counts { Counts self.old src.old.bytes result self.new }
-        ensures pieces { src.new.pieces ≡ ending (length src.new.bytes) src.old.pieces }
+        ensures counts { Counts self.old (concat src.old.pieces) result self.new }
+        ensures pieces { src.new.pieces ≡ ending (length (concat src.new.pieces)) src.old.pieces }
     {
-        let answer = self.decode_front(alloc, src);
-        src.known();
-        answer
+        self.decode_front(alloc, src)
     }
 
     fn decode_front(
@@ -110,11 +109,11 @@ impl FrameDecoder {
         alloc: Global,
         src: &mut BufList<Bytes>,
     ) -> Result<Option<Frame<PayloadLen>>, FrameStreamError>
-        requires expects { Expects self.old src.old.bytes }
-        ensures gives { Gives result src.old.bytes src.new.bytes }
-        ensures expects { Expects self.new src.new.bytes }
+        requires expects { Expects self.old (concat src.old.pieces) }
+        ensures gives { Gives result (concat src.old.pieces) (concat src.new.pieces) }
+        ensures expects { Expects self.new (concat src.new.pieces) }
         ensures fresh { IfOk result (λ o. IfSome o (λ f. self.new.expected ≡ None)) }
-        ensures counts { Counts self.old src.old.bytes result self.new }
+        ensures counts { Counts self.old (concat src.old.pieces) result self.new }
         ensures rest { IsRest src.old.pieces src.new.pieces }
     {
         loop {
@@ -142,8 +141,8 @@ impl FrameDecoder {
 // that lies in the first piece is cut from it, and else copied.
 #[tactic(auto, using(crate::proofs::Cutting::head_there))]
 fn try_frame(alloc: Global, src: &mut BufList<Bytes>) -> Tried
-    ensures tries { Tries result (frame_at src.old.bytes) src.old.bytes src.new.bytes }
-    ensures few { has_head src.old.bytes ≡ false → length src.old.bytes < 16 }
+    ensures tries { Tries result (frame_at (concat src.old.pieces)) (concat src.old.pieces) (concat src.new.pieces) }
+    ensures few { has_head (concat src.old.pieces) ≡ false → length (concat src.old.pieces) < 16 }
     ensures rest { IsRest src.old.pieces src.new.pieces }
 {
     if let Some((head, size)) = headers_in_first_piece(src) {
@@ -154,11 +153,10 @@ fn try_frame(alloc: Global, src: &mut BufList<Bytes>) -> Tried
 
 // Where a HEADERS frame lies in the first piece: how many bytes its head has, and its field section.
 fn headers_in_first_piece(src: &BufList<Bytes>) -> Option<(usize, usize)>
-    ensures is { IfSome result (λ p. IsHeadersFrame src.now.bytes p.0 p.1) }
+    ensures is { IfSome result (λ p. IsHeadersFrame (concat src.now.pieces) p.0 p.1) }
     ensures inside { IfSome result (λ p. p.0 + p.1 ≤ first_size src.now.pieces) }
     ensures fits { IfSome result (λ p. p.0 + p.1 < 2 ^ 64) }
 {
-    src.known();
     let mut cursor = src.cursor();
     let size = read_headers_head(&mut cursor)? as usize;
     let head = cursor.position();
@@ -171,10 +169,10 @@ fn headers_in_first_piece(src: &BufList<Bytes>) -> Option<(usize, usize)>
 
 // Takes a HEADERS frame that lies in the first piece. Its field section is cut from the piece.
 fn cut_headers(src: &mut BufList<Bytes>, head: usize, size: usize) -> Tried
-    requires is { IsHeadersFrame src.old.bytes head size }
+    requires is { IsHeadersFrame (concat src.old.pieces) head size }
     requires inside { head + size ≤ first_size src.old.pieces }
     requires fits { head + size < 2 ^ 64 }
-    ensures tries { Tries result (frame_at src.old.bytes) src.old.bytes src.new.bytes }
+    ensures tries { Tries result (frame_at (concat src.old.pieces)) (concat src.old.pieces) (concat src.new.pieces) }
     ensures rest { IsRest src.old.pieces src.new.pieces }
 {
     match src.take_chunk(head + size) {
@@ -190,11 +188,10 @@ fn cut_headers(src: &mut BufList<Bytes>, head: usize, size: usize) -> Tried
 // Takes the frame at the front, an unknown one too. Anything else takes nothing.
 #[tactic(auto, using(crate::specs::PieceLaws::rest_same))]
 fn decode_frame(alloc: Global, src: &mut BufList<Bytes>) -> Tried
-    ensures tries { Tries result (frame_at src.old.bytes) src.old.bytes src.new.bytes }
-    ensures few { has_head src.old.bytes ≡ false → length src.old.bytes < 16 }
+    ensures tries { Tries result (frame_at (concat src.old.pieces)) (concat src.old.pieces) (concat src.new.pieces) }
+    ensures few { has_head (concat src.old.pieces) ≡ false → length (concat src.old.pieces) < 16 }
     ensures rest { IsRest src.old.pieces src.new.pieces }
 {
-    src.known();
     let mut cursor = src.cursor();
     let decoded = Frame::decode(alloc, &mut cursor);
     let position = cursor.position();

@@ -59,14 +59,14 @@ impl<S> Model for AcceptRecvStream<S> {
 
     ghost Value = { Accepting S };
 
-    ghost view = { λ s. record { buffered = s.stream.buffered; pieces = s.stream.pieces; source = s.stream.source; is_eos = s.stream.is_eos; kind = s.ty; id = s.id } };
+    ghost view = { λ s. record { pieces = s.stream.pieces; source = s.stream.source; is_eos = s.stream.is_eos; kind = s.ty; id = s.id } };
 
     ghost invariant = { λ s. s.ty ≡ None → s.id ≡ None };
 }
 
 impl<S> AcceptRecvStream<S> {
     pub fn new(alloc: Global, stream: S) -> Self
-        ensures buffered { result.buffered ≡ [] }
+        ensures bytes { concat result.pieces ≡ [] }
         ensures pieces { result.pieces ≡ [] }
         ensures source { result.source ≡ stream }
         ensures is_eos { result.is_eos ≡ false }
@@ -79,13 +79,6 @@ impl<S> AcceptRecvStream<S> {
             id: None,
             alloc,
         }
-    }
-
-    /// The bytes are the pieces joined. This does nothing.
-    pub fn known(&self)
-        ensures { self.now.buffered ≡ concat self.now.pieces }
-    {
-        self.stream.known();
     }
 
     /// Lends the source, so that more can be put into it.
@@ -131,31 +124,29 @@ impl<S> AcceptRecvStream<S> {
 
     // Takes what was read of type and id, and answers whether both are there.
     fn take_start(&mut self) -> bool
-        ensures same { (more : List ℕ) → start_from self.new.kind self.new.id (self.new.buffered ++ more) ≡ start_from self.old.kind self.old.id (self.old.buffered ++ more) }
+        ensures same { (more : List ℕ) → start_from self.new.kind self.new.id (concat self.new.pieces ++ more) ≡ start_from self.old.kind self.old.id (concat self.old.pieces ++ more) }
         ensures resolved { result ≡ resolved self.new.kind self.new.id }
-        ensures short { result ≡ false → start_from self.new.kind self.new.id self.new.buffered ≡ Short }
-        ensures fewer { length self.new.buffered ≤ length self.old.buffered }
+        ensures short { result ≡ false → start_from self.new.kind self.new.id (concat self.new.pieces) ≡ Short }
+        ensures fewer { length (concat self.new.pieces) ≤ length (concat self.old.pieces) }
         ensures rest { IsRest self.old.pieces self.new.pieces }
         ensures source { self.new.source ≡ self.old.source }
         ensures is_eos { self.new.is_eos ≡ self.old.is_eos }
         ensures starts { Starts self.old self.new }
     {
-        let whole = self.take_type_and_id();
-        self.known();
-        whole
+        self.take_type_and_id()
     }
 
     fn take_type_and_id(&mut self) -> bool
-        ensures same { (more : List ℕ) → start_from self.new.kind self.new.id (self.new.buffered ++ more) ≡ start_from self.old.kind self.old.id (self.old.buffered ++ more) }
+        ensures same { (more : List ℕ) → start_from self.new.kind self.new.id (concat self.new.pieces ++ more) ≡ start_from self.old.kind self.old.id (concat self.old.pieces ++ more) }
         ensures resolved { result ≡ resolved self.new.kind self.new.id }
-        ensures short { result ≡ false → start_from self.new.kind self.new.id self.new.buffered ≡ Short }
-        ensures fewer { length self.new.buffered ≤ length self.old.buffered }
+        ensures short { result ≡ false → start_from self.new.kind self.new.id (concat self.new.pieces) ≡ Short }
+        ensures fewer { length (concat self.new.pieces) ≤ length (concat self.old.pieces) }
         ensures rest { IsRest self.old.pieces self.new.pieces }
         ensures source { self.new.source ≡ self.old.source }
         ensures is_eos { self.new.is_eos ≡ self.old.is_eos }
-        ensures kind { self.new.kind ≡ type_read self.old.kind self.old.buffered }
-        ensures id { self.new.id ≡ id_read self.new.kind self.old.id (behind_type_read self.old.kind self.old.buffered) }
-        ensures buffered { self.new.buffered ≡ behind_id_read self.new.kind self.old.id (behind_type_read self.old.kind self.old.buffered) }
+        ensures kind { self.new.kind ≡ type_read self.old.kind (concat self.old.pieces) }
+        ensures id { self.new.id ≡ id_read self.new.kind self.old.id (behind_type_read self.old.kind (concat self.old.pieces)) }
+        ensures buffered { concat self.new.pieces ≡ behind_id_read self.new.kind self.old.id (behind_type_read self.old.kind (concat self.old.pieces)) }
     {
         if !self.take_type() {
             return false;
@@ -166,16 +157,16 @@ impl<S> AcceptRecvStream<S> {
     // Takes the type, if it was not read, and answers whether it is there.
     #[tactic(auto, using(crate::specs::PieceLaws::rest_same))]
     fn take_type(&mut self) -> bool
-        ensures same { (more : List ℕ) → start_from self.new.kind self.new.id (self.new.buffered ++ more) ≡ start_from self.old.kind self.old.id (self.old.buffered ++ more) }
+        ensures same { (more : List ℕ) → start_from self.new.kind self.new.id (concat self.new.pieces ++ more) ≡ start_from self.old.kind self.old.id (concat self.old.pieces ++ more) }
         ensures typed { result ≡ true → IsSome self.new.kind }
-        ensures short { result ≡ false → (resolved self.new.kind self.new.id ≡ false) × (start_from self.new.kind self.new.id self.new.buffered ≡ Short) }
-        ensures fewer { length self.new.buffered ≤ length self.old.buffered }
+        ensures short { result ≡ false → (resolved self.new.kind self.new.id ≡ false) × (start_from self.new.kind self.new.id (concat self.new.pieces) ≡ Short) }
+        ensures fewer { length (concat self.new.pieces) ≤ length (concat self.old.pieces) }
         ensures rest { IsRest self.old.pieces self.new.pieces }
         ensures source { self.new.source ≡ self.old.source }
         ensures is_eos { self.new.is_eos ≡ self.old.is_eos }
-        ensures kind { self.new.kind ≡ type_read self.old.kind self.old.buffered }
+        ensures kind { self.new.kind ≡ type_read self.old.kind (concat self.old.pieces) }
         ensures id { self.new.id ≡ self.old.id }
-        ensures buffered { self.new.buffered ≡ behind_type_read self.old.kind self.old.buffered }
+        ensures buffered { concat self.new.pieces ≡ behind_type_read self.old.kind (concat self.old.pieces) }
         ensures none { result ≡ false → self.new.kind ≡ None }
     {
         if self.ty.is_some() {
@@ -192,16 +183,16 @@ impl<S> AcceptRecvStream<S> {
     #[tactic(auto, using(crate::specs::PieceLaws::rest_same))]
     fn take_id(&mut self) -> bool
         requires { IsSome self.old.kind }
-        ensures same { (more : List ℕ) → start_from self.new.kind self.new.id (self.new.buffered ++ more) ≡ start_from self.old.kind self.old.id (self.old.buffered ++ more) }
+        ensures same { (more : List ℕ) → start_from self.new.kind self.new.id (concat self.new.pieces ++ more) ≡ start_from self.old.kind self.old.id (concat self.old.pieces ++ more) }
         ensures resolved { result ≡ resolved self.new.kind self.new.id }
-        ensures short { result ≡ false → start_from self.new.kind self.new.id self.new.buffered ≡ Short }
-        ensures fewer { length self.new.buffered ≤ length self.old.buffered }
+        ensures short { result ≡ false → start_from self.new.kind self.new.id (concat self.new.pieces) ≡ Short }
+        ensures fewer { length (concat self.new.pieces) ≤ length (concat self.old.pieces) }
         ensures rest { IsRest self.old.pieces self.new.pieces }
         ensures source { self.new.source ≡ self.old.source }
         ensures is_eos { self.new.is_eos ≡ self.old.is_eos }
         ensures kind { self.new.kind ≡ self.old.kind }
-        ensures id { self.new.id ≡ id_read self.old.kind self.old.id self.old.buffered }
-        ensures buffered { self.new.buffered ≡ behind_id_read self.old.kind self.old.id self.old.buffered }
+        ensures id { self.new.id ≡ id_read self.old.kind self.old.id (concat self.old.pieces) }
+        ensures buffered { concat self.new.pieces ≡ behind_id_read self.old.kind self.old.id (concat self.old.pieces) }
     {
         if self.is_resolved() {
             return true;
@@ -240,11 +231,9 @@ impl<S: RecvStream> AcceptRecvStream<S> {
         ensures asked { Asked S.answers self.old.source self.new.source }
         ensures ended { EndIsTold S.answers self.new.source self.old.is_eos self.new.is_eos }
         ensures fewer { length (all_left S.rest self.new) ≤ length (all_left S.rest self.old) }
-        ensures pieces { LeavesPieces S.answers (length self.new.buffered) self.old.source self.old.pieces self.new.source self.new.pieces }
+        ensures pieces { LeavesPieces S.answers (length (concat self.new.pieces)) self.old.source self.old.pieces self.new.source self.new.pieces }
     {
-        let answer = self.poll_start();
-        self.known();
-        answer
+        self.poll_start()
     }
 
     fn poll_start(&mut self) -> Poll<Result<(), PollTypeError>>
@@ -285,7 +274,7 @@ impl<S: RecvStream> AcceptRecvStream<S> {
         ensures all { all_left S.rest self.new ≡ all_left S.rest self.old }
         ensures kind { self.new.kind ≡ self.old.kind }
         ensures id { self.new.id ≡ self.old.id }
-        ensures adds { Adds result self.old.buffered self.new.buffered }
+        ensures adds { Adds result (concat self.old.pieces) (concat self.new.pieces) }
         ensures tells { Tells S.rest S.answers result (stream_of self.old) (stream_of self.new) }
         ensures asked { Asked S.answers self.old.source self.new.source }
         ensures ended { EndIsTold S.answers self.new.source self.old.is_eos self.new.is_eos }

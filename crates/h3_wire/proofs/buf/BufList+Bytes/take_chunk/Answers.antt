@@ -1,4 +1,5 @@
 use Rattle.std.proofs.Common.{◌≡◌, ◌++◌, arith, ap, ap₂, sym, ◌∙◌, ◌<◌, length, length-append, take-append-drop, append_assoc}
+use Rattle.std.specs.List.{concat}
 use Rattle.std.proofs.lemmas.List.Elements.{All-rest, All-cons, All-same}
 use Rattle.std.proofs.lemmas.List.{length-take, length-drop}
 use Rattle.h3_wire.specs.Pieces.{joined}
@@ -31,7 +32,7 @@ pub returns-in-Ok-clause-some : goal.returns-in-Ok-clause-some
 returns-in-Ok-clause-some c =
     let rest = c.pop_front.new.self.items in
     let short = ap length c.in-Ok.ensures.front ∙ length-take c.args.max c.in-Some.first in (
-      sym (ap (λ (l : Listed). l.bytes) c.self.view_is) ∙ ap (joined (λ b. b)) c.in-Some.ensures.items ∙ ap (λ l. l ++ joined (λ b. b) rest) (sym (whole c))
+      sym (ap (λ (l : Listed). concat l.pieces) c.self.view_is) ∙ ap (joined (λ b. b)) c.in-Some.ensures.items ∙ ap (λ l. l ++ joined (λ b. b) rest) (sym (whole c))
           ∙ append_assoc c.in-Ok.front c.split_to.new.self (joined (λ b. b) rest)
           ∙ ap (λ l. c.in-Ok.front ++ joined (λ b. b) l) (sym c.push_front_reserved.ensures.items),
       omega (arith, c.len.ensures.value),

@@ -1,4 +1,5 @@
 use Rattle.std.proofs.Common.{ap, sym, ◌∙◌, ◌++◌, ◌∷◌, [], ◌<◌, length, map, arith}
+use Rattle.std.specs.List.{concat}
 use Rattle.std.proofs.lemmas.List.{map-append}
 use Rattle.std.proofs.lemmas.List.Elements.{All-push, All-same}
 use Rattle.h3_wire.specs.Pieces.{joined}
@@ -19,4 +20,4 @@ returns-clause-pieces g c =
 
 pub returns-clause-bytes : goal.returns-clause-bytes
 returns-clause-bytes g c =
-    ap (joined g.T.Buf.unread) c.push_back_reserved.ensures.items ∙ joined-push g.T.Buf.unread c.self.inside.bufs.items c.args.piece ∙ ap (λ l. l.bytes ++ g.T.Buf.unread c.args.piece) c.self.view_is
+    ap (joined g.T.Buf.unread) c.push_back_reserved.ensures.items ∙ joined-push g.T.Buf.unread c.self.inside.bufs.items c.args.piece ∙ ap (λ l. concat l.pieces ++ g.T.Buf.unread c.args.piece) c.self.view_is

@@ -1,4 +1,5 @@
 use Rattle.std.proofs.Common.{◌<◌, length, arith, sym, ◌∙◌, ap, ap₂, subst, refl, Ok, Err, Some, None}
+use Rattle.std.specs.List.{concat}
 use Rattle.std.proofs.lemmas.List.{nil_from_length}
 use Rattle.h3_wire.specs.Source.{coming}
 use Rattle.h3_wire.specs.Given.{AddsPieces, adds_passes, passes_then, rest_passes}
@@ -17,45 +18,45 @@ use Rattle.h3_wire.proofs.frame.FrameStream.read_frame.Goals as goal
 pub invariant_of-self : goal.invariant_of-self
 invariant_of-self g c =
     let more = c.receive.ensures.grows in
-    (subst (λ l. Expects c.self.inside.decoder l) (sym more.1) (Awaits-more c.self.inside.decoder.expected c.self.inside.decoder.tries c.self.inside.stream.buffered more.0 c.self.invariant.0), c.self.invariant.1)
+    (subst (λ l. Expects c.self.inside.decoder l) (sym more.1) (Awaits-more c.self.inside.decoder.expected c.self.inside.decoder.tries (concat c.self.inside.stream.pieces) more.0 c.self.invariant.0), c.self.invariant.1)
 
 pub take_frame-requires : goal.take_frame-requires
 take_frame-requires g c =
     let more = c.receive.ensures.grows in
-    record { expects = subst (λ l. Expects c.self.inside.decoder l) (sym more.1) (Awaits-more c.self.inside.decoder.expected c.self.inside.decoder.tries c.self.inside.stream.buffered more.0 c.self.invariant.0) }
+    record { expects = subst (λ l. Expects c.self.inside.decoder l) (sym more.1) (Awaits-more c.self.inside.decoder.expected c.self.inside.decoder.tries (concat c.self.inside.stream.pieces) more.0 c.self.invariant.0) }
 
 pub returns-in-Err-take_frame-clause-polls : goal.returns-in-Err-take_frame-clause-polls
 returns-in-Err-take_frame-clause-polls g c =
     let rest = g.S.RecvStream.rest in
-    let new : Framing g.row.S.Denot = record { buffered = c.take_frame.new.self.buffered; pieces = c.take_frame.new.self.pieces; source = c.take_frame.new.self.source; is_eos = c.take_frame.new.self.is_eos; payload = c.self.inside.payload; decoder = c.take_frame.new.decoder } in
+    let new : Framing g.row.S.Denot = record { pieces = c.take_frame.new.self.pieces; source = c.take_frame.new.self.source; is_eos = c.take_frame.new.self.is_eos; payload = c.self.inside.payload; decoder = c.take_frame.new.decoder } in
     let t = taken rest c.args.self.now _ new c.receive.new.self c.take_frame.new.self c.self.view_is c.receive.ensures.all c.take_frame.ensures.source c.take_frame.ensures.is_eos refl refl refl in
     polls_error rest g.S.RecvStream.answers c.args.self.now new _ _ c.in-Err-take_frame.e t c.in-Err-take_frame.ensures.gives (ap (λ (x : Framing g.row.S.Denot). x.payload) c.self.view_is)
 
 pub returns-in-Err-take_frame-clause-fewer : goal.returns-in-Err-take_frame-clause-fewer
 returns-in-Err-take_frame-clause-fewer g c =
     let rest = g.S.RecvStream.rest in
-    let new : Framing g.row.S.Denot = record { buffered = c.take_frame.new.self.buffered; pieces = c.take_frame.new.self.pieces; source = c.take_frame.new.self.source; is_eos = c.take_frame.new.self.is_eos; payload = c.self.inside.payload; decoder = c.take_frame.new.decoder } in
+    let new : Framing g.row.S.Denot = record { pieces = c.take_frame.new.self.pieces; source = c.take_frame.new.self.source; is_eos = c.take_frame.new.self.is_eos; payload = c.self.inside.payload; decoder = c.take_frame.new.decoder } in
     let t = taken rest c.args.self.now _ new c.receive.new.self c.take_frame.new.self c.self.view_is c.receive.ensures.all c.take_frame.ensures.source c.take_frame.ensures.is_eos refl refl refl in
     taken_fewer rest c.args.self.now new _ _ c.take_frame.result t c.take_frame.ensures.gives
 
 pub returns-in-Ok-Some-clause-polls : goal.returns-in-Ok-Some-clause-polls
 returns-in-Ok-Some-clause-polls g c =
     let rest = g.S.RecvStream.rest in
-    let new : Framing g.row.S.Denot = record { buffered = c.take_frame.new.self.buffered; pieces = c.take_frame.new.self.pieces; source = c.take_frame.new.self.source; is_eos = c.take_frame.new.self.is_eos; payload = c.payload_of-self-inside.result; decoder = c.take_frame.new.decoder } in
+    let new : Framing g.row.S.Denot = record { pieces = c.take_frame.new.self.pieces; source = c.take_frame.new.self.source; is_eos = c.take_frame.new.self.is_eos; payload = c.payload_of-self-inside.result; decoder = c.take_frame.new.decoder } in
     let t = taken rest c.args.self.now _ new c.receive.new.self c.take_frame.new.self c.self.view_is c.receive.ensures.all c.take_frame.ensures.source c.take_frame.ensures.is_eos refl refl refl in
     (polls_frame rest c.args.self.now new _ _ c.in-Ok-Some.frame t (rw c.in-Ok-Some.field-0-is at c.in-Ok-Some.ensures.gives), c.payload_of-self-inside.ensures)
 
 pub returns-in-Ok-Some-clause-fewer : goal.returns-in-Ok-Some-clause-fewer
 returns-in-Ok-Some-clause-fewer g c =
     let rest = g.S.RecvStream.rest in
-    let new : Framing g.row.S.Denot = record { buffered = c.take_frame.new.self.buffered; pieces = c.take_frame.new.self.pieces; source = c.take_frame.new.self.source; is_eos = c.take_frame.new.self.is_eos; payload = c.payload_of-self-inside.result; decoder = c.take_frame.new.decoder } in
+    let new : Framing g.row.S.Denot = record { pieces = c.take_frame.new.self.pieces; source = c.take_frame.new.self.source; is_eos = c.take_frame.new.self.is_eos; payload = c.payload_of-self-inside.result; decoder = c.take_frame.new.decoder } in
     let t = taken rest c.args.self.now _ new c.receive.new.self c.take_frame.new.self c.self.view_is c.receive.ensures.all c.take_frame.ensures.source c.take_frame.ensures.is_eos refl refl refl in
     taken_fewer rest c.args.self.now new _ _ c.take_frame.result t c.take_frame.ensures.gives
 
 pub returns-in-More-clause-polls : goal.returns-in-More-clause-polls
 returns-in-More-clause-polls g c =
     let rest = g.S.RecvStream.rest in
-    let new : Framing g.row.S.Denot = record { buffered = c.take_frame.new.self.buffered; pieces = c.take_frame.new.self.pieces; source = c.take_frame.new.self.source; is_eos = c.take_frame.new.self.is_eos; payload = c.self.inside.payload; decoder = c.take_frame.new.decoder } in
+    let new : Framing g.row.S.Denot = record { pieces = c.take_frame.new.self.pieces; source = c.take_frame.new.self.source; is_eos = c.take_frame.new.self.is_eos; payload = c.self.inside.payload; decoder = c.take_frame.new.decoder } in
     let t = taken rest c.args.self.now _ new c.receive.new.self c.take_frame.new.self c.self.view_is c.receive.ensures.all c.take_frame.ensures.source c.take_frame.ensures.is_eos refl refl refl in
     let less = rw c.in-More.is at c.in-Ok.ensures.tells in
     let here = ap (λ (x : Framing g.row.S.Denot). length (coming x.is_eos (rest x.source))) c.self.view_is in
@@ -65,14 +66,14 @@ returns-in-More-clause-polls g c =
 pub returns-in-More-clause-fewer : goal.returns-in-More-clause-fewer
 returns-in-More-clause-fewer g c =
     let rest = g.S.RecvStream.rest in
-    let new : Framing g.row.S.Denot = record { buffered = c.take_frame.new.self.buffered; pieces = c.take_frame.new.self.pieces; source = c.take_frame.new.self.source; is_eos = c.take_frame.new.self.is_eos; payload = c.self.inside.payload; decoder = c.take_frame.new.decoder } in
+    let new : Framing g.row.S.Denot = record { pieces = c.take_frame.new.self.pieces; source = c.take_frame.new.self.source; is_eos = c.take_frame.new.self.is_eos; payload = c.self.inside.payload; decoder = c.take_frame.new.decoder } in
     let t = taken rest c.args.self.now _ new c.receive.new.self c.take_frame.new.self c.self.view_is c.receive.ensures.all c.take_frame.ensures.source c.take_frame.ensures.is_eos refl refl refl in
     taken_fewer rest c.args.self.now new _ _ c.take_frame.result t c.take_frame.ensures.gives
 
 pub returns-in-Nothing-clause-polls : goal.returns-in-Nothing-clause-polls
 returns-in-Nothing-clause-polls g c =
     let rest = g.S.RecvStream.rest in
-    let new : Framing g.row.S.Denot = record { buffered = c.take_frame.new.self.buffered; pieces = c.take_frame.new.self.pieces; source = c.take_frame.new.self.source; is_eos = c.take_frame.new.self.is_eos; payload = c.self.inside.payload; decoder = c.take_frame.new.decoder } in
+    let new : Framing g.row.S.Denot = record { pieces = c.take_frame.new.self.pieces; source = c.take_frame.new.self.source; is_eos = c.take_frame.new.self.is_eos; payload = c.self.inside.payload; decoder = c.take_frame.new.decoder } in
     let t = taken rest c.args.self.now _ new c.receive.new.self c.take_frame.new.self c.self.view_is c.receive.ensures.all c.take_frame.ensures.source c.take_frame.ensures.is_eos refl refl refl in
     let gives = rw c.in-Ok-None.field-0-is at c.in-Ok-None.ensures.gives in
     let told = rw c.in-Nothing.is at c.in-Ok.ensures.tells in
@@ -81,14 +82,14 @@ returns-in-Nothing-clause-polls g c =
 pub returns-in-Nothing-clause-fewer : goal.returns-in-Nothing-clause-fewer
 returns-in-Nothing-clause-fewer g c =
     let rest = g.S.RecvStream.rest in
-    let new : Framing g.row.S.Denot = record { buffered = c.take_frame.new.self.buffered; pieces = c.take_frame.new.self.pieces; source = c.take_frame.new.self.source; is_eos = c.take_frame.new.self.is_eos; payload = c.self.inside.payload; decoder = c.take_frame.new.decoder } in
+    let new : Framing g.row.S.Denot = record { pieces = c.take_frame.new.self.pieces; source = c.take_frame.new.self.source; is_eos = c.take_frame.new.self.is_eos; payload = c.self.inside.payload; decoder = c.take_frame.new.decoder } in
     let t = taken rest c.args.self.now _ new c.receive.new.self c.take_frame.new.self c.self.view_is c.receive.ensures.all c.take_frame.ensures.source c.take_frame.ensures.is_eos refl refl refl in
     taken_fewer rest c.args.self.now new _ _ c.take_frame.result t c.take_frame.ensures.gives
 
 pub returns-then-remaining-gt0-clause-fewer : goal.returns-then-remaining-gt0-clause-fewer
 returns-then-remaining-gt0-clause-fewer g c =
     let rest = g.S.RecvStream.rest in
-    let new : Framing g.row.S.Denot = record { buffered = c.take_frame.new.self.buffered; pieces = c.take_frame.new.self.pieces; source = c.take_frame.new.self.source; is_eos = c.take_frame.new.self.is_eos; payload = c.self.inside.payload; decoder = c.take_frame.new.decoder } in
+    let new : Framing g.row.S.Denot = record { pieces = c.take_frame.new.self.pieces; source = c.take_frame.new.self.source; is_eos = c.take_frame.new.self.is_eos; payload = c.self.inside.payload; decoder = c.take_frame.new.decoder } in
     let t = taken rest c.args.self.now _ new c.receive.new.self c.take_frame.new.self c.self.view_is c.receive.ensures.all c.take_frame.ensures.source c.take_frame.ensures.is_eos refl refl refl in
     taken_fewer rest c.args.self.now new _ _ c.take_frame.result t c.take_frame.ensures.gives
 
@@ -161,10 +162,10 @@ returns-in-Ok-Some-clause-round g c =
 pub returns-in-End-clause-polls : goal.returns-in-End-clause-polls
 returns-in-End-clause-polls g c =
     let rest = g.S.RecvStream.rest in
-    let new : Framing g.row.S.Denot = record { buffered = c.take_frame.new.self.buffered; pieces = c.take_frame.new.self.pieces; source = c.take_frame.new.self.source; is_eos = c.take_frame.new.self.is_eos; payload = c.self.inside.payload; decoder = c.take_frame.new.decoder } in
+    let new : Framing g.row.S.Denot = record { pieces = c.take_frame.new.self.pieces; source = c.take_frame.new.self.source; is_eos = c.take_frame.new.self.is_eos; payload = c.self.inside.payload; decoder = c.take_frame.new.decoder } in
     let t = taken rest c.args.self.now _ new c.receive.new.self c.take_frame.new.self c.self.view_is c.receive.ensures.all c.take_frame.ensures.source c.take_frame.ensures.is_eos refl refl refl in
     let told = rw c.in-End.is at c.in-Ok.ensures.end in
     let none = ap (λ e. coming e (rest c.receive.new.self.source)) told in
     let p = polls_end rest c.args.self.now new _ _ t (rw c.in-Ok-None.field-0-is at c.in-Ok-None.ensures.gives) none in
-    let nothing = p.2 ∙ nil_from_length c.take_frame.new.self.buffered (omega (arith, c.remaining.ensures, c.if-remaining-gt0.false)) in
+    let nothing = p.2 ∙ nil_from_length (concat c.take_frame.new.self.pieces) (omega (arith, c.remaining.ensures, c.if-remaining-gt0.false)) in
     (sym p.0 ∙ nothing, nothing, c.take_frame.ensures.is_eos ∙ told, ap (λ (x : Framing g.row.S.Denot). x.payload) c.self.view_is)

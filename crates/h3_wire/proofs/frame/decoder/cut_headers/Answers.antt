@@ -1,4 +1,5 @@
 use Rattle.std.proofs.Common.{◌≡◌, ◌+◌, ◌<◌, length, sym, ◌∙◌, ap, arith}
+use Rattle.std.specs.List.{concat}
 use Rattle.h3_wire.specs.Frames.{Whole}
 use Rattle.h3_wire.specs.PieceLaws.{chunk_size, chunk_rest}
 use Rattle.h3_wire.specs.declared.proto.frame.Frame.TheVariants as frame
@@ -15,7 +16,7 @@ returns-in-Ok-Some-clause-tries c =
     let all = rw c.in-Ok-Some.field-0-is at c.in-Ok-Some.ensures.some in
     let pieces = rw c.in-Ok-Some.field-0-is at c.in-Ok-Some.ensures.pieces in
     let count : length c.in-Ok-Some.section ≡ c.args.head + c.args.size = chunk_size (c.args.head + c.args.size) _ _ c.in-Ok-Some.section c.requires.inside pieces in
-    cut_off _ c.in-Ok-Some.section _ c.args.head c.args.size c.requires.is all.0 count ∙ ap (λ s. Whole (frame.Headers s) c.take_chunk.new.self.bytes) (sym c.advance.ensures)
+    cut_off _ c.in-Ok-Some.section _ c.args.head c.args.size c.requires.is all.0 count ∙ ap (λ s. Whole (frame.Headers s) (concat c.take_chunk.new.self.pieces)) (sym c.advance.ensures)
 
 pub returns-in-Ok-Some-clause-rest : goal.returns-in-Ok-Some-clause-rest
 returns-in-Ok-Some-clause-rest c =
@@ -25,4 +26,4 @@ returns-in-Ok-Some-clause-rest c =
     chunk_rest (c.args.head + c.args.size) _ _ c.in-Ok-Some.section some (all.2 some) pieces
 
 pub returns-in-Err-clause-tries : goal.returns-in-Err-clause-tries
-returns-in-Err-clause-tries c = (headers_take_memory _ _ _ c.requires.is, c.in-Err.ensures.err.1)
+returns-in-Err-clause-tries c = (headers_take_memory _ _ _ c.requires.is, ap concat c.in-Err.ensures.err)

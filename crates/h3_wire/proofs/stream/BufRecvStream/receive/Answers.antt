@@ -1,4 +1,4 @@
-use Rattle.std.proofs.Common.{refl, sym, ap, subst, ◌∙◌, inl, Some, Err, Ok, true, false}
+use Rattle.std.proofs.Common.{refl, sym, ap, subst, ◌∙◌, inl, Some, Err, Ok}
 use Rattle.h3_wire.specs.Asking.{Asks, at_end}
 use Rattle.h3_wire.specs.Source.{done}
 use Rattle.h3_wire.specs.Streams.{Buffered, stream_error}
@@ -25,6 +25,16 @@ pub returns-in-Ready-Ok-false-clause-asked : goal.returns-in-Ready-Ok-false-clau
 returns-in-Ready-Ok-false-clause-asked g c =
     let open_here = sym (ap (λ (b : Buffered g.row.S.Denot). b.is_eos) c.self.view_is) ∙ c.if-self.false in
     (reading g.S.RecvStream.rest g.S.RecvStream.answers g.met.S.RecvStream.polls c.poll_read.result _ _ open_here c.poll_read.ensures).asked
+
+pub returns-in-Ready-Ok-false-clause-all : goal.returns-in-Ready-Ok-false-clause-all
+returns-in-Ready-Ok-false-clause-all g c =
+    let open_here = sym (ap (λ (b : Buffered g.row.S.Denot). b.is_eos) c.self.view_is) ∙ c.if-self.false in
+    (reading g.S.RecvStream.rest g.S.RecvStream.answers g.met.S.RecvStream.polls c.poll_read.result _ _ open_here c.poll_read.ensures).all
+
+pub returns-in-Ready-Ok-false-clause-grows : goal.returns-in-Ready-Ok-false-clause-grows
+returns-in-Ready-Ok-false-clause-grows g c =
+    let open_here = sym (ap (λ (b : Buffered g.row.S.Denot). b.is_eos) c.self.view_is) ∙ c.if-self.false in
+    (reading g.S.RecvStream.rest g.S.RecvStream.answers g.met.S.RecvStream.polls c.poll_read.result _ _ open_here c.poll_read.ensures).grows
 
 pub returns-in-Ready-Ok-false-clause-first : goal.returns-in-Ready-Ok-false-clause-first
 returns-in-Ready-Ok-false-clause-first g c = λ _. asks_first g.S.RecvStream.answers c.poll_read.result c.args.self.now c.poll_read.new.self _ c.poll_read.ensures (λ e q. absurd (cc))

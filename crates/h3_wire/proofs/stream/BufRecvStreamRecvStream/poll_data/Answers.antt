@@ -7,6 +7,6 @@ use Rattle.h3_wire.proofs.stream.BufRecvStreamRecvStream.poll_data.Goals as goal
 
 pub returns-in-Some : goal.returns-in-Some
 returns-in-Some g c =
-    let new : Buffered g.row.S.Denot = record { buffered = c.take_first_chunk.new.self.bytes; pieces = c.take_first_chunk.new.self.pieces; source = c.self.inside.stream; is_eos = c.self.inside.eos } in
+    let new : Buffered g.row.S.Denot = record { pieces = c.take_first_chunk.new.self.pieces; source = c.self.inside.stream; is_eos = c.self.inside.eos } in
     subst (λ (a : Buffered g.row.S.Denot). AnswersFrom g.S.RecvStream.answers a (Ready (Ok (Some c.in-Some.piece))) new) c.self.view_is
-    (buffered c.in-Some.piece refl c.in-Some.ensures.bytes.1 c.in-Some.ensures.bytes.0 (first_is _ _ _ c.in-Some.ensures.pieces) refl refl)
+    (buffered c.in-Some.piece refl c.in-Some.ensures.bytes.1 (first_is _ _ _ c.in-Some.ensures.pieces) refl refl)

@@ -1,4 +1,5 @@
 use Rattle.std.proofs.Common.{◌≡◌, Option, Result, length}
+use Rattle.std.specs.List.{concat}
 use Rattle.h3_wire.specs.declared.proto.frame.PayloadLen.{PayloadLen}
 use Rattle.h3_wire.specs.declared.proto.frame.Frame.{Frame}
 use Rattle.h3_wire.specs.declared.frame.errors.FrameStreamError.{FrameStreamError}
@@ -10,11 +11,11 @@ use Rattle.h3_wire.proofs.frame.decoder.FrameDecoder.decode_front.Given as goal
 -- only unknown frames were taken from the front, and what the rest does to the count, the whole does
 abbrev pub invariant-loop-src : goal.invariant-loop-src
 invariant-loop-src l = record {
-  same : known l.src.bytes ≡ known l.fn.src.bytes;
-  expects : Expects l.self l.src.bytes;
+  same : known (concat l.src.pieces) ≡ known (concat l.fn.src.pieces);
+  expects : Expects l.self (concat l.src.pieces);
   rest : IsRest l.fn.src.pieces l.src.pieces;
-  counts : (answer : Result (Option (Frame PayloadLen)) FrameStreamError) (new : Decoding) → Counts l.self l.src.bytes answer new → Counts l.fn.self l.fn.src.bytes answer new;
+  counts : (answer : Result (Option (Frame PayloadLen)) FrameStreamError) (new : Decoding) → Counts l.self (concat l.src.pieces) answer new → Counts l.fn.self (concat l.fn.src.pieces) answer new;
 }
 
 abbrev pub decreases-loop-src : goal.decreases-loop-src
-decreases-loop-src l = length l.src.bytes
+decreases-loop-src l = length (concat l.src.pieces)
