@@ -28,12 +28,12 @@ pub fn call(alloc: Global, line: &str) -> Result<Option<Call>, AllocError> {
     match words.as_slice() {
         [command] => Ok(plain(*command)),
         [command, id, more @ ..] => {
-            if *command == "new" {
-                return Ok(new(*id, more));
-            }
-            match stream_id(*id) {
-                Some(id) => on_stream(alloc, *command, id, more),
-                None => Ok(None),
+            match *command {
+                "new" => Ok(new(*id, more)),
+                _ => match stream_id(*id) {
+                    Some(id) => on_stream(alloc, *command, id, more),
+                    None => Ok(None),
+                },
             }
         }
         [] => Ok(None),
@@ -42,29 +42,21 @@ pub fn call(alloc: Global, line: &str) -> Result<Option<Call>, AllocError> {
 
 /// A call of one word.
 fn plain(command: &str) -> Option<Call> {
-    if command == "open" {
-        return Some(Call::Open);
+    match command {
+        "open" => Some(Call::Open),
+        "show" => Some(Call::Show),
+        "sent" => Some(Call::Sent),
+        "goaways" => Some(Call::Goaways),
+        _ => None,
     }
-    if command == "show" {
-        return Some(Call::Show);
-    }
-    if command == "sent" {
-        return Some(Call::Sent);
-    }
-    if command == "goaways" {
-        return Some(Call::Goaways);
-    }
-    None
 }
 
 fn side(word: &str) -> Option<Side> {
-    if word == "c" {
-        return Some(Side::Client);
+    match word {
+        "c" => Some(Side::Client),
+        "s" => Some(Side::Server),
+        _ => None,
     }
-    if word == "s" {
-        return Some(Side::Server);
-    }
-    None
 }
 
 fn new(side_word: &str, limits: &[&str]) -> Option<Call> {
@@ -94,16 +86,14 @@ fn on_stream(
     id: StreamId,
     words: &[&str],
 ) -> Result<Option<Call>, AllocError> {
-    if command == "head" {
-        return head(alloc, id, words);
-    }
-    if command == "trailer" {
-        return trailer(alloc, id, words);
-    }
-    match words {
-        [] => Ok(alone(command, id)),
-        [word] => with_word(alloc, command, id, *word),
-        _ => Ok(None),
+    match command {
+        "head" => head(alloc, id, words),
+        "trailer" => trailer(alloc, id, words),
+        _ => match words {
+            [] => Ok(alone(command, id)),
+            [word] => with_word(alloc, command, id, *word),
+            _ => Ok(None),
+        },
     }
 }
 
@@ -130,15 +120,13 @@ fn with_word(
     id: StreamId,
     word: &str,
 ) -> Result<Option<Call>, AllocError> {
-    if command == "body" {
-        return body(alloc, id, word);
-    }
-    if command == "deliver" {
-        return delivery(alloc, id, word);
-    }
-    match number(word) {
-        Some(number) => Ok(with_number(command, id, number)),
-        None => Ok(None),
+    match command {
+        "body" => body(alloc, id, word),
+        "deliver" => delivery(alloc, id, word),
+        _ => match number(word) {
+            Some(number) => Ok(with_number(command, id, number)),
+            None => Ok(None),
+        },
     }
 }
 
@@ -159,61 +147,43 @@ fn delivery(alloc: Global, id: StreamId, word: &str) -> Result<Option<Call>, All
 }
 
 fn with_number(command: &str, id: StreamId, number: u64) -> Option<Call> {
-    if command == "gone" {
-        return Some(Call::Gone(id, number));
+    match command {
+        "gone" => Some(Call::Gone(id, number)),
+        "advance" => Some(Call::Advance(id, number as usize)),
+        _ => None,
     }
-    if command == "advance" {
-        return Some(Call::Advance(id, number as usize));
-    }
-    None
 }
 
 /// A call on a stream with nothing else.
 fn alone(command: &str, id: StreamId) -> Option<Call> {
-    if command == "pull" {
-        return Some(Call::Pull(id));
+    match command {
+        "pull" => Some(Call::Pull(id)),
+        "waits" => Some(Call::Waits(id)),
+        "lends" => Some(Call::Lends(id)),
+        "sends" => Some(Call::Sends(id)),
+        "tries" => Some(Call::Tries(id)),
+        _ => ending(command, id),
     }
-    if command == "waits" {
-        return Some(Call::Waits(id));
-    }
-    if command == "lends" {
-        return Some(Call::Lends(id));
-    }
-    if command == "sends" {
-        return Some(Call::Sends(id));
-    }
-    if command == "tries" {
-        return Some(Call::Tries(id));
-    }
-    ending(command, id)
 }
 
 /// A call that ends something.
 fn ending(command: &str, id: StreamId) -> Option<Call> {
-    if command == "finish" {
-        return Some(Call::Finish(id));
+    match command {
+        "finish" => Some(Call::Finish(id)),
+        "reset" => Some(Call::Reset(id)),
+        "cancel" => Some(Call::Cancel(id)),
+        "goaway" => Some(Call::Goaway(VarInt::from(id))),
+        "end" => Some(Call::End(id)),
+        _ => None,
     }
-    if command == "reset" {
-        return Some(Call::Reset(id));
-    }
-    if command == "cancel" {
-        return Some(Call::Cancel(id));
-    }
-    if command == "goaway" {
-        return Some(Call::Goaway(VarInt::from(id)));
-    }
-    if command == "end" {
-        return Some(Call::End(id));
-    }
-    None
 }
 
 /// The bytes of hex digits, or none of them for a `-`.
 fn bytes(alloc: Global, word: &str) -> Result<Option<Bytes>, AllocError> {
-    if word == "-" {
-        return Ok(Some(Bytes::new()));
+    match word {
+        "-" => Ok(Some(Bytes::new())),
+        _ => digits(alloc, word),
     }
-    digits(alloc, word)
 }
 
 /// The bytes that hex digits stand for.
