@@ -49,10 +49,10 @@ def below(tables):
 
 
 def named(page):
-    """what the list of the page has between backticks"""
+    """what the list of the page has between backticks: its items, and not what stands behind them"""
     if BELOW not in page:
         return []
-    return re.findall(r"`([^`]+)`", page.split(BELOW)[1].split("\n## ")[0])
+    return re.findall(r"`([^`]+)`", re.split(r"\n## |\n\n[A-Z]", page.split(BELOW)[1])[0])
 
 
 def text_of(notes, tables):
