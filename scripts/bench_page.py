@@ -83,7 +83,7 @@ def main():
         file.write(page)
     names = named(page)
     for row, kind in below(tables):
-        if not any(row.startswith(name) or name in (kind, f"{row}, {kind}") for name in names):
+        if not any((" " in name and row.startswith(name)) or name in (kind, f"{row}, {kind}") for name in names):
             print(f"no cause is named on the page: {row}, {kind}", file=sys.stderr)
 
 
