@@ -29,7 +29,11 @@ impl Connection {
             return ARGUMENT;
         };
         match given_head(alloc, sizes, bytes) {
-            Ok(head) => self.put_head(stream, &head),
+            Ok(head) => {
+                let told = self.put_head(stream, &head);
+                drop(head);
+                told
+            }
             Err(told) => told,
         }
     }
@@ -61,7 +65,11 @@ impl Connection {
             return ARGUMENT;
         };
         match given_head(alloc, sizes, bytes) {
-            Ok(trailer) => self.put_trailer(stream, &trailer),
+            Ok(trailer) => {
+                let told = self.put_trailer(stream, &trailer);
+                drop(trailer);
+                told
+            }
             Err(told) => told,
         }
     }
