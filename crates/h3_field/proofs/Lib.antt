@@ -2,6 +2,8 @@ pub mod Integers
 pub mod Strings
 pub mod StaticEntries
 pub mod Prefixes
+pub mod Shaped
+pub mod NamedLines
 pub mod Standing
 pub mod SectionWriting
 pub mod SectionReadBack

@@ -1,11 +1,11 @@
 -- A field section in the midst of its reading.
-use Rattle.std.proofs.Common.{◌≡◌, ℕ, ◌+◌, ◌-◌, ◌^◌, ◌<◌, ◌≤◌, min, List, [], ◌∷◌, ◌++◌, length, Ok, Err, refl, arith, ◌⊎◌, inl, inr}
+use Rattle.std.proofs.Common.{◌≡◌, ℕ, ◌+◌, ◌-◌, ◌^◌, ◌<◌, ◌≤◌, min, List, [], ◌∷◌, ◌++◌, length, Ok, Err, refl, arith}
 use Rattle.h3_field.specs.Field.{Field, field_size}
 use Rattle.h3_field.specs.Reading.{Reading, Whole, Unfinished, Bad}
 use Rattle.h3_field.specs.PrefixReading.{EncodedPrefix, prefix}
 use Rattle.h3_field.specs.PrefixAnswer.{AnswersPrefix}
 use Rattle.h3_field.specs.Section.{Answer, Fields, TooLong, Refused, Answers, End, Next, Passes, BadLine, AnswersSection, Lines, NoPrefix, add_size}
-use Rattle.h3_field.specs.SectionAnswer.{HasField, HasNoField, BeginsWithString, MayAskMemory, IsReason, IsRefusal}
+use Rattle.h3_field.specs.SectionAnswer.{HasField, HasNoField, BeginsWithLiteral, MayAskMemory, IsReason, IsRefusal}
 use Rattle.h3_field.specs.Errors.{decoder_parse}
 use Rattle.h3_field.specs.declared.prefix_int.Error.TheVariants.{Overflow, UnexpectedEnd}
 use Rattle.h3_field.specs.declared.parse_error.ParseError.{ParseError}
@@ -17,13 +17,18 @@ use Rattle.h3_field.specs.declared.decoder_error.DecoderError.TheVariants as err
 pub record Standing (limit : ℕ) (bytes : List ℕ) (size : ℕ) (before : List Field) (rest : List ℕ) : Type 0 where
   pub reads : (answer : Answer) → Answers limit size before rest answer → AnswersSection limit bytes answer
   -- where memory is asked for here, the section asks for it
-  pub asks : BeginsWithString rest ⊎ ((after : List ℕ) × (f : Field) × HasField rest f after) → MayAskMemory bytes
+  pub asks : (after : List ℕ) × (f : Field) × HasField rest f after → MayAskMemory bytes
 
 pub stand_begin : (limit : ℕ) (bytes new : List ℕ) (p : EncodedPrefix) → AnswersPrefix (prefix bytes) bytes new (Ok p) → Standing limit bytes 0 [] new
 stand_begin limit bytes new p h = from (prefix bytes) refl h
   where
     from : (r : Reading EncodedPrefix) → prefix bytes ≡ r → AnswersPrefix r bytes new (Ok p) → Standing limit bytes 0 [] new
-    from (Whole q rest) e (is, left) = record { reads = λ answer lines. Lines q rest answer e (rw left at lines); asks = λ m. (q, rest, e, rw left at m) }
+    from (Whole q rest) e (is, left) = record {
+      reads = λ answer lines. Lines q rest answer e (rw left at lines);
+      asks = λ m.
+          let here : (after : List ℕ) × (f : Field) × HasField rest f after = rw left at m in
+          (q, rest, e, here.0, here.1, here.2);
+    }
     from Unfinished e h = absurd (cc)
     from Bad e h = absurd (cc)
 
@@ -46,7 +51,7 @@ pub stand_next : (limit : ℕ) (bytes : List ℕ) (size own next : ℕ) (before 
 stand_next limit bytes size own next before items f rest new s h e is le more =
     let sum = one_sum size own next f e is in
     let within : add_size size f ≤ limit = rw sum at le in
-    record { reads = λ answer lines. s.reads answer (Next size before rest new h.line f answer h.here h.names within (rw (sum, more) at lines)); asks = λ m. s.asks (inr (new, f, h)) }
+    record { reads = λ answer lines. s.reads answer (Next size before rest new h.line f answer h.here h.names within (rw (sum, more) at lines)); asks = λ m. s.asks (new, f, h) }
 
 pub stand_long : (limit : ℕ) (bytes : List ℕ) (size own next : ℕ) (before : List Field) (f : Field) (rest new : List ℕ) → Standing limit bytes size before rest → HasField rest f new → own ≡ min (2 ^ 64 - 1) (field_size f) → next ≡ min (size + own) (2 ^ 64 - 1) → limit < next → AnswersSection limit bytes (TooLong next)
 stand_long limit bytes size own next before f rest new s h e is lt =
@@ -62,11 +67,11 @@ bad_line : (limit : ℕ) (bytes : List ℕ) (size : ℕ) (before : List Field) (
 bad_line limit bytes size before [] s h none = absurd (omega arith)
 bad_line limit bytes size before (first ∷ rest) s h none = s.reads Refused (BadLine size before first rest none)
 
-pub stand_bad : (limit : ℕ) (bytes : List ℕ) (size : ℕ) (before : List Field) (rest : List ℕ) (e : DecoderError) → Standing limit bytes size before rest → 0 < length rest → IsReason (BeginsWithString rest) (HasNoField rest) (λ size. ⊥) e → IsRefusal limit bytes e
+pub stand_bad : (limit : ℕ) (bytes : List ℕ) (size : ℕ) (before : List Field) (rest : List ℕ) (e : DecoderError) → Standing limit bytes size before rest → 0 < length rest → IsReason (BeginsWithLiteral rest) (HasNoField rest) (λ size. ⊥) e → IsRefusal limit bytes e
 stand_bad limit bytes size before rest e s h none = from e none
   where
-    from : (e : DecoderError) → IsReason (BeginsWithString rest) (HasNoField rest) (λ size. ⊥) e → IsRefusal limit bytes e
-    from error.OutOfMemory n = s.asks (inl n)
+    from : (e : DecoderError) → IsReason (BeginsWithLiteral rest) (HasNoField rest) (λ size. ⊥) e → IsRefusal limit bytes e
+    from error.OutOfMemory n = s.asks (n.1, n.2, n.6)
     from (error.HeaderTooLong sum) n = absurd n
     from (error.InvalidInteger x) n = bad_line limit bytes size before rest s h n
     from (error.InvalidString x) n = bad_line limit bytes size before rest s h n
@@ -81,4 +86,4 @@ stand_bad limit bytes size before rest e s h none = from e none
 
 -- a field that was read is kept
 pub stand_kept : (limit : ℕ) (bytes : List ℕ) (size : ℕ) (before : List Field) (f : Field) (rest new : List ℕ) → Standing limit bytes size before rest → HasField rest f new → MayAskMemory bytes
-stand_kept limit bytes size before f rest new s h = s.asks (inr (new, f, h))
+stand_kept limit bytes size before f rest new s h = s.asks (new, f, h)

@@ -1,9 +1,11 @@
 -- The steps of reading and writing a string.
-use Rattle.std.proofs.Common.{◌≡◌, ◌⊎◌, inr, ℕ, ◌+◌, ◌*◌, ◌-◌, ◌^◌, ◌<◌, ◌≤◌, ◌==◌, Bool, true, false, if◌then◌else◌, List, [], ◌∷◌, length, Option, Some, None, is_some, refl, ◌∙◌, arith}
+use Rattle.std.proofs.Common.{◌≡◌, ◌⊎◌, inr, ℕ, ◌+◌, ◌*◌, ◌-◌, ◌^◌, ◌<◌, ◌≤◌, ◌==◌, Bool, true, false, if◌then◌else◌, List, [], ◌∷◌, length, Option, Some, None, ◌++◌, is_some, refl, sym, ◌∙◌, arith, append-nil}
 use Rattle.std.specs.List.{AllByRecursion}
 use Rattle.std.proofs.lemmas.Grind.{pow_more}
 use Rattle.h3_huffman.specs.Huffman.{huffman, octets}
 use Rattle.h3_huffman.specs.Payload.{IsByte}
+use Rattle.h3_field.specs.Integer.{prefixed}
+use Rattle.h3_field.specs.StringLiteral.{string_literal}
 use Rattle.h3_field.specs.StringReading.{Payload, StandsFor, StandsForNone}
 use Rattle.h3_field.specs.Values.{string_of}
 use Rattle.h3_field.specs.StringAnswer.{TakesMemory}
@@ -33,6 +35,12 @@ some_bytes (b ∷ bytes) e = omega arith
 
 pub empty_stands : (p : Payload) (items : List ℕ) → length p.bytes ≡ 0 → items ≡ [] → StandsFor p items
 empty_stands p items none empty = rw empty (record { each = tt; form = no_bytes p.bytes none ∙ empty_form p.is_huffman })
+
+-- an empty string, as it is written
+pub empty_literal : (size flags : ℕ) (value : List ℕ) → length value ≡ 0 → string_literal size flags value ≡ prefixed (size - 1) (2 * flags + 1) 0
+empty_literal size flags value none =
+    let empty : huffman [] ≡ [] = sym (empty_form true) in
+    rw (no_bytes value none, empty) (append-nil (prefixed (size - 1) (2 * flags + 1) 0))
 
 -- what a payload stands for, and that it stands for none, as its value tells
 pub stands_some : (p : Payload) (bytes : List ℕ) → StandsFor p bytes → is_some (string_of p) ≡ true

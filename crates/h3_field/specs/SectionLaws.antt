@@ -9,12 +9,12 @@ use Rattle.h3_field.specs.Line.{FieldLine}
 use Rattle.h3_field.specs.Line.FieldLine.{StaticField, StaticName}
 use Rattle.h3_field.specs.StaticTable.{static_table, NamesEntry}
 use Rattle.h3_field.specs.StaticTableLaws.{static_none}
-use Rattle.h3_field.specs.LineReading.{LineForm, SaysLine, line, indexed, named, literal, post_base, post_base_named}
-use Rattle.h3_field.specs.LineAnswer.{AnswersLine}
+use Rattle.h3_field.specs.LineReading.{LineForm, SaysLine, HasString, line, indexed, named, literal, post_base, post_base_named}
+use Rattle.h3_field.specs.LineAnswer.{AnswersLine, LineTakesMemory}
 use Rattle.h3_field.specs.ShapeAnswer.{Place, AtInteger, AtString, error_at}
 use Rattle.h3_field.specs.declared.prefix_int.Error as integer
 use Rattle.h3_field.specs.Section.{HasLine, line_field, with_value}
-use Rattle.h3_field.specs.SectionAnswer.{HasField, HasNoField, BeginsWithString, IsReason}
+use Rattle.h3_field.specs.SectionAnswer.{HasField, HasNoField, IsReason}
 use Rattle.h3_field.specs.ValueLaws.{one_line_said}
 use Rattle.h3_field.specs.Errors.{decoder_parse}
 use Rattle.h3_field.specs.declared.prefix_int.Error.TheVariants.{Overflow, UnexpectedEnd}
@@ -100,23 +100,26 @@ bad_at memory bad AtInteger e h = h
 bad_at memory bad AtString UnexpectedEnd h = h
 bad_at memory bad AtString Overflow h = h
 
-pub refused_line : {L : Type 0} (place : Place) (line_of : L → FieldLine) (r : Reading LineForm) (old new : List ℕ) (e : ParseError) → line old ≡ r → AnswersLine line_of place r old new (Err e) → IsReason (BeginsWithString old) (HasNoField old) (λ size. ⊥) (decoder_parse e)
-refused_line place line_of (Whole form rest) old new (String string.TheVariants.HuffmanDecoding) is h = not_said old rest form is h.1
-refused_line place line_of (Whole form rest) old new OutOfMemory is h = (form, rest, is, h.0, h.1)
-refused_line place line_of (Whole form rest) old new (String string.TheVariants.OutOfMemory) is h = absurd h.1
-refused_line place line_of (Whole form rest) old new (String string.TheVariants.UnexpectedEnd) is h = absurd h.1
-refused_line place line_of (Whole form rest) old new (String (string.TheVariants.Integer e)) is h = absurd h.1
-refused_line place line_of (Whole form rest) old new (String string.TheVariants.HuffmanEncoding) is h = absurd h.1
-refused_line place line_of (Whole form rest) old new (String string.TheVariants.BufSize) is h = absurd h.1
-refused_line place line_of (Whole form rest) old new (Integer e) is h = absurd h.1
-refused_line place line_of (Whole form rest) old new (InvalidPrefix first) is h = absurd h.1
-refused_line place line_of (Whole form rest) old new InvalidBase is h = absurd h.1
-refused_line place line_of Unfinished old new e is h =
+-- a line that was refused; what it says of want of memory is given
+pub refused_line : {L : Type 0} (memory : Type 0) (place : Place) (line_of : L → FieldLine) (r : Reading LineForm) (old new : List ℕ) (e : ParseError)
+    → (e ≡ OutOfMemory → (form : LineForm) (rest : List ℕ) → r ≡ Whole form rest → HasString form → LineTakesMemory form → memory)
+    → line old ≡ r → AnswersLine line_of place r old new (Err e) → IsReason memory (HasNoField old) (λ size. ⊥) (decoder_parse e)
+refused_line memory place line_of (Whole form rest) old new (String string.TheVariants.HuffmanDecoding) asks is h = not_said old rest form is h.1
+refused_line memory place line_of (Whole form rest) old new OutOfMemory asks is h = asks refl form rest refl h.0 h.1
+refused_line memory place line_of (Whole form rest) old new (String string.TheVariants.OutOfMemory) asks is h = absurd h.1
+refused_line memory place line_of (Whole form rest) old new (String string.TheVariants.UnexpectedEnd) asks is h = absurd h.1
+refused_line memory place line_of (Whole form rest) old new (String (string.TheVariants.Integer e)) asks is h = absurd h.1
+refused_line memory place line_of (Whole form rest) old new (String string.TheVariants.HuffmanEncoding) asks is h = absurd h.1
+refused_line memory place line_of (Whole form rest) old new (String string.TheVariants.BufSize) asks is h = absurd h.1
+refused_line memory place line_of (Whole form rest) old new (Integer e) asks is h = absurd h.1
+refused_line memory place line_of (Whole form rest) old new (InvalidPrefix first) asks is h = absurd h.1
+refused_line memory place line_of (Whole form rest) old new InvalidBase asks is h = absurd h.1
+refused_line memory place line_of Unfinished old new e asks is h =
     let same : e ≡ error_at place UnexpectedEnd = cc in
-    rw same (bad_at (BeginsWithString old) (HasNoField old) place UnexpectedEnd (not_read old Unfinished is (λ form rest x. absurd (cc))))
-refused_line place line_of Bad old new e is h =
+    rw same (bad_at memory (HasNoField old) place UnexpectedEnd (not_read old Unfinished is (λ form rest x. absurd (cc))))
+refused_line memory place line_of Bad old new e asks is h =
     let same : e ≡ error_at place Overflow = cc in
-    rw same (bad_at (BeginsWithString old) (HasNoField old) place Overflow (not_read old Bad is (λ form rest x. absurd (cc))))
+    rw same (bad_at memory (HasNoField old) place Overflow (not_read old Bad is (λ form rest x. absurd (cc))))
 
 -- a line that names a static entry that there is not
 pub no_static : {L : Type 0} (place : Place) (line_of : L → FieldLine) (r : Reading LineForm) (old new : List ℕ) (l : L) → line old ≡ r → AnswersLine line_of place r old new (Ok l) → (index : ℕ) → 99 ≤ index → line_of l ≡ StaticField index → HasNoField old

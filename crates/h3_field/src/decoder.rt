@@ -3,12 +3,15 @@ ghost use Rattle.std.specs.Prelude.{◌≡◌, ◌<◌, ◌≤◌, [], true, fal
 ghost use Rattle.h3_field.specs.Ends.{IsEndOf};
 ghost use Rattle.h3_field.specs.Shapes.{begins};
 ghost use Rattle.h3_field.specs.Section.{AnswersSection, Fields};
-ghost use Rattle.h3_field.specs.SectionAnswer.{AnswersField, IsRefusal};
+ghost use Rattle.h3_field.specs.IntegerReading.{integer};
+ghost use Rattle.h3_field.specs.SectionAnswer.{AnswersField, IsRefusal, IsNameRefusal, IsNamedRefusal};
 
 use crate::block::{HeaderBlockField, HeaderPrefix, Indexed, Literal, LiteralWithNameRef};
 use crate::cursor::SliceCursor;
 use crate::decoder_error::DecoderError;
 use crate::field::HeaderField;
+use crate::parse_error::ParseError;
+use crate::prefix_int;
 use crate::static_::StaticTable;
 use std::alloc::{AllocError, Global};
 use std::borrow::CowSlice;
@@ -40,6 +43,36 @@ fn take_indexed(buf: &mut SliceCursor<'_>) -> Result<HeaderField, DecoderError>
     }
 }
 
+/// Why a line is refused for whose value there is no memory, by the name in front of it.
+fn refusal_of_name(buf: &SliceCursor<'_>) -> DecoderError
+    ensures { IsNameRefusal (integer 4 buf.now) result }
+{
+    let mut ahead = SliceCursor::new(buf.chunk());
+    match prefix_int::decode(4, &mut ahead) {
+        Ok((flags, index)) => {
+            if flags % 2 == 1 {
+                match StaticTable::get_name(index as usize) {
+                    Ok(_) => DecoderError::OutOfMemory,
+                    Err(e) => DecoderError::InvalidStaticIndex(e),
+                }
+            } else {
+                DecoderError::MissingRefs(0)
+            }
+        }
+        Err(_) => DecoderError::OutOfMemory,
+    }
+}
+
+/// Why a line with a name reference is refused. Its name is judged before memory is.
+fn refusal_of_named(buf: &SliceCursor<'_>, e: ParseError) -> DecoderError
+    ensures { IsNamedRefusal (integer 4 buf.now) e result }
+{
+    match e {
+        ParseError::OutOfMemory => refusal_of_name(buf),
+        _ => DecoderError::from(e),
+    }
+}
+
 /// The field of a line with a literal value and the name of an entry.
 fn take_named(alloc: Global, buf: &mut SliceCursor<'_>) -> Result<HeaderField, DecoderError>
     requires some { 0 < length buf.old }
@@ -52,7 +85,7 @@ fn take_named(alloc: Global, buf: &mut SliceCursor<'_>) -> Result<HeaderField, D
             Err(e) => Err(DecoderError::InvalidStaticIndex(e)),
         },
         Ok(LiteralWithNameRef::Dynamic { .. }) => Err(DecoderError::MissingRefs(0)),
-        Err(e) => Err(DecoderError::from(e)),
+        Err(e) => Err(refusal_of_named(buf, e)),
     }
 }
 
@@ -99,8 +132,8 @@ fn keep(fields: &mut Vec<HeaderField>, field: HeaderField, left: usize) -> Resul
 }
 
 /// Decodes a field section that names no dynamic entry, to the end of `buf`. It stops at the first field that makes the
-/// sum of the sizes pass `max_size`. A refused read takes nothing. No memory is asked for before the first line is read
-/// or has a string.
+/// sum of the sizes pass `max_size`. A refused read takes nothing. Want of memory is told only where the first line is a
+/// field.
 pub fn decode_stateless(
     alloc: Global,
     buf: &mut SliceCursor<'_>,

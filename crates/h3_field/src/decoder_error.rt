@@ -30,24 +30,32 @@ pub enum DecoderError {
     OutOfMemory,
 }
 
+impl DecoderError {
+    fn text(&self) -> &'static str
+        ensures { result.now ≡ decoder_text self.now }
+    {
+        match self {
+            DecoderError::InvalidInteger(_) => "InvalidInteger",
+            DecoderError::InvalidString(_) => "InvalidString",
+            DecoderError::InvalidIndex(_) => "InvalidIndex",
+            DecoderError::DynamicTable(_) => "DynamicTable",
+            DecoderError::InvalidStaticIndex(_) => "InvalidStaticIndex",
+            DecoderError::UnknownPrefix(_) => "UnknownPrefix",
+            DecoderError::MissingRefs(_) => "MissingRefs",
+            DecoderError::BadBaseIndex => "BadBaseIndex",
+            DecoderError::UnexpectedEnd => "UnexpectedEnd",
+            DecoderError::HeaderTooLong(_) => "HeaderTooLong",
+            DecoderError::BufSize => "BufSize",
+            DecoderError::OutOfMemory => "out of memory",
+        }
+    }
+}
+
 impl fmt::Display for DecoderError {
     ghost output = { λ e. Some (decoder_text e) };
 
     fn fmt<W: fmt::Write>(&self, f: &mut fmt::Formatter<W>) -> fmt::Result {
-        match self {
-            DecoderError::InvalidInteger(_) => write!(f, "InvalidInteger"),
-            DecoderError::InvalidString(_) => write!(f, "InvalidString"),
-            DecoderError::InvalidIndex(_) => write!(f, "InvalidIndex"),
-            DecoderError::DynamicTable(_) => write!(f, "DynamicTable"),
-            DecoderError::InvalidStaticIndex(_) => write!(f, "InvalidStaticIndex"),
-            DecoderError::UnknownPrefix(_) => write!(f, "UnknownPrefix"),
-            DecoderError::MissingRefs(_) => write!(f, "MissingRefs"),
-            DecoderError::BadBaseIndex => write!(f, "BadBaseIndex"),
-            DecoderError::UnexpectedEnd => write!(f, "UnexpectedEnd"),
-            DecoderError::HeaderTooLong(_) => write!(f, "HeaderTooLong"),
-            DecoderError::BufSize => write!(f, "BufSize"),
-            DecoderError::OutOfMemory => write!(f, "out of memory"),
-        }
+        f.write_str(self.text())
     }
 }
 

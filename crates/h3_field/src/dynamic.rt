@@ -23,22 +23,30 @@ pub enum Error {
     OutOfMemory,
 }
 
+impl Error {
+    fn text(&self) -> &'static str
+        ensures { result.now ≡ dynamic_text self.now }
+    {
+        match self {
+            Error::BadRelativeIndex(_) => "BadRelativeIndex",
+            Error::BadPostbaseIndex(_) => "BadPostbaseIndex",
+            Error::BadIndex(_) => "BadIndex",
+            Error::MaxTableSizeReached => "MaxTableSizeReached",
+            Error::MaximumTableSizeTooLarge => "MaximumTableSizeTooLarge",
+            Error::MaxBlockedStreamsTooLarge => "MaxBlockedStreamsTooLarge",
+            Error::UnknownStreamId(_) => "UnknownStreamId",
+            Error::NoTrackingData => "NoTrackingData",
+            Error::InvalidTrackingCount => "InvalidTrackingCount",
+            Error::OutOfMemory => "out of memory",
+        }
+    }
+}
+
 impl fmt::Display for Error {
     ghost output = { λ e. Some (dynamic_text e) };
 
     fn fmt<W: fmt::Write>(&self, f: &mut fmt::Formatter<W>) -> fmt::Result {
-        match self {
-            Error::BadRelativeIndex(_) => write!(f, "BadRelativeIndex"),
-            Error::BadPostbaseIndex(_) => write!(f, "BadPostbaseIndex"),
-            Error::BadIndex(_) => write!(f, "BadIndex"),
-            Error::MaxTableSizeReached => write!(f, "MaxTableSizeReached"),
-            Error::MaximumTableSizeTooLarge => write!(f, "MaximumTableSizeTooLarge"),
-            Error::MaxBlockedStreamsTooLarge => write!(f, "MaxBlockedStreamsTooLarge"),
-            Error::UnknownStreamId(_) => write!(f, "UnknownStreamId"),
-            Error::NoTrackingData => write!(f, "NoTrackingData"),
-            Error::InvalidTrackingCount => write!(f, "InvalidTrackingCount"),
-            Error::OutOfMemory => write!(f, "out of memory"),
-        }
+        f.write_str(self.text())
     }
 }
 

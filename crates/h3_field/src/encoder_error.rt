@@ -20,17 +20,25 @@ pub enum EncoderError {
     OutOfMemory,
 }
 
+impl EncoderError {
+    fn text(&self) -> &'static str
+        ensures { result.now ≡ encoder_text self.now }
+    {
+        match self {
+            EncoderError::Insertion(_) => "Insertion",
+            EncoderError::InvalidString(_) => "InvalidString",
+            EncoderError::InvalidInteger(_) => "InvalidInteger",
+            EncoderError::UnknownDecoderInstruction(_) => "UnknownDecoderInstruction",
+            EncoderError::OutOfMemory => "out of memory",
+        }
+    }
+}
+
 impl fmt::Display for EncoderError {
     ghost output = { λ e. Some (encoder_text e) };
 
     fn fmt<W: fmt::Write>(&self, f: &mut fmt::Formatter<W>) -> fmt::Result {
-        match self {
-            EncoderError::Insertion(_) => write!(f, "Insertion"),
-            EncoderError::InvalidString(_) => write!(f, "InvalidString"),
-            EncoderError::InvalidInteger(_) => write!(f, "InvalidInteger"),
-            EncoderError::UnknownDecoderInstruction(_) => write!(f, "UnknownDecoderInstruction"),
-            EncoderError::OutOfMemory => write!(f, "out of memory"),
-        }
+        f.write_str(self.text())
     }
 }
 

@@ -14,14 +14,22 @@ pub enum Error {
     Decoder(DecoderError),
 }
 
+impl Error {
+    fn text(&self) -> &'static str
+        ensures { result.now ≡ error_text self.now }
+    {
+        match self {
+            Error::Encoder(_) => "Encoder",
+            Error::Decoder(_) => "Decoder",
+        }
+    }
+}
+
 impl fmt::Display for Error {
     ghost output = { λ e. Some (error_text e) };
 
     fn fmt<W: fmt::Write>(&self, f: &mut fmt::Formatter<W>) -> fmt::Result {
-        match self {
-            Error::Encoder(_) => write!(f, "Encoder"),
-            Error::Decoder(_) => write!(f, "Decoder"),
-        }
+        f.write_str(self.text())
     }
 }
 

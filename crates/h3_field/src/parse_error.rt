@@ -22,17 +22,25 @@ pub enum ParseError {
     OutOfMemory,
 }
 
+impl ParseError {
+    fn text(&self) -> &'static str
+        ensures { result.now ≡ parse_text self.now }
+    {
+        match self {
+            ParseError::Integer(_) => "Integer",
+            ParseError::String(_) => "String",
+            ParseError::InvalidPrefix(_) => "InvalidPrefix",
+            ParseError::InvalidBase => "InvalidBase",
+            ParseError::OutOfMemory => "out of memory",
+        }
+    }
+}
+
 impl fmt::Display for ParseError {
     ghost output = { λ e. Some (parse_text e) };
 
     fn fmt<W: fmt::Write>(&self, f: &mut fmt::Formatter<W>) -> fmt::Result {
-        match self {
-            ParseError::Integer(_) => write!(f, "Integer"),
-            ParseError::String(_) => write!(f, "String"),
-            ParseError::InvalidPrefix(_) => write!(f, "InvalidPrefix"),
-            ParseError::InvalidBase => write!(f, "InvalidBase"),
-            ParseError::OutOfMemory => write!(f, "out of memory"),
-        }
+        f.write_str(self.text())
     }
 }
 

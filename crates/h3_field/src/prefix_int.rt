@@ -19,14 +19,22 @@ pub enum Error {
     UnexpectedEnd,
 }
 
+impl Error {
+    fn text(&self) -> &'static str
+        ensures { result.now ≡ integer_text self.now }
+    {
+        match self {
+            Error::Overflow => "Overflow",
+            Error::UnexpectedEnd => "UnexpectedEnd",
+        }
+    }
+}
+
 impl fmt::Display for Error {
     ghost output = { λ e. Some (integer_text e) };
 
     fn fmt<W: fmt::Write>(&self, f: &mut fmt::Formatter<W>) -> fmt::Result {
-        match self {
-            Error::Overflow => write!(f, "Overflow"),
-            Error::UnexpectedEnd => write!(f, "UnexpectedEnd"),
-        }
+        f.write_str(self.text())
     }
 }
 

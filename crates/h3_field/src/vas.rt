@@ -21,15 +21,23 @@ pub enum Error {
     Index(usize),
 }
 
+impl Error {
+    fn text(&self) -> &'static str
+        ensures { result.now ≡ address_text self.now }
+    {
+        match self {
+            Error::RelativeIndex(_) => "RelativeIndex",
+            Error::PostbaseIndex(_) => "PostbaseIndex",
+            Error::Index(_) => "Index",
+        }
+    }
+}
+
 impl fmt::Display for Error {
     ghost output = { λ e. Some (address_text e) };
 
     fn fmt<W: fmt::Write>(&self, f: &mut fmt::Formatter<W>) -> fmt::Result {
-        match self {
-            Error::RelativeIndex(_) => write!(f, "RelativeIndex"),
-            Error::PostbaseIndex(_) => write!(f, "PostbaseIndex"),
-            Error::Index(_) => write!(f, "Index"),
-        }
+        f.write_str(self.text())
     }
 }
 

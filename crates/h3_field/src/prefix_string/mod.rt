@@ -40,18 +40,26 @@ pub enum Error {
     OutOfMemory,
 }
 
+impl Error {
+    fn text(&self) -> &'static str
+        ensures { result.now ≡ string_text self.now }
+    {
+        match self {
+            Error::UnexpectedEnd => "UnexpectedEnd",
+            Error::Integer(_) => "Integer",
+            Error::HuffmanDecoding => "HuffmanDecoding",
+            Error::HuffmanEncoding => "HuffmanEncoding",
+            Error::BufSize => "BufSize",
+            Error::OutOfMemory => "out of memory",
+        }
+    }
+}
+
 impl fmt::Display for Error {
     ghost output = { λ e. Some (string_text e) };
 
     fn fmt<W: fmt::Write>(&self, f: &mut fmt::Formatter<W>) -> fmt::Result {
-        match self {
-            Error::UnexpectedEnd => write!(f, "UnexpectedEnd"),
-            Error::Integer(_) => write!(f, "Integer"),
-            Error::HuffmanDecoding => write!(f, "HuffmanDecoding"),
-            Error::HuffmanEncoding => write!(f, "HuffmanEncoding"),
-            Error::BufSize => write!(f, "BufSize"),
-            Error::OutOfMemory => write!(f, "out of memory"),
-        }
+        f.write_str(self.text())
     }
 }
 
@@ -143,6 +151,18 @@ fn put_by_way_of(
     buf.extend_from_slice(&room[..len])
 }
 
+/// Appends the length of a string that is empty, and has an empty encoding.
+fn put_empty(size: u8, flags: u8, value: &[u8], buf: &mut Vec<u8>) -> Result<(), AllocError>
+    requires least { 2 ≤ size }
+    requires most { size ≤ 8 }
+    requires flags { flags < 2 ^ (8 - size) }
+    requires empty { length value.now ≡ 0 }
+    ensures ok { OnOk result (buf.new.items ≡ buf.old.items ++ string_literal size flags value.now) }
+    ensures err { OnErr result (take (length buf.old.items) buf.new.items ≡ buf.old.items) }
+{
+    prefix_int::encode(size - 1, 2 * flags + 1, value.len() as u64, buf)
+}
+
 /// Appends the length and the Huffman encoding of a short string. A refusal may leave a part of them.
 fn put_short(size: u8, flags: u8, value: &[u8], buf: &mut Vec<u8>) -> Result<(), AllocError>
     requires least { 2 ≤ size }
@@ -189,7 +209,9 @@ pub fn encode(size: u8, flags: u8, value: &[u8], buf: &mut Vec<u8>) -> Result<()
     ensures err { OnErr result (buf.new.items ≡ buf.old.items) }
 {
     let start = buf.len();
-    let appended = if value.len() <= SHORT {
+    let appended = if value.len() == 0 {
+        put_empty(size, flags, value, buf)
+    } else if value.len() <= SHORT {
         put_short(size, flags, value, buf)
     } else {
         put_long(size, flags, value, buf)

@@ -23,14 +23,22 @@ pub enum Error {
     Unhandled(BitWindow, usize),
 }
 
+impl Error {
+    fn text(&self) -> &'static str
+        ensures { result.now ≡ huffman_text self.now }
+    {
+        match self {
+            Error::MissingBits(_) => "MissingBits",
+            Error::Unhandled(_, _) => "Unhandled",
+        }
+    }
+}
+
 impl fmt::Display for Error {
     ghost output = { λ e. Some (huffman_text e) };
 
     fn fmt<W: fmt::Write>(&self, f: &mut fmt::Formatter<W>) -> fmt::Result {
-        match self {
-            Error::MissingBits(_) => write!(f, "MissingBits"),
-            Error::Unhandled(_, _) => write!(f, "Unhandled"),
-        }
+        f.write_str(self.text())
     }
 }
 

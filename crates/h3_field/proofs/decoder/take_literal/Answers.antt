@@ -4,6 +4,7 @@ use Rattle.h3_field.specs.LineAnswer.{literal_line}
 use Rattle.h3_field.specs.ShapeAnswer.{AtString}
 use Rattle.h3_field.specs.SectionLaws.{has_field, line_literal, refused_line}
 use Rattle.h3_field.specs.ShorterLaws.{literal_less}
+use Rattle.h3_field.proofs.NamedLines.{literal_asks}
 use Rattle.h3_field.proofs.decoder.take_literal.Goals as goal
 
 pub returns-in-Ok : goal.returns-in-Ok
@@ -11,4 +12,6 @@ returns-in-Ok c =
     has_field AtString literal_line literal _ _ _ _ literal_less (line_literal _ c.requires.some c.requires.own) (c.in-Ok.ensures.own c.requires.own) (rw (c.in-Ok.field-0-is, c.new.ensures) refl)
 
 pub returns-in-Err : goal.returns-in-Err
-returns-in-Err c = rw c.from.ensures (refused_line AtString literal_line _ _ _ _ (line_literal _ c.requires.some c.requires.own) (c.in-Err.ensures.own c.requires.own))
+returns-in-Err c =
+    let own = line_literal _ c.requires.some c.requires.own in
+    rw c.from.ensures (refused_line _ AtString literal_line _ _ _ _ (λ memory. literal_asks _ own) own (c.in-Err.ensures.own c.requires.own))

@@ -3,8 +3,9 @@ use Rattle.h3_field.specs.LineReading.{named}
 use Rattle.h3_field.specs.LineAnswer.{named_line}
 use Rattle.h3_field.specs.ShapeAnswer.{behind}
 use Rattle.h3_field.specs.IntegerReading.{integer}
-use Rattle.h3_field.specs.SectionLaws.{has_field, no_static_name, named_entry, line_named, refused_line}
+use Rattle.h3_field.specs.SectionLaws.{has_field, no_static_name, named_entry, line_named}
 use Rattle.h3_field.specs.ShorterLaws.{named_less}
+use Rattle.h3_field.proofs.NamedLines.{refused_named}
 use Rattle.h3_field.proofs.decoder.take_named.Goals as goal
 
 pub returns-in-Ok : goal.returns-in-Ok
@@ -17,4 +18,4 @@ returns-in-Ok-Static c =
     no_static_name (behind (integer 4 c.args.buf.now)) named_line _ _ _ _ (line_named _ c.requires.some c.requires.own) (c.in-Ok-Static.ensures.own c.requires.own) c.in-Ok-Static.index c.in-Ok-Static.value.items c.in-Err-get_name.ensures.1 (rw c.in-Ok-Static.field-0-is refl)
 
 pub returns : goal.returns
-returns c = rw c.from.ensures (refused_line (behind (integer 4 c.args.buf.now)) named_line _ _ _ _ (line_named _ c.requires.some c.requires.own) (c.in-Err.ensures.own c.requires.own))
+returns c = refused_named (behind (integer 4 c.args.buf.now)) _ _ _ _ (line_named _ c.requires.some c.requires.own) (c.in-Err.ensures.own c.requires.own) c.refusal_of_named.ensures
