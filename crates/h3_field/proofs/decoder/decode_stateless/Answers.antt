@@ -24,6 +24,15 @@ lines-preserved c = stand_next _ _ _ _ _ _ _ _ _ _ c.lines.invariant c.in-Ok.ens
 pub returns-in_default-keep-clause-answer : goal.returns-in_default-keep-clause-answer
 returns-in_default-keep-clause-answer c = (stand_kept _ _ _ _ _ _ _ c.lines.invariant c.in-Ok.ensures, refl)
 
+pub returns-in-Err-clause-rest : goal.returns-in-Err-clause-rest
+returns-in-Err-clause-rest c = none_dropped _
+
+pub returns-in-Err-take_field-clause-rest : goal.returns-in-Err-take_field-clause-rest
+returns-in-Err-take_field-clause-rest c = none_dropped _
+
+pub returns-in_default-keep-clause-rest : goal.returns-in_default-keep-clause-rest
+returns-in_default-keep-clause-rest c = none_dropped _
+
 pub returns-clause-answer : goal.returns-clause-answer
 returns-clause-answer c = let end = stand_end _ _ _ _ _ c.lines.invariant (rw c.remaining.ensures at c.lines-test.false) in (end.0, refl, sym end.1)
 
