@@ -1,6 +1,7 @@
 //! Short callers of the crates, which the gate proves and runs: what they print is the file `stdout`.
 #![tactic(auto)]
 
+mod endpoints;
 mod frames;
 mod log;
 mod reading;
@@ -34,5 +35,6 @@ fn all(alloc: Global, text: &mut String) -> Result<(), AllocError> {
     table::finds(alloc, text)?;
     schedule::decodes_what_came(alloc, text)?;
     schedule::gives_a_stream_up(alloc, text)?;
-    schedule::refuses_limits(alloc, text)
+    schedule::refuses_limits(alloc, text)?;
+    endpoints::client_and_server(alloc, text)
 }
