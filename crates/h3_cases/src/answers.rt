@@ -18,15 +18,17 @@ pub fn answer(alloc: Global, command: &str, words: &[&str]) -> Result<String, Ca
     match words {
         [] => plain(alloc, command),
         [word] => {
-            if command == "body" {
-                let bytes = Bytes::from_vec(bytes(alloc, *word)?)?;
-                return item(alloc, Item::Body(bytes));
+            match command {
+                "body" => {
+                    let bytes = Bytes::from_vec(bytes(alloc, *word)?)?;
+                    item(alloc, Item::Body(bytes))
+                }
+                "raw" => {
+                    let bytes = Bytes::from_vec(bytes(alloc, *word)?)?;
+                    item(alloc, Item::Raw(bytes))
+                }
+                _ => of_number(alloc, command, number(*word)?),
             }
-            if command == "raw" {
-                let bytes = Bytes::from_vec(bytes(alloc, *word)?)?;
-                return item(alloc, Item::Raw(bytes));
-            }
-            of_number(alloc, command, number(*word)?)
         }
         [table, blocked] => shown(alloc, command, number(*table)?, number(*blocked)?),
         _ => Err(CaseError::Unreadable),
@@ -45,48 +47,30 @@ fn line(alloc: Global, answer: Answer) -> Result<String, CaseError> {
 
 /// An answer that carries nothing.
 fn plain(alloc: Global, command: &str) -> Result<String, CaseError> {
-    if command == "done" {
-        return line(alloc, Answer::Done);
+    match command {
+        "done" => line(alloc, Answer::Done),
+        "no_stream" => line(alloc, Answer::NoStream),
+        "early" => line(alloc, Answer::Early),
+        "pseudo_in_trailer" => line(alloc, Answer::Refused(Refusal::PseudoInTrailer)),
+        "no_memory" => line(alloc, Answer::Refused(Refusal::OutOfMemory)),
+        _ => pause(alloc, command),
     }
-    if command == "no_stream" {
-        return line(alloc, Answer::NoStream);
-    }
-    if command == "early" {
-        return line(alloc, Answer::Early);
-    }
-    if command == "pseudo_in_trailer" {
-        return line(alloc, Answer::Refused(Refusal::PseudoInTrailer));
-    }
-    if command == "no_memory" {
-        return line(alloc, Answer::Refused(Refusal::OutOfMemory));
-    }
-    pause(alloc, command)
 }
 
 /// A pull that hands out nothing, or the end.
 fn pause(alloc: Global, command: &str) -> Result<String, CaseError> {
-    if command == "pending" {
-        return line(alloc, Answer::Pulled(Pull::Pending));
-    }
-    if command == "no_messages" {
-        return line(alloc, Answer::Pulled(Pull::NoMessages));
-    }
-    if command == "end" {
-        return item(alloc, Item::End);
-    }
-    if command == "canceled" {
-        return fault(alloc, Fault::Stream(StreamFault::Canceled));
-    }
-    if command == "malformed" {
-        return fault(
+    match command {
+        "pending" => line(alloc, Answer::Pulled(Pull::Pending)),
+        "no_messages" => line(alloc, Answer::Pulled(Pull::NoMessages)),
+        "end" => item(alloc, Item::End),
+        "canceled" => fault(alloc, Fault::Stream(StreamFault::Canceled)),
+        "malformed" => fault(
             alloc,
             Fault::Stream(StreamFault::Malformed(Malformation::NoHead)),
-        );
+        ),
+        "memory" => fault(alloc, Fault::Memory),
+        _ => section(alloc, command),
     }
-    if command == "memory" {
-        return fault(alloc, Fault::Memory);
-    }
-    section(alloc, command)
 }
 
 fn fault(alloc: Global, fault: Fault) -> Result<String, CaseError> {
@@ -96,81 +80,57 @@ fn fault(alloc: Global, fault: Fault) -> Result<String, CaseError> {
 /// A head with the field x-b, an interim head, and a trailer.
 fn section(alloc: Global, command: &str) -> Result<String, CaseError> {
     let mut fields = HeaderMap::new(alloc);
-    if command == "trailer" {
-        return item(alloc, Item::Trailer(Header::trailer(fields)));
-    }
-    if command == "interim" {
-        return item(
+    match command {
+        "trailer" => item(alloc, Item::Trailer(Header::trailer(fields))),
+        "interim" => item(
             alloc,
             Item::Interim(Header::response(StatusCode::EARLY_HINTS, fields)),
-        );
+        ),
+        "head" => {
+            let (name, value) = (
+                HeaderName::from_static("x-b"),
+                HeaderValue::from_static("2"),
+            );
+            let Ok(_) = fields.append(name, value) else {
+                return Err(CaseError::Refused);
+            };
+            item(alloc, Item::Head(Header::response(StatusCode::OK, fields)))
+        }
+        _ => Err(CaseError::Unreadable),
     }
-    if command == "head" {
-        let (name, value) = (
-            HeaderName::from_static("x-b"),
-            HeaderValue::from_static("2"),
-        );
-        let Ok(_) = fields.append(name, value) else {
-            return Err(CaseError::Refused);
-        };
-        return item(alloc, Item::Head(Header::response(StatusCode::OK, fields)));
-    }
-    Err(CaseError::Unreadable)
 }
 
 /// An answer that carries a number.
 fn of_number(alloc: Global, command: &str, number: u64) -> Result<String, CaseError> {
-    if command == "opened" {
-        return line(alloc, Answer::Opened(StreamId::try_from(number)?));
+    match command {
+        "opened" => line(alloc, Answer::Opened(StreamId::try_from(number)?)),
+        "delivered" => line(alloc, Answer::Delivered(number as usize)),
+        "short" => line(alloc, Answer::Short(number as usize)),
+        "waiting" => line(alloc, Answer::Pulled(Pull::Waiting(number as usize))),
+        "too_large_item" => item(alloc, Item::TooLarge(number)),
+        "session" => item(alloc, Item::Session(SessionId::try_from(number)?)),
+        _ => of_refusal(alloc, command, number),
     }
-    if command == "delivered" {
-        return line(alloc, Answer::Delivered(number as usize));
-    }
-    if command == "short" {
-        return line(alloc, Answer::Short(number as usize));
-    }
-    if command == "waiting" {
-        return line(alloc, Answer::Pulled(Pull::Waiting(number as usize)));
-    }
-    if command == "too_large_item" {
-        return item(alloc, Item::TooLarge(number));
-    }
-    if command == "session" {
-        return item(alloc, Item::Session(SessionId::try_from(number)?));
-    }
-    of_refusal(alloc, command, number)
 }
 
 /// A refusal or a fault that carries a number.
 fn of_refusal(alloc: Global, command: &str, number: u64) -> Result<String, CaseError> {
-    if command == "closed" {
-        return line(alloc, Answer::Refused(Refusal::Closed(Code::from(number))));
-    }
-    if command == "connection" {
-        return line(
+    match command {
+        "closed" => line(alloc, Answer::Refused(Refusal::Closed(Code::from(number)))),
+        "connection" => line(
             alloc,
             Answer::Refused(Refusal::Connection(Code::from(number))),
-        );
-    }
-    if command == "going_away" {
-        return line(
+        ),
+        "going_away" => line(
             alloc,
             Answer::Refused(Refusal::GoingAway(StreamId::try_from(number)?)),
-        );
+        ),
+        "too_large" => line(alloc, Answer::Refused(Refusal::TooLarge(number))),
+        "raised" => line(alloc, Answer::Refused(Refusal::Raised(number))),
+        "fault" => fault(alloc, Fault::Connection(Code::from(number))),
+        "reset" => fault(alloc, Fault::Stream(StreamFault::Reset(number))),
+        _ => Err(CaseError::Unreadable),
     }
-    if command == "too_large" {
-        return line(alloc, Answer::Refused(Refusal::TooLarge(number)));
-    }
-    if command == "raised" {
-        return line(alloc, Answer::Refused(Refusal::Raised(number)));
-    }
-    if command == "fault" {
-        return fault(alloc, Fault::Connection(Code::from(number)));
-    }
-    if command == "reset" {
-        return fault(alloc, Fault::Stream(StreamFault::Reset(number)));
-    }
-    Err(CaseError::Unreadable)
 }
 
 /// The tables of 38 and of no bytes, without a peer's limits where these are 0.

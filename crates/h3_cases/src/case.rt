@@ -71,12 +71,12 @@ pub fn small(word: &str) -> Result<usize, CaseError>
 pub fn bytes(alloc: Global, word: &str) -> Result<Vec<u8>, CaseError>
     ensures { IfOk result (λ found. length found.items ≤ 1000) }
 {
-    if word == "-" {
-        return Ok(Vec::new(alloc));
-    }
-    match hex::decode(alloc, word) {
-        Ok(found) => at_most_1000(found),
-        Err(_) => Err(CaseError::Unreadable),
+    match word {
+        "-" => Ok(Vec::new(alloc)),
+        _ => match hex::decode(alloc, word) {
+            Ok(found) => at_most_1000(found),
+            Err(_) => Err(CaseError::Unreadable),
+        },
     }
 }
 

@@ -10,10 +10,10 @@ pub fn answer(alloc: Global, command: &str, words: &[&str]) -> Result<String, Ca
     match words {
         [] => place(alloc, command),
         [word] => {
-            if command == "static" {
-                return entry(alloc, small(*word)?);
+            match command {
+                "static" => entry(alloc, small(*word)?),
+                _ => named(alloc, command, *word),
             }
-            named(alloc, command, *word)
         }
         [added, gone, more @ ..] => {
             let table = after(small(*added)?, small(*gone)?);
@@ -39,20 +39,34 @@ fn found(alloc: Global, entry: &HeaderField) -> Result<String, CaseError> {
 
 /// Where a name is found, or the name of an entry with the value `a`.
 fn named(alloc: Global, command: &str, word: &str) -> Result<String, CaseError> {
-    if command == "name" {
-        let index = StaticTable::find_name(&text(alloc, word)?);
-        return Ok(format!(in alloc; "{index:?}")?);
+    match command {
+        "name" => found_name(alloc, &text(alloc, word)?),
+        "named" => with_value(alloc, small(word)?),
+        _ => Err(CaseError::Unreadable),
     }
-    if command == "named" {
-        let Ok(name) = StaticTable::get_name(small(word)?) else {
-            return Err(CaseError::Unreadable);
-        };
-        let field = HeaderField::with_static_name(name, text(alloc, "a")?);
-        let mut text = String::new(alloc);
-        push_field(&mut text, &field)?;
-        return Ok(text);
+}
+
+fn found_name(alloc: Global, name: &[u8]) -> Result<String, CaseError> {
+    let index = StaticTable::find_name(name);
+    Ok(format!(in alloc; "{index:?}")?)
+}
+
+fn with_value(alloc: Global, index: usize) -> Result<String, CaseError> {
+    match StaticTable::get_name(index) {
+        Ok(name) => word_of(
+            alloc,
+            HeaderField::with_static_name(name, text(alloc, "a")?),
+        ),
+        Err(_) => Err(CaseError::Unreadable),
     }
-    Err(CaseError::Unreadable)
+}
+
+fn word_of(alloc: Global, field: HeaderField) -> Result<String, CaseError> {
+    let mut text = String::new(alloc);
+    let pushed = push_field(&mut text, &field);
+    drop(field);
+    pushed?;
+    Ok(text)
 }
 
 /// The numbers after so many insertions and evictions.
@@ -99,19 +113,21 @@ fn of_index(
     table: &VirtualAddressSpace,
     index: usize,
 ) -> Result<String, CaseError> {
-    if command == "relative" {
-        let place = table.relative(index);
-        return Ok(format!(in alloc; "{place:?}")?);
+    match command {
+        "relative" => {
+            let place = table.relative(index);
+            Ok(format!(in alloc; "{place:?}")?)
+        }
+        "index" => {
+            let number = table.index(index);
+            Ok(format!(in alloc; "{number:?}")?)
+        }
+        "evicted" => {
+            let gone = table.evicted(index);
+            Ok(format!(in alloc; "{gone}")?)
+        }
+        _ => Err(CaseError::Unreadable),
     }
-    if command == "index" {
-        let number = table.index(index);
-        return Ok(format!(in alloc; "{number:?}")?);
-    }
-    if command == "evicted" {
-        let gone = table.evicted(index);
-        return Ok(format!(in alloc; "{gone}")?);
-    }
-    Err(CaseError::Unreadable)
 }
 
 fn of_base(
@@ -121,12 +137,10 @@ fn of_base(
     place: (usize, usize),
 ) -> Result<String, CaseError> {
     let (base, index) = place;
-    let found = if command == "post_base" {
-        table.post_base(base, index)
-    } else if command == "relative_base" {
-        table.relative_base(base, index)
-    } else {
-        return Err(CaseError::Unreadable);
+    let found = match command {
+        "post_base" => table.post_base(base, index),
+        "relative_base" => table.relative_base(base, index),
+        _ => return Err(CaseError::Unreadable),
     };
     Ok(format!(in alloc; "{found:?}")?)
 }

@@ -26,16 +26,16 @@ pub fn answer(alloc: Global, command: &str, words: &[&str]) -> Result<String, Ca
 /// The frame at the front, or the first two and the bytes behind them.
 fn read(alloc: Global, command: &str, bytes: &[u8]) -> Result<String, CaseError> {
     let mut from = bytes;
-    if command == "read" {
-        return next(alloc, &mut from);
+    match command {
+        "read" => next(alloc, &mut from),
+        "two" => {
+            let first = next(alloc, &mut from)?;
+            let second = next(alloc, &mut from)?;
+            let rest = digits(alloc, from)?;
+            Ok(format!(in alloc; "{first}; {second}; rest {rest}")?)
+        }
+        _ => Err(CaseError::Unreadable),
     }
-    if command == "two" {
-        let first = next(alloc, &mut from)?;
-        let second = next(alloc, &mut from)?;
-        let rest = digits(alloc, from)?;
-        return Ok(format!(in alloc; "{first}; {second}; rest {rest}")?);
-    }
-    Err(CaseError::Unreadable)
 }
 
 /// The text of the frame at the front, or of why it is none.
@@ -54,50 +54,46 @@ fn made(kind: &str, number: usize) -> Result<Frame<Bytes>, CaseError>
     let Ok(id) = id else {
         return Err(CaseError::Unreadable);
     };
-    if kind == "cancel_push" {
-        return Ok(Frame::CancelPush(PushId::from(id)));
+    match kind {
+        "cancel_push" => Ok(Frame::CancelPush(PushId::from(id))),
+        "max_push_id" => Ok(Frame::MaxPushId(PushId::from(id))),
+        "goaway" => Ok(Frame::Goaway(id)),
+        "webtransport" => Ok(Frame::WebTransportStream(SessionId::from_varint(id))),
+        "reserved" => Ok(Frame::Grease(FrameType::grease(number as u64))),
+        _ => of_settings(kind),
     }
-    if kind == "max_push_id" {
-        return Ok(Frame::MaxPushId(PushId::from(id)));
-    }
-    if kind == "goaway" {
-        return Ok(Frame::Goaway(id));
-    }
-    if kind == "webtransport" {
-        return Ok(Frame::WebTransportStream(SessionId::from_varint(id)));
-    }
-    if kind == "reserved" {
-        return Ok(Frame::Grease(FrameType::grease(number as u64)));
-    }
-    of_settings(kind)
 }
 
 /// The frame of no settings, or of those that an end announces which names none of its own.
 fn of_settings(kind: &str) -> Result<Frame<Bytes>, CaseError> {
-    if kind == "no_settings" {
-        return Ok(Frame::Settings(Settings::default()));
-    }
-    if kind == "settings" {
-        return match Config::default().with_grease(false).into_settings(0) {
+    match kind {
+        "no_settings" => Ok(Frame::Settings(Settings::default())),
+        "settings" => match Config::default().with_grease(false).into_settings(0) {
             Ok(settings) => Ok(Frame::Settings(settings)),
             Err(_) => Err(CaseError::Refused),
-        };
+        },
+        _ => Err(CaseError::Unreadable),
     }
-    Err(CaseError::Unreadable)
 }
 
 /// What is written of a frame, what is sent of it, or its text.
 fn write(alloc: Global, command: &str, frame: Frame<Bytes>) -> Result<String, CaseError> {
-    if command == "write" {
-        return written(alloc, &frame);
+    match command {
+        "send" => sent(alloc, WriteBuf::from(frame)),
+        _ => {
+            let told = told(alloc, command, &frame);
+            drop(frame);
+            told
+        }
     }
-    if command == "send" {
-        return sent(alloc, &WriteBuf::from(frame));
+}
+
+fn told(alloc: Global, command: &str, frame: &Frame<Bytes>) -> Result<String, CaseError> {
+    match command {
+        "write" => written(alloc, frame),
+        "print" => Ok(format!(in alloc; "{frame:?}")?),
+        _ => Err(CaseError::Unreadable),
     }
-    if command == "print" {
-        return Ok(format!(in alloc; "{frame:?}")?);
-    }
-    Err(CaseError::Unreadable)
 }
 
 fn written(alloc: Global, frame: &Frame<Bytes>) -> Result<String, CaseError> {
@@ -110,25 +106,28 @@ fn written(alloc: Global, frame: &Frame<Bytes>) -> Result<String, CaseError> {
 }
 
 /// The first bytes that are sent, and how many there are in all.
-fn sent(alloc: Global, sent: &WriteBuf<Bytes>) -> Result<String, CaseError> {
-    let first = digits(alloc, sent.chunk())?;
-    let len = sent.remaining();
+fn sent(alloc: Global, sent: WriteBuf<Bytes>) -> Result<String, CaseError> {
+    let (first, len) = (digits(alloc, sent.chunk()), sent.remaining());
+    drop(sent);
+    let first = first?;
     Ok(format!(in alloc; "{first} of {len}")?)
 }
 
 /// Texts of errors that no frame gives, of settings that are refused, and of a DATA frame of three bytes.
 fn texts(alloc: Global, command: &str) -> Result<String, CaseError> {
-    if command == "errors" {
-        let (value, memory) = (FrameError::InvalidFrameValue, FrameError::OutOfMemory);
-        return Ok(format!(in alloc; "{value}; {memory}")?);
+    match command {
+        "errors" => {
+            let (value, memory) = (FrameError::InvalidFrameValue, FrameError::OutOfMemory);
+            Ok(format!(in alloc; "{value}; {memory}")?)
+        }
+        "setting" => {
+            let e = SettingsError::InvalidSettingValue(h3_proto::frame::SettingId(6), 7);
+            Ok(format!(in alloc; "{e}")?)
+        }
+        "data" => {
+            let data = Frame::Data(Bytes::copy_from_slice(alloc, b"hey")?);
+            Ok(format!(in alloc; "{data:?}")?)
+        }
+        _ => Err(CaseError::Unreadable),
     }
-    if command == "setting" {
-        let e = SettingsError::InvalidSettingValue(h3_proto::frame::SettingId(6), 7);
-        return Ok(format!(in alloc; "{e}")?);
-    }
-    if command == "data" {
-        let data = Frame::Data(Bytes::copy_from_slice(alloc, b"hey")?);
-        return Ok(format!(in alloc; "{data:?}")?);
-    }
-    Err(CaseError::Unreadable)
 }

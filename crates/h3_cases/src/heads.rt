@@ -11,24 +11,16 @@ use std::alloc::{AllocError, Global};
 use std::str::FromStr;
 
 pub fn answer(alloc: Global, command: &str, words: &[&str]) -> Result<String, CaseError> {
-    if command == "request" {
-        return request(alloc, words);
-    }
-    if command == "many_names" {
-        return many_names(alloc);
-    }
-    if command == "many_values" {
-        return many_values(alloc);
-    }
-    if command == "protocol" {
-        return protocol(alloc, words);
-    }
-    if command == "response" {
-        return response(alloc, words);
-    }
-    match Header::try_from(alloc, fields(alloc, words)?) {
-        Ok(header) => of_header(alloc, command, header),
-        Err(e) => refused(alloc, &e),
+    match command {
+        "request" => request(alloc, words),
+        "many_names" => many_names(alloc),
+        "many_values" => many_values(alloc),
+        "protocol" => protocol(alloc, words),
+        "response" => response(alloc, words),
+        _ => match Header::try_from(alloc, fields(alloc, words)?) {
+            Ok(header) => of_header(alloc, command, header),
+            Err(e) => refused(alloc, &e),
+        },
     }
 }
 
@@ -38,22 +30,14 @@ fn refused(alloc: Global, e: &HeaderError) -> Result<String, CaseError> {
 
 /// What a header that was read is asked for.
 fn of_header(alloc: Global, command: &str, header: Header) -> Result<String, CaseError> {
-    if command == "fields" {
-        return listed(alloc, &header);
+    match command {
+        "fields" => listed(alloc, &header),
+        "iterate" => iterated(alloc, header),
+        "kind" => kind(alloc, &header),
+        "target" => target(alloc, header),
+        "status" => status(alloc, header),
+        _ => Err(CaseError::Unreadable),
     }
-    if command == "iterate" {
-        return iterated(alloc, header);
-    }
-    if command == "kind" {
-        return kind(alloc, &header);
-    }
-    if command == "target" {
-        return target(alloc, header);
-    }
-    if command == "status" {
-        return status(alloc, header);
-    }
-    Err(CaseError::Unreadable)
 }
 
 /// How many fields there are, and the fields in their order.
@@ -93,7 +77,11 @@ fn kind(alloc: Global, header: &Header) -> Result<String, CaseError> {
 /// The URI of a request, or why there is none.
 fn target(alloc: Global, header: Header) -> Result<String, CaseError> {
     match header.into_request_parts(alloc) {
-        Ok((_method, uri, _protocol, _fields)) => Ok(uri.to_string(alloc)?),
+        Ok(parts) => {
+            let text = parts.1.to_string(alloc);
+            drop(parts);
+            Ok(text?)
+        }
         Err(e) => refused(alloc, &e),
     }
 }
@@ -168,11 +156,13 @@ fn response(alloc: Global, words: &[&str]) -> Result<String, CaseError> {
         return Err(CaseError::Unreadable);
     };
     let header = Header::response(StatusCode::OK, HeaderMap::new(alloc));
-    if *word == "print" {
-        return printed(alloc, header);
+    match *word {
+        "print" => printed(alloc, header),
+        _ => {
+            let [first, second, third] = thrice(alloc, header);
+            Ok(format!(in alloc; "{first} {second} {third}")?)
+        }
     }
-    let [first, second, third] = thrice(alloc, header);
-    Ok(format!(in alloc; "{first} {second} {third}")?)
 }
 
 fn printed(alloc: Global, header: Header) -> Result<String, CaseError> {

@@ -26,11 +26,13 @@ pub fn answer(alloc: Global, command: &str, words: &[&str]) -> Result<String, Ca
     match words {
         [] => alone(alloc, command),
         [word] => {
-            if command == "read" {
-                let bytes = bytes(alloc, *word)?;
-                return read(alloc, &bytes);
+            match command {
+                "read" => {
+                    let bytes = bytes(alloc, *word)?;
+                    read(alloc, &bytes)
+                }
+                _ => of_number(alloc, command, number(*word)?),
             }
-            of_number(alloc, command, number(*word)?)
         }
         [first, second] => of_two(alloc, command, number(*first)?, number(*second)?),
         _ => Err(CaseError::Unreadable),
@@ -38,39 +40,33 @@ pub fn answer(alloc: Global, command: &str, words: &[&str]) -> Result<String, Ca
 }
 
 fn alone(alloc: Global, command: &str) -> Result<String, CaseError> {
-    if command == "sides" {
-        let (client, server) = (Side::Client as u8, Side::Server as u8);
-        return Ok(format!(in alloc; "{client} {server}")?);
+    match command {
+        "sides" => {
+            let (client, server) = (Side::Client as u8, Side::Server as u8);
+            Ok(format!(in alloc; "{client} {server}")?)
+        }
+        "types" => types(alloc),
+        "reserved" => {
+            let (kind, setting) = (StreamType::grease(1).value(), SettingId::grease(0));
+            Ok(format!(in alloc; "{kind} {setting:?}")?)
+        }
+        "codes" => codes(alloc),
+        _ => Err(CaseError::Unreadable),
     }
-    if command == "types" {
-        return types(alloc);
-    }
-    if command == "reserved" {
-        let (kind, setting) = (StreamType::grease(1).value(), SettingId::grease(0));
-        return Ok(format!(in alloc; "{kind} {setting:?}")?);
-    }
-    if command == "codes" {
-        return codes(alloc);
-    }
-    Err(CaseError::Unreadable)
 }
 
 fn of_number(alloc: Global, command: &str, number: u64) -> Result<String, CaseError> {
-    if command == "stream" {
-        return stream(alloc, number);
+    match command {
+        "stream" => stream(alloc, number),
+        "session" => session(alloc, number),
+        "push" => push(alloc, number),
+        "code" => {
+            let code = Code::from(number);
+            let value = u64::from(code);
+            Ok(format!(in alloc; "{code} {code:?} {value}")?)
+        }
+        _ => Err(CaseError::Unreadable),
     }
-    if command == "session" {
-        return session(alloc, number);
-    }
-    if command == "push" {
-        return push(alloc, number);
-    }
-    if command == "code" {
-        let code = Code::from(number);
-        let value = u64::from(code);
-        return Ok(format!(in alloc; "{code} {code:?} {value}")?);
-    }
-    Err(CaseError::Unreadable)
 }
 
 /// What a stream's id tells.
@@ -111,19 +107,19 @@ fn push(alloc: Global, number: u64) -> Result<String, CaseError> {
 }
 
 fn of_two(alloc: Global, command: &str, first: u64, second: u64) -> Result<String, CaseError> {
-    if command == "sum" {
-        let id = StreamId::try_from(first)? + second as usize;
-        let number = id.into_inner();
-        return Ok(format!(in alloc; "{number}")?);
-    }
-    if command == "write" {
-        return write(
+    match command {
+        "sum" => {
+            let id = StreamId::try_from(first)? + second as usize;
+            let number = id.into_inner();
+            Ok(format!(in alloc; "{number}")?)
+        }
+        "write" => write(
             alloc,
             SessionId::try_from(first)?,
             StreamId::try_from(second)?,
-        );
+        ),
+        _ => Err(CaseError::Unreadable),
     }
-    Err(CaseError::Unreadable)
 }
 
 /// The head of a WebTransport stream of a session, and a stream's id behind it.

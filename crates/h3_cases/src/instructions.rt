@@ -31,44 +31,46 @@ pub fn answer(alloc: Global, command: &str, words: &[&str]) -> Result<String, Ca
 /// The encoder's instruction at the front, or the kinds that a first byte tells.
 fn read(alloc: Global, command: &str, bytes: &[u8]) -> Result<String, CaseError> {
     let mut buf = SliceCursor::new(bytes);
-    if command == "capacity" {
-        let read = DynamicTableSizeUpdate::decode(&mut buf);
-        return with_rest(alloc, &read, buf.chunk());
+    match command {
+        "capacity" => {
+            let read = DynamicTableSizeUpdate::decode(&mut buf);
+            with_rest(alloc, &read, buf.chunk())
+        }
+        "named" => {
+            let read = InsertWithNameRef::decode(alloc, &mut buf);
+            with_rest(alloc, &read, buf.chunk())
+        }
+        "literal" => {
+            let read = InsertWithoutNameRef::decode(alloc, &mut buf);
+            with_rest(alloc, &read, buf.chunk())
+        }
+        "duplicate" => {
+            let read = Duplicate::decode(&mut buf);
+            with_rest(alloc, &read, buf.chunk())
+        }
+        "kind" => kind(alloc, bytes),
+        _ => read_reply(alloc, command, bytes),
     }
-    if command == "named" {
-        let read = InsertWithNameRef::decode(alloc, &mut buf);
-        return with_rest(alloc, &read, buf.chunk());
-    }
-    if command == "literal" {
-        let read = InsertWithoutNameRef::decode(alloc, &mut buf);
-        return with_rest(alloc, &read, buf.chunk());
-    }
-    if command == "duplicate" {
-        let read = Duplicate::decode(&mut buf);
-        return with_rest(alloc, &read, buf.chunk());
-    }
-    if command == "kind" {
-        return kind(alloc, bytes);
-    }
-    read_reply(alloc, command, bytes)
 }
 
 /// The decoder's instruction at the front.
 fn read_reply(alloc: Global, command: &str, bytes: &[u8]) -> Result<String, CaseError> {
     let mut buf = SliceCursor::new(bytes);
-    if command == "acknowledgment" {
-        let read = HeaderAck::decode(&mut buf);
-        return with_rest(alloc, &read, buf.chunk());
+    match command {
+        "acknowledgment" => {
+            let read = HeaderAck::decode(&mut buf);
+            with_rest(alloc, &read, buf.chunk())
+        }
+        "cancellation" => {
+            let read = StreamCancel::decode(&mut buf);
+            with_rest(alloc, &read, buf.chunk())
+        }
+        "increment" => {
+            let read = InsertCountIncrement::decode(&mut buf);
+            with_rest(alloc, &read, buf.chunk())
+        }
+        _ => Err(CaseError::Unreadable),
     }
-    if command == "cancellation" {
-        let read = StreamCancel::decode(&mut buf);
-        return with_rest(alloc, &read, buf.chunk());
-    }
-    if command == "increment" {
-        let read = InsertCountIncrement::decode(&mut buf);
-        return with_rest(alloc, &read, buf.chunk());
-    }
-    Err(CaseError::Unreadable)
 }
 
 fn kind(alloc: Global, bytes: &[u8]) -> Result<String, CaseError> {
@@ -86,36 +88,28 @@ fn kind(alloc: Global, bytes: &[u8]) -> Result<String, CaseError> {
 fn put(alloc: Global, kind: &str, number: usize, out: &mut Vec<u8>) -> Result<(), CaseError>
     requires { number < 65536 }
 {
-    if kind == "capacity" {
-        return Ok(DynamicTableSizeUpdate(number).encode(out)?);
+    match kind {
+        "capacity" => Ok(DynamicTableSizeUpdate(number).encode(out)?),
+        "duplicate" => Ok(Duplicate(number).encode(out)?),
+        "acknowledgment" => Ok(HeaderAck(number as u64).encode(out)?),
+        "cancellation" => Ok(StreamCancel(number as u64).encode(out)?),
+        "increment" => Ok(InsertCountIncrement(number as u64).encode(out)?),
+        _ => put_empty(alloc, kind, number, out),
     }
-    if kind == "duplicate" {
-        return Ok(Duplicate(number).encode(out)?);
-    }
-    if kind == "acknowledgment" {
-        return Ok(HeaderAck(number as u64).encode(out)?);
-    }
-    if kind == "cancellation" {
-        return Ok(StreamCancel(number as u64).encode(out)?);
-    }
-    if kind == "increment" {
-        return Ok(InsertCountIncrement(number as u64).encode(out)?);
-    }
-    put_empty(alloc, kind, number, out)
 }
 
 fn put_empty(alloc: Global, kind: &str, index: usize, out: &mut Vec<u8>) -> Result<(), CaseError>
     requires { index < 65536 }
 {
     let value = Vec::new(alloc);
-    if kind == "dynamic" {
-        return Ok(InsertWithNameRef::Dynamic { index, value }.encode(out)?);
+    match kind {
+        "dynamic" => Ok(InsertWithNameRef::Dynamic { index, value }.encode(out)?),
+        "literal" => {
+            let name = Vec::new(alloc);
+            Ok(InsertWithoutNameRef { name, value }.encode(out)?)
+        }
+        _ => Err(CaseError::Unreadable),
     }
-    if kind == "literal" {
-        let name = Vec::new(alloc);
-        return Ok(InsertWithoutNameRef { name, value }.encode(out)?);
-    }
-    Err(CaseError::Unreadable)
 }
 
 /// An insertion of a value, behind an index or a name.
@@ -123,24 +117,26 @@ fn write(alloc: Global, kind: &str, first: &str, value: &[u8]) -> Result<String,
     requires { length value.now ≤ 1000 }
 {
     let mut out = Vec::new(alloc);
-    if kind == "literal" {
-        let name = text(alloc, first)?;
-        InsertWithoutNameRef::write(&name, value, &mut out)?;
-        return digits(alloc, &out);
+    match kind {
+        "literal" => {
+            let name = text(alloc, first)?;
+            InsertWithoutNameRef::write(&name, value, &mut out)?;
+            digits(alloc, &out)
+        }
+        _ => {
+            write_named(kind, small(first)?, value, &mut out)?;
+            digits(alloc, &out)
+        }
     }
-    write_named(kind, small(first)?, value, &mut out)?;
-    digits(alloc, &out)
 }
 
 fn write_named(kind: &str, index: usize, value: &[u8], out: &mut Vec<u8>) -> Result<(), CaseError>
     requires index { index < 65536 }
     requires value { length value.now ≤ 1000 }
 {
-    if kind == "static" {
-        return Ok(InsertWithNameRef::write_static(index, value, out)?);
+    match kind {
+        "static" => Ok(InsertWithNameRef::write_static(index, value, out)?),
+        "dynamic" => Ok(InsertWithNameRef::write_dynamic(index, value, out)?),
+        _ => Err(CaseError::Unreadable),
     }
-    if kind == "dynamic" {
-        return Ok(InsertWithNameRef::write_dynamic(index, value, out)?);
-    }
-    Err(CaseError::Unreadable)
 }

@@ -21,12 +21,16 @@ pub fn answer(alloc: Global, command: &str, words: &[&str]) -> Result<String, Ca
             digits(alloc, &out)
         }
         [first, second, last] => {
-            if command == "prefix" {
-                let bytes = bytes(alloc, *last)?;
-                return prefix(alloc, small(*first)?, small(*second)?, &bytes);
+            match command {
+                "prefix" => {
+                    let bytes = bytes(alloc, *last)?;
+                    prefix(alloc, small(*first)?, small(*second)?, &bytes)
+                }
+                _ => {
+                    let value = text(alloc, *last)?;
+                    write(alloc, *first, *second, &value)
+                }
             }
-            let value = text(alloc, *last)?;
-            write(alloc, *first, *second, &value)
         }
         [required, base, inserted, capacity] => put_prefix(
             alloc,
@@ -41,27 +45,29 @@ pub fn answer(alloc: Global, command: &str, words: &[&str]) -> Result<String, Ca
 /// The line at the front, or the kind that its first byte tells.
 fn read(alloc: Global, command: &str, bytes: &[u8]) -> Result<String, CaseError> {
     let mut buf = SliceCursor::new(bytes);
-    if command == "indexed" {
-        let read = Indexed::decode(&mut buf);
-        return with_rest(alloc, &read, buf.chunk());
+    match command {
+        "indexed" => {
+            let read = Indexed::decode(&mut buf);
+            with_rest(alloc, &read, buf.chunk())
+        }
+        "post_base" => {
+            let read = IndexedWithPostBase::decode(&mut buf);
+            with_rest(alloc, &read, buf.chunk())
+        }
+        "named" => {
+            let read = LiteralWithNameRef::decode(alloc, &mut buf);
+            with_rest(alloc, &read, buf.chunk())
+        }
+        "post_base_named" => {
+            let read = LiteralWithPostBaseNameRef::decode(alloc, &mut buf);
+            with_rest(alloc, &read, buf.chunk())
+        }
+        "literal" => {
+            let read = Literal::decode(alloc, &mut buf);
+            with_rest(alloc, &read, buf.chunk())
+        }
+        _ => kind(alloc, bytes),
     }
-    if command == "post_base" {
-        let read = IndexedWithPostBase::decode(&mut buf);
-        return with_rest(alloc, &read, buf.chunk());
-    }
-    if command == "named" {
-        let read = LiteralWithNameRef::decode(alloc, &mut buf);
-        return with_rest(alloc, &read, buf.chunk());
-    }
-    if command == "post_base_named" {
-        let read = LiteralWithPostBaseNameRef::decode(alloc, &mut buf);
-        return with_rest(alloc, &read, buf.chunk());
-    }
-    if command == "literal" {
-        let read = Literal::decode(alloc, &mut buf);
-        return with_rest(alloc, &read, buf.chunk());
-    }
-    kind(alloc, bytes)
 }
 
 fn kind(alloc: Global, bytes: &[u8]) -> Result<String, CaseError> {
@@ -92,33 +98,27 @@ fn prefix(
 fn put(alloc: Global, kind: &str, index: usize, out: &mut Vec<u8>) -> Result<(), CaseError>
     requires { index < 65536 }
 {
-    if kind == "static" {
-        return Ok(Indexed::Static(index).encode(out)?);
+    match kind {
+        "static" => Ok(Indexed::Static(index).encode(out)?),
+        "dynamic" => Ok(Indexed::Dynamic(index).encode(out)?),
+        "post_base" => Ok(IndexedWithPostBase(index).encode(out)?),
+        _ => put_empty(alloc, kind, index, out),
     }
-    if kind == "dynamic" {
-        return Ok(Indexed::Dynamic(index).encode(out)?);
-    }
-    if kind == "post_base" {
-        return Ok(IndexedWithPostBase(index).encode(out)?);
-    }
-    put_empty(alloc, kind, index, out)
 }
 
 fn put_empty(alloc: Global, kind: &str, index: usize, out: &mut Vec<u8>) -> Result<(), CaseError>
     requires { index < 65536 }
 {
     let value = Vec::new(alloc);
-    if kind == "static_named" {
-        return Ok(LiteralWithNameRef::Static { index, value }.encode(out)?);
+    match kind {
+        "static_named" => Ok(LiteralWithNameRef::Static { index, value }.encode(out)?),
+        "post_base_named" => Ok(LiteralWithPostBaseNameRef { index, value }.encode(out)?),
+        "literal" => {
+            let name = Vec::new(alloc);
+            Ok(Literal { name, value }.encode(out)?)
+        }
+        _ => Err(CaseError::Unreadable),
     }
-    if kind == "post_base_named" {
-        return Ok(LiteralWithPostBaseNameRef { index, value }.encode(out)?);
-    }
-    if kind == "literal" {
-        let name = Vec::new(alloc);
-        return Ok(Literal { name, value }.encode(out)?);
-    }
-    Err(CaseError::Unreadable)
 }
 
 /// A line with a value, behind an index or a name.
@@ -126,29 +126,29 @@ fn write(alloc: Global, kind: &str, first: &str, value: &[u8]) -> Result<String,
     requires { length value.now ≤ 1000 }
 {
     let mut out = Vec::new(alloc);
-    if kind == "literal" {
-        let name = text(alloc, first)?;
-        Literal::write(&name, value, &mut out)?;
-        return digits(alloc, &out);
+    match kind {
+        "literal" => {
+            let name = text(alloc, first)?;
+            Literal::write(&name, value, &mut out)?;
+            digits(alloc, &out)
+        }
+        _ => {
+            write_named(kind, small(first)?, value, &mut out)?;
+            digits(alloc, &out)
+        }
     }
-    write_named(kind, small(first)?, value, &mut out)?;
-    digits(alloc, &out)
 }
 
 fn write_named(kind: &str, index: usize, value: &[u8], out: &mut Vec<u8>) -> Result<(), CaseError>
     requires index { index < 65536 }
     requires value { length value.now ≤ 1000 }
 {
-    if kind == "static" {
-        return Ok(LiteralWithNameRef::write_static(index, value, out)?);
+    match kind {
+        "static" => Ok(LiteralWithNameRef::write_static(index, value, out)?),
+        "dynamic" => Ok(LiteralWithNameRef::write_dynamic(index, value, out)?),
+        "post_base" => Ok(LiteralWithPostBaseNameRef::write(index, value, out)?),
+        _ => Err(CaseError::Unreadable),
     }
-    if kind == "dynamic" {
-        return Ok(LiteralWithNameRef::write_dynamic(index, value, out)?);
-    }
-    if kind == "post_base" {
-        return Ok(LiteralWithPostBaseNameRef::write(index, value, out)?);
-    }
-    Err(CaseError::Unreadable)
 }
 
 /// The prefix of a required insert count and a base, after so many insertions at a capacity.

@@ -51,11 +51,13 @@ fn told(alloc: Global, line: &str) -> Result<String, CaseError> {
         return Err(CaseError::Unreadable);
     };
     let (command, rest) = rest.split_once(' ').unwrap_or((rest, ""));
-    if group == "script" {
-        return scripts::answer(alloc, command, rest);
+    match group {
+        "script" => scripts::answer(alloc, command, rest),
+        _ => {
+            let words = words(alloc, rest)?;
+            of_group(alloc, group, command, &words)
+        }
     }
-    let words = words(alloc, rest)?;
-    of_group(alloc, group, command, &words)
 }
 
 fn of_group(
@@ -64,25 +66,15 @@ fn of_group(
     command: &str,
     words: &[&str],
 ) -> Result<String, CaseError> {
-    if group == "varint" {
-        return numbers::answer(alloc, command, words);
+    match group {
+        "varint" => numbers::answer(alloc, command, words),
+        "id" => ids::answer(alloc, command, words),
+        "settings" => settings::answer(alloc, command, words),
+        "frame" => frames::answer(alloc, command, words),
+        "send" => sending::answer(alloc, command, words),
+        "stream" => streams::answer(alloc, command, words),
+        _ => of_fields(alloc, group, command, words),
     }
-    if group == "id" {
-        return ids::answer(alloc, command, words);
-    }
-    if group == "settings" {
-        return settings::answer(alloc, command, words);
-    }
-    if group == "frame" {
-        return frames::answer(alloc, command, words);
-    }
-    if group == "send" {
-        return sending::answer(alloc, command, words);
-    }
-    if group == "stream" {
-        return streams::answer(alloc, command, words);
-    }
-    of_fields(alloc, group, command, words)
 }
 
 /// The groups of fields and of what stands above them.
@@ -92,26 +84,14 @@ fn of_fields(
     command: &str,
     words: &[&str],
 ) -> Result<String, CaseError> {
-    if group == "string" {
-        return strings::answer(alloc, command, words);
+    match group {
+        "string" => strings::answer(alloc, command, words),
+        "line" => lines::answer(alloc, command, words),
+        "instruction" => instructions::answer(alloc, command, words),
+        "section" => sections::answer(alloc, command, words),
+        "entry" => entries::answer(alloc, command, words),
+        "head" => heads::answer(alloc, command, words),
+        "answer" => answers::answer(alloc, command, words),
+        _ => Err(CaseError::Unreadable),
     }
-    if group == "line" {
-        return lines::answer(alloc, command, words);
-    }
-    if group == "instruction" {
-        return instructions::answer(alloc, command, words);
-    }
-    if group == "section" {
-        return sections::answer(alloc, command, words);
-    }
-    if group == "entry" {
-        return entries::answer(alloc, command, words);
-    }
-    if group == "head" {
-        return heads::answer(alloc, command, words);
-    }
-    if group == "answer" {
-        return answers::answer(alloc, command, words);
-    }
-    Err(CaseError::Unreadable)
 }

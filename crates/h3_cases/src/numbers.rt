@@ -10,24 +10,24 @@ pub fn answer(alloc: Global, command: &str, words: &[&str]) -> Result<String, Ca
     match words {
         [] => alone(alloc, command),
         [word] => {
-            if command == "write" {
-                return write(alloc, number(*word)?);
+            match command {
+                "write" => write(alloc, number(*word)?),
+                _ => {
+                    let bytes = bytes(alloc, *word)?;
+                    read(alloc, command, &bytes)
+                }
             }
-            let bytes = bytes(alloc, *word)?;
-            read(alloc, command, &bytes)
         }
         _ => Err(CaseError::Unreadable),
     }
 }
 
 fn alone(alloc: Global, command: &str) -> Result<String, CaseError> {
-    if command == "fill" {
-        return fill(alloc);
+    match command {
+        "fill" => fill(alloc),
+        "texts" => texts(alloc),
+        _ => Err(CaseError::Unreadable),
     }
-    if command == "texts" {
-        return texts(alloc);
-    }
-    Err(CaseError::Unreadable)
 }
 
 /// A value and its encoding, or why there is none.
@@ -52,21 +52,21 @@ fn sized(alloc: Global, bytes: &[u8], size: usize) -> Result<String, CaseError> 
 /// A number, a value, or a byte at the front.
 fn read(alloc: Global, command: &str, bytes: &[u8]) -> Result<String, CaseError> {
     let mut from = bytes;
-    if command == "read" {
-        return match from.get_var() {
+    match command {
+        "read" => match from.get_var() {
             Ok(number) => with_rest(alloc, &number, from),
             Err(e) => Ok(format!(in alloc; "{e:?}")?),
-        };
+        },
+        "value" => {
+            let read = BufExt::get::<VarInt>(&mut from);
+            with_rest(alloc, &read, from)
+        }
+        "byte" => {
+            let read = BufExt::get::<u8>(&mut from);
+            with_rest(alloc, &read, from)
+        }
+        _ => Err(CaseError::Unreadable),
     }
-    if command == "value" {
-        let read = BufExt::get::<VarInt>(&mut from);
-        return with_rest(alloc, &read, from);
-    }
-    if command == "byte" {
-        let read = BufExt::get::<u8>(&mut from);
-        return with_rest(alloc, &read, from);
-    }
-    Err(CaseError::Unreadable)
 }
 
 /// Into a room of three bytes: a number of four bytes, one of two, a byte, and one more.

@@ -15,26 +15,24 @@ const MOST: u64 = 1 << 48;
 /// A line behind a setup, a line between a setup and an event, or a script of at most so many bytes. Any byte may be an escape,
 /// as `%20`.
 pub fn answer(alloc: Global, command: &str, rest: &str) -> Result<String, CaseError> {
-    if command == "line" {
-        return framed(
+    match command {
+        "line" => framed(
             alloc,
             "config 1000 0 0 1000 0 0%0A%0A# a comment%0A",
             rest,
             "%0A",
-        );
+        ),
+        "refused" => framed(alloc, "config 0 0 0 0 0 0%0A", rest, "%0Aopen c%0A"),
+        "read" => framed(alloc, "", rest, ""),
+        _ => {
+            let most = number(command)?;
+            if most > MOST {
+                return Err(CaseError::Unreadable);
+            }
+            let text = text(alloc, rest)?;
+            read(alloc, &text, most)
+        }
     }
-    if command == "refused" {
-        return framed(alloc, "config 0 0 0 0 0 0%0A", rest, "%0Aopen c%0A");
-    }
-    if command == "read" {
-        return framed(alloc, "", rest, "");
-    }
-    let most = number(command)?;
-    if most > MOST {
-        return Err(CaseError::Unreadable);
-    }
-    let text = text(alloc, rest)?;
-    read(alloc, &text, most)
 }
 
 fn framed(alloc: Global, front: &str, line: &str, end: &str) -> Result<String, CaseError> {

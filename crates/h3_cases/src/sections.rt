@@ -8,20 +8,24 @@ use std::alloc::Global;
 use std::borrow::CowSlice;
 
 pub fn answer(alloc: Global, command: &str, words: &[&str]) -> Result<String, CaseError> {
-    if command == "write" {
-        return write(alloc, &fields(alloc, words)?);
-    }
-    match words {
-        [] => errors(alloc, command),
-        [first, second] => {
-            if command == "read" {
-                let section = bytes(alloc, *second)?;
-                return read(alloc, number(*first)?, &section);
+    match command {
+        "write" => write(alloc, &fields(alloc, words)?),
+        _ => match words {
+            [] => errors(alloc, command),
+            [first, second] => {
+                match command {
+                    "read" => {
+                        let section = bytes(alloc, *second)?;
+                        read(alloc, number(*first)?, &section)
+                    }
+                    _ => {
+                        let name = text(alloc, *first)?;
+                        of_field(alloc, command, field(name, text(alloc, *second)?))
+                    }
+                }
             }
-            let name = text(alloc, *first)?;
-            of_field(alloc, command, field(name, text(alloc, *second)?))
-        }
-        _ => Err(CaseError::Unreadable),
+            _ => Err(CaseError::Unreadable),
+        },
     }
 }
 
@@ -86,18 +90,18 @@ fn write(alloc: Global, fields: &[HeaderField]) -> Result<String, CaseError> {
 
 /// The texts of a field, or the parts that it is taken into.
 fn of_field(alloc: Global, command: &str, field: HeaderField) -> Result<String, CaseError> {
-    if command == "print" {
-        return Ok(format!(in alloc; "{field}")?);
+    match command {
+        "print" => Ok(format!(in alloc; "{field}")?),
+        "other_value" => {
+            let other = field.with_value(alloc, CowSlice::Borrowed(b"2"))?;
+            Ok(other.into_string(alloc)?)
+        }
+        "parts" => {
+            let (name, value) = field.into_inner();
+            parts(alloc, &HeaderField::from((name, value)))
+        }
+        _ => Err(CaseError::Unreadable),
     }
-    if command == "other_value" {
-        let other = field.with_value(alloc, CowSlice::Borrowed(b"2"))?;
-        return Ok(other.into_string(alloc)?);
-    }
-    if command == "parts" {
-        let (name, value) = field.into_inner();
-        return parts(alloc, &HeaderField::from((name, value)));
-    }
-    Err(CaseError::Unreadable)
 }
 
 /// A field put together from parts, and whether it is the one of borrowed bytes.

@@ -1,4 +1,6 @@
 //! What is sent: frames with a payload, heads of streams, messages, and pieces of bytes.
+ghost use Rattle.std.specs.Prelude.{◌≤◌, length};
+
 use crate::case::{CaseError, bytes, digits, said, small};
 use bytes::{Buf, Bytes};
 use h3_coding::varint::VarInt;
@@ -11,74 +13,97 @@ use h3_wire::stream::{BidiStreamHeader, MessageBuf, UniStreamHeader, WriteBuf};
 use std::alloc::Global;
 
 pub fn answer(alloc: Global, command: &str, words: &[&str]) -> Result<String, CaseError> {
-    if command == "cursor" {
-        return cursor(alloc);
+    match words {
+        [] => alone(alloc, command),
+        [first, more @ ..] => {
+            let bytes = bytes(alloc, *first)?;
+            of_bytes(alloc, command, &bytes, more)
+        }
     }
-    let [first, more @ ..] = words else {
-        return head(alloc, command);
-    };
-    let bytes = bytes(alloc, *first)?;
-    if command == "pieces" {
-        return pieces(alloc, &bytes, more);
+}
+
+fn alone(alloc: Global, command: &str) -> Result<String, CaseError> {
+    match command {
+        "cursor" => cursor(alloc),
+        _ => head(alloc, command),
     }
-    let payload = Bytes::copy_from_slice(alloc, &bytes)?;
-    if command == "headers" {
-        return message(alloc, &mut MessageBuf::headers(payload), more);
+}
+
+fn of_bytes(alloc: Global, command: &str, bytes: &[u8], more: &[&str]) -> Result<String, CaseError>
+    requires { length bytes.now ≤ 1000 }
+{
+    match command {
+        "pieces" => pieces(alloc, bytes, more),
+        _ => of_payload(alloc, command, Bytes::copy_from_slice(alloc, bytes)?, more),
     }
-    if command == "data" {
-        return message(alloc, &mut MessageBuf::data(payload), more);
+}
+
+/// A message of one frame, or a frame behind something else.
+fn of_payload(
+    alloc: Global,
+    command: &str,
+    payload: Bytes,
+    more: &[&str],
+) -> Result<String, CaseError>
+    requires { length payload ≤ 1000 }
+{
+    match command {
+        "headers" => message(alloc, MessageBuf::headers(payload), more),
+        "data" => message(alloc, MessageBuf::data(payload), more),
+        _ => frame(alloc, command, payload, more),
     }
-    frame(alloc, command, payload, more)
 }
 
 /// The head of a stream.
 fn head(alloc: Global, command: &str) -> Result<String, CaseError> {
     let session = SessionId::from_varint(VarInt::from_u32(5));
-    if command == "uni" {
-        return first(
+    match command {
+        "uni" => first(
             alloc,
-            &WriteBuf::from(UniStreamHeader::WebTransportUni(session)),
-        );
-    }
-    if command == "bidi" {
-        return first(
+            WriteBuf::from(UniStreamHeader::WebTransportUni(session)),
+        ),
+        "bidi" => first(
             alloc,
-            &WriteBuf::from(BidiStreamHeader::WebTransportBidi(session)),
-        );
+            WriteBuf::from(BidiStreamHeader::WebTransportBidi(session)),
+        ),
+        "decoder" => first(alloc, WriteBuf::from(UniStreamHeader::Decoder)),
+        _ => Err(CaseError::Unreadable),
     }
-    if command == "decoder" {
-        return first(alloc, &WriteBuf::from(UniStreamHeader::Decoder));
-    }
-    Err(CaseError::Unreadable)
 }
 
-fn first(alloc: Global, sent: &WriteBuf<Bytes>) -> Result<String, CaseError> {
-    digits(alloc, sent.chunk())
+fn first(alloc: Global, sent: WriteBuf<Bytes>) -> Result<String, CaseError> {
+    let told = digits(alloc, sent.chunk());
+    drop(sent);
+    told
 }
 
 /// The promise of push 134, or a DATA frame behind the type of an encoder stream.
 fn frame(alloc: Global, command: &str, payload: Bytes, more: &[&str]) -> Result<String, CaseError> {
-    if command == "promise" {
-        let promise = PushPromise::new(PushId::from(VarInt::from_u32(134)), payload);
-        return parts(
-            alloc,
-            &mut WriteBuf::from(Frame::PushPromise(promise)),
-            more,
-        );
+    match command {
+        "promise" => {
+            let promise = PushPromise::new(PushId::from(VarInt::from_u32(134)), payload);
+            parts(alloc, WriteBuf::from(Frame::PushPromise(promise)), more)
+        }
+        "encoder" => {
+            let frame = Frame::Data(payload);
+            parts(alloc, WriteBuf::from((StreamType::ENCODER, frame)), more)
+        }
+        _ => Err(CaseError::Unreadable),
     }
-    if command == "encoder" {
-        let frame = Frame::Data(payload);
-        return parts(
-            alloc,
-            &mut WriteBuf::from((StreamType::ENCODER, frame)),
-            more,
-        );
-    }
-    Err(CaseError::Unreadable)
+}
+
+fn parts(alloc: Global, mut sent: WriteBuf<Bytes>, more: &[&str]) -> Result<String, CaseError> {
+    let told = two_parts(alloc, &mut sent, more);
+    drop(sent);
+    told
 }
 
 /// How many bytes are sent; the first of them, and those behind so many.
-fn parts(alloc: Global, sent: &mut WriteBuf<Bytes>, more: &[&str]) -> Result<String, CaseError> {
+fn two_parts(
+    alloc: Global,
+    sent: &mut WriteBuf<Bytes>,
+    more: &[&str],
+) -> Result<String, CaseError> {
     let [count] = more else {
         return Err(CaseError::Unreadable);
     };
@@ -94,6 +119,16 @@ fn parts(alloc: Global, sent: &mut WriteBuf<Bytes>, more: &[&str]) -> Result<Str
 
 /// How many bytes of a message are sent; and in turn the first part of them, of which so many are taken.
 fn message(
+    alloc: Global,
+    mut sent: MessageBuf<Bytes>,
+    counts: &[&str],
+) -> Result<String, CaseError> {
+    let told = each_part(alloc, &mut sent, counts);
+    drop(sent);
+    told
+}
+
+fn each_part(
     alloc: Global,
     sent: &mut MessageBuf<Bytes>,
     counts: &[&str],

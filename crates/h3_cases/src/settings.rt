@@ -8,65 +8,57 @@ use std::alloc::Global;
 use std::io::Cursor;
 
 pub fn answer(alloc: Global, command: &str, words: &[&str]) -> Result<String, CaseError> {
-    if command == "announce" {
-        return announce(alloc, words);
+    match command {
+        "announce" => announce(alloc, words),
+        "insert" => {
+            let mut text = String::new(alloc);
+            let _settings = filled(alloc, words, &mut text)?;
+            Ok(text)
+        }
+        "flags" => flags(alloc, words),
+        "room" => room(alloc, words),
+        _ => {
+            let [first, more @ ..] = words else {
+                return Err(CaseError::Unreadable);
+            };
+            of_first(alloc, command, *first, more)
+        }
     }
-    if command == "insert" {
-        let mut text = String::new(alloc);
-        let _settings = filled(alloc, words, &mut text)?;
-        return Ok(text);
-    }
-    if command == "flags" {
-        return flags(alloc, words);
-    }
-    if command == "room" {
-        return room(alloc, words);
-    }
-    let [first, more @ ..] = words else {
-        return Err(CaseError::Unreadable);
-    };
-    of_first(alloc, command, *first, more)
 }
 
 fn of_first(alloc: Global, command: &str, first: &str, more: &[&str]) -> Result<String, CaseError> {
-    if command == "get" {
-        return get(alloc, number(first)?, more);
+    match command {
+        "get" => get(alloc, number(first)?, more),
+        _ => {
+            let payload = bytes(alloc, first)?;
+            match command {
+                "read" => read(alloc, &payload, more),
+                "front" => front(alloc, &payload),
+                _ => Err(CaseError::Unreadable),
+            }
+        }
     }
-    let payload = bytes(alloc, first)?;
-    if command == "read" {
-        return read(alloc, &payload, more);
-    }
-    if command == "front" {
-        return front(alloc, &payload);
-    }
-    Err(CaseError::Unreadable)
 }
 
 /// A configuration with one thing more.
 fn with_word(config: Config, word: &str) -> Result<Config, CaseError> {
-    if word == "reserved" {
-        return Ok(config.with_grease(true));
+    match word {
+        "reserved" => Ok(config.with_grease(true)),
+        "connect" => Ok(config.with_extended_connect(true)),
+        "webtransport" => Ok(config.with_webtransport(true)),
+        "datagram" => Ok(config.with_datagram(true)),
+        _ => {
+            let Some((name, value)) = word.split_once('=') else {
+                return Err(CaseError::Unreadable);
+            };
+            let value = number(value)?;
+            match name {
+                "section" => Ok(config.with_max_field_section_size(value)),
+                "sessions" => Ok(config.with_max_webtransport_sessions(value)),
+                _ => Err(CaseError::Unreadable),
+            }
+        }
     }
-    if word == "connect" {
-        return Ok(config.with_extended_connect(true));
-    }
-    if word == "webtransport" {
-        return Ok(config.with_webtransport(true));
-    }
-    if word == "datagram" {
-        return Ok(config.with_datagram(true));
-    }
-    let Some((name, value)) = word.split_once('=') else {
-        return Err(CaseError::Unreadable);
-    };
-    let value = number(value)?;
-    if name == "section" {
-        return Ok(config.with_max_field_section_size(value));
-    }
-    if name == "sessions" {
-        return Ok(config.with_max_webtransport_sessions(value));
-    }
-    Err(CaseError::Unreadable)
 }
 
 /// What an end of these words announces, or why it can't.

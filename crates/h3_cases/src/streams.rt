@@ -16,11 +16,13 @@ pub fn answer(alloc: Global, command: &str, words: &[&str]) -> Result<String, Ca
     match words {
         [] => fixed(alloc, command),
         [first] => {
-            if command == "section" {
-                return long_section(alloc, small(*first)?);
+            match command {
+                "section" => long_section(alloc, small(*first)?),
+                _ => {
+                    let bytes = bytes(alloc, *first)?;
+                    of_bytes(alloc, command, &bytes)
+                }
             }
-            let bytes = bytes(alloc, *first)?;
-            of_bytes(alloc, command, &bytes)
         }
         [first, later, last, digits, calls @ ..] => {
             let bytes = bytes(alloc, *digits)?;
@@ -39,16 +41,12 @@ pub fn answer(alloc: Global, command: &str, words: &[&str]) -> Result<String, Ca
 
 /// What comes behind the bytes.
 fn ending(word: &str) -> Result<Last, CaseError> {
-    if word == "end" {
-        return Ok(Last::End);
+    match word {
+        "end" => Ok(Last::End),
+        "nothing" => Ok(Last::Nothing),
+        "reset" => Ok(Last::Reset),
+        _ => Err(CaseError::Unreadable),
     }
-    if word == "nothing" {
-        return Ok(Last::Nothing);
-    }
-    if word == "reset" {
-        return Ok(Last::Reset);
-    }
-    Err(CaseError::Unreadable)
 }
 
 fn of_feed(
@@ -59,19 +57,13 @@ fn of_feed(
 ) -> Result<String, CaseError>
     requires { length feed.bytes.now < 2 ^ 62 }
 {
-    if command == "read" {
-        return read(alloc, feed);
+    match command {
+        "read" => read(alloc, feed),
+        "poll" => polls(alloc, feed, calls),
+        "accept" => accept(alloc, feed),
+        "again" => memory::again(alloc, feed),
+        _ => Err(CaseError::Unreadable),
     }
-    if command == "poll" {
-        return polls(alloc, feed, calls);
-    }
-    if command == "accept" {
-        return accept(alloc, feed);
-    }
-    if command == "again" {
-        return memory::again(alloc, feed);
-    }
-    Err(CaseError::Unreadable)
 }
 
 /// The frames of a stream and how it ended, and the bytes of all payloads.
@@ -264,13 +256,11 @@ fn unknown(alloc: Global, polled: &Poll<Result<(), PollTypeError>>) -> Result<St
 fn of_bytes(alloc: Global, command: &str, bytes: &[u8]) -> Result<String, CaseError>
     requires { length bytes.now < 2 ^ 62 }
 {
-    if command == "cuts" {
-        return cuts(alloc, bytes);
+    match command {
+        "cuts" => cuts(alloc, bytes),
+        "tries" => memory::tries(alloc, bytes),
+        _ => Err(CaseError::Unreadable),
     }
-    if command == "tries" {
-        return memory::tries(alloc, bytes);
-    }
-    Err(CaseError::Unreadable)
 }
 
 /// What is read of the bytes that are cut in two, in every place: each answer that is not the one before.
@@ -298,9 +288,15 @@ fn cuts(alloc: Global, bytes: &[u8]) -> Result<String, CaseError>
 }
 
 fn fixed(alloc: Global, command: &str) -> Result<String, CaseError> {
-    if command == "body" {
-        return long_body(alloc);
+    match command {
+        "body" => long_body(alloc),
+        "print" => printed(alloc, three_bytes(alloc)),
+        "parts" => parts(alloc, three_bytes(alloc)),
+        _ => Err(CaseError::Unreadable),
     }
+}
+
+fn three_bytes(alloc: Global) -> BufRecvStream<Feed<'static>> {
     let feed = Feed {
         bytes: b"abc",
         first: 9,
@@ -308,16 +304,20 @@ fn fixed(alloc: Global, command: &str) -> Result<String, CaseError> {
         last: Last::End,
         alloc,
     };
-    let stream = BufRecvStream::new(alloc, feed);
-    if command == "print" {
-        return Ok(format!(in alloc; "{stream:?}")?);
-    }
-    if command == "parts" {
-        let (list, feed) = stream.into_parts();
-        let (read, left) = (list.remaining(), feed.bytes.len());
-        return Ok(format!(in alloc; "{read} {left}")?);
-    }
-    Err(CaseError::Unreadable)
+    BufRecvStream::new(alloc, feed)
+}
+
+fn printed(alloc: Global, stream: BufRecvStream<Feed<'_>>) -> Result<String, CaseError> {
+    let text = format!(in alloc; "{stream:?}");
+    drop(stream);
+    Ok(text?)
+}
+
+fn parts(alloc: Global, stream: BufRecvStream<Feed<'_>>) -> Result<String, CaseError> {
+    let (list, feed) = stream.into_parts();
+    let (read, left) = (list.remaining(), feed.bytes.len());
+    drop(list);
+    Ok(format!(in alloc; "{read} {left}")?)
 }
 
 /// The head of a frame, and so many times the bytes 0 to 9 behind it.

@@ -10,30 +10,28 @@ pub fn answer(alloc: Global, command: &str, words: &[&str]) -> Result<String, Ca
     match words {
         [] => fixed(alloc, command),
         [word] => {
-            if command == "huffman" {
-                return huffman(alloc, text(alloc, *word)?);
+            match command {
+                "huffman" => huffman(alloc, text(alloc, *word)?),
+                "write" => write(alloc, text(alloc, *word)?),
+                _ => {
+                    let bytes = bytes(alloc, *word)?;
+                    match command {
+                        "unhuffman" => unhuffman(alloc, bytes),
+                        _ => read(alloc, command, &bytes),
+                    }
+                }
             }
-            if command == "write" {
-                return write(alloc, text(alloc, *word)?);
-            }
-            let bytes = bytes(alloc, *word)?;
-            if command == "unhuffman" {
-                return unhuffman(alloc, bytes);
-            }
-            read(alloc, command, &bytes)
         }
         _ => Err(CaseError::Unreadable),
     }
 }
 
 fn fixed(alloc: Global, command: &str) -> Result<String, CaseError> {
-    if command == "put" {
-        return integer(alloc);
+    match command {
+        "put" => integer(alloc),
+        "window" => window(alloc),
+        _ => Err(CaseError::Unreadable),
     }
-    if command == "window" {
-        return window(alloc);
-    }
-    Err(CaseError::Unreadable)
 }
 
 /// The encoding of a string.
@@ -70,15 +68,17 @@ fn write(alloc: Global, value: Vec<u8>) -> Result<String, CaseError>
 /// A string with a length of five bits, or an integer of five bits.
 fn read(alloc: Global, command: &str, bytes: &[u8]) -> Result<String, CaseError> {
     let mut buf = SliceCursor::new(bytes);
-    if command == "read" {
-        let read = prefix_string::decode(alloc, 6, &mut buf);
-        return with_rest(alloc, &read, buf.chunk());
+    match command {
+        "read" => {
+            let read = prefix_string::decode(alloc, 6, &mut buf);
+            with_rest(alloc, &read, buf.chunk())
+        }
+        "integer" => {
+            let read = prefix_int::decode(5, &mut buf);
+            with_rest(alloc, &read, buf.chunk())
+        }
+        _ => Err(CaseError::Unreadable),
     }
-    if command == "integer" {
-        let read = prefix_int::decode(5, &mut buf);
-        return with_rest(alloc, &read, buf.chunk());
-    }
-    Err(CaseError::Unreadable)
 }
 
 /// The integer 1337 in five bits, behind the flags 2.
