@@ -1,7 +1,7 @@
 -- Bytes that go from a writer to a reader.
-use Rattle.std.proofs.Common.{◌≡◌, ◌≢◌, ◌≤◌, ◌<◌, ℕ, List, Bool, true, false, Option, Some, None, take, length, refl, ap, sym, subst, ◌∙◌, arith}
+use Rattle.std.proofs.Common.{◌≡◌, ◌≤◌, ◌<◌, ℕ, List, Bool, true, false, Option, Some, None, take, length, refl, ap, sym, subst, ◌∙◌, arith}
 use Rattle.std.proofs.lemmas.Grind.{common_steps}
-use Rattle.std.specs.Prelude.{not, nat_lt, ◌==◌, min, Result, Ok, Err, if◌then◌else◌}
+use Rattle.std.specs.Prelude.{nat_lt, ◌==◌, min, Result, Ok, Err}
 use Rattle.h3_connection.specs.Answers.{delivery_refused, lacks_memory}
 use Rattle.h3_connection.specs.Endpoint.{EndpointHistory, bytes_waiting}
 use Rattle.h3_connection.specs.Keeping.{arrives}
@@ -15,11 +15,10 @@ use Rattle.h3_connection.specs.declared.arrival.Arrival.TheVariants.{BytesCame, 
 use Rattle.h3_connection.specs.declared.event.DeliverError.{DeliverError}
 use Rattle.h3_connection.specs.declared.event.DeliverError.TheVariants as deliver_error
 use Rattle.h3_connection.specs.declared.event.Refusal.{Refusal}
-use Rattle.h3_connection.specs.declared.event.Refusal.TheVariants as refusal
 use Rattle.h3_world.specs.Headline.{is_memory}
 use Rattle.h3_world.specs.declared.event.Answer.{Answer}
 use Rattle.h3_world.specs.declared.event.Answer.TheVariants as answer
-use Rattle.h3_session.specs.Running.{Carried, Carries, HandsOver, answer_of, told_answer, told, is_stored, nothing_goes, bytes_taken, bytes_go, end_goes, reset_goes}
+use Rattle.h3_session.specs.Running.{Carried, Carries, HandsOver, answer_of, told_answer, told, is_stored, bytes_taken, bytes_go, end_goes, reset_goes}
 use Rattle.h3_world.specs.Delivering.{reset_code}
 
 abbrev Handed : EndpointState → EndpointState → Answer → Carried → Type 0

@@ -1,7 +1,7 @@
 -- A run with one event more.
-use Rattle.std.proofs.Common.{◌≡◌, List, [], ◌∷◌, ◌++◌, Bool, true, false, refl, ap, sym, subst, ◌∙◌, arith}
+use Rattle.std.proofs.Common.{◌≡◌, List, [], ◌∷◌, ◌++◌, Bool, true, false, refl, ap, sym, subst, ◌∙◌}
 use Rattle.std.specs.List.{list_any}
-use Rattle.std.specs.Prelude.{◌||◌, ◌<◌, ◌^◌, ◌≤◌, nat_le, ℕ}
+use Rattle.std.specs.Prelude.{◌||◌, Result, Ok, IfOk}
 use Rattle.h3_connection.specs.State.{EndpointState, StandsFor}
 use Rattle.h3_world.specs.Ends.{Ends, answered, ends_after, answers_of_ends}
 use Rattle.h3_world.specs.Headline.{is_memory}
@@ -39,3 +39,14 @@ none_of_memory (b ∷ answers) a h =
     let parts = none_behind (is_memory b) (list_any is_memory (answers ++ a ∷ [])) h in
     let rest = none_of_memory answers a parts.1 in
     (subst (λ x. (x || list_any is_memory answers) ≡ false) (sym parts.0) rest.0, rest.1)
+
+-- Two endpoints that were made, a run between them, and what is handed back of it.
+pub ran : {V E : Type 0} (items : V → List Answer) (ends : Ends) (events : List Event) (first second : Result EndpointState E) (told : Result V E) (client server client_after server_after : EndpointState)
+    (out : EndpointState × EndpointState) (answers : V) → IfOk first (λ c. StandsFor c ends.client) → IfOk second (λ s. StandsFor s ends.server) → first ≡ Ok client → second ≡ Ok server
+    → IfOk told (λ v. (ends : Ends) → StandsFor client ends.client → StandsFor server ends.server → list_any is_memory (items v) ≡ false → RunsTo ends events (items v) client_after server_after)
+    → (client_after, server_after) ≡ out → told ≡ Ok answers → list_any is_memory (items answers) ≡ false → RunsTo ends events (items answers) out.0 out.1
+ran items ends events first second told client server client_after server_after out answers one two first_is second_is runs same is whole =
+    let client_stands : StandsFor client ends.client = subst (λ r. IfOk r (λ c. StandsFor c ends.client)) first_is one in
+    let server_stands : StandsFor server ends.server = subst (λ r. IfOk r (λ s. StandsFor s ends.server)) second_is two in
+    let here = subst (λ r. IfOk r (λ v. (ends : Ends) → StandsFor client ends.client → StandsFor server ends.server → list_any is_memory (items v) ≡ false → RunsTo ends events (items v) client_after server_after)) is runs in
+    subst (λ p. RunsTo ends events (items answers) p.0 p.1) same (here ends client_stands server_stands whole)

@@ -15,7 +15,7 @@ use Rattle.h3_connection.specs.Listeners.{Encoding}
 use Rattle.h3_connection.specs.Outgoing.{OwnPart}
 use Rattle.h3_connection.specs.Sections.{instructions_for, having_inserted, with_insertions}
 use Rattle.h3_connection.specs.Sending as sending
-use Rattle.h3_connection.specs.Sending.{encoded, outgoing_at, fields_cost, counted}
+use Rattle.h3_connection.specs.Sending.{encoded, outgoing_at}
 use Rattle.h3_connection.specs.SendingContracts.{CutsOff}
 use Rattle.h3_connection.specs.StandsLaws.{stands_sending}
 use Rattle.h3_connection.specs.State.{EndpointState, RequestState, StandsFor, IsOfOutgoing, kept_at}

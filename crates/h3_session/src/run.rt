@@ -1,5 +1,5 @@
 //! A client and a server over a schedule: two endpoints, and the bytes carried between them.
-ghost use Rattle.std.specs.Prelude.{◌≡◌, ◌<◌, ◌^◌, false, IfOk};
+ghost use Rattle.std.specs.Prelude.{◌≡◌, ◌<◌, ◌^◌, false, Ok, IfOk};
 ghost use Rattle.std.specs.List.{list_any};
 ghost use Rattle.h3_connection.specs.State.{StandsFor};
 ghost use Rattle.h3_world.specs.Ends.{Ends, new_ends};
@@ -48,6 +48,29 @@ fn run_between(
     Ok(answers)
 }
 
+/// Both values, or the first error. A type parameter is dropped by one call: no body here or in `run` opens an endpoint's parts for
+/// each exit.
+fn both<A: Drop, B: Drop>(
+    first: Result<A, AllocError>,
+    second: Result<B, AllocError>,
+) -> Result<(A, B), AllocError>
+    ensures { IfOk result (λ made. (first ≡ Ok made.0) × (second ≡ Ok made.1)) }
+{
+    match first {
+        Ok(first) => beside(first, second),
+        Err(e) => Err(e),
+    }
+}
+
+fn beside<A: Drop, B: Drop>(first: A, second: Result<B, AllocError>) -> Result<(A, B), AllocError>
+    ensures { IfOk result (λ made. (first ≡ made.0) × (second ≡ Ok made.1)) }
+{
+    match second {
+        Ok(second) => Ok((first, second)),
+        Err(e) => Err(e),
+    }
+}
+
 /// Drives a client and a server by the events, in order, and answers each. `Err` arises only where there is no room for the
 /// endpoints and the answers, before the first event.
 ///
@@ -69,9 +92,11 @@ pub fn run(alloc: Global, setup: Setup, events: &[Event]) -> Result<Outcome, All
 {
     two_endpoints_run_in_a_world();
     events_are_typed(events);
-    let mut client = Endpoint::announcing(alloc, Side::Client, setup.client)?;
-    let mut server = Endpoint::announcing(alloc, Side::Server, setup.server)?;
-    let answers = run_between(alloc, &mut client, &mut server, events)?;
+    let client = Endpoint::announcing(alloc, Side::Client, setup.client);
+    let server = Endpoint::announcing(alloc, Side::Server, setup.server);
+    let (mut client, mut server) = both(client, server)?;
+    let answers = run_between(alloc, &mut client, &mut server, events);
+    let ((client, server), answers) = beside((client, server), answers)?;
     Ok(Outcome {
         answers,
         client,

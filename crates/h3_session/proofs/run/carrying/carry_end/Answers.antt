@@ -1,5 +1,5 @@
 use Rattle.h3_session.proofs.Carrying.{end_told, end_unfinished, end_waits}
-use Rattle.std.proofs.Common.{rules, arith, ◌≡◌}
+use Rattle.std.proofs.Common.{rules}
 use Rattle.h3_session.proofs.run.carrying.carry_end.Goals as goal
 
 pub returns : goal.returns

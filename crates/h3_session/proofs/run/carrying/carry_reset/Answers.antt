@@ -1,5 +1,5 @@
 use Rattle.h3_session.proofs.Carrying.{reset_told, reset_unset}
-use Rattle.std.proofs.Common.{rules, ◌≡◌}
+use Rattle.std.proofs.Common.{rules}
 use Rattle.h3_session.proofs.run.carrying.carry_reset.Goals as goal
 
 pub returns : goal.returns
