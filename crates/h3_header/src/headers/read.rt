@@ -104,7 +104,7 @@ fn read_protocol(alloc: Global, value: &[u8]) -> Result<Protocol, HeaderError>
     }
 }
 
-/// A header name, which is in lower case. A static one takes no memory.
+/// A header name, which is in lower case. A standard one takes no memory.
 fn read_name(
     alloc: Global,
     store: &mut Store,
@@ -114,13 +114,18 @@ fn read_name(
         × (n ≡ cow_slice_items name.now)) }
     ensures err { IfErr result (RefusesName (IsHeaderName (cow_slice_items name.now))) }
 {
+    if let Some(standard) = HeaderName::standard(name.as_slice()) {
+        if standard.as_bytes() == name.as_slice() {
+            return Ok(standard);
+        }
+        return Err(HeaderError::invalid_name(alloc, name.as_slice()));
+    }
     match HeaderName::from_shared(alloc, store.keep(name)?) {
         Ok(made) => {
             // `from_shared` takes letters of any case, and makes them lower case.
             if made.as_bytes() == name.as_slice() {
                 return Ok(made);
             }
-            drop(made);
             Err(HeaderError::invalid_name(alloc, name.as_slice()))
         }
         Err(HeaderNameError::Invalid) => { Err(HeaderError::invalid_name(alloc, name.as_slice())) }
