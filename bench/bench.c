@@ -38,6 +38,7 @@ int main(int argc, char **argv) {
   header_rows(&requests);
   header_rows(&responses);
   wire_rows();
+  frame_rows(&requests);
   session_rows(&requests, 1, (session_targets){1.2, 1.4, 1.1, 1.0, 0.20});
   session_rows(&responses, 1, (session_targets){1.2, 1.0, 0, 1.0, 0.34});
   session_rows(&requests, 50, (session_targets){1.2, 1.0, 0, 1.0, 0});

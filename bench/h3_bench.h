@@ -41,6 +41,17 @@ uint32_t h3_bench_header_fields(uint64_t rounds, const uint8_t *bytes, size_t le
 /* `count` DATA frames are sent, each with a front of this payload: head and payload are lent, one after the other, and
  * passed over. */
 uint32_t h3_bench_data_send(uint64_t rounds, size_t count, const uint8_t *body, size_t len, h3_report *report);
+/* The same in the small form that an endpoint keeps. */
+uint32_t h3_bench_message_send(uint64_t rounds, size_t count, const uint8_t *body, size_t len, h3_report *report);
+
+/* `bytes` are a stream of HEADERS and DATA frames, which comes in pieces of `size` bytes, one more each time that what was there is read. The pieces
+ * are made once. The report: the frames, and the bytes of their payloads. */
+uint32_t h3_bench_frames_read(uint64_t rounds, size_t size, const uint8_t *bytes, size_t len, h3_report *report);
+
+/* A decoder that announced this capacity reads `instructions` once, and then the section in each round: its fields are kept as long as they sum to at
+ * most `max`. The report: the fields that were kept at the end, 0 where the sum passes it, and the sum. */
+uint32_t h3_bench_section_within(uint64_t rounds, size_t capacity, uint64_t max, const uint8_t *instructions, size_t instructions_len,
+                                 const uint8_t *section, size_t section_len, h3_report *report);
 
 /* A session with a dynamic table, of which `limit` sections may wait: `passes` times all lists, `batch` of which are sent
  * before they are read and answered. `out` gets each batch: the count of its sections, each of them, the instructions

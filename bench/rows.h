@@ -13,6 +13,8 @@ void length_rows(void);
 void literal_rows(const field_lists *lists);
 void header_rows(const field_lists *lists);
 void wire_rows(void);
+/* Streams of frames; those of HEADERS frames have the sections of these lists. */
+void frame_rows(const field_lists *lists);
 void section_rows(const field_lists *lists);
 /* The same where other ratios to nghttp3 are wanted. */
 void section_rows_wanting(const field_lists *lists, double encode_target, double decode_target);

@@ -1,4 +1,4 @@
-/* What a stranger can drive up at a decoder: a literal that comes byte by byte. */
+/* What a stranger can drive up at a decoder: a literal that comes byte by byte, and lines that each name a large entry. */
 #include "measure.h"
 #include "peer_session.h"
 #include "rows.h"
@@ -69,7 +69,54 @@ static void bytewise_row(const char *set, size_t value_len) {
   free_work(&w);
 }
 
+typedef struct {
+  size_t capacity;
+  uint64_t max; /* the most that the fields may sum to */
+  pack instructions, section;
+  size_t lines, entry; /* how many lines the section has, and the size of the entry that each names (RFC 9204, section 3.2.1) */
+  peer_receiver receiver;
+} large_work;
+
+static void our_lines(void *data, uint64_t rounds) {
+  large_work *w = data;
+  h3_report report;
+  done("section_within", h3_bench_section_within(rounds, w->capacity, w->max, w->instructions.bytes, w->instructions.len, w->section.bytes,
+                                                 w->section.len, &report));
+  if (rounds && (report.items || report.bytes != w->lines * w->entry)) stop("section_within: another sum", (long)report.bytes);
+}
+
+/* nghttp3 knows no such limit: each line is handed out, and let go. */
+static void peer_lines(void *data, uint64_t rounds) {
+  large_work *w = data;
+  for (; rounds; rounds--) {
+    size_t fields = 0, bytes = 0;
+    if (peer_receive(&w->receiver, 0, w->section.bytes, w->section.len, &fields, &bytes, NULL) != PEER_DECODED)
+      stop("nghttp3_qpack_decoder_read_request", 0);
+    if (fields != w->lines || bytes != w->lines * (w->entry - 32)) stop("nghttp3: other counts", (long)fields);
+    peer_reply(&w->receiver);
+  }
+}
+
+/* A section of 16 KiB each of whose lines names the one entry (RFC 9204, sections 4.5.1 and 4.5.2): as fields it would have 66 MB. */
+static void large_section_row(void) {
+  enum { CAPACITY = 4096, VALUE = 3999, SECTION = 16384, MAX = 1 << 16 };
+  work table = work_of(CAPACITY, VALUE);
+  large_work w = {.capacity = CAPACITY, .max = MAX, .instructions = table.instructions, .lines = SECTION - 2, .entry = 1 + VALUE + 32};
+  make_room(&w.section, SECTION);
+  memset(w.section.bytes, 128, SECTION);
+  memcpy(w.section.bytes, (const uint8_t[]){2, 0}, 2);
+  w.section.len = SECTION;
+  w.receiver = peer_receiver_new(CAPACITY, 100);
+  if (!peer_receiver_hear(&w.receiver, w.instructions.bytes, w.instructions.len)) stop("nghttp3: an instruction", 0);
+  const contender both[CONTENDERS] = {{our_lines, &w}, {peer_lines, &w}, {0}};
+  measure_row(&(row_kind){"line beyond a limit", "16,382 of 4,032", "ns", (double)w.lines, 1, 1, 1.0, 0, NULL, 20}, both, 1);
+  peer_receiver_free(&w.receiver);
+  free_pack(&w.section);
+  free_work(&table);
+}
+
 void hostile_decoder_rows(void) {
   bytewise_row("6,000", 6000);
   bytewise_row("60,000", 60000);
+  large_section_row();
 }

@@ -13,8 +13,16 @@ static void send_data(void *data, uint64_t rounds) {
   if (rounds && report.bytes != SENT) stop("data_send: another length", (long)report.bytes);
 }
 
+static void send_message(void *data, uint64_t rounds) {
+  h3_report report;
+  done("message_send", h3_bench_message_send(rounds, FRAMES, data, PAYLOAD, &report));
+  if (rounds && report.bytes != SENT) stop("message_send: another length", (long)report.bytes);
+}
+
 void wire_rows(void) {
   static uint8_t payload[PAYLOAD];
   const contender send[CONTENDERS] = {{send_data, payload}, {0}, {0}};
+  const contender small[CONTENDERS] = {{send_message, payload}, {0}, {0}};
   measure_row(&(row_kind){"DATA frame sent", "WriteBuf", "ns", FRAMES, 1, 1, 0, 0, NULL, 10, 1}, send, FRAMES);
+  measure_row(&(row_kind){"DATA frame sent", "MessageBuf", "ns", FRAMES, 1, 1, 0, 0, NULL, 10, 1}, small, FRAMES);
 }

@@ -1,16 +1,19 @@
 //! The two ends of a session with a dynamic table. Bytes come in any pieces: what is not whole is kept.
 
 use crate::input::FieldList;
-use crate::report::Failure;
+use crate::report::{Failure, Report};
 use h3_qpack::{
-    Decoder, DecoderError, DynamicTable, Encoder, HeaderField, SliceCursor, ack_header,
-    set_dynamic_table_size,
+    DecodedWithin, Decoder, DecoderError, DynamicTable, Encoder, HeaderField, SliceCursor,
+    ack_header, set_dynamic_table_size,
 };
 use std::alloc::Global;
 
-/// Keeps the last `left` bytes.
+/// Keeps the last `left` bytes. Where these are all of them nothing is moved, or bytes that come one by one would be moved at each.
 fn keep_last(bytes: &mut Vec<u8>, left: usize) {
     let taken = bytes.len().saturating_sub(left);
+    if taken == 0 {
+        return;
+    }
     bytes.copy_within(taken.., 0);
     bytes.truncate(bytes.len() - taken);
 }
@@ -145,6 +148,15 @@ impl Receiver {
         }
     }
 
+    /// What is told of a section whose fields are kept up to `max` bytes: how many were kept, and the size of all.
+    pub(crate) fn weigh(&self, section: &[u8], max: u64) -> Result<Report, Failure> {
+        let mut section = SliceCursor::new(section);
+        match self.decoder.decode_header_within(&mut section, max, &[]) {
+            Ok(told) => Ok(report_of(&told)),
+            Err(_) => Err(Failure::Refused),
+        }
+    }
+
     /// Decodes a section that does not have to wait. Returns the count of its fields.
     pub(crate) fn count(
         &mut self,
@@ -158,6 +170,17 @@ impl Receiver {
             Err(e) => Err(e),
         }
     }
+}
+
+fn report_of(told: &DecodedWithin) -> Report {
+    let mut report = Report::new();
+    match told {
+        DecodedWithin::Fields(decoded) => {
+            report.add(decoded.fields.len(), decoded.mem_size as usize)
+        }
+        DecodedWithin::TooLarge(large) => report.add(0, large.mem_size as usize),
+    }
+    report
 }
 
 fn acknowledge(stream: u64, replies: &mut Vec<u8>) -> Result<(), Failure> {

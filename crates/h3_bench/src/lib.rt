@@ -6,6 +6,7 @@
 
 mod ends;
 mod exchange;
+mod frames;
 mod header;
 mod huffman;
 mod input;
@@ -15,3 +16,4 @@ mod section;
 mod session;
 mod varint;
 mod wire;
+mod within;

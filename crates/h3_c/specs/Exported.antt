@@ -10,6 +10,8 @@ use Rattle.h3_connection.specs.ReceivingContracts.{PullsNext}
 use Rattle.h3_connection.specs.SendingContracts.{Advances, Opens}
 use Rattle.h3_connection.specs.State.{StandsFor}
 use Rattle.h3_connection.specs.declared.event.Refusal.{Refusal}
+use Rattle.h3_outgoing.specs.Copied.{put}
+use Rattle.h3_session.specs.Copied.{CopiesTo}
 use Rattle.h3_c.specs.declared.items.PulledItem.{PulledItem}
 use Rattle.h3_c.specs.declared.numbers.Told.{Told}
 use Rattle.h3_c.specs.Items.{bytes_of, fields_of, shown}
@@ -58,12 +60,11 @@ pub record ReadsBytes (v : Seen) (from : ℕ) (n : Told) (before after : List �
   pub inside : from < length (bytes_of v.last) → (n ≡ ok) × (count ≡ min (length (drop from (bytes_of v.last))) (length before))
       × (after ≡ take (length before) (drop from (bytes_of v.last)) ++ drop (length (drop from (bytes_of v.last))) before)
 
--- Some of the bytes that wait, at the front of C's buffer.
-pub record CopiesOut (v : Seen) (id : ℕ) (n : Told) (after : List ℕ) (count fin : ℕ) : Type 0 where
+-- The first bytes that wait, as many as fit, at the front of C's buffer.
+pub record CopiesOut (v : Seen) (id : ℕ) (n : Told) (before after : List ℕ) (count fin : ℕ) : Type 0 where
   pub done : n ≡ ok
   pub last : (e : EndpointHistory) → StandsFor v.endpoint e → fin ≡ bit (is_finished e id && (length (bytes_waiting e id) == count))
-  pub front : (e : EndpointHistory) → StandsFor v.endpoint e → take count after ≡ take count (bytes_waiting e id)
-  pub fits : count ≤ length after
+  pub copied : CopiesTo v.endpoint id count before after
 
 -- Bytes were taken; not more than wait.
 pub record Takes (v w : Seen) (id count : ℕ) (n : Told) : Type 0 where
@@ -88,10 +89,6 @@ pub record WaitsNext (v : Seen) (from : ℕ) (n : Told) (id : ℕ) : Type 0 wher
 pub record OpensRequest (n : Told) (v w : Seen) (id : ℕ) : Type 0 where
   pub calls : Calls call_told n v w (λ call. Opens v.endpoint w.endpoint call)
   pub id_is : n ≡ ok → id ≡ v.endpoint.next_id
-
--- the first bytes, as many as fit, at the front of C's buffer
-abbrev pub put : List ℕ → List ℕ → List ℕ
-put bytes before = take (length before) bytes ++ drop (length bytes) before
 
 -- `H3_ROOM` where a buffer is too small
 abbrev pub room_told : Bool → Told

@@ -1,5 +1,5 @@
 //! The item that was pulled last, as C sees it: `h3_item` of the header.
-ghost use Rattle.std.specs.Prelude.{◌≡◌, IfOk, [], length, min, ◌++◌, take, drop};
+ghost use Rattle.std.specs.Prelude.{◌≡◌, IfOk, []};
 ghost use Rattle.h3_c.specs.Items.{shown, plain, numbered, head_shown, bytes_shown, fault_shown, malformation_number, fields_of, bytes_of};
 
 use bytes::Bytes;
@@ -147,14 +147,4 @@ pub(crate) fn bytes_of(answer: &Pull) -> &[u8]
         Pull::Item(Item::Raw(bytes)) => bytes.as_slice(),
         _ => &[],
     }
-}
-
-/// Copies the first bytes, as many as fit, and says how many.
-pub(crate) fn copy_front(bytes: &[u8], out: &mut [u8]) -> usize
-    ensures count { result ≡ min (length bytes.now) (length out.old) }
-    ensures front { out.new ≡ take (length out.old) bytes.now ++ drop (length bytes.now) out.old }
-{
-    let count = bytes.len().min(out.len());
-    out[..count].copy_from_slice(&bytes[..count]);
-    count
 }

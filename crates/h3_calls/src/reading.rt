@@ -1,14 +1,11 @@
 //! Lines that are read as calls.
-ghost use Rattle.std.specs.Prelude.{◌≡◌, Ok, IfOk, IfSome};
-ghost use Rattle.hex.specs.Hex.{decode_of};
-
 use crate::call::Call;
 use bytes::Bytes;
 use h3_coding::varint::VarInt;
 use h3_field::HeaderField;
 use h3_header::Header;
 use h3_proto::stream::{Side, StreamId};
-use hex::FromHexError;
+use h3_script::digits::bytes_of_digits;
 use percent_encoding::percent_decode;
 use std::alloc::{AllocError, Global};
 use std::borrow::CowSlice;
@@ -182,18 +179,7 @@ fn ending(command: &str, id: StreamId) -> Option<Call> {
 fn bytes(alloc: Global, word: &str) -> Result<Option<Bytes>, AllocError> {
     match word {
         "-" => Ok(Some(Bytes::new())),
-        _ => digits(alloc, word),
-    }
-}
-
-/// The bytes that hex digits stand for.
-fn digits(alloc: Global, word: &str) -> Result<Option<Bytes>, AllocError>
-    ensures { IfOk result (λ found. IfSome found (λ bytes. decode_of word.now ≡ Ok bytes)) }
-{
-    match hex::decode(alloc, word) {
-        Ok(found) => Ok(Some(Bytes::from_vec(found)?)),
-        Err(FromHexError::OutOfMemory) => Err(AllocError),
-        Err(_) => Ok(None),
+        _ => bytes_of_digits(alloc, word),
     }
 }
 

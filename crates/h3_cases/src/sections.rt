@@ -2,7 +2,7 @@
 use crate::case::{CaseError, bytes, number, text};
 use h3_field::{
     Decoded, DecoderError, EncoderError, HeaderField, SliceCursor, decode_stateless, dynamic,
-    encode_stateless, prefix_int, vas,
+    encode_stateless, prefix_int, section_size, vas,
 };
 use std::alloc::Global;
 use std::borrow::CowSlice;
@@ -74,12 +74,9 @@ fn told(alloc: Global, decoded: &Decoded, left: usize) -> Result<String, CaseErr
     Ok(text)
 }
 
-/// The section of at most two fields, and its size.
+/// The section of fields, and its size.
 fn write(alloc: Global, fields: &[HeaderField]) -> Result<String, CaseError> {
-    let [first, second] = fields else {
-        return Err(CaseError::Unreadable);
-    };
-    let sum = first.mem_size().saturating_add(second.mem_size());
+    let sum = section_size(fields);
     if sum > 1000 {
         return Err(CaseError::Unreadable);
     }
@@ -96,17 +93,25 @@ fn of_field(alloc: Global, command: &str, field: HeaderField) -> Result<String, 
             let other = field.with_value(alloc, CowSlice::Borrowed(b"2"))?;
             Ok(other.into_string(alloc)?)
         }
-        "parts" => {
-            let (name, value) = field.into_inner();
-            parts(alloc, &HeaderField::from((name, value)))
+        "parts" => taken(alloc, field),
+        "copied" => {
+            let copy = HeaderField::copied(alloc, field.name(), field.value());
+            drop(field);
+            taken(alloc, copy?)
         }
         _ => Err(CaseError::Unreadable),
     }
 }
 
-/// A field put together from parts, and whether it is the one of borrowed bytes.
+/// A field put together from the parts of one, and whether it is the one of borrowed bytes.
+fn taken(alloc: Global, field: HeaderField) -> Result<String, CaseError> {
+    let (name, value) = field.into_inner(alloc)?;
+    parts(alloc, &HeaderField::from((name, value)))
+}
+
+/// The parts of a field, and whether it is the one of borrowed bytes.
 fn parts(alloc: Global, field: &HeaderField) -> Result<String, CaseError> {
-    let borrowed = HeaderField::new(CowSlice::Borrowed(b":path"), CowSlice::Borrowed(b"a"));
+    let borrowed = HeaderField::from_static(b":path", b"a");
     let same = *field == borrowed;
     field.are_bytes();
     let (name, value) = (field.as_ref().name(), field.value());

@@ -8,14 +8,14 @@ use h3_proto::config::Config;
 use h3_proto::frame::{SettingId, Settings, SettingsError};
 
 /// The limits of an endpoint's decoder: the capacity of its table in bytes, and how many streams may wait.
-#[derive(Clone, Copy)]
+#[derive(Clone, Copy, Debug, PartialEq, Eq)]
 pub struct Limits {
     pub table: u64,
     pub blocked: u64,
 }
 
 /// Why no endpoint can be made.
-#[derive(Drop)]
+#[derive(Debug, Drop)]
 pub enum NewError {
     /// The table is above 2^30 - 1 bytes.
     TableLimit,

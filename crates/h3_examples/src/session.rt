@@ -2,7 +2,6 @@
 use crate::log::{bytes, fields, number, words};
 use h3_qpack::{Decoder, Encoder, HeaderField, SliceCursor, ack_header, stream_canceled};
 use std::alloc::{AllocError, Global};
-use std::borrow::CowSlice;
 
 /// Both ends, and what was written and not yet read: a section, the encoder stream and the decoder stream.
 #[derive(Drop)]
@@ -17,7 +16,7 @@ struct Ends {
 
 /// A field of static strings.
 pub fn field(name: &'static [u8], value: &'static [u8]) -> HeaderField {
-    HeaderField::new(CowSlice::Borrowed(name), CowSlice::Borrowed(value))
+    HeaderField::from_static(name, value)
 }
 
 /// A request whose head waits for its insertions, is decoded and acknowledged, and one that is given up.

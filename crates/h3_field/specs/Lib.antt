@@ -43,5 +43,6 @@ pub mod SectionLaws
 pub mod ReadBackLaws
 pub mod StaticTableLaws
 pub mod IntegerWritingLaws
+pub mod FieldForm
 pub mod FieldLaws
 pub mod ShorterLaws

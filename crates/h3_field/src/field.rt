@@ -1,7 +1,8 @@
 //! A field of two byte strings, static or owned.
-ghost use Rattle.std.specs.Prelude.{◌≡◌, ◌++◌, ◌∷◌, [], codes, string_bytes, IfOk, Some, encode_utf8_all, nat_eq, min, ◌^◌, ◌-◌, ◌+◌, ◌≤◌, length};
+ghost use Rattle.std.specs.Prelude.{◌≡◌, ◌++◌, ◌∷◌, [], codes, string_bytes, IfOk, OnErr, Some, encode_utf8_all, nat_eq, min, ◌^◌, ◌-◌, ◌+◌, ◌<◌, ◌≤◌, length, take, drop};
 ghost use Rattle.std.specs.Cow.{cow_slice_items};
-ghost use Rattle.h3_field.specs.Field.{field_size};
+ghost use Rattle.h3_field.specs.Field.{field_size, section_size};
+ghost use Rattle.h3_field.specs.FieldForm.{part_bytes};
 ghost use Rattle.h3_field.specs.ReadBack.{IsFieldOfBytes};
 ghost use Rattle.std.specs.Hash as fed;
 ghost use Rattle.std.specs.Cmp.Lexicographic.{pointwise};
@@ -11,6 +12,7 @@ ghost use Rattle.std.proofs.Common.{rules};
 ghost use Rattle.bstr.specs.Utf8.{lossy_chars};
 
 use crate::octets::are_bytes;
+use crate::part::Part;
 use bstr::{BStr, ByteVec};
 use std::alloc::{AllocError, Global};
 use std::borrow::CowSlice;
@@ -21,27 +23,92 @@ use std::marker::Model;
 /// What a field counts beside its bytes (RFC 9204, section 3.2.1).
 pub const ESTIMATED_OVERHEAD_BYTES: usize = 32;
 
-/// A name and a value. A contract sees the two byte lists.
+/// A name and a value, in at most 56 bytes beside the memory that it owns. A contract sees the two byte lists.
 #[derive(Drop)]
 pub struct HeaderField {
-    name: CowSlice<'static, u8>,
-    value: CowSlice<'static, u8>,
+    form: Form,
+}
+
+/// Where the bytes of a field's name and value lie.
+#[derive(Drop)]
+pub(crate) enum Form {
+    Static(&'static [u8], &'static [u8]),
+    StaticName(&'static [u8], Vec<u8>),
+    StaticValue(Vec<u8>, &'static [u8]),
+    Owned(Vec<u8>, Vec<u8>),
+    /// The name and then the value in one block, and the length of the name.
+    Block(Vec<u8>, usize),
 }
 
 impl Model for HeaderField {
     ghost use Rattle.h3_field.specs.Field.{Field};
-    ghost use Rattle.std.specs.Cow.{cow_slice_items};
 
     ghost Value = { Field };
 
-    ghost view = { λ f. record { name = cow_slice_items f.name; value = cow_slice_items f.value } };
+    ghost use Rattle.h3_field.specs.FieldForm.{field_in, IsForm};
+
+    ghost view = { λ f. field_in f.form };
+
+    ghost invariant = { λ f. IsForm f.form };
 }
 
 impl HeaderField {
     pub fn new(name: CowSlice<'static, u8>, value: CowSlice<'static, u8>) -> HeaderField
         ensures { result ≡ record { name = cow_slice_items name.entry; value = cow_slice_items value.entry } }
     {
-        HeaderField { name, value }
+        let form = match name {
+            CowSlice::Borrowed(name) => match value {
+                CowSlice::Borrowed(value) => Form::Static(name, value),
+                CowSlice::Owned(value) => Form::StaticName(name, value),
+            },
+            CowSlice::Owned(name) => match value {
+                CowSlice::Borrowed(value) => Form::StaticValue(name, value),
+                CowSlice::Owned(value) => Form::Owned(name, value),
+            },
+        };
+        HeaderField { form }
+    }
+
+    /// A static name and a static value. It takes no memory.
+    pub fn from_static(name: &'static [u8], value: &'static [u8]) -> HeaderField
+        ensures { result ≡ record { name = name.now; value = value.now } }
+    {
+        HeaderField {
+            form: Form::Static(name, value),
+        }
+    }
+
+    /// A static name and an owned value.
+    pub fn with_static_name(name: &'static [u8], value: Vec<u8>) -> HeaderField
+        ensures { result ≡ record { name = name.now; value = value.items } }
+    {
+        HeaderField {
+            form: Form::StaticName(name, value),
+        }
+    }
+
+    /// A field in one block: the first bytes, as many as the length, are the name, and those behind them the value.
+    pub fn from_block(bytes: Vec<u8>, name_length: usize) -> HeaderField
+        requires { name_length ≤ length bytes.items }
+        ensures { result ≡ record { name = take name_length bytes.items; value = drop name_length bytes.items } }
+    {
+        HeaderField {
+            form: Form::Block(bytes, name_length),
+        }
+    }
+
+    /// A field of copies, in one block. It takes no memory where both are empty.
+    pub fn copied(alloc: Global, name: &[u8], value: &[u8]) -> Result<HeaderField, AllocError>
+        ensures ok { IfOk result (λ f. f ≡ record { name = name.now; value = value.now }) }
+        ensures err { OnErr result (0 < length name.now + length value.now) }
+    {
+        if name.is_empty() && value.is_empty() {
+            return Ok(HeaderField::from_static(b"", b""));
+        }
+        let mut bytes = Vec::with_capacity(alloc, name.len().saturating_add(value.len()))?;
+        bytes.extend_from_slice(name)?;
+        bytes.extend_from_slice(value)?;
+        Ok(HeaderField::from_block(bytes, name.len()))
     }
 
     /// The field with another value. A name that is not static is copied.
@@ -52,41 +119,79 @@ impl HeaderField {
     ) -> Result<HeaderField, AllocError>
         ensures { IfOk result (λ f. f ≡ record { name = self.now.name; value = cow_slice_items value.entry }) }
     {
-        let name = match &self.name {
-            CowSlice::Borrowed(name) => CowSlice::Borrowed(*name),
-            CowSlice::Owned(name) => CowSlice::Owned(Vec::from_slice(alloc, name.as_slice())?),
+        let name = match self.name_part() {
+            Part::Static(name) => CowSlice::Borrowed(name),
+            Part::Lent(name) => CowSlice::Owned(Vec::from_slice(alloc, name)?),
         };
-        Ok(HeaderField { name, value })
+        Ok(HeaderField::new(name, value))
     }
 
-    /// The name and the value.
-    pub fn into_inner(self) -> (CowSlice<'static, u8>, CowSlice<'static, u8>)
-        ensures name { cow_slice_items result.0 ≡ self.name }
-        ensures value { cow_slice_items result.1 ≡ self.value }
+    /// The name and the value. Only a field in one block takes memory, for a copy of its value.
+    pub fn into_inner(
+        self,
+        alloc: Global,
+    ) -> Result<(CowSlice<'static, u8>, CowSlice<'static, u8>), AllocError>
+        ensures name { IfOk result (λ parts. cow_slice_items parts.0 ≡ self.name) }
+        ensures value { IfOk result (λ parts. cow_slice_items parts.1 ≡ self.value) }
+        ensures err { OnErr result (0 < length self.value) }
     {
-        (self.name, self.value)
-    }
-
-    /// A static name and an owned value.
-    pub fn with_static_name(name: &'static [u8], value: Vec<u8>) -> HeaderField
-        ensures { result ≡ record { name = name.now; value = value.items } }
-    {
-        HeaderField {
-            name: CowSlice::Borrowed(name),
-            value: CowSlice::Owned(value),
+        match self.form {
+            Form::Static(name, value) => Ok((CowSlice::Borrowed(name), CowSlice::Borrowed(value))),
+            Form::StaticName(name, value) => {
+                Ok((CowSlice::Borrowed(name), CowSlice::Owned(value)))
+            }
+            Form::StaticValue(name, value) => {
+                Ok((CowSlice::Owned(name), CowSlice::Borrowed(value)))
+            }
+            Form::Owned(name, value) => Ok((CowSlice::Owned(name), CowSlice::Owned(value))),
+            Form::Block(bytes, name_length) => split(alloc, bytes, name_length),
         }
     }
 
     pub fn name(&self) -> &[u8]
         ensures { result.now ≡ self.now.name }
     {
-        self.name.as_slice()
+        match &self.form {
+            Form::Static(name, _) => *name,
+            Form::StaticName(name, _) => *name,
+            Form::StaticValue(name, _) => name.as_slice(),
+            Form::Owned(name, _) => name.as_slice(),
+            Form::Block(bytes, name_length) => &bytes.as_slice()[..*name_length],
+        }
     }
 
     pub fn value(&self) -> &[u8]
         ensures { result.now ≡ self.now.value }
     {
-        self.value.as_slice()
+        match &self.form {
+            Form::Static(_, value) => *value,
+            Form::StaticName(_, value) => value.as_slice(),
+            Form::StaticValue(_, value) => *value,
+            Form::Owned(_, value) => value.as_slice(),
+            Form::Block(bytes, name_length) => &bytes.as_slice()[*name_length..],
+        }
+    }
+
+    /// The name, and whether it is static.
+    pub fn name_part(&self) -> Part<'_>
+        ensures { part_bytes result ≡ self.now.name }
+    {
+        match &self.form {
+            Form::Static(name, _) => Part::Static(*name),
+            Form::StaticName(name, _) => Part::Static(*name),
+            _ => Part::Lent(self.name()),
+        }
+    }
+
+    /// The value, and whether it is static.
+    pub fn value_part(&self) -> Part<'_>
+        ensures { part_bytes result ≡ self.now.value }
+    {
+        match &self.form {
+            Form::Static(_, value) => Part::Static(*value),
+            Form::StaticValue(_, value) => Part::Static(*value),
+            _ => Part::Lent(self.value()),
+        }
     }
 
     /// The bytes of name and value and 32 more, or the greatest number where the sum passes it (RFC 9204, section 3.2.1).
@@ -103,15 +208,13 @@ impl HeaderField {
     pub fn owned_len(&self) -> usize
         ensures { result ≤ length self.now.name + length self.now.value }
     {
-        let name = match &self.name {
-            CowSlice::Borrowed(_) => 0,
-            CowSlice::Owned(name) => name.len(),
-        };
-        let value = match &self.value {
-            CowSlice::Borrowed(_) => 0,
-            CowSlice::Owned(value) => value.len(),
-        };
-        name.saturating_add(value)
+        match &self.form {
+            Form::Static(_, _) => 0,
+            Form::StaticName(_, value) => value.len(),
+            Form::StaticValue(name, _) => name.len(),
+            Form::Owned(name, value) => name.len().saturating_add(value.len()),
+            Form::Block(bytes, _) => bytes.len(),
+        }
     }
 
     /// Each item of name and value is a byte. It does nothing: a proof that needs the fact calls it.
@@ -134,6 +237,37 @@ impl HeaderField {
     }
 }
 
+/// The name and the value of a block. The block stays the name's.
+fn split(
+    alloc: Global,
+    mut bytes: Vec<u8>,
+    name_length: usize,
+) -> Result<(CowSlice<'static, u8>, CowSlice<'static, u8>), AllocError>
+    requires { name_length ≤ length bytes.items }
+    ensures name { IfOk result (λ parts. cow_slice_items parts.0 ≡ take name_length bytes.items) }
+    ensures value { IfOk result (λ parts. cow_slice_items parts.1 ≡ drop name_length bytes.items) }
+    ensures err { OnErr result (0 < length (drop name_length bytes.items)) }
+{
+    if bytes.len() == name_length {
+        return Ok((CowSlice::Owned(bytes), CowSlice::Borrowed(b"")));
+    }
+    let value = Vec::from_slice(alloc, &bytes.as_slice()[name_length..])?;
+    bytes.truncate(name_length);
+    Ok((CowSlice::Owned(bytes), CowSlice::Owned(value)))
+}
+
+/// The size of a field section that is not compressed, or the greatest number where it passes that: the bytes of each name and value,
+/// and 32 more for each field (RFC 9114, section 4.2.2).
+pub fn section_size(fields: &[HeaderField]) -> u64
+    ensures { result ≡ min (2 ^ 64 - 1) (section_size fields.now) }
+{
+    let mut size: u64 = 0;
+    'fields: for field in fields {
+        size = size.saturating_add(field.mem_size() as u64);
+    }
+    size
+}
+
 impl AsRef<HeaderField> for HeaderField {
     fn as_ref(&self) -> &HeaderField
         ensures { result.now ≡ self.now }
@@ -147,7 +281,7 @@ impl From<(CowSlice<'static, u8>, CowSlice<'static, u8>)> for HeaderField {
 
     fn from(parts: (CowSlice<'static, u8>, CowSlice<'static, u8>)) -> HeaderField {
         let (name, value) = parts;
-        HeaderField { name, value }
+        HeaderField::new(name, value)
     }
 }
 

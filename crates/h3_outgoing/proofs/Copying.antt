@@ -1,11 +1,11 @@
 -- The first bytes of what waits, piece by piece.
-use Rattle.std.proofs.Common.{◌≡◌, ◌≤◌, ◌<◌, ℕ, zero, suc, ◌+◌, ◌-◌, List, [], ◌∷◌, ◌++◌, length, take, drop, append_assoc, refl, sym, ap, ◌∙◌, subst, arith}
+use Rattle.std.proofs.Common.{◌≡◌, ◌<◌, ℕ, zero, suc, ◌+◌, ◌-◌, List, [], ◌∷◌, ◌++◌, length, take, drop, append_assoc, refl, sym, ap, ◌∙◌, arith}
 use Rattle.std.specs.Prelude.{slice_index_or}
 use Rattle.std.proofs.lemmas.List.{drop_more}
 use Rattle.h3_wire.specs.Outgoing.{Outgoing as Piece, all_of}
 use Rattle.h3_connection.specs.WaitingPieces.{bytes_of}
 
-nothing_taken : (n : ℕ) → take {A = ℕ} n [] ≡ []
+pub nothing_taken : (n : ℕ) → take {A = ℕ} n [] ≡ []
 nothing_taken zero = refl
 nothing_taken (suc n) = refl
 

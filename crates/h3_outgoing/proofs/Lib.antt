@@ -1,2 +1,3 @@
 pub mod Waiting
 mod Copying
+mod Filling

@@ -1,9 +1,9 @@
 -- What the calls on a request stream at its sender do to what is kept of it.
-use Rattle.std.specs.Prelude.{ℕ, Bool, true, false, not, ◌&&◌, ◌||◌, List, [], ◌∷◌, ◌++◌, length, if◌then◌else◌, ◌==◌}
+use Rattle.std.specs.Prelude.{ℕ, Bool, true, false, not, ◌&&◌, ◌||◌, List, [], ◌∷◌, ◌++◌, length, ◌==◌}
 use Rattle.h3_connection.specs.State.{OutgoingState}
 use Rattle.h3_connection.specs.WaitingPieces.{bytes_of, frame_piece, without_front}
 use Rattle.h3_connection.specs.declared.place.SendPlace.{SendPlace}
-use Rattle.h3_connection.specs.declared.place.SendPlace.TheVariants.{NothingSent, HeadSent, TrailerSent}
+use Rattle.h3_connection.specs.declared.place.SendPlace.TheVariants.{NothingSent, HeadSent}
 
 -- it was neither finished nor reset
 abbrev pub is_open : OutgoingState → Bool

@@ -1,8 +1,9 @@
 //! What is sent on a request stream: where its message is, and the frames that wait.
-ghost use Rattle.std.specs.Prelude.{◌≡◌, ◌≢◌, ◌+◌, ◌-◌, ◌<◌, ◌≤◌, ◌^◌, ◌++◌, [], length, take, true, false, OnOk, OnErr, IfErr, IsTrue};
+ghost use Rattle.std.specs.Prelude.{◌≡◌, ◌≢◌, ◌+◌, ◌-◌, ◌<◌, ◌≤◌, ◌^◌, ◌++◌, [], length, take, drop, min, true, false, OnOk, OnErr, IfErr, IsTrue};
 ghost use Rattle.h3_wire.specs.Outgoing.{all_of};
 ghost use Rattle.h3_connection.specs.WaitingPieces.{bytes_of, lent, without_front};
 ghost use Rattle.h3_connection.specs.State.{nothing_waits};
+ghost use Rattle.h3_outgoing.specs.Copied.{put};
 ghost use Rattle.h3_outgoing.specs.Sent.{has_section, has_body, has_ended, was_cut_off, taken_from, takes_head, takes_body, takes_end, is_sent_off};
 
 use bytes::{Buf, Bytes};
@@ -187,6 +188,24 @@ impl OutgoingStream {
         Ok(())
     }
 
+    /// Copies the first bytes that wait to the front of `out`, as many as fit, over frames too, and says how many. They keep
+    /// waiting. It takes no memory.
+    pub fn copy_to(&self, out: &mut [u8]) -> usize
+        ensures count { result ≡ min (length (bytes_of self.now.pieces)) (length out.old) }
+        ensures front { out.new ≡ put (bytes_of self.now.pieces) out.old }
+    {
+        let mut at = 0;
+        for index in 0..self.pieces.len() {
+            if at == out.len() {
+                return at;
+            }
+            let piece = &self.pieces[index];
+            at = put_at(piece.head(), at, out);
+            at = put_at(piece.payload(), at, out);
+        }
+        at
+    }
+
     /// How many bytes wait.
     pub fn waiting(&self) -> usize
         ensures { result ≡ length (bytes_of self.now.pieces) }
@@ -258,6 +277,25 @@ fn front(bytes: &[u8], count: usize) -> &[u8]
         return &bytes[..count];
     }
     bytes
+}
+
+/// Copies bytes into a buffer from a place on, as many as fit, and answers the place behind them.
+fn put_at(bytes: &[u8], at: usize, out: &mut [u8]) -> usize
+    requires { at ≤ length out.old }
+    ensures place { result ≡ at + min (length bytes.now) (length out.old - at) }
+    ensures front { out.new ≡ take at out.old ++ put bytes.now (drop at out.old) }
+{
+    at + put_front(bytes, &mut out[at..])
+}
+
+/// Copies bytes to the front of a buffer, as many as fit, and says how many. The rest of the buffer stays.
+pub fn put_front(bytes: &[u8], out: &mut [u8]) -> usize
+    ensures count { result ≡ min (length bytes.now) (length out.old) }
+    ensures front { out.new ≡ put bytes.now out.old }
+{
+    let count = bytes.len().min(out.len());
+    out[..count].copy_from_slice(&bytes[..count]);
+    count
 }
 
 /// Appends the first `count` bytes of a frame, at most all. A refusal appends nothing.

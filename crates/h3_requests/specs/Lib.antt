@@ -1,3 +1,4 @@
 pub mod Changing
 pub mod Counted
 pub mod Limited
+pub mod Refused

@@ -1,5 +1,5 @@
 //! A request stream, both ways.
-ghost use Rattle.std.specs.Prelude.{◌≡◌, ◌||◌, IfErr, OnErr, OnOk};
+ghost use Rattle.std.specs.Prelude.{◌≡◌, ◌||◌, is_some, IfErr, OnErr, OnOk};
 ghost use Rattle.h3_connection.specs.Calls.{fresh_request};
 ghost use Rattle.h3_connection.specs.Delivering.{kept};
 
@@ -54,6 +54,13 @@ impl RequestStream {
         ensures { result ≡ (self.now.incoming.ended || self.now.incoming.was_reset) }
     {
         self.incoming.ended() || self.incoming.was_reset()
+    }
+
+    // Whether nothing more is handed out of it: its end was, or it was given up.
+    pub(crate) fn is_settled(&self) -> bool
+        ensures { result ≡ (self.now.incoming.is_over || is_some self.now.incoming.fault) }
+    {
+        self.incoming.is_over() || self.incoming.fault().is_some()
     }
 
     // More bytes came. No queue of 2^62 bytes fits into memory: a longer one is refused as such. An `Err` changes nothing, and

@@ -12,6 +12,7 @@ use std::alloc::{AllocError, Global};
 use std::collections::BTreeMap;
 use std::marker::Model;
 
+mod judged;
 mod pulling;
 mod receiving;
 mod sending;

@@ -6,6 +6,7 @@ pub mod Lines
 pub mod MadeSetups
 pub mod Numbers
 pub mod OneRefusal
+mod PrintedLines
 pub mod Requests
 pub mod ScriptSums
 pub mod Scripts

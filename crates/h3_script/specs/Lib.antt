@@ -1,6 +1,7 @@
 pub mod BodyLine
 pub mod Few
 pub mod HeadText
+pub mod Inputs
 pub mod LineErrors
 pub mod Lines
 pub mod Pieces

@@ -1,11 +1,11 @@
 -- A cancellation by what is stored is that of every history that this stands for.
 use Rattle.std.proofs.Common.{◌≡◌, ℕ, Bool, true, false, if◌then◌else◌, List, Option, Some, None, refl, ap, sym, subst, ◌∙◌}
-use Rattle.std.specs.Prelude.{◌≢◌, IsSome, not, ◌||◌, is_some, unwrap_or, Ok, Err}
+use Rattle.std.specs.Prelude.{◌≢◌, OnOk, OnErr, IfErr, Result, IsSome, not, ◌||◌, is_some, unwrap_or, Ok, Err}
 use Rattle.h3_connection.specs.Calls.{IsSame, AllSame}
 use Rattle.h3_connection.specs.Delivering.{give_up, given_up_once, cancellation, incoming_at, with_incoming}
 use Rattle.h3_connection.specs.Endpoint.{EndpointHistory, is_critical_id}
 use Rattle.h3_connection.specs.Incoming.{nothing_came}
-use Rattle.h3_connection.specs.Sending.{closed_or, cancel_refusal, does}
+use Rattle.h3_connection.specs.Sending.{closed_or, cancel_refusal, cancel, does}
 use Rattle.h3_connection.specs.SendingContracts.{Cancels}
 use Rattle.h3_connection.specs.StandsLaws.{stands_receiving}
 use Rattle.h3_connection.specs.State.{EndpointState, RequestState, StandsFor, kept_at}
@@ -13,9 +13,12 @@ use Rattle.h3_connection.specs.StreamSets.{Streams, stream_at}
 use Rattle.h3_connection.specs.declared.event.Refusal.{Refusal}
 use Rattle.h3_connection.specs.declared.event.Refusal.TheVariants as refusal
 use Rattle.h3_connection.specs.declared.event.StreamFault.TheVariants as stream_fault
-use Rattle.h3_session.specs.Canceling.{cancel_refused, cancel_refused_at, CancelsAt}
-use Rattle.h3_session.specs.OpenedLaws.{ChangesRequests, stands_replied, some_there, none_there}
-use Rattle.h3_session.specs.Refused.{or_later, refused_if}
+use Rattle.h3_requests.specs.Refused.{or_later, refused_if, cancel_refused_at}
+use Rattle.h3_streams.specs.PlacedLaws.{critical_stands}
+use Rattle.h3_session.specs.Canceling.{cancel_refused, CancelsAt}
+use Rattle.h3_session.specs.OpenedLaws.{ChangesRequests, stands_same, stands_replied, some_there, none_there}
+use Rattle.h3_session.specs.Refused.{streams_of, is_critical_in, critical_refused}
+use Rattle.h3_session.proofs.SendingRefusals.{critical_first, critical_left}
 
 first : (b : Bool) (r : Refusal) (rest : Option Refusal) → or_later (refused_if b r) rest ≡ (if b then Some r else rest)
 first true r rest = refl
@@ -26,20 +29,32 @@ refused_there : (s : EndpointState) (e : EndpointHistory) (id : ℕ) (at : Optio
 refused_there s e id None h was = rw (none_there s e id h was) refl
 refused_there s e id (Some r) h was = rw (some_there s e id r h was) refl
 
-pub cancel_refusal_is : (s : EndpointState) (e : EndpointHistory) (id : ℕ) (critical : Bool) → StandsFor s e → critical ≡ is_critical_id e id
-    → cancel_refused s.closed critical (kept_at s.requests id) ≡ cancel_refusal e id
-cancel_refusal_is s e id critical h is =
-    ap (λ c. cancel_refused c critical (kept_at s.requests id)) h.closed
-    ∙ ap (λ b. cancel_refused e.closed b (kept_at s.requests id)) is
+pub cancel_refusal_is : (s : EndpointState) (e : EndpointHistory) (id : ℕ) → StandsFor s e → cancel_refused s id ≡ cancel_refusal e id
+cancel_refusal_is s e id h =
+    let critical : is_critical_in s id ≡ is_critical_id e id = critical_stands s (streams_of s) e s.side id (is_critical_in s id) refl h (sym h.side) in
+    ap (λ c. closed_or c (or_later (refused_if (is_critical_in s id) refusal.Critical) (cancel_refused_at (kept_at s.requests id)))) h.closed
+    ∙ ap (λ b. closed_or e.closed (or_later (refused_if b refusal.Critical) (cancel_refused_at (kept_at s.requests id)))) critical
     ∙ ap (closed_or e.closed) (first (is_critical_id e id) refusal.Critical (cancel_refused_at (kept_at s.requests id))
     ∙ ap (λ o. if is_critical_id e id then Some refusal.Critical else o) (refused_there s e id (kept_at s.requests id) h refl))
 
 -- what is not refused is there
-pub there_by : (closed : Option ℕ) (a : Bool) (at : Option RequestState) → cancel_refused closed a at ≡ None → is_some at ≡ true
-there_by (Some code) a at h = cc
-there_by None true at h = cc
-there_by None false None h = cc
-there_by None false (Some r) h = refl
+there_by : (at : Option RequestState) → cancel_refused_at at ≡ None → is_some at ≡ true
+there_by None h = cc
+there_by (Some r) h = refl
+
+-- no rule refuses it memory
+critical_takes_none : (closed : Option ℕ) (b : Bool) (r : Refusal) → closed_or closed (refused_if b refusal.Critical) ≡ Some r → r ≢ refusal.OutOfMemory
+critical_takes_none (Some code) b r is memory = cc
+critical_takes_none None true r is memory = cc
+critical_takes_none None false r is memory = absurd (cc)
+
+ended_takes_none : (b : Bool) (r : Refusal) → refused_if b refusal.Ended ≡ Some r → r ≢ refusal.OutOfMemory
+ended_takes_none true r is memory = cc
+ended_takes_none false r is memory = absurd (cc)
+
+takes_none : (at : Option RequestState) (r : Refusal) → cancel_refused_at at ≡ Some r → r ≢ refusal.OutOfMemory
+takes_none None r is memory = cc
+takes_none (Some at) r is memory = ended_takes_none (at.incoming.is_over || is_some at.incoming.fault) r is memory
 
 pub nothing_changed : (s : EndpointState) → IsSame s s
 nothing_changed s =
@@ -65,7 +80,7 @@ nothing_changed s =
     }
 
 -- refused by a rule
-pub cancel_was_refused : (s : EndpointState) (id : ℕ) (r : Refusal) → r ≢ refusal.OutOfMemory → ((e : EndpointHistory) → StandsFor s e → Some r ≡ cancel_refusal e id) → Cancels s s id (Err r)
+cancel_was_refused : (s : EndpointState) (id : ℕ) (r : Refusal) → r ≢ refusal.OutOfMemory → ((e : EndpointHistory) → StandsFor s e → Some r ≡ cancel_refusal e id) → Cancels s s id (Err r)
 cancel_was_refused s id r rule h = record {
   done = λ e stands memory. rw (sym (h e stands)) (refl, stands);
   same = λ some. nothing_changed s;
@@ -99,7 +114,7 @@ all_same s new bytes same is =
 pub requests_same : (s new : EndpointState) → ChangesRequests s new → AllSame s.requests new.requests → new.own.decoder ≡ s.own.decoder → IsSame s new
 requests_same s new rest same is = subst (IsSame s) (sym rest) (all_same s new.requests new.own.decoder same is)
 
-pub cancel_lacked : (s new : EndpointState) (id : ℕ) → ((e : EndpointHistory) → StandsFor s e → None ≡ cancel_refusal e id) → ChangesRequests s new
+cancel_lacked : (s new : EndpointState) (id : ℕ) → ((e : EndpointHistory) → StandsFor s e → None ≡ cancel_refusal e id) → ChangesRequests s new
     → AllSame s.requests new.requests × (new.own.decoder ≡ s.own.decoder) → Cancels s new id (Err refusal.OutOfMemory)
 cancel_lacked s new id h rest same = record {
   done = λ e stands memory. absurd (memory refl);
@@ -119,10 +134,51 @@ canceled_at s new e id (Some r) h was some rest does =
     (stands_receiving s e new.requests id r (record r { incoming = i }) h was refl does.0) does.1))
 
 -- it is canceled
-pub canceled : (s new : EndpointState) (id : ℕ) → IsSome (kept_at s.requests id) → ((e : EndpointHistory) → StandsFor s e → None ≡ cancel_refusal e id) → ChangesRequests s new
+canceled : (s new : EndpointState) (id : ℕ) → IsSome (kept_at s.requests id) → ((e : EndpointHistory) → StandsFor s e → None ≡ cancel_refusal e id) → ChangesRequests s new
     → CancelsAt s.requests new.requests s.own.decoder new.own.decoder id (kept_at s.requests id) → Cancels s new id (Ok tt)
 canceled s new id there h rest does = record {
   done = λ e stands memory. rw (sym (h e stands)) (refl, canceled_at s new e id (kept_at s.requests id) stands refl there rest does);
   same = λ some. absurd (some refl);
   memory = λ e stands lacks. cc;
 }
+
+pub cancel_critical : (s : EndpointState) (id : ℕ) (r : Refusal) → critical_refused s id ≡ Some r → Cancels s s id (Err r)
+cancel_critical s id r is =
+    let rule : cancel_refused s id ≡ Some r = critical_first s.closed (is_critical_in s id) (cancel_refused_at (kept_at s.requests id)) r is in
+    cancel_was_refused s id r (critical_takes_none s.closed (is_critical_in s id) r is) (λ e h. sym rule ∙ cancel_refusal_is s e id h)
+
+-- the same, where nothing that is found has changed
+cancel_alike : (s n : EndpointState) (id : ℕ) (r : Refusal) → ChangesRequests s n → AllSame s.requests n.requests → n.own.decoder ≡ s.own.decoder → Cancels s s id (Err r) → Cancels s n id (Err r)
+cancel_alike s n id r rest same is h = record {
+  done = λ e stands memory. ((h.done e stands memory).0, stands_now (cancel e id).1 (h.done e stands memory).1);
+  same = λ some. requests_same s n rest same is;
+  memory = h.memory;
+}
+  where
+    stands_now : (e : EndpointHistory) → StandsFor s e → StandsFor n e
+    stands_now e stands =
+        subst (λ v. StandsFor v e) (sym rest)
+        (subst (λ l. StandsFor (record s { requests = n.requests; own = record s.own { decoder = l } }) e) (sym is) (stands_same s e n.requests stands same))
+
+cancel_refuses : (s n : EndpointState) (id : ℕ) (rule : Option Refusal) → cancel_refused s id ≡ rule → ((r : Refusal) → rule ≡ Some r → r ≢ refusal.OutOfMemory) → ChangesRequests s n
+    → AllSame s.requests n.requests × (n.own.decoder ≡ s.own.decoder) → Cancels s n id (Err (unwrap_or rule refusal.OutOfMemory))
+cancel_refuses s n id (Some r) is not_memory rest same =
+    cancel_alike s n id r rest same.0 same.1 (cancel_was_refused s id r (not_memory r refl) (λ e h. sym is ∙ cancel_refusal_is s e id h))
+cancel_refuses s n id None is not_memory rest same = cancel_lacked s n id (λ e h. sym is ∙ cancel_refusal_is s e id h) rest same
+
+pub cancels : (s n : EndpointState) (id : ℕ) (result : Result Unit Refusal) → critical_refused s id ≡ None → ChangesRequests s n
+    → OnOk result (CancelsAt s.requests n.requests s.own.decoder n.own.decoder id (kept_at s.requests id)) → OnOk result (cancel_refused_at (kept_at s.requests id) ≡ None)
+    → IfErr result (λ r. r ≡ unwrap_or (cancel_refused_at (kept_at s.requests id)) refusal.OutOfMemory)
+    → OnErr result (AllSame s.requests n.requests × (n.own.decoder ≡ s.own.decoder)) → Cancels s n id result
+cancels s n id result allowed rest = by result
+  where
+    left : cancel_refused s id ≡ cancel_refused_at (kept_at s.requests id)
+    left = critical_left s.closed (is_critical_in s id) (cancel_refused_at (kept_at s.requests id)) allowed
+
+    by : (result : Result Unit Refusal) → OnOk result (CancelsAt s.requests n.requests s.own.decoder n.own.decoder id (kept_at s.requests id)) → OnOk result (cancel_refused_at (kept_at s.requests id) ≡ None)
+        → IfErr result (λ r. r ≡ unwrap_or (cancel_refused_at (kept_at s.requests id)) refusal.OutOfMemory)
+        → OnErr result (AllSame s.requests n.requests × (n.own.decoder ≡ s.own.decoder)) → Cancels s n id result
+    by (Ok done) does taken why same = canceled s n id (there_by (kept_at s.requests id) taken) (λ e h. sym (left ∙ taken) ∙ cancel_refusal_is s e id h) rest does
+    by (Err r) does taken why same =
+        subst (λ r. Cancels s n id (Err r)) (sym why)
+        (cancel_refuses s n id (cancel_refused_at (kept_at s.requests id)) left (takes_none (kept_at s.requests id)) rest same)

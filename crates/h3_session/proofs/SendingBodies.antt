@@ -1,12 +1,12 @@
 -- What a body that is sent does to what is stored.
-use Rattle.std.proofs.Common.{◌≡◌, ℕ, ◌+◌, Bool, true, false, List, [], ◌∷◌, ◌++◌, length, Option, Some, None, Ok, Err, refl, ap, sym, subst, ◌∙◌}
-use Rattle.std.specs.Prelude.{not, IfSome}
+use Rattle.std.proofs.Common.{◌≡◌, ℕ, ◌+◌, Bool, true, false, List, [], ◌∷◌, ◌++◌, length, Option, Some, None, Result, Ok, Err, refl, ap, sym, subst, ◌∙◌}
+use Rattle.std.specs.Prelude.{not, IfSome, OnOk, OnErr, IfErr, unwrap_or}
 use Rattle.h3_outgoing.specs.HistoryLaws.{appended}
 use Rattle.h3_outgoing.specs.Sent as sent
-use Rattle.h3_connection.specs.Calls.{Sets}
+use Rattle.h3_connection.specs.Calls.{Sets, AllSame}
 use Rattle.h3_connection.specs.Endpoint.{EndpointHistory}
 use Rattle.h3_connection.specs.Outgoing.{OwnBody}
-use Rattle.h3_connection.specs.Sending.{closed_or, counted, outgoing_at, sent_bytes, body_refusal}
+use Rattle.h3_connection.specs.Sending.{closed_or, counted, outgoing_at, sent_bytes, body_refusal, send_body}
 use Rattle.h3_connection.specs.SendingContracts.{SendsBody}
 use Rattle.h3_connection.specs.StandsLaws.{stands_sending}
 use Rattle.h3_connection.specs.State.{EndpointState, RequestState, StandsFor, kept_at}
@@ -14,9 +14,10 @@ use Rattle.h3_connection.specs.StreamSets.{Streams}
 use Rattle.h3_connection.specs.declared.event.Refusal.{Refusal}
 use Rattle.h3_connection.specs.declared.event.Refusal.TheVariants as refusal
 use Rattle.h3_session.specs.OpenedLaws.{stands_same}
-use Rattle.h3_session.specs.Refused.{refused_if, body_refused, body_refused_at}
+use Rattle.h3_requests.specs.Refused.{refused_if, body_refused_at}
+use Rattle.h3_session.specs.Refused.{body_refused}
 use Rattle.h3_session.proofs.Parts.{in_body, body_stays}
-use Rattle.h3_session.proofs.SendingCalls.{sender_of, refuses, acts, all_same}
+use Rattle.h3_session.proofs.SendingCalls.{sender_of, refuses, acts, alike, lacks, all_same}
 use Rattle.h3_session.proofs.SendingRefusals.{body_refusal_is, body_takes_none}
 use Rattle.h3_session.proofs.SendingStands.{counted_stands}
 
@@ -47,14 +48,39 @@ stands_with s new id (byte ∷ bytes) (Some r) was takes sets e h =
     stands_sending s e new id r (record r { outgoing = sent.has_body r.outgoing (byte ∷ bytes) }) (record o { parts = o.parts ++ OwnBody (byte ∷ bytes) ∷ [] }) h was refl
     (appended o r.outgoing (OwnBody (byte ∷ bytes)) r.outgoing.place is here.here (body_stays o r.outgoing (OwnBody (byte ∷ bytes)) is here refl refl)) sets
 
-pub body_refuses : (s : EndpointState) (id : ℕ) (bytes : List ℕ) (r : Refusal) → body_refused s id ≡ Some r → SendsBody s s id bytes (Err (r, bytes))
+handed_back : (r : Refusal) (bytes : List ℕ) (again : Refusal) (handed : List ℕ) → ◌≡◌ {A = Result Unit (Refusal × List ℕ)} (Err (r, bytes)) (Err (again, handed)) → handed ≡ bytes
+handed_back r bytes again handed same =
+    let pair : ◌≡◌ {A = Refusal × List ℕ} (r, bytes) (again, handed) = cc in
+    sym (ap (λ p. p.1) pair)
+
+body_refuses : (s : EndpointState) (id : ℕ) (bytes : List ℕ) (r : Refusal) → body_refused s id ≡ Some r → SendsBody s s id bytes (Err (r, bytes))
 body_refuses s id bytes r is =
     record {
       sends = refuses (λ e. body_refusal e id) (λ e. counted (sent_bytes e id bytes) (length bytes)) s r (λ e h. sym (body_refusal_is s e id h) ∙ is) (λ memory. body_takes_none s id (is ∙ ap Some memory));
-      back = λ again handed same.
-          let pair : ◌≡◌ {A = Refusal × List ℕ} (r, bytes) (again, handed) = cc in
-          sym (ap (λ p. p.1) pair);
+      back = handed_back r bytes;
     }
+
+body_lacks : (s : EndpointState) (id : ℕ) (bytes : List ℕ) → body_refused s id ≡ None → SendsBody s s id bytes (Err (refusal.OutOfMemory, bytes))
+body_lacks s id bytes is =
+    record {
+      sends = lacks (λ e. body_refusal e id) (λ e. counted (sent_bytes e id bytes) (length bytes)) s (λ e h. sym (body_refusal_is s e id h) ∙ is);
+      back = handed_back refusal.OutOfMemory bytes;
+    }
+
+-- what refuses it, and else want of memory
+body_refused_by : (s : EndpointState) (id : ℕ) (bytes : List ℕ) (rule : Option Refusal) → body_refused s id ≡ rule → SendsBody s s id bytes (Err (unwrap_or rule refusal.OutOfMemory, bytes))
+body_refused_by s id bytes (Some r) is = body_refuses s id bytes r is
+body_refused_by s id bytes None is = body_lacks s id bytes is
+
+still_open : (s : EndpointState) (id : ℕ) → s.closed ≡ None → body_refused s id ≡ body_refused_at (kept_at s.requests id)
+still_open s id closed = ap (λ c. closed_or c (body_refused_at (kept_at s.requests id))) closed
+
+pub body_closed : (s : EndpointState) (id : ℕ) (bytes : List ℕ) (code : ℕ) → s.closed ≡ Some code → SendsBody s s id bytes (Err (refusal.Closed code, bytes))
+body_closed s id bytes code closed = body_refuses s id bytes (refusal.Closed code) (ap (λ c. closed_or c (body_refused_at (kept_at s.requests id))) closed)
+
+pub body_uncounted : (s : EndpointState) (id : ℕ) (bytes : List ℕ) (r : Refusal) → s.closed ≡ None → r ≡ unwrap_or (body_refused_at (kept_at s.requests id)) refusal.OutOfMemory
+    → SendsBody s s id bytes (Err (r, bytes))
+body_uncounted s id bytes r closed is = subst (λ r. SendsBody s s id bytes (Err (r, bytes))) (sym is) (body_refused_by s id bytes (body_refused_at (kept_at s.requests id)) (still_open s id closed))
 
 sends_here : (s : EndpointState) (new : Streams RequestState) (id : ℕ) (bytes : List ℕ) → IfSome (kept_at s.requests id) (λ r. Sets s.requests new id (record r { outgoing = sent.has_body r.outgoing bytes })) → body_refused s id ≡ None
     → SendsBody s (record s { requests = new; sent = s.sent + length bytes + 64 }) id bytes (Ok tt)
@@ -66,10 +92,25 @@ sends_here s new id bytes sets is =
       back = λ r again never. absurd (cc);
     }
 
-pub sends_body : (s now : EndpointState) (new : Streams RequestState) (id : ℕ) (bytes : List ℕ) (total : ℕ) → s ≡ now → body_refused now id ≡ None
-    → IfSome (kept_at s.requests id) (λ r. Sets s.requests new id (record r { outgoing = sent.has_body r.outgoing bytes })) → total ≡ now.sent + length bytes + 64
-    → SendsBody now (record s { requests = new; sent = total }) id bytes (Ok tt)
-sends_body s now new id bytes total view is sets sum =
-    let sum_here : total ≡ s.sent + length bytes + 64 = sum ∙ ap (λ v. v.sent + length bytes + 64) (sym view) in
-    subst (λ n. SendsBody now (record s { requests = new; sent = n }) id bytes (Ok tt)) (sym sum_here)
-    (subst (λ v. body_refused v id ≡ None → SendsBody v (record s { requests = new; sent = s.sent + length bytes + 64 }) id bytes (Ok tt)) view (sends_here s new id bytes sets) is)
+body_alike : (s : EndpointState) (new : Streams RequestState) (id : ℕ) (bytes : List ℕ) (r : Refusal) → AllSame s.requests new
+    → SendsBody s s id bytes (Err (r, bytes)) → SendsBody s (record s { requests = new }) id bytes (Err (r, bytes))
+body_alike s new id bytes r same h = record { sends = alike (λ e. send_body e id bytes) s new r same h.sends; back = handed_back r bytes }
+
+sends_total : (s : EndpointState) (new : Streams RequestState) (id : ℕ) (bytes : List ℕ) (total : ℕ) → body_refused s id ≡ None
+    → IfSome (kept_at s.requests id) (λ r. Sets s.requests new id (record r { outgoing = sent.has_body r.outgoing bytes })) → total ≡ s.sent + length bytes + 64
+    → SendsBody s (record s { requests = new; sent = total }) id bytes (Ok tt)
+sends_total s new id bytes total is sets sum = subst (λ n. SendsBody s (record s { requests = new; sent = n }) id bytes (Ok tt)) (sym sum) (sends_here s new id bytes sets is)
+
+-- the body that was handed over, or the first refusal with it
+pub sends_body : (s n : EndpointState) (id : ℕ) (bytes : List ℕ) (total : ℕ) (result : Result Unit (Refusal × List ℕ)) → s.closed ≡ None → total ≡ s.sent + length bytes + 64
+    → OnOk result (n ≡ record s { requests = n.requests; sent = total }) → OnErr result (n ≡ record s { requests = n.requests })
+    → OnOk result (IfSome (kept_at s.requests id) (λ r. Sets s.requests n.requests id (record r { outgoing = sent.has_body r.outgoing bytes })))
+    → OnOk result (body_refused_at (kept_at s.requests id) ≡ None)
+    → IfErr result (λ e. e.0 ≡ unwrap_or (body_refused_at (kept_at s.requests id)) refusal.OutOfMemory)
+    → IfErr result (λ e. (e.1 ≡ bytes) × AllSame s.requests n.requests) → SendsBody s n id bytes result
+sends_body s n id bytes total (Ok done) closed sum rest same sets taken why back =
+    subst (λ v. SendsBody s v id bytes (Ok tt)) (sym rest) (sends_total s n.requests id bytes total (still_open s id closed ∙ taken) sets sum)
+sends_body s n id bytes total (Err (r, handed)) closed sum rest same sets taken why back =
+    subst (λ v. SendsBody s v id bytes (Err (r, handed))) (sym same)
+    (subst (λ l. SendsBody s (record s { requests = n.requests }) id bytes (Err (r, l))) (sym back.0)
+    (body_alike s n.requests id bytes r back.1 (body_uncounted s id bytes r closed why)))

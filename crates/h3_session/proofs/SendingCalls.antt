@@ -1,14 +1,15 @@
 -- What a call that sends does to what is stored is what its contract says.
 use Rattle.std.proofs.Common.{◌≡◌, ℕ, ◌+◌, Bool, true, false, [], ◌∷◌, ◌++◌, Option, Some, None, Ok, Err, refl, ap, sym, subst, ◌∙◌, inl, inr}
-use Rattle.std.specs.Prelude.{◌≢◌, IfSome, option_map, unwrap_or}
+use Rattle.std.specs.Prelude.{◌≢◌, IfSome, OnOk, OnErr, Result, option_map, unwrap_or}
 use Rattle.std.proofs.lemmas.Bool.{cases_eq}
 use Rattle.h3_outgoing.specs.HistoryLaws.{ended, cut_off}
 use Rattle.h3_outgoing.specs.Sent.{has_ended, was_cut_off}
+use Rattle.h3_connection.specs.Answers.{call_refused}
 use Rattle.h3_connection.specs.Calls.{Sets, AllSame, SameRest, IsSame, fresh_request, open_refused}
 use Rattle.h3_connection.specs.Delivering.{opened_at}
 use Rattle.h3_connection.specs.Endpoint.{EndpointHistory, goaway_encoding}
 use Rattle.h3_connection.specs.Outgoing.{Outgoing, nothing_sent}
-use Rattle.h3_connection.specs.Sending.{does, closed_or, outgoing_at, with_outgoing, open_refusal, finish_refusal, reset_refusal, goaway_refusal}
+use Rattle.h3_connection.specs.Sending.{does, closed_or, outgoing_at, with_outgoing, open_refusal, finish_refusal, reset_refusal, goaway_refusal, finish, reset}
 use Rattle.h3_connection.specs.SendingContracts.{DoesOrRefuses, DoesAlways, Opens, Finishes, Resets, GoesAway}
 use Rattle.h3_connection.specs.StandsLaws.{stands_sending}
 use Rattle.h3_connection.specs.State.{EndpointState, RequestState, OutgoingState, StandsFor, IsOfOutgoing, SameAt, kept_at}
@@ -16,8 +17,11 @@ use Rattle.h3_connection.specs.StreamSets.{Streams, stream_at}
 use Rattle.h3_streams.specs.Placed.{StreamsState, placed}
 use Rattle.h3_connection.specs.declared.event.Refusal.{Refusal}
 use Rattle.h3_connection.specs.declared.event.Refusal.TheVariants as refusal
-use Rattle.h3_session.specs.Refused.{streams_of, or_later, refused_if, end_refused, end_refused_at, is_critical_in, reset_refused, reset_refused_at, goaway_refused}
-use Rattle.h3_session.proofs.SendingRefusals.{open_refusal_is, end_refusal_is, reset_refusal_is, goaway_refusal_is, end_takes_none, reset_takes_none, goaway_takes_none}
+use Rattle.h3_requests.specs.Refused.{or_later, refused_if, end_refused_at, reset_refused_at}
+use Rattle.h3_session.specs.OpenedLaws.{stands_same}
+use Rattle.h3_session.specs.Refused.{streams_of, end_refused, is_critical_in, critical_refused, reset_refused, goaway_refused}
+use Rattle.h3_session.proofs.ReceivingCancel.{requests_same}
+use Rattle.h3_session.proofs.SendingRefusals.{open_refusal_is, end_refusal_is, reset_refusal_is, goaway_refusal_is, end_takes_none, reset_takes_none, goaway_takes_none, critical_first, critical_left}
 use Rattle.h3_session.proofs.SendingStands.{opened_stands, goaway_stands_for}
 
 -- What is untouched is the same.
@@ -98,6 +102,35 @@ always_acts rule after s new is stands =
       memory = λ memory. absurd (cc);
     }
 
+-- The same, where the request streams that are left are found as they were.
+pub always_alike : (act : EndpointHistory → Option Refusal × EndpointHistory) (s : EndpointState) (new : Streams RequestState) (r : Refusal) → AllSame s.requests new
+    → DoesAlways act s s (Some r) → DoesAlways act s (record s { requests = new }) (Some r)
+always_alike act s new r same h =
+    record {
+      done = λ e stands. ((h.done e stands).0, stands_same s (act e).1 new (h.done e stands).1 same);
+      same = λ refused. requests_same s (record s { requests = new }) refl same refl;
+      memory = h.memory;
+    }
+
+pub alike : (act : EndpointHistory → Option Refusal × EndpointHistory) (s : EndpointState) (new : Streams RequestState) (r : Refusal) → AllSame s.requests new
+    → DoesOrRefuses act s s (Some r) → DoesOrRefuses act s (record s { requests = new }) (Some r)
+alike act s new r same h =
+    record {
+      done = λ e stands not_memory. ((h.done e stands not_memory).0, stands_same s (act e).1 new (h.done e stands not_memory).1 same);
+      same = λ refused. requests_same s (record s { requests = new }) refl same refl;
+      memory = h.memory;
+    }
+
+-- a call that is refused memory alone
+pub lacks : (rule : EndpointHistory → Option Refusal) (after : EndpointHistory → EndpointHistory) (s : EndpointState)
+    → ((e : EndpointHistory) → StandsFor s e → rule e ≡ None) → DoesOrRefuses (λ e. does (rule e) e (after e)) s s (Some refusal.OutOfMemory)
+lacks rule after s is =
+    record {
+      done = λ e h not_memory. absurd (not_memory refl);
+      same = λ refused. same_itself s;
+      memory = λ e h memory. ap (λ r. (does r e (after e)).0) (is e h);
+    }
+
 -- the sender's part of a stream that is there
 sender_by : (o : Option Outgoing) (w : OutgoingState) → SameAt IsOfOutgoing o (Some w) → IsOfOutgoing (unwrap_or o nothing_sent) w
 sender_by None w h = absurd h
@@ -151,9 +184,20 @@ finishes_here s new id sets is =
     (λ e h. sym (end_refusal_is s e id h) ∙ is)
     (sends s new id has_ended (λ o. record o { is_finished = true }) (kept_at s.requests id) ended refl (end_there s.closed (kept_at s.requests id) is) sets)
 
-pub finishes : (s now : EndpointState) (new : Streams RequestState) (id : ℕ) → s ≡ now → end_refused now id ≡ None
-    → IfSome (kept_at s.requests id) (λ r. Sets s.requests new id (record r { outgoing = has_ended r.outgoing })) → Finishes now (record s { requests = new }) id (Ok tt)
-finishes s now new id view is sets = subst (λ v. end_refused v id ≡ None → Finishes v (record s { requests = new }) id (Ok tt)) view (finishes_here s new id sets) is
+pub finish_closed : (s : EndpointState) (id code : ℕ) → s.closed ≡ Some code → Finishes s s id (Err (refusal.Closed code))
+finish_closed s id code closed = finish_refuses s id (refusal.Closed code) (ap (λ c. closed_or c (end_refused_at (kept_at s.requests id))) closed)
+
+finish_here : (s : EndpointState) (new : Streams RequestState) (id : ℕ) (result : Result Unit Refusal) → s.closed ≡ None
+    → OnOk result (IfSome (kept_at s.requests id) (λ r. Sets s.requests new id (record r { outgoing = has_ended r.outgoing })))
+    → call_refused result ≡ end_refused_at (kept_at s.requests id) → OnErr result (AllSame s.requests new) → Finishes s (record s { requests = new }) id result
+finish_here s new id (Ok done) closed sets rule same = finishes_here s new id sets (ap (λ c. closed_or c (end_refused_at (kept_at s.requests id))) closed ∙ sym rule)
+finish_here s new id (Err r) closed sets rule same =
+    always_alike (λ e. finish e id) s new r same (finish_refuses s id r (ap (λ c. closed_or c (end_refused_at (kept_at s.requests id))) closed ∙ sym rule))
+
+pub finishes : (s n : EndpointState) (id : ℕ) (result : Result Unit Refusal) → s.closed ≡ None → n ≡ record s { requests = n.requests }
+    → OnOk result (IfSome (kept_at s.requests id) (λ r. Sets s.requests n.requests id (record r { outgoing = has_ended r.outgoing })))
+    → call_refused result ≡ end_refused_at (kept_at s.requests id) → OnErr result (AllSame s.requests n.requests) → Finishes s n id result
+finishes s n id result closed rest sets rule same = subst (λ v. Finishes s v id result) (sym rest) (finish_here s n.requests id result closed sets rule same)
 
 -- `reset`
 pub reset_refuses : (s : EndpointState) (id : ℕ) (r : Refusal) → reset_refused s id ≡ Some r → Resets s s id (Err r)
@@ -174,9 +218,21 @@ resets_here s new id sets is =
     (λ e h. sym (reset_refusal_is s e id h) ∙ is)
     (sends s new id was_cut_off (λ o. record o { is_reset = true; is_finished = false }) (kept_at s.requests id) cut_off refl (reset_there s.closed (is_critical_in s id) (kept_at s.requests id) is) sets)
 
-pub resets : (s now : EndpointState) (new : Streams RequestState) (id : ℕ) → s ≡ now → reset_refused now id ≡ None
-    → IfSome (kept_at s.requests id) (λ r. Sets s.requests new id (record r { outgoing = was_cut_off r.outgoing })) → Resets now (record s { requests = new }) id (Ok tt)
-resets s now new id view is sets = subst (λ v. reset_refused v id ≡ None → Resets v (record s { requests = new }) id (Ok tt)) view (resets_here s new id sets) is
+pub reset_critical : (s : EndpointState) (id : ℕ) (r : Refusal) → critical_refused s id ≡ Some r → Resets s s id (Err r)
+reset_critical s id r is = reset_refuses s id r (critical_first s.closed (is_critical_in s id) (reset_refused_at (kept_at s.requests id)) r is)
+
+reset_here : (s : EndpointState) (new : Streams RequestState) (id : ℕ) (result : Result Unit Refusal) → reset_refused s id ≡ reset_refused_at (kept_at s.requests id)
+    → OnOk result (IfSome (kept_at s.requests id) (λ r. Sets s.requests new id (record r { outgoing = was_cut_off r.outgoing })))
+    → call_refused result ≡ reset_refused_at (kept_at s.requests id) → OnErr result (AllSame s.requests new) → Resets s (record s { requests = new }) id result
+reset_here s new id (Ok done) left sets rule same = resets_here s new id sets (left ∙ sym rule)
+reset_here s new id (Err r) left sets rule same = always_alike (λ e. reset e id) s new r same (reset_refuses s id r (left ∙ sym rule))
+
+pub resets : (s n : EndpointState) (id : ℕ) (result : Result Unit Refusal) → critical_refused s id ≡ None → n ≡ record s { requests = n.requests }
+    → OnOk result (IfSome (kept_at s.requests id) (λ r. Sets s.requests n.requests id (record r { outgoing = was_cut_off r.outgoing })))
+    → call_refused result ≡ reset_refused_at (kept_at s.requests id) → OnErr result (AllSame s.requests n.requests) → Resets s n id result
+resets s n id result allowed rest sets rule same =
+    subst (λ v. Resets s v id result) (sym rest)
+    (reset_here s n.requests id result (critical_left s.closed (is_critical_in s id) (reset_refused_at (kept_at s.requests id)) allowed) sets rule same)
 
 -- `goaway`
 goes_away_here : (s : EndpointState) (id : ℕ) → goaway_refused s id ≡ None

@@ -1,29 +1,32 @@
 -- What a head or trailer that is sent does to what is stored is what its contract says.
-use Rattle.std.proofs.Common.{◌≡◌, ℕ, Bool, true, false, if◌then◌else◌, List, [], ◌∷◌, ◌++◌, Option, Some, None, Result, Err, refl, ap, sym, subst, ◌∙◌}
-use Rattle.std.specs.Prelude.{◌≢◌, not, ◌&&◌}
+use Rattle.std.proofs.Common.{◌≡◌, ℕ, Bool, true, false, if◌then◌else◌, List, [], ◌∷◌, ◌++◌, take, Option, Some, None, Result, Err, refl, ap, sym, subst, ◌∙◌}
+use Rattle.std.specs.Prelude.{◌≢◌, not, ◌&&◌, unwrap_or}
 use Rattle.h3_field.specs.Field.{Field, section_size}
 use Rattle.h3_header.specs.Head.{Head, has_pseudo, head_fields}
 use Rattle.h3_outgoing.specs.Sent as sent
-use Rattle.h3_proto.specs.declared.stream.Side.{Side}
 use Rattle.h3_connection.specs.Answers.{call_refused}
-use Rattle.h3_connection.specs.Calls.{IsSame}
+use Rattle.h3_connection.specs.Calls.{IsSame, AllSame}
 use Rattle.h3_connection.specs.Endpoint.{EndpointHistory}
 use Rattle.h3_connection.specs.Outgoing.{OwnPart, OwnInterim, OwnHead, OwnTrailer, is_unsent}
 use Rattle.h3_connection.specs.OwnIds.{other}
 use Rattle.h3_connection.specs.Pulling.{is_for, is_interim}
-use Rattle.h3_connection.specs.Sections.{encoded_section}
-use Rattle.h3_connection.specs.Sending.{does, closed_or, appended, encoded, outgoing_at, fields_cost, counted, head_part, is_too_large, head_refusal, trailer_refusal}
-use Rattle.h3_connection.specs.SendingContracts.{MayLackMemory, SendsSection, SendsHead, SendsTrailer}
+use Rattle.h3_connection.specs.Sections.{encoded_section, with_insertions}
+use Rattle.h3_connection.specs.Sending.{does, closed_or, appended, encoded, outgoing_at, fields_cost, counted, head_part, is_too_large, head_refusal, trailer_refusal, send_head, send_trailer}
+use Rattle.h3_connection.specs.SendingContracts.{CutsOff, MayLackMemory, SendsSection, SendsHead, SendsTrailer}
 use Rattle.h3_connection.specs.State.{EndpointState, RequestState, StandsFor, kept_at, place_of}
+use Rattle.h3_connection.specs.StreamSets.{Streams}
 use Rattle.h3_connection.specs.WaitingPieces.{piece_of, frame_piece}
 use Rattle.h3_connection.specs.declared.event.Refusal.{Refusal}
 use Rattle.h3_connection.specs.declared.event.Refusal.TheVariants as refusal
 use Rattle.h3_connection.specs.declared.place.SendPlace.{SendPlace}
 use Rattle.h3_connection.specs.declared.place.SendPlace.TheVariants.{NothingSent, HeadSent, TrailerSent}
-use Rattle.h3_session.specs.Refused.{or_later, refused_if, size_refused, head_refused, head_refused_at, trailer_refused, body_refused}
+use Rattle.h3_requests.specs.Refused.{or_later, refused_if, head_refused_at, body_refused_at}
+use Rattle.h3_session.specs.OpenedLaws.{stands_same}
+use Rattle.h3_session.specs.Refused.{size_refused, side_refused, pseudo_refused, head_refused, trailer_refused}
+use Rattle.h3_session.proofs.ReceivingCancel.{requests_same}
 use Rattle.h3_session.specs.SendingFields.{IsPart, SendsFields}
 use Rattle.h3_session.proofs.Parts.{before_head, in_body, place_pushed}
-use Rattle.h3_session.proofs.SendingBodies.{TakesBody, body_allowed}
+use Rattle.h3_session.proofs.SendingBodies.{TakesBody}
 use Rattle.h3_session.proofs.SendingCalls.{was_done, was_refused, sender_of, same_itself}
 use Rattle.h3_session.proofs.SendingRefusals.{head_refusal_is, trailer_refusal_is, head_takes_none, trailer_takes_none}
 use Rattle.h3_session.proofs.SendingSections.{not_begun}
@@ -71,6 +74,51 @@ module _ (rule : EndpointHistory → Option Refusal) (after : EndpointHistory �
         memory = λ e stands memory. (may_lack is e stands, h.memory memory e stands);
       }
 
+-- The call begins over streams that are found as they were: it is refused there,
+module _ (act : EndpointHistory → Option Refusal × EndpointHistory) (s : EndpointState) (id : ℕ) (fields : List Field) (mid : Streams RequestState) (same : AllSame s.requests mid) where
+  cut_alike : (e : EndpointHistory) → CutsOff e id fields s → CutsOff e id fields (record s { requests = mid })
+  cut_alike e cut = record { front = cut.front; within = cut.within; stands = stands_same s (with_insertions e id (take cut.front fields)) mid cut.stands same }
+
+  pub section_alike : (r : Refusal) → SendsSection act s s id fields (Some r) → SendsSection act s (record s { requests = mid }) id fields (Some r)
+  section_alike r h =
+      record {
+        done = λ e stands not_memory. ((h.done e stands not_memory).0, stands_same s (act e).1 mid (h.done e stands not_memory).1 same);
+        same = λ some not_memory. requests_same s (record s { requests = mid }) refl same refl;
+        memory = λ e stands memory. ((h.memory e stands memory).0, cut_alike e (h.memory e stands memory).1);
+      }
+
+  begun_same : (new : EndpointState) → IsSame (record s { requests = mid }) new → IsSame s new
+  begun_same new is =
+      record {
+        rest = record {
+          side = is.rest.side;
+          announced = is.rest.announced;
+          closed = is.rest.closed;
+          control_on = is.rest.control_on;
+          encoder_on = is.rest.encoder_on;
+          decoder_on = is.rest.decoder_on;
+          peer = is.rest.peer;
+          decoding = is.rest.decoding;
+          encoding = is.rest.encoding;
+          own = is.rest.own;
+          last_goaway = is.rest.last_goaway;
+          kept = is.rest.kept;
+          sent = is.rest.sent;
+          unidirectional = is.rest.unidirectional;
+        };
+        next_id = is.next_id;
+        requests = record { each = λ q. is.requests.each q ∙ same.each q };
+      }
+
+  -- or goes on
+  pub section_begun : (new : EndpointState) (refused : Option Refusal) → SendsSection act (record s { requests = mid }) new id fields refused → SendsSection act s new id fields refused
+  section_begun new refused h =
+      record {
+        done = λ e stands not_memory. h.done e (stands_same s e mid stands same) not_memory;
+        same = λ some not_memory. begun_same new (h.same some not_memory);
+        memory = λ e stands memory. h.memory e (stands_same s e mid stands same) memory;
+      }
+
 -- `send_head`
 abbrev place_behind : Bool → SendPlace
 place_behind interim = if interim then NothingSent else HeadSent
@@ -95,10 +143,10 @@ not_first : (b : Bool) (r : Refusal) (rest : Option Refusal) → or_later (refus
 not_first true r rest h = refl
 not_first false r rest h = absurd (cc)
 
-head_allowed : (side : Side) (head : Head) (closed : Option ℕ) (there : Option RequestState) → closed_or closed (head_refused_at side head there) ≡ None → TakesHead there
-head_allowed side head (Some code) there h = absurd (cc)
-head_allowed side head None None h = absurd (cc)
-head_allowed side head None (Some r) h = not_first (sent.takes_head r.outgoing) refusal.OutOfOrder (refused_if (not (is_for (other side) head)) refusal.WrongSide) h
+head_allowed : (b : Bool) (closed : Option ℕ) (there : Option RequestState) → closed_or closed (or_later (head_refused_at there) (refused_if b refusal.WrongSide)) ≡ None → TakesHead there
+head_allowed b (Some code) there h = absurd (cc)
+head_allowed b None None h = absurd (cc)
+head_allowed b None (Some r) h = not_first (sent.takes_head r.outgoing) refusal.OutOfOrder (refused_if b refusal.WrongSide) h
 
 head_is : (s : EndpointState) (e : EndpointHistory) (id : ℕ) (head : Head) (there : Option RequestState) → StandsFor s e → kept_at s.requests id ≡ there → TakesHead there
     → IsPart e id (head_fields head) (place_behind (is_interim head.status)) (head_part head (encoded_section e.encoder id (head_fields head)))
@@ -114,29 +162,63 @@ after_head id head e = counted (appended (encoded e id (head_fields head)) id (h
 head_rule : (s : EndpointState) (id : ℕ) (head : Head) → head_refused s id head ≡ None → (e : EndpointHistory) → StandsFor s e → head_refusal e id head ≡ size_refused s.peer.settings (head_fields head)
 head_rule s id head none e h = sym (head_refusal_is s e id head h) ∙ ap (λ o. or_later o (size_refused s.peer.settings (head_fields head))) none
 
-pub head_refuses : (s : EndpointState) (id : ℕ) (head : Head) (r : Refusal) → head_refused s id head ≡ Some r → SendsHead s s id head (Err r)
+head_refuses : (s : EndpointState) (id : ℕ) (head : Head) (r : Refusal) → head_refused s id head ≡ Some r → SendsHead s s id head (Err r)
 head_refuses s id head r is =
     section_refused (λ e. head_refusal e id head) (after_head id head) s id (head_fields head) r
     (λ e h. sym (head_refusal_is s e id head h) ∙ ap (λ o. or_later o (size_refused s.peer.settings (head_fields head))) is) (λ memory. head_takes_none s id head (is ∙ ap Some memory))
 
-pub head_lacks : (s : EndpointState) (id : ℕ) (head : Head) → head_refused s id head ≡ None → SendsHead s s id head (Err refusal.OutOfMemory)
+head_lacks : (s : EndpointState) (id : ℕ) (head : Head) → head_refused s id head ≡ None → SendsHead s s id head (Err refusal.OutOfMemory)
 head_lacks s id head none = section_lacks (λ e. head_refusal e id head) (after_head id head) s id (head_fields head) (head_rule s id head none)
 
-pub head_sends : (old new : EndpointState) (id : ℕ) (head : Head) (fields : List Field) (place : SendPlace) (result : Result Unit Refusal) → head_refused old id head ≡ None → fields ≡ head_fields head
+head_sends : (old new : EndpointState) (id : ℕ) (head : Head) (fields : List Field) (place : SendPlace) (result : Result Unit Refusal) → head_refused old id head ≡ None → fields ≡ head_fields head
     → place ≡ (if is_interim head.status then NothingSent else HeadSent) → SendsFields old new id fields place (call_refused result) → SendsHead old new id head result
 head_sends old new id head fields place result none are at h =
     let sent_here : SendsFields old new id (head_fields head) (place_behind (is_interim head.status)) (call_refused result)
     = subst (λ p. SendsFields old new id (head_fields head) p (call_refused result)) at (subst (λ fs. SendsFields old new id fs place (call_refused result)) are h) in
     section_sends (λ e. head_refusal e id head) (after_head id head) old id (head_fields head) new (place_behind (is_interim head.status)) (call_refused result) (λ e. head_part head (encoded_section e.encoder id (head_fields head)))
-    (head_rule old id head none) (λ e stands. head_is old e id head (kept_at old.requests id) stands refl (head_allowed old.side head old.closed (kept_at old.requests id) none)) (λ e. refl) sent_here
+    (head_rule old id head none) (λ e stands. head_is old e id head (kept_at old.requests id) stands refl (head_allowed (not (is_for (other old.side) head)) old.closed (kept_at old.requests id) none)) (λ e. refl) sent_here
+
+head_open : (s : EndpointState) (id : ℕ) (head : Head) → s.closed ≡ None → head_refused s id head ≡ or_later (head_refused_at (kept_at s.requests id)) (side_refused s.side head)
+head_open s id head closed = ap (λ c. closed_or c (or_later (head_refused_at (kept_at s.requests id)) (side_refused s.side head))) closed
+
+head_refused_by : (s : EndpointState) (id : ℕ) (head : Head) (rule : Option Refusal) → head_refused s id head ≡ rule → SendsHead s s id head (Err (unwrap_or rule refusal.OutOfMemory))
+head_refused_by s id head (Some r) is = head_refuses s id head r is
+head_refused_by s id head None is = head_lacks s id head is
+
+pub head_closed : (s : EndpointState) (id : ℕ) (head : Head) (code : ℕ) → s.closed ≡ Some code → SendsHead s s id head (Err (refusal.Closed code))
+head_closed s id head code closed = head_refuses s id head (refusal.Closed code) (ap (λ c. closed_or c (or_later (head_refused_at (kept_at s.requests id)) (side_refused s.side head))) closed)
+
+-- no room was made for it,
+pub head_unreserved : (s n : EndpointState) (id : ℕ) (head : Head) (later : Option Refusal) (r : Refusal) → s.closed ≡ None → later ≡ side_refused s.side head → n ≡ record s { requests = n.requests } → AllSame s.requests n.requests
+    → r ≡ unwrap_or (or_later (head_refused_at (kept_at s.requests id)) later) refusal.OutOfMemory → SendsHead s n id head (Err r)
+head_unreserved s n id head later r closed is rest same why =
+    let rule = or_later (head_refused_at (kept_at s.requests id)) (side_refused s.side head) in
+    subst (λ v. SendsHead s v id head (Err r)) (sym rest)
+    (subst (λ r. SendsHead s (record s { requests = n.requests }) id head (Err r)) (sym (why ∙ ap (λ l. unwrap_or (or_later (head_refused_at (kept_at s.requests id)) l) refusal.OutOfMemory) is))
+    (section_alike (λ e. send_head e id head) s id (head_fields head) n.requests same (unwrap_or rule refusal.OutOfMemory) (head_refused_by s id head rule (head_open s id head closed))))
+
+-- its fields could not be listed,
+pub head_unlisted : (s n : EndpointState) (id : ℕ) (head : Head) (later : Option Refusal) → s.closed ≡ None → later ≡ side_refused s.side head → n ≡ record s { requests = n.requests } → AllSame s.requests n.requests
+    → or_later (head_refused_at (kept_at s.requests id)) later ≡ None → SendsHead s n id head (Err refusal.OutOfMemory)
+head_unlisted s n id head later closed is rest same none =
+    head_unreserved s n id head later refusal.OutOfMemory closed is rest same (ap (λ o. unwrap_or o refusal.OutOfMemory) (sym none))
+
+-- or they were sent
+pub head_sent : (s m n : EndpointState) (id : ℕ) (head : Head) (later : Option Refusal) (fields : List Field) (place : SendPlace) (result : Result Unit Refusal) → s.closed ≡ None → later ≡ side_refused s.side head
+    → m ≡ record s { requests = m.requests } → AllSame s.requests m.requests → or_later (head_refused_at (kept_at s.requests id)) later ≡ None → fields ≡ head_fields head
+    → place ≡ (if is_interim head.status then NothingSent else HeadSent) → SendsFields m n id fields place (call_refused result) → SendsHead s n id head result
+head_sent s m n id head later fields place result closed is rest same none are at h =
+    let mid = record s { requests = m.requests } in
+    let taken : head_refused mid id head ≡ None = head_open mid id head closed
+    ∙ ap (λ o. or_later (head_refused_at o) (side_refused s.side head)) (same.each id) ∙ ap (or_later (head_refused_at (kept_at s.requests id))) (sym is) ∙ none in
+    section_begun (λ e. send_head e id head) s id (head_fields head) m.requests same n (call_refused result)
+    (head_sends mid n id head fields place result taken are at (subst (λ v. SendsFields v n id fields place (call_refused result)) rest h))
 
 -- `send_trailer`
-body_first : (s : EndpointState) (id : ℕ) (trailer : Head) → trailer_refused s id trailer ≡ None → body_refused s id ≡ None
-body_first s id trailer none = by (body_refused s id) (refused_if (has_pseudo trailer) refusal.PseudoInTrailer) none
-  where
-    by : (a b : Option Refusal) → or_later a b ≡ None → a ≡ None
-    by None b h = refl
-    by (Some r) b h = absurd (cc)
+trailer_allowed : (b : Bool) (closed : Option ℕ) (there : Option RequestState) → closed_or closed (or_later (body_refused_at there) (refused_if b refusal.PseudoInTrailer)) ≡ None → TakesBody there
+trailer_allowed b (Some code) there h = absurd (cc)
+trailer_allowed b None None h = absurd (cc)
+trailer_allowed b None (Some r) h = not_first (sent.takes_body r.outgoing) refusal.OutOfOrder (refused_if b refusal.PseudoInTrailer) h
 
 trailer_is : (s : EndpointState) (e : EndpointHistory) (id : ℕ) (fields : List Field) (there : Option RequestState) → StandsFor s e → kept_at s.requests id ≡ there → TakesBody there
     → IsPart e id fields TrailerSent (OwnTrailer (encoded_section e.encoder id fields))
@@ -156,18 +238,54 @@ after_trailer id fields e = counted (appended (encoded e id fields) id (OwnTrail
 trailer_rule : (s : EndpointState) (id : ℕ) (trailer : Head) → trailer_refused s id trailer ≡ None → (e : EndpointHistory) → StandsFor s e → trailer_refusal e id trailer ≡ size_refused s.peer.settings (head_fields trailer)
 trailer_rule s id trailer none e h = sym (trailer_refusal_is s e id trailer h) ∙ ap (λ o. or_later o (size_refused s.peer.settings (head_fields trailer))) none
 
-pub trailer_refuses : (s : EndpointState) (id : ℕ) (trailer : Head) (r : Refusal) → trailer_refused s id trailer ≡ Some r → SendsTrailer s s id trailer (Err r)
+trailer_refuses : (s : EndpointState) (id : ℕ) (trailer : Head) (r : Refusal) → trailer_refused s id trailer ≡ Some r → SendsTrailer s s id trailer (Err r)
 trailer_refuses s id trailer r is =
     section_refused (λ e. trailer_refusal e id trailer) (after_trailer id (head_fields trailer)) s id (head_fields trailer) r
     (λ e h. sym (trailer_refusal_is s e id trailer h) ∙ ap (λ o. or_later o (size_refused s.peer.settings (head_fields trailer))) is) (λ memory. trailer_takes_none s id trailer (is ∙ ap Some memory))
 
-pub trailer_lacks : (s : EndpointState) (id : ℕ) (trailer : Head) → trailer_refused s id trailer ≡ None → SendsTrailer s s id trailer (Err refusal.OutOfMemory)
+trailer_lacks : (s : EndpointState) (id : ℕ) (trailer : Head) → trailer_refused s id trailer ≡ None → SendsTrailer s s id trailer (Err refusal.OutOfMemory)
 trailer_lacks s id trailer none = section_lacks (λ e. trailer_refusal e id trailer) (after_trailer id (head_fields trailer)) s id (head_fields trailer) (trailer_rule s id trailer none)
 
-pub trailer_sends : (old new : EndpointState) (id : ℕ) (trailer : Head) (fields : List Field) (result : Result Unit Refusal) → trailer_refused old id trailer ≡ None → fields ≡ head_fields trailer
+trailer_sends : (old new : EndpointState) (id : ℕ) (trailer : Head) (fields : List Field) (result : Result Unit Refusal) → trailer_refused old id trailer ≡ None → fields ≡ head_fields trailer
     → SendsFields old new id fields TrailerSent (call_refused result) → SendsTrailer old new id trailer result
 trailer_sends old new id trailer fields result none are h =
     section_sends (λ e. trailer_refusal e id trailer) (after_trailer id (head_fields trailer)) old id (head_fields trailer) new TrailerSent (call_refused result) (λ e. OwnTrailer (encoded_section e.encoder id (head_fields trailer)))
     (trailer_rule old id trailer none)
-    (λ e stands. trailer_is old e id (head_fields trailer) (kept_at old.requests id) stands refl (body_allowed old.closed (kept_at old.requests id) (body_first old id trailer none))) (λ e. refl)
+    (λ e stands. trailer_is old e id (head_fields trailer) (kept_at old.requests id) stands refl (trailer_allowed (has_pseudo trailer) old.closed (kept_at old.requests id) none)) (λ e. refl)
     (subst (λ fs. SendsFields old new id fs TrailerSent (call_refused result)) are h)
+
+trailer_open : (s : EndpointState) (id : ℕ) (trailer : Head) → s.closed ≡ None → trailer_refused s id trailer ≡ or_later (body_refused_at (kept_at s.requests id)) (pseudo_refused trailer)
+trailer_open s id trailer closed = ap (λ c. closed_or c (or_later (body_refused_at (kept_at s.requests id)) (pseudo_refused trailer))) closed
+
+trailer_refused_by : (s : EndpointState) (id : ℕ) (trailer : Head) (rule : Option Refusal) → trailer_refused s id trailer ≡ rule → SendsTrailer s s id trailer (Err (unwrap_or rule refusal.OutOfMemory))
+trailer_refused_by s id trailer (Some r) is = trailer_refuses s id trailer r is
+trailer_refused_by s id trailer None is = trailer_lacks s id trailer is
+
+pub trailer_closed : (s : EndpointState) (id : ℕ) (trailer : Head) (code : ℕ) → s.closed ≡ Some code → SendsTrailer s s id trailer (Err (refusal.Closed code))
+trailer_closed s id trailer code closed = trailer_refuses s id trailer (refusal.Closed code) (ap (λ c. closed_or c (or_later (body_refused_at (kept_at s.requests id)) (pseudo_refused trailer))) closed)
+
+-- no room was made for it,
+pub trailer_unreserved : (s n : EndpointState) (id : ℕ) (trailer : Head) (later : Option Refusal) (r : Refusal) → s.closed ≡ None → later ≡ pseudo_refused trailer → n ≡ record s { requests = n.requests } → AllSame s.requests n.requests
+    → r ≡ unwrap_or (or_later (body_refused_at (kept_at s.requests id)) later) refusal.OutOfMemory → SendsTrailer s n id trailer (Err r)
+trailer_unreserved s n id trailer later r closed is rest same why =
+    let rule = or_later (body_refused_at (kept_at s.requests id)) (pseudo_refused trailer) in
+    subst (λ v. SendsTrailer s v id trailer (Err r)) (sym rest)
+    (subst (λ r. SendsTrailer s (record s { requests = n.requests }) id trailer (Err r)) (sym (why ∙ ap (λ l. unwrap_or (or_later (body_refused_at (kept_at s.requests id)) l) refusal.OutOfMemory) is))
+    (section_alike (λ e. send_trailer e id trailer) s id (head_fields trailer) n.requests same (unwrap_or rule refusal.OutOfMemory) (trailer_refused_by s id trailer rule (trailer_open s id trailer closed))))
+
+-- its fields could not be listed,
+pub trailer_unlisted : (s n : EndpointState) (id : ℕ) (trailer : Head) (later : Option Refusal) → s.closed ≡ None → later ≡ pseudo_refused trailer → n ≡ record s { requests = n.requests } → AllSame s.requests n.requests
+    → or_later (body_refused_at (kept_at s.requests id)) later ≡ None → SendsTrailer s n id trailer (Err refusal.OutOfMemory)
+trailer_unlisted s n id trailer later closed is rest same none =
+    trailer_unreserved s n id trailer later refusal.OutOfMemory closed is rest same (ap (λ o. unwrap_or o refusal.OutOfMemory) (sym none))
+
+-- or they were sent
+pub trailer_sent : (s m n : EndpointState) (id : ℕ) (trailer : Head) (later : Option Refusal) (fields : List Field) (result : Result Unit Refusal) → s.closed ≡ None → later ≡ pseudo_refused trailer
+    → m ≡ record s { requests = m.requests } → AllSame s.requests m.requests → or_later (body_refused_at (kept_at s.requests id)) later ≡ None → fields ≡ head_fields trailer
+    → SendsFields m n id fields TrailerSent (call_refused result) → SendsTrailer s n id trailer result
+trailer_sent s m n id trailer later fields result closed is rest same none are h =
+    let mid = record s { requests = m.requests } in
+    let taken : trailer_refused mid id trailer ≡ None = trailer_open mid id trailer closed
+    ∙ ap (λ o. or_later (body_refused_at o) (pseudo_refused trailer)) (same.each id) ∙ ap (or_later (body_refused_at (kept_at s.requests id))) (sym is) ∙ none in
+    section_begun (λ e. send_trailer e id trailer) s id (head_fields trailer) m.requests same n (call_refused result)
+    (trailer_sends mid n id trailer fields result taken are (subst (λ v. SendsFields v n id fields TrailerSent (call_refused result)) rest h))

@@ -19,7 +19,8 @@ use Rattle.h3_connection.specs.State.{EndpointState, RequestState, StandsFor, Is
 use Rattle.h3_connection.specs.StreamSets.{stream_at}
 use Rattle.h3_connection.specs.declared.event.Refusal.{Refusal}
 use Rattle.h3_connection.specs.declared.event.Refusal.TheVariants as refusal
-use Rattle.h3_session.specs.Refused.{or_later, refused_if, size_refused, streams_of, head_refused_at, head_refused, body_refused_at, body_refused, trailer_refused, end_refused_at, end_refused, is_critical_in, reset_refused_at, reset_refused, goaway_refused}
+use Rattle.h3_requests.specs.Refused.{or_later, refused_if, head_refused_at, body_refused_at, end_refused_at, reset_refused_at}
+use Rattle.h3_session.specs.Refused.{size_refused, streams_of, side_refused, pseudo_refused, head_refused, body_refused, trailer_refused, end_refused, is_critical_in, reset_refused, goaway_refused}
 
 -- the sender's part of a stream, by what is stored of it
 record SameSender (o : Option Outgoing) (r : Option RequestState) : Type 0 where
@@ -33,14 +34,21 @@ first : (b : Bool) (r : Refusal) (rest : Option Refusal) → or_later (refused_i
 first true r rest = refl
 first false r rest = refl
 
-head_at : (side : Side) (head : Head) (o : Option Outgoing) (r : Option RequestState) → SameSender o r
-    → head_refused_at side head r ≡ first_of ((not (is_some o), refusal.NotOpen) ∷ (not (takes_head (unwrap_or o nothing_sent)), refusal.OutOfOrder) ∷ (not (is_for (other side) head), refusal.WrongSide) ∷ [])
-head_at side head None None h = refl
-head_at side head (Some o) (Some r) h =
-    let wrong = refused_if (not (is_for (other side) head)) refusal.WrongSide in
-    ap (λ b. or_later (refused_if (not b) refusal.OutOfOrder) wrong) (head_taken o r.outgoing h.same) ∙ first (not (takes_head o)) refusal.OutOfOrder wrong
-head_at side head None (Some r) h = absurd h.same
-head_at side head (Some o) None h = absurd h.same
+head_at : (o : Option Outgoing) (r : Option RequestState) (b : Bool) (later : Refusal) → SameSender o r
+    → or_later (head_refused_at r) (refused_if b later) ≡ first_of ((not (is_some o), refusal.NotOpen) ∷ (not (takes_head (unwrap_or o nothing_sent)), refusal.OutOfOrder) ∷ (b, later) ∷ [])
+head_at None None b later h = refl
+head_at (Some o) (Some r) b later h =
+    ap (λ c. or_later (refused_if (not c) refusal.OutOfOrder) (refused_if b later)) (head_taken o r.outgoing h.same) ∙ first (not (takes_head o)) refusal.OutOfOrder (refused_if b later)
+head_at None (Some r) b later h = absurd h.same
+head_at (Some o) None b later h = absurd h.same
+
+trailer_at : (o : Option Outgoing) (r : Option RequestState) (b : Bool) (later : Refusal) → SameSender o r
+    → or_later (body_refused_at r) (refused_if b later) ≡ first_of ((not (is_some o), refusal.NotOpen) ∷ (not (takes_body (unwrap_or o nothing_sent)), refusal.OutOfOrder) ∷ (b, later) ∷ [])
+trailer_at None None b later h = refl
+trailer_at (Some o) (Some r) b later h =
+    ap (λ c. or_later (refused_if (not c) refusal.OutOfOrder) (refused_if b later)) (body_taken o r.outgoing h.same) ∙ first (not (takes_body o)) refusal.OutOfOrder (refused_if b later)
+trailer_at None (Some r) b later h = absurd h.same
+trailer_at (Some o) None b later h = absurd h.same
 
 body_at : (o : Option Outgoing) (r : Option RequestState) → SameSender o r
     → body_refused_at r ≡ first_of ((not (is_some o), refusal.NotOpen) ∷ (not (takes_body (unwrap_or o nothing_sent)), refusal.OutOfOrder) ∷ [])
@@ -95,29 +103,36 @@ sized None false false false p q r settings fields = refl
 pub head_refusal_is : (s : EndpointState) (e : EndpointHistory) (id : ℕ) (head : Head) → StandsFor s e
     → or_later (head_refused s id head) (size_refused s.peer.settings (head_fields head)) ≡ head_refusal e id head
 head_refusal_is s e id head h =
-    let early : head_refused s id head ≡ closed_or e.closed (first_of ((not (is_some (stream_at e.outgoing id)), refusal.NotOpen) ∷ (not (takes_head (outgoing_at e id)), refusal.OutOfOrder) ∷ (not (is_for (other e.side) head), refusal.WrongSide) ∷ []))
-    = ap (λ c. closed_or c (head_refused_at s.side head (kept_at s.requests id))) h.closed ∙ ap (λ side. closed_or e.closed (head_refused_at side head (kept_at s.requests id))) h.side
-    ∙ ap (closed_or e.closed) (head_at e.side head (stream_at e.outgoing id) (kept_at s.requests id) (sender s e id h)) in
+    let wrong = not (is_for (other e.side) head) in
+    let early : head_refused s id head ≡ closed_or e.closed (first_of ((not (is_some (stream_at e.outgoing id)), refusal.NotOpen) ∷ (not (takes_head (outgoing_at e id)), refusal.OutOfOrder) ∷ (wrong, refusal.WrongSide) ∷ []))
+    = ap (λ c. closed_or c (or_later (head_refused_at (kept_at s.requests id)) (side_refused s.side head))) h.closed
+    ∙ ap (λ side. closed_or e.closed (or_later (head_refused_at (kept_at s.requests id)) (side_refused side head))) h.side
+    ∙ ap (closed_or e.closed) (head_at (stream_at e.outgoing id) (kept_at s.requests id) wrong refusal.WrongSide (sender s e id h)) in
     ap (λ o. or_later o (size_refused s.peer.settings (head_fields head))) early
-    ∙ ap (λ p. or_later (closed_or e.closed (first_of ((not (is_some (stream_at e.outgoing id)), refusal.NotOpen) ∷ (not (takes_head (outgoing_at e id)), refusal.OutOfOrder) ∷ (not (is_for (other e.side) head), refusal.WrongSide) ∷ []))) (size_refused p.settings (head_fields head))) h.peer
-    ∙ sized e.closed (not (is_some (stream_at e.outgoing id))) (not (takes_head (outgoing_at e id))) (not (is_for (other e.side) head)) refusal.NotOpen refusal.OutOfOrder refusal.WrongSide e.peer.settings (head_fields head)
+    ∙ ap (λ p. or_later (closed_or e.closed (first_of ((not (is_some (stream_at e.outgoing id)), refusal.NotOpen) ∷ (not (takes_head (outgoing_at e id)), refusal.OutOfOrder) ∷ (wrong, refusal.WrongSide) ∷ []))) (size_refused p.settings (head_fields head))) h.peer
+    ∙ sized e.closed (not (is_some (stream_at e.outgoing id))) (not (takes_head (outgoing_at e id))) wrong refusal.NotOpen refusal.OutOfOrder refusal.WrongSide e.peer.settings (head_fields head)
 
 -- Sending a trailer.
-with_pseudo : (closed : Option ℕ) (a b c : Bool) (p q r : Refusal)
-    → or_later (closed_or closed (if a then Some p else (if b then Some q else None))) (refused_if c r) ≡ closed_or closed (if a then Some p else (if b then Some q else (if c then Some r else None)))
-with_pseudo (Some code) a b c p q r = refl
-with_pseudo None true b c p q r = refl
-with_pseudo None false true c p q r = refl
-with_pseudo None false false c p q r = refl
-
 pub trailer_refusal_is : (s : EndpointState) (e : EndpointHistory) (id : ℕ) (head : Head) → StandsFor s e
     → or_later (trailer_refused s id head) (size_refused s.peer.settings (head_fields head)) ≡ trailer_refusal e id head
 trailer_refusal_is s e id head h =
-    let tests = with_pseudo e.closed (not (is_some (stream_at e.outgoing id))) (not (takes_body (outgoing_at e id))) (has_pseudo head) refusal.NotOpen refusal.OutOfOrder refusal.PseudoInTrailer in
-    ap (λ o. or_later (or_later o (refused_if (has_pseudo head) refusal.PseudoInTrailer)) (size_refused s.peer.settings (head_fields head))) (body_refusal_is s e id h)
-    ∙ ap (λ o. or_later o (size_refused s.peer.settings (head_fields head))) tests
+    let early : trailer_refused s id head ≡ closed_or e.closed (first_of ((not (is_some (stream_at e.outgoing id)), refusal.NotOpen) ∷ (not (takes_body (outgoing_at e id)), refusal.OutOfOrder) ∷ (has_pseudo head, refusal.PseudoInTrailer) ∷ []))
+    = ap (λ c. closed_or c (or_later (body_refused_at (kept_at s.requests id)) (pseudo_refused head))) h.closed
+    ∙ ap (closed_or e.closed) (trailer_at (stream_at e.outgoing id) (kept_at s.requests id) (has_pseudo head) refusal.PseudoInTrailer (sender s e id h)) in
+    ap (λ o. or_later o (size_refused s.peer.settings (head_fields head))) early
     ∙ ap (λ p. or_later (closed_or e.closed (first_of ((not (is_some (stream_at e.outgoing id)), refusal.NotOpen) ∷ (not (takes_body (outgoing_at e id)), refusal.OutOfOrder) ∷ (has_pseudo head, refusal.PseudoInTrailer) ∷ []))) (size_refused p.settings (head_fields head))) h.peer
     ∙ sized e.closed (not (is_some (stream_at e.outgoing id))) (not (takes_body (outgoing_at e id))) (has_pseudo head) refusal.NotOpen refusal.OutOfOrder refusal.PseudoInTrailer e.peer.settings (head_fields head)
+
+-- What refuses a stream whatever is stored of it comes before the stream's own rule, and where nothing does, that rule is left.
+pub critical_first : (closed : Option ℕ) (b : Bool) (rest : Option Refusal) (r : Refusal) → closed_or closed (refused_if b refusal.Critical) ≡ Some r → closed_or closed (or_later (refused_if b refusal.Critical) rest) ≡ Some r
+critical_first (Some code) b rest r is = is
+critical_first None true rest r is = is
+critical_first None false rest r is = absurd (cc)
+
+pub critical_left : (closed : Option ℕ) (b : Bool) (rest : Option Refusal) → closed_or closed (refused_if b refusal.Critical) ≡ None → closed_or closed (or_later (refused_if b refusal.Critical) rest) ≡ rest
+critical_left (Some code) b rest is = absurd (cc)
+critical_left None true rest is = absurd (cc)
+critical_left None false rest is = refl
 
 -- Resetting.
 reset_by : (closed : Option ℕ) (a b c : Bool) (p q r : Refusal)
@@ -178,22 +193,23 @@ body_takes_none s id = by s.closed (kept_at s.requests id)
     by None None is = absurd (cc)
     by None (Some r) is = none_if (not (sent.takes_body r.outgoing)) refusal.OutOfOrder (λ same. absurd (cc)) is
 
-pub head_takes_none : (s : EndpointState) (id : ℕ) (head : Head) → head_refused s id head ≢ Some refusal.OutOfMemory
-head_takes_none s id head = by s.closed s.side (kept_at s.requests id)
-  where
-    tests : (a b : Bool) → or_later (refused_if a refusal.OutOfOrder) (refused_if b refusal.WrongSide) ≢ Some refusal.OutOfMemory
-    tests true b is = absurd (cc)
-    tests false true is = absurd (cc)
-    tests false false is = absurd (cc)
+tests_take_none : (a b : Bool) (p q : Refusal) → p ≢ refusal.OutOfMemory → q ≢ refusal.OutOfMemory → or_later (refused_if a p) (refused_if b q) ≢ Some refusal.OutOfMemory
+tests_take_none true b p q h g is = h (cc)
+tests_take_none false true p q h g is = g (cc)
+tests_take_none false false p q h g is = absurd (cc)
 
-    by : (closed : Option ℕ) (side : Side) (r : Option RequestState) → closed_or closed (head_refused_at side head r) ≢ Some refusal.OutOfMemory
-    by (Some code) side r is = absurd (cc)
-    by None side None is = absurd (cc)
-    by None side (Some r) is = tests (not (sent.takes_head r.outgoing)) (not (is_for (other side) head)) is
+pub head_takes_none : (s : EndpointState) (id : ℕ) (head : Head) → head_refused s id head ≢ Some refusal.OutOfMemory
+head_takes_none s id head = by s.closed (not (is_for (other s.side) head)) (kept_at s.requests id)
+  where
+    by : (closed : Option ℕ) (b : Bool) (r : Option RequestState) → closed_or closed (or_later (head_refused_at r) (refused_if b refusal.WrongSide)) ≢ Some refusal.OutOfMemory
+    by (Some code) b r is = absurd (cc)
+    by None b None is = absurd (cc)
+    by None b (Some r) is = tests_take_none (not (sent.takes_head r.outgoing)) b refusal.OutOfOrder refusal.WrongSide (λ same. absurd (cc)) (λ same. absurd (cc)) is
 
 pub trailer_takes_none : (s : EndpointState) (id : ℕ) (trailer : Head) → trailer_refused s id trailer ≢ Some refusal.OutOfMemory
-trailer_takes_none s id trailer = by (body_refused s id) (has_pseudo trailer) (body_takes_none s id)
+trailer_takes_none s id trailer = by s.closed (has_pseudo trailer) (kept_at s.requests id)
   where
-    by : (a : Option Refusal) (b : Bool) → a ≢ Some refusal.OutOfMemory → or_later a (refused_if b refusal.PseudoInTrailer) ≢ Some refusal.OutOfMemory
-    by (Some r) b h is = h is
-    by None b h is = none_if b refusal.PseudoInTrailer (λ same. absurd (cc)) is
+    by : (closed : Option ℕ) (b : Bool) (r : Option RequestState) → closed_or closed (or_later (body_refused_at r) (refused_if b refusal.PseudoInTrailer)) ≢ Some refusal.OutOfMemory
+    by (Some code) b r is = absurd (cc)
+    by None b None is = absurd (cc)
+    by None b (Some r) is = tests_take_none (not (sent.takes_body r.outgoing)) b refusal.OutOfOrder refusal.PseudoInTrailer (λ same. absurd (cc)) (λ same. absurd (cc)) is

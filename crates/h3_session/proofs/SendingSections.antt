@@ -78,35 +78,28 @@ not_begun s e id fields h =
     = ap (λ encoder. record e { encoder = encoder; own = record e.own { instructions = e.own.instructions ++ [] } }) inserted ∙ ap (λ l. record e { own = record e.own { instructions = l } }) (append-nil e.own.instructions) in
     record { front = 0; within = omega arith; stands = subst (StandsFor s) (sym none) h }
 
--- There was no room for it.
-all_same_twice : (old mid new : Streams RequestState) → AllSame old mid → AllSame mid new → AllSame old new
-all_same_twice old mid new first second = record { each = λ q. second.each q ∙ first.each q }
-
-pub no_room : (s now : EndpointState) (new : Streams RequestState) (id : ℕ) (fields : List Field) → s ≡ now → AllSame s.requests new → (e : EndpointHistory) → StandsFor now e → CutsOff e id fields (record s { requests = new })
-no_room s now new id fields view same e h = not_begun (record s { requests = new }) e id fields (stands_same s e new (subst (λ v. StandsFor v e) (sym view) h) same)
-
 -- It was cut off.
-pub stops : (s now : EndpointState) (x : StreamsState) (new : Streams RequestState) (id : ℕ) (fields : List Field) → s ≡ now → AllSame s.requests new
+pub stops : (s now : EndpointState) (x : StreamsState) (id : ℕ) (fields : List Field) → s ≡ now
     → ((encoder : EncoderHistory) → s.encoding.encoder ≡ encoder_state encoder → StopsEncoding encoder id fields (streams_of s) x)
-    → (e : EndpointHistory) → StandsFor now e → CutsOff e id fields (placed (record s { requests = new }) x)
-stops s now x new id fields view same cuts e stands_now =
-    let here : StandsFor s e = subst (λ v. StandsFor v e) (sym view) stands_now in
-    let h = cuts e.encoder here.encoder in
-    let stands : StandsFor (record s { requests = new }) e = stands_same s e new here same in
+    → (e : EndpointHistory) → StandsFor now e → CutsOff e id fields (placed s x)
+stops s now x id fields view cuts e stands_now =
+    let stands : StandsFor s e = subst (λ v. StandsFor v e) (sym view) stands_now in
+    let h = cuts e.encoder stands.encoder in
     record {
       front = h.front;
       within = h.within;
-      stands = written_stands (record s { requests = new }) e x (having_inserted e.encoder id (take h.front fields)) (instructions_for e.encoder id (take h.front fields)) stands h.same h.stores h.unread h.written
+      stands = written_stands s e x (having_inserted e.encoder id (take h.front fields)) (instructions_for e.encoder id (take h.front fields)) stands h.same h.stores h.unread h.written
           (unlearned_after e id (take h.front fields) stands.reached.unlearned);
     }
 
 -- or taken back
-pub stops_late : (s now : EndpointState) (mid_streams x : StreamsState) (mid new : Streams RequestState) (id : ℕ) (fields : List Field) (section : List ℕ) (count : ℕ) → s ≡ now → AllSame s.requests mid → AllSame mid new
+pub stops_late : (s now : EndpointState) (mid_streams x : StreamsState) (new : Streams RequestState) (id : ℕ) (fields : List Field) (section : List ℕ) (count : ℕ) → s ≡ now → AllSame s.requests new
     → ((encoder : EncoderHistory) → s.encoding.encoder ≡ encoder_state encoder → Encodes encoder id fields section count (streams_of s) mid_streams)
     → ((encoder : EncoderHistory) (fs : List Field) (bytes : List ℕ) (before : StreamsState) → Encodes encoder id fs bytes count before mid_streams → StopsEncoding encoder id fs before x)
     → (e : EndpointHistory) → StandsFor now e → CutsOff e id fields (placed (record s { requests = new }) x)
-stops_late s now mid_streams x mid new id fields section count view first second encodes withdraws e h =
-    stops s now x new id fields view (all_same_twice s.requests mid new first second) (λ encoder is. withdraws encoder fields section (streams_of s) (encodes encoder is)) e h
+stops_late s now mid_streams x new id fields section count view same encodes withdraws e h =
+    let cut : CutsOff e id fields (placed s x) = stops s now x id fields view (λ encoder is. withdraws encoder fields section (streams_of s) (encodes encoder is)) e h in
+    record { front = cut.front; within = cut.within; stands = stands_same (placed s x) (with_insertions e id (take cut.front fields)) new cut.stands same }
 
 -- A section waits on its stream.
 queued : (s : EndpointState) (e : EndpointHistory) (x : StreamsState) (new : Streams RequestState) (id : ℕ) (fields : List Field) (section : List ℕ) (count : ℕ) (place : SendPlace) (part : OwnPart) (there : Option RequestState)
@@ -124,15 +117,14 @@ queued s e x new id fields section count place part (Some r) h encodes is was so
     stands_sending (placed s x) (encoded e id fields) new id r (record r { outgoing = sent.has_section r.outgoing section place }) (record o { parts = o.parts ++ part ∷ [] }) stands was refl
     (subst (λ p. IsOfOutgoing (record o { parts = o.parts ++ part ∷ [] }) (record r.outgoing { pieces = r.outgoing.pieces ++ p ∷ []; place = place })) piece pushed) sets
 
-pub queues : (s now : EndpointState) (x : StreamsState) (mid new : Streams RequestState) (id : ℕ) (fields : List Field) (section : List ℕ) (count : ℕ) (place : SendPlace) → s ≡ now → AllSame s.requests mid
+pub queues : (s now : EndpointState) (x : StreamsState) (new : Streams RequestState) (id : ℕ) (fields : List Field) (section : List ℕ) (count : ℕ) (place : SendPlace) → s ≡ now
     → ((encoder : EncoderHistory) → s.encoding.encoder ≡ encoder_state encoder → Encodes encoder id fields section count (streams_of s) x)
-    → IsSome (kept_at mid id) → IfSome (kept_at mid id) (λ r. Sets mid new id (record r { outgoing = sent.has_section r.outgoing section place }))
+    → IsSome (kept_at s.requests id) → IfSome (kept_at s.requests id) (λ r. Sets s.requests new id (record r { outgoing = sent.has_section r.outgoing section place }))
     → Queues now (placed (record s { requests = new }) x) id fields place
-queues s now x mid new id fields section count place view same encodes some sets =
+queues s now x new id fields section count place view encodes some sets =
     record {
       stands = λ e part h is.
           let here : StandsFor s e = subst (λ v. StandsFor v e) (sym view) h in
-          let there : StandsFor (record s { requests = mid }) e = stands_same s e mid here same in
-          queued (record s { requests = mid }) e x new id fields section count place part (kept_at mid id) there (encodes e.encoder here.encoder) is refl some sets;
+          queued s e x new id fields section count place part (kept_at s.requests id) here (encodes e.encoder here.encoder) is refl some sets;
       sent = ap (λ v. v.sent) view;
     }

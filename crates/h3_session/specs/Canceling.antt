@@ -1,22 +1,19 @@
 -- Why a cancellation is refused, by what is stored.
-use Rattle.std.specs.Prelude.{◌≡◌, ℕ, Bool, ◌||◌, List, ◌++◌, Option, Some, None, is_some}
+use Rattle.std.specs.Prelude.{◌≡◌, ℕ, List, ◌++◌, Option, Some, None}
 use Rattle.h3_connection.specs.Calls.{Sets}
 use Rattle.h3_connection.specs.Delivering.{given_up_once, cancellation}
 use Rattle.h3_connection.specs.Sending.{closed_or}
-use Rattle.h3_connection.specs.State.{RequestState}
+use Rattle.h3_connection.specs.State.{EndpointState, RequestState, kept_at}
 use Rattle.h3_connection.specs.StreamSets.{Streams}
 use Rattle.h3_connection.specs.declared.event.Refusal.{Refusal}
 use Rattle.h3_connection.specs.declared.event.Refusal.TheVariants as refusal
 use Rattle.h3_connection.specs.declared.event.StreamFault.TheVariants as stream_fault
 use Rattle.h3_incoming.specs.Replying.{encodings}
-use Rattle.h3_session.specs.Refused.{or_later, refused_if}
+use Rattle.h3_requests.specs.Refused.{or_later, refused_if, cancel_refused_at}
+use Rattle.h3_session.specs.Refused.{is_critical_in}
 
-abbrev pub cancel_refused_at : Option RequestState → Option Refusal
-cancel_refused_at None = Some refusal.NotOpen
-cancel_refused_at (Some r) = refused_if (r.incoming.is_over || is_some r.incoming.fault) refusal.Ended
-
-abbrev pub cancel_refused : Option ℕ → Bool → Option RequestState → Option Refusal
-cancel_refused closed critical at = closed_or closed (or_later (refused_if critical refusal.Critical) (cancel_refused_at at))
+abbrev pub cancel_refused : EndpointState → ℕ → Option Refusal
+cancel_refused s id = closed_or s.closed (or_later (refused_if (is_critical_in s id) refusal.Critical) (cancel_refused_at (kept_at s.requests id)))
 
 -- What a cancellation does to a stream, where it is there.
 abbrev pub CancelsAt : Streams RequestState → Streams RequestState → List ℕ → List ℕ → ℕ → Option RequestState → Type 0

@@ -6,5 +6,6 @@ pub mod Arriving
 pub mod SendingFields
 pub mod Pulling
 pub mod Running
+pub mod Copied
 pub mod Typed
 pub mod Headlines

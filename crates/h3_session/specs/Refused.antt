@@ -1,53 +1,39 @@
 -- Why a call that sends is refused, by what is stored.
-use Rattle.std.specs.Prelude.{ℕ, ◌%◌, Bool, List, not, ◌&&◌, if◌then◌else◌, ◌==◌, Option, Some, None, option_map}
+use Rattle.std.specs.Prelude.{ℕ, ◌%◌, Bool, List, not, ◌&&◌, ◌==◌, Option, option_map}
 use Rattle.h3_field.specs.Field.{Field, section_size}
 use Rattle.h3_header.specs.Head.{Head, has_pseudo}
 use Rattle.h3_proto.specs.declared.stream.Side.{Side}
-use Rattle.h3_outgoing.specs.Sent.{takes_head, takes_body, takes_end, is_sent_off}
 use Rattle.h3_connection.specs.Endpoint.{kind_of}
 use Rattle.h3_connection.specs.OwnIds.{other}
 use Rattle.h3_connection.specs.Pulling.{is_client, is_for}
 use Rattle.h3_connection.specs.Sending.{closed_or, raised, is_too_large}
-use Rattle.h3_connection.specs.State.{EndpointState, RequestState, OutgoingState, kept_at}
+use Rattle.h3_connection.specs.State.{EndpointState, OutgoingState, kept_at}
+use Rattle.h3_requests.specs.Refused.{or_later, refused_if, head_refused_at, body_refused_at, end_refused_at, reset_refused_at}
 use Rattle.h3_streams.specs.Placed.{StreamsState, is_critical_at}
 use Rattle.h3_connection.specs.declared.event.Refusal.{Refusal}
 use Rattle.h3_connection.specs.declared.event.Refusal.TheVariants as refusal
-
--- the first refusal, and where there is none the later one
-abbrev pub or_later : Option Refusal → Option Refusal → Option Refusal
-or_later (Some r) later = Some r
-or_later None later = later
-
-abbrev pub refused_if : Bool → Refusal → Option Refusal
-refused_if is r = if is then Some r else None
 
 -- the sender's part of a request stream
 abbrev pub sender_in : EndpointState → ℕ → Option OutgoingState
 sender_in s id = option_map (λ r. r.outgoing) (kept_at s.requests id)
 
+-- a head of the other side's messages
+abbrev pub side_refused : Side → Head → Option Refusal
+side_refused side head = refused_if (not (is_for (other side) head)) refusal.WrongSide
+
 -- a head, its size apart: the stream's own rule comes before that of the side
-abbrev pub head_refused_at : Side → Head → Option RequestState → Option Refusal
-head_refused_at side head None = Some refusal.NotOpen
-head_refused_at side head (Some r) =
-    or_later (refused_if (not (takes_head r.outgoing)) refusal.OutOfOrder) (refused_if (not (is_for (other side) head)) refusal.WrongSide)
-
 abbrev pub head_refused : EndpointState → ℕ → Head → Option Refusal
-head_refused s id head = closed_or s.closed (head_refused_at s.side head (kept_at s.requests id))
-
-abbrev pub body_refused_at : Option RequestState → Option Refusal
-body_refused_at None = Some refusal.NotOpen
-body_refused_at (Some r) = refused_if (not (takes_body r.outgoing)) refusal.OutOfOrder
+head_refused s id head = closed_or s.closed (or_later (head_refused_at (kept_at s.requests id)) (side_refused s.side head))
 
 abbrev pub body_refused : EndpointState → ℕ → Option Refusal
 body_refused s id = closed_or s.closed (body_refused_at (kept_at s.requests id))
 
+abbrev pub pseudo_refused : Head → Option Refusal
+pseudo_refused trailer = refused_if (has_pseudo trailer) refusal.PseudoInTrailer
+
 -- a trailer, its size apart
 abbrev pub trailer_refused : EndpointState → ℕ → Head → Option Refusal
-trailer_refused s id head = or_later (body_refused s id) (refused_if (has_pseudo head) refusal.PseudoInTrailer)
-
-abbrev pub end_refused_at : Option RequestState → Option Refusal
-end_refused_at None = Some refusal.NotOpen
-end_refused_at (Some r) = refused_if (not (takes_end r.outgoing)) refusal.OutOfOrder
+trailer_refused s id trailer = closed_or s.closed (or_later (body_refused_at (kept_at s.requests id)) (pseudo_refused trailer))
 
 abbrev pub end_refused : EndpointState → ℕ → Option Refusal
 end_refused s id = closed_or s.closed (end_refused_at (kept_at s.requests id))
@@ -70,9 +56,9 @@ streams_of s =
 abbrev pub is_critical_in : EndpointState → ℕ → Bool
 is_critical_in s id = is_critical_at s.side (streams_of s) id (kind_of s.side id)
 
-abbrev pub reset_refused_at : Option RequestState → Option Refusal
-reset_refused_at None = Some refusal.NotOpen
-reset_refused_at (Some r) = refused_if (is_sent_off r.outgoing) refusal.Ended
+-- why a stream is neither reset nor given up, whatever is stored of it
+abbrev pub critical_refused : EndpointState → ℕ → Option Refusal
+critical_refused s id = closed_or s.closed (refused_if (is_critical_in s id) refusal.Critical)
 
 abbrev pub reset_refused : EndpointState → ℕ → Option Refusal
 reset_refused s id = closed_or s.closed (or_later (refused_if (is_critical_in s id) refusal.Critical) (reset_refused_at (kept_at s.requests id)))

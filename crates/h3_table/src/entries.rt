@@ -10,9 +10,8 @@ ghost use Rattle.h3_table.specs.Index.{IsIndexed};
 pub use crate::field_queue::Entry;
 use crate::field_queue::FieldQueue;
 use crate::index::{Index, slot_of_field, slot_of_name};
-use h3_field::HeaderField;
+use h3_field::{HeaderField, Part};
 use std::alloc::{AllocError, Global};
-use std::borrow::CowSlice;
 use std::marker::Model;
 
 /// Numbers of entries stay below this one.
@@ -247,12 +246,11 @@ impl Entries {
         ensures ok { OnOk result (self.new ≡ with_entry self.old field) }
         ensures err { OnErr result (self.new ≡ self.old) }
     {
-        let (name, value) = field.into_inner();
-        let static_name = match &name {
-            CowSlice::Borrowed(name) => Some(*name),
-            CowSlice::Owned(_) => None,
+        let static_name = match field.name_part() {
+            Part::Static(name) => Some(name),
+            Part::Lent(_) => None,
         };
-        self.put(name.as_slice(), value.as_slice(), static_name)
+        self.put(field.name(), field.value(), static_name)
     }
 
     /// The same for a field that stays the caller's.

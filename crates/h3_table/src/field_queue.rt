@@ -74,12 +74,15 @@ impl<'t> Entry<'t> {
         Ok(HeaderField::new(CowSlice::Owned(name), CowSlice::Owned(value)))
     }
 
-    /// A copy. A static name is not copied.
+    /// A copy, with one allocation: of the value where the name is static, and of both in one block else. An empty value or block takes none.
     pub fn copy(&self, alloc: Global) -> Result<HeaderField, AllocError>
         ensures { IfOk result (λ f. f ≡ self.now) }
     {
-        let value = Vec::from_slice(alloc, self.value)?;
-        self.with_value(alloc, value)
+        if let Some(name) = self.static_name {
+            let value = Vec::from_slice(alloc, self.value)?;
+            return Ok(HeaderField::with_static_name(name, value));
+        }
+        HeaderField::copied(alloc, self.name, self.value)
     }
 }
 

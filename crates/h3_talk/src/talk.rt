@@ -1,33 +1,21 @@
 //! The program: a script in, the answers out.
 ghost use Rattle.std.specs.List.{list_any};
-ghost use Rattle.std.specs.Prelude.{◌≡◌, ◌⊎◌, ◌≤◌, true, false, string_bytes, IfOk, IfErr};
+ghost use Rattle.std.specs.Prelude.{◌≡◌, ◌⊎◌, ◌≤◌, true, false, IfOk};
 ghost use Rattle.std.specs.Io.KnownBytes.{Appends};
 ghost use Rattle.h3_script.specs.Few.{AreFew};
-ghost use Rattle.h3_script.specs.Lines.{printed, refused_line};
-ghost use Rattle.h3_talk.specs.Talks.{AreAnswers, HasRead, Prints, AnswersScript, RefusesInput, ReadsScript, Fails};
+ghost use Rattle.h3_script.specs.Inputs.{RefusesInput};
+ghost use Rattle.h3_talk.specs.Talks.{AreAnswers, Prints, AnswersScript};
 ghost use Rattle.h3_world.specs.Headline.{is_memory};
 ghost use Rattle.h3_world.specs.Setup.{IsMadeSetup};
 
-use h3_script::error::ScriptError;
-use h3_script::script::{Script, parse};
-use h3_script::text::answer_text;
+use h3_script::input::read_script;
+use h3_script::output::write_answers;
+use h3_script::script::Script;
 use h3_session::run::{Outcome, run};
 use h3_world::event::{Answer, Event};
 use h3_world::setup::Setup;
 use std::alloc::{AllocError, Global};
 use std::io::{Read, Write};
-
-/// How many bytes a script may have.
-const MOST: u64 = 1 << 48;
-
-/// Why there is no script to answer.
-#[derive(Clone, Copy)]
-enum Failure {
-    /// Memory was refused, or a read failed.
-    Lost,
-    /// The line of this number is refused.
-    Line(u64),
-}
 
 /// Answers a script: reads it whole, drives a client and a server by it and writes a line for each
 /// event. The status is 0 then. Where a line is refused nothing but `line` and the number of the
@@ -42,60 +30,10 @@ pub fn talk<R: Read, W: Write>(alloc: Global, reader: &mut R, writer: &mut W) ->
 {
     h3_script::laws::a_script_has_a_made_setup();
     h3_script::laws::a_script_has_few_events();
-    match read_script(alloc, reader) {
+    match read_script(alloc, reader, writer) {
         Ok(script) => answer(alloc, script, writer),
-        Err(Failure::Line(number)) => refuse(alloc, number, writer),
-        Err(Failure::Lost) => 2,
+        Err(status) => status,
     }
-}
-
-/// The script that the input is.
-fn read_script<R: Read>(alloc: Global, reader: &mut R) -> Result<Script, Failure>
-    ensures ok { IfOk result (λ s. ReadsScript (R.remaining reader.old) (R.remaining reader.new) s.setup s.events.items) }
-    ensures err { IfErr result (Fails (R.remaining reader.old) (R.remaining reader.new)) }
-{
-    let Ok(bytes) = gather(alloc, reader) else {
-        return Err(Failure::Lost);
-    };
-    match parse(alloc, &bytes, MOST) {
-        Ok(script) => Ok(script),
-        Err(ScriptError::Line(number)) => Err(Failure::Line(number)),
-        Err(ScriptError::OutOfMemory) => Err(Failure::Lost),
-    }
-}
-
-/// Reads to the end, or past the most bytes that a script may have.
-fn gather<R: Read>(alloc: Global, reader: &mut R) -> Result<Vec<u8>, Failure>
-    ensures { IfOk result (λ bytes. HasRead (R.remaining reader.old) (R.remaining reader.new) bytes.items) }
-{
-    let mut bytes = Vec::new(alloc);
-    let mut buffer = [0u8; 4096];
-    for _ in 0..MOST + 1 {
-        let Ok(count) = reader.read(&mut buffer) else {
-            return Err(Failure::Lost);
-        };
-        if count == 0 {
-            return Ok(bytes);
-        }
-        if bytes.extend_from_slice(&buffer[..count]).is_err() {
-            return Err(Failure::Lost);
-        }
-        if bytes.len() as u64 > MOST {
-            return Ok(bytes);
-        }
-    }
-    Ok(bytes)
-}
-
-/// Writes the number of the refused line.
-fn refuse<W: Write>(alloc: Global, number: u64, writer: &mut W) -> u8
-    ensures refused { result ≡ 1 → Appends (W.contents writer.old) (W.contents writer.new) (refused_line number) }
-    ensures statuses { (result ≡ 1) ⊎ (result ≡ 2) }
-{
-    let Ok(text) = format!(in alloc; "line {number}\n") else {
-        return 2;
-    };
-    if put(writer, text.as_bytes()) { 1 } else { 2 }
 }
 
 /// Writes the answers to the events of a script.
@@ -109,10 +47,11 @@ fn answer<W: Write>(alloc: Global, script: Script, writer: &mut W) -> u8
     let Ok(answers) = answers_to(alloc, setup, &events) else {
         return 2;
     };
-    let Ok(text) = print(alloc, &answers) else {
-        return 2;
-    };
-    if put(writer, text.as_bytes()) { 0 } else { 2 }
+    if write_answers(alloc, &answers, writer) {
+        0
+    } else {
+        2
+    }
 }
 
 /// The answers of a run, without the endpoints that it leaves.
@@ -139,24 +78,4 @@ fn answers_of(outcome: Outcome) -> Vec<Answer>
     drop(client);
     drop(server);
     answers
-}
-
-/// The lines of the answers.
-fn print(alloc: Global, answers: &[Answer]) -> Result<String, AllocError>
-    ensures { IfOk result (λ text. string_bytes text ≡ printed answers.now) }
-{
-    let mut text = String::new(alloc);
-    for answer in answers {
-        let line = answer_text(alloc, answer)?;
-        text.push_str(line.as_str())?;
-        text.push('\n')?;
-    }
-    Ok(text)
-}
-
-/// Whether all of the text was written.
-fn put<W: Write>(writer: &mut W, text: &[u8]) -> bool
-    ensures { result ≡ true → Appends (W.contents writer.old) (W.contents writer.new) text.now }
-{
-    writer.write_all(text).is_ok() && writer.flush().is_ok()
 }

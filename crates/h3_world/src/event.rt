@@ -6,7 +6,7 @@ use h3_header::Header;
 use h3_proto::stream::{Side, StreamId};
 
 /// What may happen. The side is the one that acts, or the one whose bytes are delivered.
-#[derive(Drop)]
+#[derive(Debug, Drop)]
 pub enum Event {
     /// A client opens the next request stream.
     OpenRequest(Side),
@@ -37,7 +37,7 @@ pub enum Event {
 }
 
 /// What comes of an event.
-#[derive(Drop)]
+#[derive(Debug, Drop)]
 pub enum Answer {
     Opened(StreamId),
     Done,

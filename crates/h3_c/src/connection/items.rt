@@ -3,10 +3,11 @@ ghost use Rattle.std.specs.Prelude.{◌≡◌, slice_get};
 ghost use Rattle.h3_c.specs.Exported.{GivesField, OnStream, Pulls, ReadsBytes, ReadsField};
 
 use super::Connection;
-use crate::items::{PulledItem, bytes_of, copy_front, fields_of, shown};
+use crate::items::{PulledItem, bytes_of, fields_of, shown};
 use crate::numbers::{ARGUMENT, MEMORY, NONE, OK, ROOM, Told};
 use crate::owned::put;
 use h3_field::HeaderField;
+use h3_outgoing::outgoing::put_front;
 use h3_proto::stream::StreamId;
 use std::alloc::Global;
 
@@ -58,7 +59,7 @@ impl Connection {
         if bytes.len() <= from {
             return NONE;
         }
-        *count = copy_front(&bytes[from..], out);
+        *count = put_front(&bytes[from..], out);
         OK
     }
 }
@@ -80,7 +81,7 @@ fn field_at(
     let fits = field.name().len() <= name.len() && field.value().len() <= value.len();
     *name_len = field.name().len();
     *value_len = field.value().len();
-    copy_front(field.name(), name);
-    copy_front(field.value(), value);
+    put_front(field.name(), name);
+    put_front(field.value(), value);
     if fits { OK } else { ROOM }
 }

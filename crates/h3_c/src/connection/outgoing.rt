@@ -1,38 +1,22 @@
 //! What waits to be sent.
-ghost use Rattle.std.specs.Prelude.{◌≡◌, ◌≤◌, IfSome};
+ghost use Rattle.std.specs.Prelude.{◌≡◌, ◌≤◌, ◌⊎◌, IfSome, Some};
 ghost use Rattle.h3_c.specs.Exported.{CopiesOut, OnStream, Takes, Waits, WaitsNext};
 
 use super::Connection;
 use crate::filled::forget;
-use crate::items::copy_front;
 use crate::numbers::{ARGUMENT, NONE, OK, Told};
 use h3_proto::stream::StreamId;
-use std::alloc::Global;
 
 impl Connection {
-    /// Copies some of the first bytes that wait on a stream: as many as fit, or those of the first frame where memory is refused.
-    pub(crate) fn outgoing(
-        &self,
-        alloc: Global,
-        id: u64,
-        out: &mut [u8],
-        count: &mut usize,
-        fin: &mut u32,
-    ) -> Told
-        ensures { OnStream id result self.now self.now (CopiesOut self.now id result out.new count.new fin.new) }
+    /// Copies the first bytes that wait on a stream: as many as fit.
+    pub(crate) fn outgoing(&self, id: u64, out: &mut [u8], count: &mut usize, fin: &mut u32) -> Told
+        ensures { OnStream id result self.now self.now (CopiesOut self.now id result out.old out.new count.new fin.new) }
     {
         let Ok(id) = StreamId::try_from(id) else {
             return ARGUMENT;
         };
-        let waiting = self.endpoint.waiting(id);
-        let mut front = Vec::new(alloc);
-        // room for all at once; where that is refused, so is the copy
-        let _room = front.reserve(waiting.min(out.len()));
-        *count = match self.endpoint.copy_outgoing(id, out.len(), &mut front) {
-            Ok(()) => copy_front(front.as_slice(), out),
-            Err(_) => copy_front(self.endpoint.outgoing(id), out),
-        };
-        let is_last = self.endpoint.is_finished(id) && waiting == *count;
+        *count = self.endpoint.copy_to(id, out);
+        let is_last = self.endpoint.is_finished(id) && self.endpoint.waiting(id) == *count;
         *fin = is_last as u32;
         OK
     }
@@ -72,11 +56,14 @@ impl Connection {
     fn lowest(&self, from: u64) -> Option<u64>
         ensures { IfSome result (Waits self.now from) }
     {
-        let mut lowest = self.lowest_own(from);
+        let own = self.lowest_own(from);
         for at in 0..self.filled.len() {
-            lowest = self.lower(lowest, self.filled[at], from);
+            // they stand in order: the first on which bytes wait is the lowest
+            if let Some(id) = self.lower(None, self.filled[at], from) {
+                return lower_of(own, id);
+            }
         }
-        lowest
+        own
     }
 
     fn lowest_own(&self, from: u64) -> Option<u64>
@@ -107,5 +94,15 @@ impl Connection {
             return lowest;
         }
         Some(id)
+    }
+}
+
+// The lower of both ids.
+fn lower_of(one: Option<u64>, id: u64) -> Option<u64>
+    ensures { (result ≡ one) ⊎ (result ≡ Some id) }
+{
+    match one {
+        Some(other) if other < id => one,
+        _ => Some(id),
     }
 }

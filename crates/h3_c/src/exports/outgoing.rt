@@ -38,10 +38,10 @@ pub extern "C" fn h3_raw_outgoing(
 ) -> u32
     requires { IsSome handle.value }
     ensures there { IsSome out.new.value }
-    ensures goes { Steps handle.value out.new.value (λ v w. (w ≡ v) × OnStream id (number result 0) v w (CopiesOut v id (number result 0) buffer.new count.new fin.new)) }
+    ensures goes { Steps handle.value out.new.value (λ v w. (w ≡ v) × OnStream id (number result 0) v w (CopiesOut v id (number result 0) buffer.old buffer.new count.new fin.new)) }
 {
     let connection = opened(alloc, handle);
-    let told = connection.outgoing(alloc, id, buffer, count, fin);
+    let told = connection.outgoing(id, buffer, count, fin);
     *out = kept(connection);
     told.number
 }

@@ -11,7 +11,6 @@ mod tables;
 
 use crate::field::HeaderField;
 use crate::static_::tables::{FIELD_SLOTS, NAME_SLOTS, NAME_STARTS, NAMES, VALUE_STARTS, VALUES};
-use std::borrow::CowSlice;
 use std::fmt;
 
 /// Why the table has no entry.
@@ -146,10 +145,7 @@ impl StaticTable {
         if index >= COUNT {
             return Err(Error::Unknown(index));
         }
-        Ok(HeaderField::new(
-            CowSlice::Borrowed(name_at(index)),
-            CowSlice::Borrowed(value_at(index)),
-        ))
+        Ok(HeaderField::from_static(name_at(index), value_at(index)))
     }
 
     /// The name of the entry of that index.

@@ -1,12 +1,12 @@
 //! The parts of a header, read from the bytes of a field's name and value.
 ghost use Rattle.std.specs.Prelude.{◌≡◌, ⊤, IfOk, OnOk, IfErr, OnErr, MatchResult, Ok, Err, Some, fold};
-ghost use Rattle.std.specs.Cow.{cow_slice_items};
 ghost use Rattle.http_header.specs.Token.{IsToken};
 ghost use Rattle.http_header.specs.FieldName.{IsHeaderName};
 ghost use Rattle.http_header.specs.FieldValue.{plain_value, IsFieldValue};
 ghost use Rattle.http_header.specs.HeaderMap.{append, RefusesAppend};
 ghost use Rattle.http.specs.StatusCode.{IsCodeText};
 ghost use Rattle.http_uri.specs.Grammar.{IsScheme, IsAuthority, IsPathInput, without_fragment};
+ghost use Rattle.h3_field.specs.FieldForm.{part_bytes};
 ghost use Rattle.h3_header.specs.ProtocolText.{IsProtocolText};
 ghost use Rattle.h3_header.specs.declared.headers.kind.FieldKind.TheVariants as field;
 ghost use Rattle.h3_header.specs.Reads.{IsShortMethod, IsValueAt, status_number, RefusesName, RefusesValue, RefusesRegular, RefusesPseudo, Accepts, Refuses, AcceptsAll, RefusesOne, with_field, with_pseudo};
@@ -18,13 +18,12 @@ use super::kind::FieldKind;
 use super::pseudo::Pseudo;
 use super::store::Store;
 use crate::ext::Protocol;
-use h3_field::HeaderField;
+use h3_field::{HeaderField, Part};
 use http::method::MethodError;
 use http::{Method, StatusCode};
 use http_header::{HeaderMap, HeaderMapError, HeaderName, HeaderNameError, HeaderValue};
 use http_uri::{Authority, PathAndQuery, Scheme, UriError};
 use std::alloc::Global;
-use std::borrow::CowSlice;
 
 fn read_method(alloc: Global, value: &[u8]) -> Result<Method, HeaderError>
     ensures ok { IfOk result (λ m. IsToken value.now × (m ≡ value.now)) }
@@ -54,33 +53,33 @@ fn read_scheme(alloc: Global, value: &[u8]) -> Result<Scheme, HeaderError>
 fn read_authority(
     alloc: Global,
     store: &mut Store,
-    value: &CowSlice<'static, u8>,
+    value: &Part<'_>,
 ) -> Result<Authority, HeaderError>
-    ensures ok { IfOk result (λ m. IsAuthority (cow_slice_items value.now)
-        × (m ≡ cow_slice_items value.now)) }
-    ensures err { IfErr result (RefusesValue (IsAuthority (cow_slice_items value.now)) ⊤) }
+    ensures ok { IfOk result (λ m. IsAuthority (part_bytes value.now)
+        × (m ≡ part_bytes value.now)) }
+    ensures err { IfErr result (RefusesValue (IsAuthority (part_bytes value.now)) ⊤) }
 {
     match Authority::from_shared(store.keep(value)?) {
         Ok(authority) => Ok(authority),
-        Err(_) => Err(HeaderError::invalid_value(alloc, b":authority", value.as_slice())),
+        Err(_) => Err(HeaderError::invalid_value(alloc, b":authority", value.bytes())),
     }
 }
 
 fn read_path(
     alloc: Global,
     store: &mut Store,
-    value: &CowSlice<'static, u8>,
+    value: &Part<'_>,
 ) -> Result<PathAndQuery, HeaderError>
-    ensures ok { IfOk result (λ m. IsPathInput (cow_slice_items value.now)
-        × (m ≡ without_fragment (cow_slice_items value.now))) }
-    ensures err { IfErr result (RefusesValue (IsPathInput (cow_slice_items value.now)) ⊤) }
+    ensures ok { IfOk result (λ m. IsPathInput (part_bytes value.now)
+        × (m ≡ without_fragment (part_bytes value.now))) }
+    ensures err { IfErr result (RefusesValue (IsPathInput (part_bytes value.now)) ⊤) }
 {
-    if value.as_slice() == b"/".as_slice() {
+    if value.bytes() == b"/".as_slice() {
         return Ok(root());
     }
     match PathAndQuery::from_shared(store.keep(value)?) {
         Ok(path) => Ok(path),
-        Err(_) => Err(HeaderError::invalid_value(alloc, b":path", value.as_slice())),
+        Err(_) => Err(HeaderError::invalid_value(alloc, b":path", value.bytes())),
     }
 }
 
@@ -105,30 +104,26 @@ fn read_protocol(alloc: Global, value: &[u8]) -> Result<Protocol, HeaderError>
 }
 
 /// A header name, which is in lower case. A standard one takes no memory.
-fn read_name(
-    alloc: Global,
-    store: &mut Store,
-    name: &CowSlice<'static, u8>,
-) -> Result<HeaderName, HeaderError>
-    ensures ok { IfOk result (λ n. IsHeaderName (cow_slice_items name.now)
-        × (n ≡ cow_slice_items name.now)) }
-    ensures err { IfErr result (RefusesName (IsHeaderName (cow_slice_items name.now))) }
+fn read_name(alloc: Global, store: &mut Store, name: &Part<'_>) -> Result<HeaderName, HeaderError>
+    ensures ok { IfOk result (λ n. IsHeaderName (part_bytes name.now)
+        × (n ≡ part_bytes name.now)) }
+    ensures err { IfErr result (RefusesName (IsHeaderName (part_bytes name.now))) }
 {
-    if let Some(standard) = HeaderName::standard(name.as_slice()) {
-        if standard.as_bytes() == name.as_slice() {
+    if let Some(standard) = HeaderName::standard(name.bytes()) {
+        if standard.as_bytes() == name.bytes() {
             return Ok(standard);
         }
-        return Err(HeaderError::invalid_name(alloc, name.as_slice()));
+        return Err(HeaderError::invalid_name(alloc, name.bytes()));
     }
     match HeaderName::from_shared(alloc, store.keep(name)?) {
         Ok(made) => {
             // `from_shared` takes letters of any case, and makes them lower case.
-            if made.as_bytes() == name.as_slice() {
+            if made.as_bytes() == name.bytes() {
                 return Ok(made);
             }
-            Err(HeaderError::invalid_name(alloc, name.as_slice()))
+            Err(HeaderError::invalid_name(alloc, name.bytes()))
         }
-        Err(HeaderNameError::Invalid) => { Err(HeaderError::invalid_name(alloc, name.as_slice())) }
+        Err(HeaderNameError::Invalid) => { Err(HeaderError::invalid_name(alloc, name.bytes())) }
         Err(HeaderNameError::OutOfMemory) => Err(HeaderError::OutOfMemory),
     }
 }
@@ -137,15 +132,15 @@ fn read_value(
     alloc: Global,
     store: &mut Store,
     name: &HeaderName,
-    value: &CowSlice<'static, u8>,
+    value: &Part<'_>,
 ) -> Result<HeaderValue, HeaderError>
-    ensures ok { IfOk result (λ v. IsFieldValue (cow_slice_items value.now)
-        × (v ≡ plain_value (cow_slice_items value.now))) }
-    ensures err { IfErr result (RefusesValue (IsFieldValue (cow_slice_items value.now)) ⊤) }
+    ensures ok { IfOk result (λ v. IsFieldValue (part_bytes value.now)
+        × (v ≡ plain_value (part_bytes value.now))) }
+    ensures err { IfErr result (RefusesValue (IsFieldValue (part_bytes value.now)) ⊤) }
 {
     match HeaderValue::from_shared(store.keep(value)?) {
         Ok(value) => Ok(value),
-        Err(_) => Err(HeaderError::invalid_value(alloc, name.as_bytes(), value.as_slice())),
+        Err(_) => Err(HeaderError::invalid_value(alloc, name.as_bytes(), value.bytes())),
     }
 }
 
@@ -154,16 +149,16 @@ fn append_field(
     alloc: Global,
     map: &mut HeaderMap,
     store: &mut Store,
-    name: &CowSlice<'static, u8>,
-    value: &CowSlice<'static, u8>,
+    name: &Part<'_>,
+    value: &Part<'_>,
 ) -> Result<(), HeaderError>
-    ensures ok { OnOk result (IsHeaderName (cow_slice_items name.now)
-        × IsFieldValue (cow_slice_items value.now)
-        × ¬ (RefusesAppend map.old (cow_slice_items name.now))
-        × (map.new ≡ append map.old (cow_slice_items name.now)
-        (plain_value (cow_slice_items value.now)))) }
-    ensures err { IfErr result (RefusesRegular map.old (cow_slice_items name.now)
-        (cow_slice_items value.now)) }
+    ensures ok { OnOk result (IsHeaderName (part_bytes name.now)
+        × IsFieldValue (part_bytes value.now)
+        × ¬ (RefusesAppend map.old (part_bytes name.now))
+        × (map.new ≡ append map.old (part_bytes name.now)
+        (plain_value (part_bytes value.now)))) }
+    ensures err { IfErr result (RefusesRegular map.old (part_bytes name.now)
+        (part_bytes value.now)) }
     ensures kept { OnErr result (map.new ≡ map.old) }
 {
     let name = read_name(alloc, store, name)?;
@@ -206,9 +201,9 @@ fn read_field(
     ensures err { IfErr result (Refuses (head_of_parts pseudo.old map.old) field) }
 {
     let kind = FieldKind::of(field.name());
-    let (name, value) = field.into_inner();
+    let value = field.value_part();
     match kind {
-        FieldKind::Regular => append_field(alloc, map, store, &name, &value),
+        FieldKind::Regular => append_field(alloc, map, store, &field.name_part(), &value),
         _ => read_pseudo(alloc, pseudo, store, kind, &value),
     }
 }
@@ -219,14 +214,14 @@ fn read_pseudo(
     pseudo: &mut Pseudo,
     store: &mut Store,
     kind: FieldKind,
-    value: &CowSlice<'static, u8>,
+    value: &Part<'_>,
 ) -> Result<(), HeaderError>
     requires { kind ≡ field.Regular → ⊥ }
-    ensures ok { OnOk result (IsValueAt kind (cow_slice_items value.now)
-        × (pseudo.new ≡ with_pseudo kind pseudo.old (cow_slice_items value.now))) }
-    ensures err { IfErr result (RefusesPseudo kind (cow_slice_items value.now)) }
+    ensures ok { OnOk result (IsValueAt kind (part_bytes value.now)
+        × (pseudo.new ≡ with_pseudo kind pseudo.old (part_bytes value.now))) }
+    ensures err { IfErr result (RefusesPseudo kind (part_bytes value.now)) }
 {
-    let text = value.as_slice();
+    let text = value.bytes();
     match kind {
         FieldKind::Method => put(&mut pseudo.method, read_method(alloc, text)),
         FieldKind::Scheme => put(&mut pseudo.scheme, read_scheme(alloc, text)),

@@ -1,13 +1,12 @@
 //! Where the bytes of a list's fields are kept.
 ghost use Rattle.std.specs.Prelude.{◌≡◌, [], IfOk, IfErr};
-ghost use Rattle.std.specs.Cow.{cow_slice_items};
+ghost use Rattle.h3_field.specs.FieldForm.{part_bytes};
 
 use super::error::HeaderError;
 use bytes::{Bytes, BytesMut};
-use h3_field::HeaderField;
+use h3_field::{HeaderField, Part};
 use http_header::HeaderMap;
 use std::alloc::Global;
-use std::borrow::CowSlice;
 
 /// One block of memory for the names and values of a list, which goes when the last of them does. Without room for one
 /// more it begins another block.
@@ -32,13 +31,13 @@ impl Store {
     }
 
     /// The bytes, shared: static ones as they stand, and a copy of others in the block.
-    pub(crate) fn keep(&mut self, bytes: &CowSlice<'static, u8>) -> Result<Bytes, HeaderError>
-        ensures ok { IfOk result (λ b. b ≡ cow_slice_items bytes.now) }
+    pub(crate) fn keep(&mut self, part: &Part<'_>) -> Result<Bytes, HeaderError>
+        ensures ok { IfOk result (λ b. b ≡ part_bytes part.now) }
         ensures err { IfErr result (λ e. e ≡ HeaderError.OutOfMemory) }
     {
-        match bytes {
-            CowSlice::Borrowed(bytes) => Ok(Bytes::from_static(*bytes)),
-            CowSlice::Owned(bytes) => self.add(bytes.as_slice()),
+        match part {
+            Part::Static(bytes) => Ok(Bytes::from_static(*bytes)),
+            Part::Lent(bytes) => self.add(*bytes),
         }
     }
 

@@ -9,7 +9,6 @@ use h3_field::HeaderField;
 use h3_field::static_::StaticTable;
 use http_header::HeaderMap;
 use std::alloc::{AllocError, Global};
-use std::borrow::CowSlice;
 
 /// The static copy of a value that is common in pseudo-header fields, if there is one.
 fn static_value(value: &str) -> Option<&'static str>
@@ -49,10 +48,7 @@ pub(crate) fn pseudo_field(
 pub(crate) fn static_field(name: &'static [u8], value: &'static str) -> HeaderField
     ensures { result ≡ record { name = name.now; value = value.now } }
 {
-    HeaderField::new(
-        CowSlice::Borrowed(name),
-        CowSlice::Borrowed(value.as_bytes()),
-    )
+    HeaderField::from_static(name, value.as_bytes())
 }
 
 /// The static copy of a name that the static table has (RFC 9204, appendix A).
@@ -66,7 +62,7 @@ fn static_name(name: &[u8]) -> Option<&'static [u8]>
     }
 }
 
-/// A regular field. A name of the static table is not copied.
+/// A regular field, with one allocation. A name of the static table is not copied.
 pub(crate) fn regular_field(
     alloc: Global,
     name: &[u8],
@@ -74,12 +70,11 @@ pub(crate) fn regular_field(
 ) -> Result<HeaderField, AllocError>
     ensures { IfOk result (λ f. f ≡ record { name = name.now; value = value.now }) }
 {
-    let value = Vec::from_slice(alloc, value)?;
     if let Some(name) = static_name(name) {
+        let value = Vec::from_slice(alloc, value)?;
         return Ok(HeaderField::with_static_name(name, value));
     }
-    let name = Vec::from_slice(alloc, name)?;
-    Ok(HeaderField::new(CowSlice::Owned(name), CowSlice::Owned(value)))
+    HeaderField::copied(alloc, name, value)
 }
 
 /// Appends a pseudo-header field that may be missing.

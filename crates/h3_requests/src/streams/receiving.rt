@@ -4,7 +4,7 @@ ghost use Rattle.h3_blocked.specs.Sums.{TakesOut};
 ghost use Rattle.h3_connection.specs.Calls.{Sets, AllSame};
 ghost use Rattle.h3_connection.specs.Delivering.{kept, with_end, given_up_once, cancellation};
 ghost use Rattle.h3_connection.specs.State.{kept_at};
-ghost use Rattle.h3_connection.specs.declared.event.StreamFault.TheVariants.{Reset, Canceled};
+ghost use Rattle.h3_connection.specs.declared.event.StreamFault.TheVariants.{Reset};
 ghost use Rattle.h3_incoming.specs.Replying.{encodings};
 ghost use Rattle.h3_requests.specs.Changing.{opened_at, Receives, receiver_refusal, IsRefusedBy};
 
@@ -143,30 +143,6 @@ impl RequestStreams {
                 Err(e)
             }
         }
-    }
-
-    /// Nothing more of it is wanted. It is given up, unless it was before. The first time, the peer's encoder is told. Nothing happens
-    /// where the stream is not there. An `Err` changes nothing: memory was refused.
-    pub fn cancel(
-        &mut self,
-        alloc: Global,
-        id: StreamId,
-        replies: &mut Vec<u8>,
-    ) -> Result<(), AllocError>
-        ensures ok { OnOk result (IfSome (kept_at self.old id) (λ r. Sets self.old self.new id (record r { incoming = given_up_once r.incoming Canceled }))) }
-        ensures replies { OnOk result (IfSome (kept_at self.old id) (λ r. replies.new.items ≡ replies.old.items ++ encodings (cancellation id r.incoming.fault))) }
-        ensures absent { kept_at self.old id ≡ None → (self.new ≡ self.old) × (replies.new.items ≡ replies.old.items) }
-        ensures err { OnErr result (AllSame self.old self.new × (replies.new.items ≡ replies.old.items)) }
-    {
-        let Some(stream) = self.streams.get_mut(&id.into_inner()) else {
-            return Ok(());
-        };
-        let before = stream.incoming.waits_for();
-        let Ok(()) = stream.incoming.cancel(alloc, id, replies) else {
-            return Err(AllocError);
-        };
-        replace(&mut self.blocked, before, stream.incoming.waits_for());
-        Ok(())
     }
 
     // Opens the stream where it is not there, and answers whether it was.

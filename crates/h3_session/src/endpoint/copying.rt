@@ -1,8 +1,10 @@
 //! A copy of what waits to be sent.
 ghost use Rattle.std.specs.Prelude.{◌≡◌, ◌++◌, take, OnOk, OnErr};
+ghost use Rattle.h3_session.specs.Copied.{CopiesTo};
 ghost use Rattle.h3_session.specs.Running.{CopiesOutgoing};
 
 use super::Endpoint;
+use h3_outgoing::outgoing::put_front;
 use h3_proto::stream::StreamId;
 use std::alloc::AllocError;
 
@@ -25,6 +27,18 @@ impl Endpoint {
         };
         stream.copy_front(count, out)?;
         Ok(())
+    }
+
+    /// Copies the first bytes that wait on a stream to the front of `out`, as many as fit, over frames too, and says how many. The
+    /// rest of `out` stays, and they keep waiting. It takes no memory.
+    #[tactic(auto, using(crate::proofs::Copying::puts_own))]
+    pub fn copy_to(&self, id: StreamId, out: &mut [u8]) -> usize
+        ensures { CopiesTo self.now id result out.old out.new }
+    {
+        match self.sender(id) {
+            Some(stream) => stream.copy_to(out),
+            None => put_front(self.own_outgoing(id), out),
+        }
     }
 }
 

@@ -1,17 +1,20 @@
 //! The heads and trailers that an endpoint sends.
-ghost use Rattle.std.specs.Prelude.{◌≡◌, ◌≢◌, ◌<◌, ◌^◌, ℕ, List, [], Some, IfOk, IfErr, IfSome, OnOk, OnErr, if◌then◌else◌};
+ghost use Rattle.std.specs.Prelude.{◌≡◌, ◌≢◌, ◌<◌, ◌^◌, ℕ, List, [], Some, None, IfOk, IfErr, IfSome, OnOk, OnErr, unwrap_or, if◌then◌else◌};
 ghost use Rattle.h3_field.specs.Field.{Field, section_size};
 ghost use Rattle.h3_qpack.specs.EncoderHistory.{EncoderHistory};
 ghost use Rattle.h3_qpack.specs.EncoderState.{encoder_state};
 ghost use Rattle.h3_streams.specs.Placed.{StreamsState};
 ghost use Rattle.h3_connection.specs.Answers.{call_refused};
+ghost use Rattle.h3_connection.specs.Calls.{AllSame};
 ghost use Rattle.h3_connection.specs.Endpoint.{EndpointHistory};
 ghost use Rattle.h3_connection.specs.OwnIds.{other};
 ghost use Rattle.h3_connection.specs.Pulling.{is_for, is_interim};
 ghost use Rattle.h3_connection.specs.Sending.{is_too_large};
 ghost use Rattle.h3_connection.specs.SendingContracts.{SendsHead, SendsTrailer, CutsOff};
-ghost use Rattle.h3_connection.specs.State.{StandsFor};
-ghost use Rattle.h3_session.specs.Refused.{head_refused, trailer_refused, size_refused};
+ghost use Rattle.h3_connection.specs.State.{StandsFor, kept_at};
+ghost use Rattle.h3_connection.specs.declared.event.Refusal.TheVariants.{OutOfMemory};
+ghost use Rattle.h3_requests.specs.Refused.{or_later, head_refused_at, body_refused_at};
+ghost use Rattle.h3_session.specs.Refused.{side_refused, pseudo_refused, size_refused};
 ghost use Rattle.h3_session.specs.SendingFields.{Encodes, StopsEncoding, Queues, SendsFields, IsJudged};
 
 use super::Endpoint;
@@ -36,7 +39,11 @@ impl Endpoint {
     pub fn send_head(&mut self, id: StreamId, head: &Header) -> Result<(), Refusal>
         ensures { SendsHead self.old self.new id head.now result }
     {
-        if let Some(refusal) = self.head_refusal(id, head) {
+        if let Some(code) = self.closed {
+            return Err(Refusal::Closed(code));
+        }
+        let later = side_refusal(self.side, head);
+        if let Err(refusal) = self.reserve_head(id, later) {
             return Err(refusal);
         }
         let Ok(fields) = head.fields(self.alloc) else {
@@ -45,22 +52,14 @@ impl Endpoint {
         self.send_fields(id, fields.as_slice(), place_behind(head))
     }
 
-    fn head_refusal(&self, id: StreamId, head: &Header) -> Option<Refusal>
-        ensures { result ≡ head_refused self.now id head.now }
+    // Room for the frame of a head on a stream that takes one, unless `later` refuses it. The streams are found as they were.
+    fn reserve_head(&mut self, id: StreamId, later: Option<Refusal>) -> Result<(), Refusal>
+        ensures rest { self.new ≡ record self.old { requests = self.new.requests } }
+        ensures taken { OnOk result (or_later (head_refused_at (kept_at self.old.requests id)) later ≡ None) }
+        ensures why { IfErr result (λ r. r ≡ unwrap_or (or_later (head_refused_at (kept_at self.old.requests id)) later) OutOfMemory) }
+        ensures same { AllSame self.old.requests self.new.requests }
     {
-        if let Some(code) = self.closed {
-            return Some(Refusal::Closed(code));
-        }
-        let Some(stream) = self.requests.get(id) else {
-            return Some(Refusal::NotOpen);
-        };
-        if !stream.outgoing().takes_head() {
-            return Some(Refusal::OutOfOrder);
-        }
-        if !is_sent_by(self.side, head) {
-            return Some(Refusal::WrongSide);
-        }
-        None
+        self.requests.reserve_head(id, later)
     }
 
     /// A trailer goes out on a stream, as a head does, and ends the message's fields. Refused are, in this order, every call after
@@ -69,7 +68,11 @@ impl Endpoint {
     pub fn send_trailer(&mut self, id: StreamId, trailer: &Header) -> Result<(), Refusal>
         ensures { SendsTrailer self.old self.new id trailer.now result }
     {
-        if let Some(refusal) = self.trailer_refusal(id, trailer) {
+        if let Some(code) = self.closed {
+            return Err(Refusal::Closed(code));
+        }
+        let later = pseudo_refusal(trailer);
+        if let Err(refusal) = self.reserve_trailer(id, later) {
             return Err(refusal);
         }
         let Ok(fields) = trailer.fields(self.alloc) else {
@@ -78,16 +81,14 @@ impl Endpoint {
         self.send_fields(id, fields.as_slice(), SendPlace::TrailerSent)
     }
 
-    fn trailer_refusal(&self, id: StreamId, trailer: &Header) -> Option<Refusal>
-        ensures { result ≡ trailer_refused self.now id trailer.now }
+    // Room for the frame of a trailer on a stream that takes one, unless `later` refuses it. The streams are found as they were.
+    fn reserve_trailer(&mut self, id: StreamId, later: Option<Refusal>) -> Result<(), Refusal>
+        ensures rest { self.new ≡ record self.old { requests = self.new.requests } }
+        ensures taken { OnOk result (or_later (body_refused_at (kept_at self.old.requests id)) later ≡ None) }
+        ensures why { IfErr result (λ r. r ≡ unwrap_or (or_later (body_refused_at (kept_at self.old.requests id)) later) OutOfMemory) }
+        ensures same { AllSame self.old.requests self.new.requests }
     {
-        if let Some(refusal) = self.body_refusal(id) {
-            return Some(refusal);
-        }
-        if trailer.has_pseudo() {
-            return Some(Refusal::PseudoInTrailer);
-        }
-        None
+        self.requests.reserve_trailer(id, later)
     }
 
     // Sends fields on a stream that takes them, where their size is allowed.
@@ -154,9 +155,6 @@ impl Endpoint {
         ensures ok { OnOk result (Queues self.old self.new id fields.now place) }
         ensures err { OnErr result ((e : EndpointHistory) → StandsFor self.old e → CutsOff e id fields.now self.new) }
     {
-        let Ok(()) = self.requests.reserve(id) else {
-            return Err(AllocError);
-        };
         let Ok((section, count)) = encode(&mut self.streams, self.alloc, id, fields) else {
             return Err(AllocError);
         };
@@ -232,6 +230,26 @@ fn section_size(fields: &[HeaderField]) -> Option<u64>
         }
     }
     Some(size)
+}
+
+/// Why a head is refused that is one of the other side's messages.
+fn side_refusal(side: Side, head: &Header) -> Option<Refusal>
+    ensures { result ≡ side_refused side head.now }
+{
+    if is_sent_by(side, head) {
+        return None;
+    }
+    Some(Refusal::WrongSide)
+}
+
+/// Why a trailer is refused that has a pseudo-header field.
+fn pseudo_refusal(trailer: &Header) -> Option<Refusal>
+    ensures { result ≡ pseudo_refused trailer.now }
+{
+    if trailer.has_pseudo() {
+        return Some(Refusal::PseudoInTrailer);
+    }
+    None
 }
 
 /// Whether a head is one that this side sends.

@@ -1,16 +1,16 @@
 //! What comes next on a stream, and the streams of which nothing more is wanted.
-ghost use Rattle.std.specs.Prelude.{◌≡◌, ◌≢◌, true, false, [], Some, None, IsSome, IfSome, is_some, option_map, OnOk, OnErr, option_copied};
+ghost use Rattle.std.specs.Prelude.{◌≡◌, true, false, [], Some, None, IfSome, is_some, option_map, unwrap_or, OnOk, OnErr, IfErr, option_copied};
 ghost use Rattle.h3_connection.specs.Calls.{AllSame};
 ghost use Rattle.h3_connection.specs.Endpoint.{EndpointHistory, kind_of};
 ghost use Rattle.h3_connection.specs.Endpoint.Kind.{Request, PeerUnidirectional};
 ghost use Rattle.h3_connection.specs.Keeping.{settles, is_settled_request};
 ghost use Rattle.h3_connection.specs.Pulling.{is_memory};
 ghost use Rattle.h3_connection.specs.ReceivingContracts.{PullsNext};
-ghost use Rattle.h3_connection.specs.Sending.{cancel_refusal};
 ghost use Rattle.h3_connection.specs.SendingContracts.{Cancels};
 ghost use Rattle.h3_connection.specs.State.{StandsFor, kept_at};
 ghost use Rattle.h3_connection.specs.declared.event.Refusal.TheVariants.{OutOfMemory};
-ghost use Rattle.h3_session.specs.Canceling.{cancel_refused, CancelsAt};
+ghost use Rattle.h3_requests.specs.Refused.{cancel_refused_at};
+ghost use Rattle.h3_session.specs.Canceling.{CancelsAt};
 ghost use Rattle.h3_requests.specs.Limited.{PullsWithin, ResumesThere, unopened_answer};
 ghost use Rattle.h3_session.specs.Pulling.{PullsItem, ReadsKept, answer_code, closed_with, settled_in};
 ghost use Rattle.h3_session.specs.OpenedLaws.{ChangesRequests};
@@ -25,31 +25,6 @@ use h3_streams::ids::StreamKind;
 use h3_streams::streams::ConnectionStreams;
 use h3_unidirectional::waiting::WaitingBytes;
 use std::alloc::{AllocError, Global};
-
-/// Why a cancellation is refused.
-fn cancel_refused(
-    closed: Option<Code>,
-    critical: bool,
-    stream: Option<&RequestStream>,
-) -> Option<Refusal>
-    ensures rule { result ≡ cancel_refused closed critical (option_copied stream.entry) }
-    ensures memory { result ≢ Some OutOfMemory }
-{
-    if let Some(code) = closed {
-        return Some(Refusal::Closed(code));
-    }
-    if critical {
-        return Some(Refusal::Critical);
-    }
-    let Some(stream) = stream else {
-        return Some(Refusal::NotOpen);
-    };
-    let incoming = stream.incoming();
-    if incoming.is_over() || incoming.fault().is_some() {
-        return Some(Refusal::Ended);
-    }
-    None
-}
 
 /// The fault of the connection that an answer tells.
 fn fault_of(answer: &Pull) -> Option<Code>
@@ -111,17 +86,19 @@ fn pull_stream(
     )
 }
 
-// Gives up what comes on a stream, and tells the peer's encoder.
+// Gives up what comes on a stream where that is allowed, with one look-up, and tells the peer's encoder.
 fn cancel_stream(
     requests: &mut RequestStreams,
     alloc: Global,
     id: StreamId,
     replies: &mut WaitingBytes,
-) -> Result<(), AllocError>
+) -> Result<(), Refusal>
     ensures ok { OnOk result (CancelsAt requests.old requests.new replies.old replies.new id (kept_at requests.old id)) }
+    ensures taken { OnOk result (cancel_refused_at (kept_at requests.old id) ≡ None) }
+    ensures why { IfErr result (λ r. r ≡ unwrap_or (cancel_refused_at (kept_at requests.old id)) OutOfMemory) }
     ensures err { OnErr result (AllSame requests.old requests.new × (replies.new ≡ replies.old)) }
 {
-    requests.cancel(alloc, id, replies.bytes_mut())
+    requests.cancel_stream(alloc, id, replies.bytes_mut())
 }
 
 impl Endpoint {
@@ -249,35 +226,24 @@ impl Endpoint {
     /// Nothing more is wanted of a request stream: what came on it is thrown away, and the peer's encoder is told (RFC 9204,
     /// section 2.2.2.2). Refused are, in this order, calls after a connection fault, streams that the connection needs, those
     /// that are not open, and those whose end was handed out or that were given up. Want of memory changes nothing.
-    #[tactic(auto, using(crate::proofs::ReceivingCancel::cancel_was_refused, crate::proofs::ReceivingCancel::cancel_lacked, crate::proofs::ReceivingCancel::canceled))]
+    #[tactic(auto, using(crate::proofs::ReceivingCancel::cancel_critical, crate::proofs::ReceivingCancel::cancels))]
     pub fn cancel(&mut self, id: StreamId) -> Result<(), Refusal>
         ensures { Cancels self.old self.new id result }
     {
-        if let Some(refusal) = self.cancel_refusal(id) {
+        if let Some(refusal) = self.critical_refusal(id) {
             return Err(refusal);
         }
-        let Ok(()) = self.cancel_open(id) else {
-            return Err(Refusal::OutOfMemory);
-        };
-        Ok(())
+        self.cancel_open(id)
     }
 
-    fn cancel_open(&mut self, id: StreamId) -> Result<(), AllocError>
+    fn cancel_open(&mut self, id: StreamId) -> Result<(), Refusal>
         ensures rest { ChangesRequests self.old self.new }
         ensures ok { OnOk result (CancelsAt self.old.requests self.new.requests self.old.own.decoder self.new.own.decoder id (kept_at self.old.requests id)) }
+        ensures taken { OnOk result (cancel_refused_at (kept_at self.old.requests id) ≡ None) }
+        ensures why { IfErr result (λ r. r ≡ unwrap_or (cancel_refused_at (kept_at self.old.requests id)) OutOfMemory) }
         ensures err { OnErr result (AllSame self.old.requests self.new.requests × (self.new.own.decoder ≡ self.old.own.decoder)) }
     {
         let replies = &mut self.streams.own.decoder;
         cancel_stream(&mut self.requests, self.alloc, id, replies)
-    }
-
-    #[tactic(auto, using(crate::proofs::ReceivingCancel::cancel_refusal_is, crate::proofs::ReceivingCancel::there_by))]
-    fn cancel_refusal(&self, id: StreamId) -> Option<Refusal>
-        ensures rule { (e : EndpointHistory) → StandsFor self.now e → result ≡ cancel_refusal e id }
-        ensures there { result ≡ None → IsSome (kept_at self.now.requests id) }
-        ensures memory { result ≢ Some OutOfMemory }
-    {
-        let critical = self.streams.is_critical(self.side, id);
-        cancel_refused(self.closed, critical, self.requests.get(id))
     }
 }

@@ -1,12 +1,17 @@
 //! What an endpoint sends.
-ghost use Rattle.std.specs.Prelude.{◌≡◌, ◌≤◌, ◌+◌, ◌++◌, true, false, None, length, not, IfSome, OnOk, OnErr, option_copied};
-ghost use Rattle.h3_connection.specs.Calls.{open_refused};
+ghost use Rattle.std.specs.Prelude.{◌≡◌, ◌≤◌, ◌+◌, ◌++◌, true, false, None, length, not, unwrap_or, IfErr, IfSome, OnOk, OnErr, option_copied};
+ghost use Rattle.h3_connection.specs.Answers.{call_refused};
+ghost use Rattle.h3_connection.specs.Calls.{AllSame, Sets, open_refused};
 ghost use Rattle.h3_connection.specs.Endpoint.{goaway_encoding};
 ghost use Rattle.h3_connection.specs.Pulling.{is_client};
 ghost use Rattle.h3_connection.specs.ReadingContracts.{LendsOutgoing, ShowsWaiting};
 ghost use Rattle.h3_connection.specs.SendingContracts.{Opens, SendsBody, Finishes, Resets, GoesAway, Advances};
 ghost use Rattle.h3_unidirectional.specs.Owned.{waiting_on, having_taken};
-ghost use Rattle.h3_session.specs.Refused.{sender_in, body_refused, end_refused, reset_refused, goaway_refused};
+ghost use Rattle.h3_connection.specs.State.{kept_at};
+ghost use Rattle.h3_connection.specs.declared.event.Refusal.TheVariants.{OutOfMemory};
+ghost use Rattle.h3_outgoing.specs.Sent.{has_body, has_ended, was_cut_off};
+ghost use Rattle.h3_requests.specs.Refused.{body_refused_at, end_refused_at, reset_refused_at};
+ghost use Rattle.h3_session.specs.Refused.{sender_in, critical_refused, goaway_refused};
 
 use super::Endpoint;
 use bytes::Bytes;
@@ -60,32 +65,44 @@ impl Endpoint {
     pub fn send_body(&mut self, id: StreamId, body: Bytes) -> Result<(), (Refusal, Bytes)>
         ensures { SendsBody self.old self.new id body result }
     {
-        if let Some(refusal) = self.body_refusal(id) {
-            return Err((refusal, body));
+        if let Some(code) = self.closed {
+            return Err((Refusal::Closed(code), body));
         }
         let Some(sent) = self.sent_with(body.len() as u64) else {
-            return Err((Refusal::OutOfMemory, body));
+            return Err((self.uncounted_refusal(id), body));
         };
-        if let Err(body) = self.requests.send_body(id, body) {
-            return Err((Refusal::OutOfMemory, body));
-        }
-        self.sent = sent;
-        Ok(())
+        self.append_body(id, body, sent)
     }
 
-    pub(super) fn body_refusal(&self, id: StreamId) -> Option<Refusal>
-        ensures { result ≡ body_refused self.now id }
+    // A body goes behind what waits on its stream, with one look-up, and so much was sent then.
+    fn append_body(&mut self, id: StreamId, body: Bytes, sent: u64) -> Result<(), (Refusal, Bytes)>
+        ensures rest { OnOk result (self.new ≡ record self.old { requests = self.new.requests; sent = sent }) }
+        ensures same { OnErr result (self.new ≡ record self.old { requests = self.new.requests }) }
+        ensures ok { OnOk result (IfSome (kept_at self.old.requests id) (λ r. Sets self.old.requests self.new.requests id (record r { outgoing = has_body r.outgoing body }))) }
+        ensures taken { OnOk result (body_refused_at (kept_at self.old.requests id) ≡ None) }
+        ensures why { IfErr result (λ e. e.0 ≡ unwrap_or (body_refused_at (kept_at self.old.requests id)) OutOfMemory) }
+        ensures err { IfErr result (λ e. (e.1 ≡ body) × AllSame self.old.requests self.new.requests) }
     {
-        if let Some(code) = self.closed {
-            return Some(Refusal::Closed(code));
+        match self.requests.send_data(id, body) {
+            Ok(()) => {
+                self.sent = sent;
+                Ok(())
+            }
+            Err(refused) => Err(refused),
         }
+    }
+
+    // Why a body is refused whose bytes cannot be counted: what refuses it on its stream comes before want of memory.
+    fn uncounted_refusal(&self, id: StreamId) -> Refusal
+        ensures { result ≡ unwrap_or (body_refused_at (kept_at self.now.requests id)) OutOfMemory }
+    {
         let Some(stream) = self.requests.get(id) else {
-            return Some(Refusal::NotOpen);
+            return Refusal::NotOpen;
         };
         if !stream.outgoing().takes_body() {
-            return Some(Refusal::OutOfOrder);
+            return Refusal::OutOfOrder;
         }
-        None
+        Refusal::OutOfMemory
     }
 
     // What was sent, in bytes and 64 for each field and call, with a call of this cost. No endpoint sends 2^56 bytes: such a sum
@@ -102,26 +119,20 @@ impl Endpoint {
     pub fn finish(&mut self, id: StreamId) -> Result<(), Refusal>
         ensures { Finishes self.old self.new id result }
     {
-        if let Some(refusal) = self.finish_refusal(id) {
-            return Err(refusal);
+        if let Some(code) = self.closed {
+            return Err(Refusal::Closed(code));
         }
-        self.requests.finish(id);
-        Ok(())
+        self.finish_stream(id)
     }
 
-    fn finish_refusal(&self, id: StreamId) -> Option<Refusal>
-        ensures { result ≡ end_refused self.now id }
+    // The message on a stream is whole where its stream takes an end, with one look-up.
+    fn finish_stream(&mut self, id: StreamId) -> Result<(), Refusal>
+        ensures rest { self.new ≡ record self.old { requests = self.new.requests } }
+        ensures ok { OnOk result (IfSome (kept_at self.old.requests id) (λ r. Sets self.old.requests self.new.requests id (record r { outgoing = has_ended r.outgoing }))) }
+        ensures rule { call_refused result ≡ end_refused_at (kept_at self.old.requests id) }
+        ensures err { OnErr result (AllSame self.old.requests self.new.requests) }
     {
-        if let Some(code) = self.closed {
-            return Some(Refusal::Closed(code));
-        }
-        let Some(stream) = self.requests.get(id) else {
-            return Some(Refusal::NotOpen);
-        };
-        if !stream.outgoing().takes_end() {
-            return Some(Refusal::OutOfOrder);
-        }
-        None
+        self.requests.finish_stream(id)
     }
 
     /// Sending on a stream ends here, and what waits is dropped. It takes no memory. Refused are, in this order, every call after a
@@ -129,27 +140,31 @@ impl Endpoint {
     pub fn reset(&mut self, id: StreamId) -> Result<(), Refusal>
         ensures { Resets self.old self.new id result }
     {
-        if let Some(refusal) = self.reset_refusal(id) {
+        if let Some(refusal) = self.critical_refusal(id) {
             return Err(refusal);
         }
-        self.requests.reset(id);
-        Ok(())
+        self.reset_stream(id)
     }
 
-    fn reset_refusal(&self, id: StreamId) -> Option<Refusal>
-        ensures { result ≡ reset_refused self.now id }
+    // Sending on a stream ends where something is left to be sent on it, with one look-up.
+    fn reset_stream(&mut self, id: StreamId) -> Result<(), Refusal>
+        ensures rest { self.new ≡ record self.old { requests = self.new.requests } }
+        ensures ok { OnOk result (IfSome (kept_at self.old.requests id) (λ r. Sets self.old.requests self.new.requests id (record r { outgoing = was_cut_off r.outgoing }))) }
+        ensures rule { call_refused result ≡ reset_refused_at (kept_at self.old.requests id) }
+        ensures err { OnErr result (AllSame self.old.requests self.new.requests) }
+    {
+        self.requests.reset_stream(id)
+    }
+
+    // Why a stream is neither reset nor given up, whatever is stored of it.
+    pub(super) fn critical_refusal(&self, id: StreamId) -> Option<Refusal>
+        ensures { result ≡ critical_refused self.now id }
     {
         if let Some(code) = self.closed {
             return Some(Refusal::Closed(code));
         }
         if self.streams.is_critical(self.side, id) {
             return Some(Refusal::Critical);
-        }
-        let Some(stream) = self.requests.get(id) else {
-            return Some(Refusal::NotOpen);
-        };
-        if stream.outgoing().is_sent_off() {
-            return Some(Refusal::Ended);
         }
         None
     }

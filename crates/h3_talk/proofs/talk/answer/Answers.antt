@@ -5,9 +5,9 @@ use Rattle.h3_talk.specs.Talks.{AreAnswers}
 use Rattle.h3_world.specs.declared.event.Event.{Event}
 use Rattle.h3_talk.proofs.talk.answer.Goals as goal
 
-pub returns-then-put-clause-answered : goal.returns-then-put-clause-answered
-returns-then-put-clause-answered g c = λ done. record {
+pub returns-then-write_answers-clause-answered : goal.returns-then-write_answers-clause-answered
+returns-then-write_answers-clause-answered g c = λ done. record {
   answers = c.in-Ok.answers.items;
   answered = λ not_memory. subst (λ (events : List Event). AreAnswers c.args.script.setup events c.in-Ok.answers.items) c.deref.ensures.value (c.in-Ok.ensures not_memory);
-  written = subst (Appends (g.W.Write.contents c.args.writer.now) (g.W.Write.contents c.put.new.writer)) (c.as_bytes.ensures.value ∙ c.in-Ok-print.ensures ∙ ap printed c.deref-2.ensures.value) (c.if-put.ensures refl);
+  written = subst (Appends (g.W.Write.contents c.args.writer.now) (g.W.Write.contents c.write_answers.new.writer)) (ap printed c.deref-2.ensures.value) (c.if-write_answers.ensures refl);
 }

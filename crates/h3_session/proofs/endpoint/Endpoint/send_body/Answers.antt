@@ -1,10 +1,16 @@
 use Rattle.std.proofs.Common.{sym, ap, ◌+◌, ◌∙◌}
-use Rattle.h3_session.proofs.SendingBodies.{body_refuses, sends_body}
+use Rattle.h3_connection.specs.State.{EndpointState}
+use Rattle.h3_session.proofs.SendingBodies.{body_closed, body_uncounted, sends_body}
 use Rattle.h3_session.proofs.endpoint.Endpoint.send_body.Goals as goal
 
 pub returns-in-Some : goal.returns-in-Some
-returns-in-Some c = body_refuses c.args.self.now c.args.id c.args.body c.in-Some.refusal (sym c.body_refusal.ensures ∙ c.in-Some.is)
+returns-in-Some c = body_closed c.args.self.now c.args.id c.args.body c.in-Some.code (ap (λ (s : EndpointState). s.closed) (sym c.self.view_is) ∙ c.in-Some.is)
+
+pub returns-in_default-sent_with : goal.returns-in_default-sent_with
+returns-in_default-sent_with c = body_uncounted c.args.self.now c.args.id c.args.body c.uncounted_refusal.result (ap (λ (s : EndpointState). s.closed) (sym c.self.view_is) ∙ c.in_default.is) c.uncounted_refusal.ensures
 
 pub returns : goal.returns
-returns c = sends_body _ _ _ _ _ _ c.self.view_is (sym c.body_refusal.ensures ∙ c.in_default.is)
-    c.in_default-send_body.ensures.ok (c.in-Some-sent_with.ensures ∙ ap (λ n. c.args.self.now.sent + n + 64) c.len.ensures.value)
+returns c =
+    sends_body c.args.self.now c.append_body.new.self c.args.id c.args.body c.in-Some-sent_with.sent c.append_body.result (ap (λ (s : EndpointState). s.closed) (sym c.self.view_is) ∙ c.in_default.is)
+    (c.in-Some-sent_with.ensures ∙ ap (λ n. c.args.self.now.sent + n + 64) c.len.ensures.value)
+    c.append_body.ensures.rest c.append_body.ensures.same c.append_body.ensures.ok c.append_body.ensures.taken c.append_body.ensures.why c.append_body.ensures.err

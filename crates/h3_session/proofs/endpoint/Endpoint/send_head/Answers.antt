@@ -1,14 +1,23 @@
-use Rattle.std.proofs.Common.{sym, ◌∙◌}
-use Rattle.h3_session.proofs.SendingHeads.{head_refuses, head_lacks, head_sends}
+use Rattle.std.proofs.Common.{sym, ap, ◌∙◌}
+use Rattle.h3_connection.specs.State.{EndpointState}
+use Rattle.h3_session.specs.Refused.{side_refused}
+use Rattle.h3_session.proofs.SendingHeads.{head_closed, head_unreserved, head_unlisted, head_sent}
 use Rattle.h3_session.proofs.endpoint.Endpoint.send_head.Goals as goal
 
 pub returns-in-Some : goal.returns-in-Some
-returns-in-Some c = head_refuses c.args.self.now c.args.id c.args.head.now c.in-Some.refusal (sym c.head_refusal.ensures ∙ c.in-Some.is)
+returns-in-Some c = head_closed c.args.self.now c.args.id c.args.head.now c.in-Some.code (ap (λ (s : EndpointState). s.closed) (sym c.self.view_is) ∙ c.in-Some.is)
+
+pub returns-in-Err : goal.returns-in-Err
+returns-in-Err c =
+    head_unreserved c.args.self.now c.reserve_head.new.self c.args.id c.args.head.now c.side_refusal-later.result c.in-Err.refusal (ap (λ (s : EndpointState). s.closed) (sym c.self.view_is) ∙ c.in_default.is) (c.side_refusal-later.ensures ∙ ap (λ (s : EndpointState). side_refused s.side c.args.head.now) c.self.view_is)
+    c.reserve_head.ensures.rest c.reserve_head.ensures.same c.in-Err.ensures.why
 
 pub returns-in_default-fields : goal.returns-in_default-fields
-returns-in_default-fields c = head_lacks c.args.self.now c.args.id c.args.head.now (sym c.head_refusal.ensures ∙ c.in_default.is)
+returns-in_default-fields c =
+    head_unlisted c.args.self.now c.reserve_head.new.self c.args.id c.args.head.now c.side_refusal-later.result (ap (λ (s : EndpointState). s.closed) (sym c.self.view_is) ∙ c.in_default.is) (c.side_refusal-later.ensures ∙ ap (λ (s : EndpointState). side_refused s.side c.args.head.now) c.self.view_is)
+    c.reserve_head.ensures.rest c.reserve_head.ensures.same c.in_default-reserve_head.ensures.taken
 
 pub returns : goal.returns
 returns c =
-    head_sends c.args.self.now c.send_fields.new.self c.args.id c.args.head.now c.as_slice.result.now c.place_behind.result c.send_fields.result (sym c.head_refusal.ensures ∙ c.in_default.is)
-    (c.as_slice.ensures.value ∙ c.in-Ok.ensures.value) c.place_behind.ensures c.send_fields.ensures
+    head_sent c.args.self.now c.reserve_head.new.self c.send_fields.new.self c.args.id c.args.head.now c.side_refusal-later.result c.as_slice.result.now c.place_behind.result c.send_fields.result (ap (λ (s : EndpointState). s.closed) (sym c.self.view_is) ∙ c.in_default.is) (c.side_refusal-later.ensures ∙ ap (λ (s : EndpointState). side_refused s.side c.args.head.now) c.self.view_is)
+    c.reserve_head.ensures.rest c.reserve_head.ensures.same c.in_default-reserve_head.ensures.taken (c.as_slice.ensures.value ∙ c.in-Ok.ensures.value) c.place_behind.ensures c.send_fields.ensures

@@ -1,0 +1,26 @@
+-- What the forms of a field stand for, and what a part of one does.
+use Rattle.std.specs.Prelude.{ℕ, ⊤, ◌≤◌, List, length, take, drop}
+use Rattle.h3_field.specs.Field.{Field}
+use Rattle.h3_field.specs.declared.field.Form.{Form}
+use Rattle.h3_field.specs.declared.field.Form.TheVariants as form
+use Rattle.h3_field.specs.declared.part.Part.{Part}
+use Rattle.h3_field.specs.declared.part.Part.TheVariants as part
+
+abbrev pub field_in : Form → Field
+field_in (form.Static name value) = record { name = name.now; value = value.now }
+field_in (form.StaticName name value) = record { name = name.now; value = value.items }
+field_in (form.StaticValue name value) = record { name = name.items; value = value.now }
+field_in (form.Owned name value) = record { name = name.items; value = value.items }
+field_in (form.Block bytes name_length) = record { name = take name_length bytes.items; value = drop name_length bytes.items }
+
+-- the name of a block lies within it
+abbrev pub IsForm : Form → Type 0
+IsForm (form.Static _ _) = ⊤
+IsForm (form.StaticName _ _) = ⊤
+IsForm (form.StaticValue _ _) = ⊤
+IsForm (form.Owned _ _) = ⊤
+IsForm (form.Block bytes name_length) = name_length ≤ length bytes.items
+
+abbrev pub part_bytes : Part → List ℕ
+part_bytes (part.Static bytes) = bytes.now
+part_bytes (part.Lent bytes) = bytes.now

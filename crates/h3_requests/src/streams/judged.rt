@@ -1,0 +1,150 @@
+//! What is done on a request stream where it is allowed: the stream is looked up once, judged by what is stored of it, and changed.
+ghost use Rattle.std.specs.Prelude.{◌≡◌, ◌++◌, None, unwrap_or, OnOk, OnErr, IfErr, IfSome};
+ghost use Rattle.h3_connection.specs.Answers.{call_refused};
+ghost use Rattle.h3_connection.specs.Calls.{Sets, AllSame};
+ghost use Rattle.h3_connection.specs.Delivering.{given_up_once, cancellation};
+ghost use Rattle.h3_connection.specs.State.{kept_at};
+ghost use Rattle.h3_connection.specs.declared.event.Refusal.TheVariants.{OutOfMemory};
+ghost use Rattle.h3_connection.specs.declared.event.StreamFault.TheVariants.{Canceled};
+ghost use Rattle.h3_incoming.specs.Replying.{encodings};
+ghost use Rattle.h3_outgoing.specs.Sent.{has_body, has_ended, was_cut_off};
+ghost use Rattle.h3_requests.specs.Refused.{or_later, head_refused_at, body_refused_at, end_refused_at, reset_refused_at, cancel_refused_at};
+
+use super::RequestStreams;
+use bytes::Bytes;
+use h3_blocked::replace;
+use h3_connection::event::Refusal;
+use h3_proto::stream::StreamId;
+use std::alloc::Global;
+
+impl RequestStreams {
+    /// Room for the frame of a head, so that sending it needs no memory. Refused are, in this order, a stream that is not there, one
+    /// whose final head or end was sent, what `later` refuses, and want of memory.
+    pub fn reserve_head(&mut self, id: StreamId, later: Option<Refusal>) -> Result<(), Refusal>
+        ensures taken { OnOk result (or_later (head_refused_at (kept_at self.old id)) later ≡ None) }
+        ensures why { IfErr result (λ r. r ≡ unwrap_or (or_later (head_refused_at (kept_at self.old id)) later) OutOfMemory) }
+        ensures same { AllSame self.old self.new }
+    {
+        let Some(stream) = self.streams.get_mut(&id.into_inner()) else {
+            return Err(Refusal::NotOpen);
+        };
+        if !stream.outgoing.takes_head() {
+            return Err(Refusal::OutOfOrder);
+        }
+        if let Some(refusal) = later {
+            return Err(refusal);
+        }
+        let Ok(()) = stream.outgoing.reserve() else {
+            return Err(Refusal::OutOfMemory);
+        };
+        Ok(())
+    }
+
+    /// Room for the frame of a trailer, so that sending it needs no memory. Refused are, in this order, a stream that is not there,
+    /// one whose final head was not sent, or whose trailer or end was, what `later` refuses, and want of memory.
+    pub fn reserve_trailer(&mut self, id: StreamId, later: Option<Refusal>) -> Result<(), Refusal>
+        ensures taken { OnOk result (or_later (body_refused_at (kept_at self.old id)) later ≡ None) }
+        ensures why { IfErr result (λ r. r ≡ unwrap_or (or_later (body_refused_at (kept_at self.old id)) later) OutOfMemory) }
+        ensures same { AllSame self.old self.new }
+    {
+        let Some(stream) = self.streams.get_mut(&id.into_inner()) else {
+            return Err(Refusal::NotOpen);
+        };
+        if !stream.outgoing.takes_body() {
+            return Err(Refusal::OutOfOrder);
+        }
+        if let Some(refusal) = later {
+            return Err(refusal);
+        }
+        let Ok(()) = stream.outgoing.reserve() else {
+            return Err(Refusal::OutOfMemory);
+        };
+        Ok(())
+    }
+
+    /// A body goes out as the payload of a DATA frame; an empty one writes nothing. Refused are, in this order, a stream that is not
+    /// there, one whose final head was not sent, or whose trailer or end was, and want of memory. An `Err` changes nothing, and hands
+    /// the body back.
+    pub fn send_data(&mut self, id: StreamId, body: Bytes) -> Result<(), (Refusal, Bytes)>
+        ensures ok { OnOk result (IfSome (kept_at self.old id) (λ r. Sets self.old self.new id (record r { outgoing = has_body r.outgoing body }))) }
+        ensures taken { OnOk result (body_refused_at (kept_at self.old id) ≡ None) }
+        ensures why { IfErr result (λ e. e.0 ≡ unwrap_or (body_refused_at (kept_at self.old id)) OutOfMemory) }
+        ensures err { IfErr result (λ e. (e.1 ≡ body) × AllSame self.old self.new) }
+    {
+        let Some(stream) = self.streams.get_mut(&id.into_inner()) else {
+            return Err((Refusal::NotOpen, body));
+        };
+        if !stream.outgoing.takes_body() {
+            return Err((Refusal::OutOfOrder, body));
+        }
+        match stream.outgoing.send_body(body) {
+            Ok(()) => Ok(()),
+            Err(body) => Err((Refusal::OutOfMemory, body)),
+        }
+    }
+
+    /// The message is whole. It takes no memory. Refused are, in this order, a stream that is not there, and one whose final head was
+    /// not sent, or whose sending has ended. An `Err` changes nothing.
+    pub fn finish_stream(&mut self, id: StreamId) -> Result<(), Refusal>
+        ensures ok { OnOk result (IfSome (kept_at self.old id) (λ r. Sets self.old self.new id (record r { outgoing = has_ended r.outgoing }))) }
+        ensures rule { call_refused result ≡ end_refused_at (kept_at self.old id) }
+        ensures absent { kept_at self.old id ≡ None → self.new ≡ self.old }
+        ensures err { OnErr result (AllSame self.old self.new) }
+    {
+        let Some(stream) = self.streams.get_mut(&id.into_inner()) else {
+            return Err(Refusal::NotOpen);
+        };
+        if !stream.outgoing.takes_end() {
+            return Err(Refusal::OutOfOrder);
+        }
+        stream.outgoing.finish();
+        Ok(())
+    }
+
+    /// Sending ends here: what waits is dropped. It takes no memory. Refused are, in this order, a stream that is not there, and one
+    /// of which nothing is left to be sent. An `Err` changes nothing.
+    pub fn reset_stream(&mut self, id: StreamId) -> Result<(), Refusal>
+        ensures ok { OnOk result (IfSome (kept_at self.old id) (λ r. Sets self.old self.new id (record r { outgoing = was_cut_off r.outgoing }))) }
+        ensures rule { call_refused result ≡ reset_refused_at (kept_at self.old id) }
+        ensures absent { kept_at self.old id ≡ None → self.new ≡ self.old }
+        ensures err { OnErr result (AllSame self.old self.new) }
+    {
+        let Some(stream) = self.streams.get_mut(&id.into_inner()) else {
+            return Err(Refusal::NotOpen);
+        };
+        if stream.outgoing.is_sent_off() {
+            return Err(Refusal::Ended);
+        }
+        stream.outgoing.reset();
+        Ok(())
+    }
+
+    /// Nothing more of it is wanted. It is given up, and the peer's encoder is told (RFC 9204, section 2.2.2.2). Refused are, in this
+    /// order, a stream that is not there, one whose end was handed out or that was given up, and want of memory. An `Err` changes nothing.
+    pub fn cancel_stream(
+        &mut self,
+        alloc: Global,
+        id: StreamId,
+        replies: &mut Vec<u8>,
+    ) -> Result<(), Refusal>
+        ensures ok { OnOk result (IfSome (kept_at self.old id) (λ r. Sets self.old self.new id (record r { incoming = given_up_once r.incoming Canceled }))) }
+        ensures replies { OnOk result (IfSome (kept_at self.old id) (λ r. replies.new.items ≡ replies.old.items ++ encodings (cancellation id r.incoming.fault))) }
+        ensures taken { OnOk result (cancel_refused_at (kept_at self.old id) ≡ None) }
+        ensures why { IfErr result (λ r. r ≡ unwrap_or (cancel_refused_at (kept_at self.old id)) OutOfMemory) }
+        ensures absent { kept_at self.old id ≡ None → (self.new ≡ self.old) × (replies.new.items ≡ replies.old.items) }
+        ensures err { OnErr result (AllSame self.old self.new × (replies.new.items ≡ replies.old.items)) }
+    {
+        let Some(stream) = self.streams.get_mut(&id.into_inner()) else {
+            return Err(Refusal::NotOpen);
+        };
+        if stream.is_settled() {
+            return Err(Refusal::Ended);
+        }
+        let before = stream.incoming.waits_for();
+        let Ok(()) = stream.incoming.cancel(alloc, id, replies) else {
+            return Err(Refusal::OutOfMemory);
+        };
+        replace(&mut self.blocked, before, stream.incoming.waits_for());
+        Ok(())
+    }
+}
