@@ -22,8 +22,8 @@ pub use encoder::{Encoder, set_dynamic_table_size};
 pub use encoder_view::{DynamicInsertionResult, DynamicLookupResult, DynamicTableEncoder};
 pub use h3_field::{
     Decoded, DecoderError, EncoderError, Error, HeaderField, Part, SliceCursor, block, cursor,
-    decode_stateless, encode_stateless, field, parse_error, prefix_int, prefix_string, section_size,
-    static_, stream, vas,
+    decode_stateless, encode_stateless, field, parse_error, prefix_int, prefix_string,
+    section_size, static_, stream, vas,
 };
 pub use session::{SessionAnswer, SessionEvent, run};
 pub use view::DynamicTableDecoder;
