@@ -1,6 +1,7 @@
 /* Exchanges by build/c/libh3.a. */
 #include "exchange.h"
 #include "h3.h"
+#include "measure.h"
 #include <stdlib.h>
 #include <string.h>
 
@@ -152,6 +153,7 @@ void our_exchanges(void *data, uint64_t rounds) {
   for (; rounds; rounds--) {
     side client = {H3_NONE_YET, requests, kind->requests->count, kind->request_body, whole, 0, {0}};
     side server = {H3_NONE_YET, responses, kind->responses->count, kind->response_body, whole + kind->under_way + 1, 0, {0}};
+    count_held_from_here();
     run_connection(kind, &client, &server);
     want_all("ours", kind, &server.got, &client.got);
   }

@@ -1,5 +1,6 @@
 /* Exchanges by nghttp3. */
 #include "exchange.h"
+#include "measure.h"
 #include <stdlib.h>
 #include <string.h>
 
@@ -143,6 +144,7 @@ void peer_exchanges(void *data, uint64_t rounds) {
   for (; rounds; rounds--) {
     side client = {NULL, kind->requests, kind->request_body, whole, 0, {0}};
     side server = {NULL, kind->responses, kind->response_body, whole + kind->under_way + 1, 0, {0}};
+    count_held_from_here();
     run_connection(kind, &client, &server);
     want_all("nghttp3", kind, &server.got, &client.got);
   }

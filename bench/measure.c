@@ -253,8 +253,10 @@ void size_row(const char *row, const char *set, double ours, double peers, doubl
   figure_row(&(figure_kind){row, set, figure, "of plain", most}, ours, peers);
 }
 
+void count_held_from_here(void) { held = most_held = (memory_held){0, 0}; }
+
 memory_held memory_of(const contender *c) {
-  held = most_held = (memory_held){0, 0};
+  count_held_from_here();
   is_asked = 1;
   c->work(c->data, 1);
   is_asked = 0;

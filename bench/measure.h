@@ -67,6 +67,9 @@ typedef struct {
 
 memory_held memory_of(const contender *c);
 
+/* For work that makes what belongs to the driver first: that is not counted as held. */
+void count_held_from_here(void);
+
 /* Calls of malloc, calloc and realloc in so many rounds. */
 double allocations_of(const contender *c, uint64_t rounds);
 

@@ -1,0 +1,44 @@
+"""edits.py CRATE: does each edit in the crate's must-fail/ apply, so that each of its `old:` texts stands in its file exactly once? Says how many do, and
+ends with an error, after a line for each that does not, where there is one."""
+import pathlib
+import re
+import sys
+
+
+def problems(edit, crate):
+    path, old, pairs, texts = None, None, 0, {}
+    for line in edit.read_text().split("\n"):
+        if line.startswith("file: "):
+            path = line[len("file: ") :].strip()
+            if not (crate / path).is_file():
+                yield f"there is no file {path}"
+                return
+            texts.setdefault(path, (crate / path).read_text())
+        elif line.startswith("old: "):
+            old = line[len("old: ") :]
+        elif line.startswith("new:"):
+            if path is None or not old:
+                yield "a line new: with no file: or old: before it"
+                return
+            found = texts[path].count(old)
+            if found != 1:
+                yield f"{path} has the text of an old: {found} times: {old}"
+                return
+            texts[path] = texts[path].replace(old, line[len("new:") :].removeprefix(" "))
+            old, pairs = None, pairs + 1
+    if pairs == 0:
+        yield "it changes nothing"
+
+
+def main():
+    crate = pathlib.Path(sys.argv[1])
+    edits = sorted(crate.glob("must-fail/*"))
+    wrong = [f"{it}: not a name of an edit" for it in edits if not re.fullmatch(r"[A-Za-z0-9_-][A-Za-z0-9_.-]*\.(edit|md)", it.name)]
+    wrong += [f"{it}: {why}" for it in edits if it.suffix == ".edit" for why in problems(it, crate)]
+    if wrong:
+        sys.exit("\n".join(wrong))
+    print(f"{len([it for it in edits if it.suffix == '.edit'])} edits apply")
+
+
+if __name__ == "__main__":
+    main()
