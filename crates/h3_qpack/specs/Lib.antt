@@ -10,6 +10,7 @@ pub mod Meaning
 pub mod Instructions
 pub mod EncoderState
 pub mod Drafting
+pub mod Missed
 pub mod TableInside
 pub mod SectionAnswers
 pub mod InstructionAnswers

@@ -2,6 +2,7 @@
 ghost use Rattle.std.specs.Prelude.{◌≡◌, ◌+◌, ◌<◌, ◌≤◌};
 ghost use Rattle.h3_qpack.specs.EncoderState.{EncoderState};
 ghost use Rattle.h3_qpack.specs.Drafting.{begun, naming, most_usable, IsOver, IsNowhere, IsLiteral, IsChosen, IsPossible};
+ghost use Rattle.h3_qpack.specs.Missed.{IsMissedFor};
 
 use crate::dynamic::DynamicTable;
 use h3_field::HeaderField;
@@ -72,6 +73,7 @@ impl Section {
         requires { IsLiteral table.now self.now field.now }
         ensures rule { IsChosen table.now self.now field.now result }
         ensures possible { IsPossible table.now self.now field.now result }
+        ensures missed { IsMissedFor table.now.table self.now.base field.now result }
     {
         if let Some(index) = StaticTable::find_name(field.name()) {
             return Choice::StaticName(index);
@@ -88,6 +90,7 @@ impl Section {
         requires { self.now.base ≤ table.now.table.inserted }
         ensures rule { IsChosen table.now self.now field.now result }
         ensures possible { IsPossible table.now self.now field.now result }
+        ensures missed { IsMissedFor table.now.table self.now.base field.now result }
     {
         if let Some(index) = StaticTable::find(field) {
             return Choice::Static(index);

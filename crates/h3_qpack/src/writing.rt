@@ -14,6 +14,7 @@ ghost use Rattle.h3_table.specs.TableState.{evicted, with_entry};
 ghost use Rattle.h3_qpack.specs.EncoderState.{MayInsertInto};
 ghost use Rattle.h3_qpack.specs.EncoderHistory.{EncoderHistory};
 ghost use Rattle.h3_qpack.specs.SectionEncoding.{Draft, add_field, draft_of, entry_name_line};
+ghost use Rattle.h3_qpack.specs.Missed.{IsMissed, IsMissedFor};
 ghost use Rattle.h3_qpack.specs.Drafting.{naming, IsOver, IsPossible, line_for, section_after, encoder_state_with, instructions_after, insertion_for, IsDrafted, IsCutOff};
 
 use crate::dynamic::DynamicTable;
@@ -28,10 +29,12 @@ use h3_field::{EncoderError, HeaderField};
 use h3_table::entries::Match;
 use std::alloc::AllocError;
 
-/// Appends the instruction that inserts a field, after which so many entries are evicted. The index is that of the static
-/// entry with its name.
+/// Appends the instruction that inserts a field, after which so many entries are evicted. No entry up to the base equals the
+/// field, so none is searched there. The index is that of the static entry with its name.
+#[tactic(auto, using(crate::proofs::Missed::missed))]
 fn put_insertion(
     table: &DynamicTable,
+    base: usize,
     field: &HeaderField,
     static_index: Option<usize>,
     after: usize,
@@ -40,13 +43,14 @@ fn put_insertion(
     requires index { static_index ≡ static_name field.now.name }
     requires below { IfSome static_index (λ index. index < 99) }
     requires after { evicted table.now.table ≤ after }
+    requires missed { IsMissed table.now.table base field.now }
     requires size { field_size field.now < 2 ^ 62 }
     ensures memory { IsOkUnless result OutOfMemory }
     ensures ok { OnOk result (encoder_buf.new.items ≡ encoder_buf.old.items ++ encoder_bytes (insertion_for table.now.table after field.now)) }
     ensures err { OnErr result (encoder_buf.new.items ≡ encoder_buf.old.items) }
 {
     let inserted = table.inserted();
-    if let Some(number) = table.newest(Match::Field, field, after, inserted) {
+    if let Some(number) = table.newest(Match::Field, field, after.max(base), inserted) {
         Duplicate(inserted - number).encode(encoder_buf)?;
         return Ok(());
     }
@@ -75,6 +79,7 @@ fn put_inserted(
     requires may { (oldest : ℕ) × MayInsertInto table.old field.now oldest }
     requires after { after ≡ evicted (with_entry table.old.table field.now) }
     requires from { evicted table.old.table ≤ after }
+    requires missed { IsMissed table.old.table base field.now }
     requires size { field_size field.now < 2 ^ 62 }
     requires base { base ≤ table.old.table.inserted }
     ensures memory { IsOkUnless result OutOfMemory }
@@ -86,7 +91,7 @@ fn put_inserted(
     let static_index = StaticTable::find_name(field.name());
     IndexedWithPostBase(table.inserted() - base).encode(lines)?;
     let start = encoder_buf.len();
-    put_insertion(table, field, static_index, after, encoder_buf)?;
+    put_insertion(table, base, field, static_index, after, encoder_buf)?;
     if table.insert(field, after).is_err() {
         encoder_buf.truncate(start);
         return Err(EncoderError::OutOfMemory);
@@ -126,6 +131,7 @@ fn put_chosen(
 ) -> Result<(), EncoderError>
     requires over { IsOver table.old.table section.old }
     requires possible { IsPossible table.old section.old field.now choice }
+    requires missed { IsMissedFor table.old.table section.old.base field.now choice }
     requires size { field_size field.now < 2 ^ 62 }
     ensures memory { IsOkUnless result OutOfMemory }
     ensures table { OnOk result (table.new ≡ encoder_state_with table.old field.now choice) }

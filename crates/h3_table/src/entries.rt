@@ -58,7 +58,8 @@ impl Match {
     {
         match self {
             Match::Name => entry.name() == field.name(),
-            Match::Field => entry.name() == field.name() && entry.value() == field.value(),
+            // entries of one slot mostly have one name
+            Match::Field => entry.value() == field.value() && entry.name() == field.name(),
         }
     }
 }
