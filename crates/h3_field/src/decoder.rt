@@ -117,8 +117,9 @@ fn take_field(alloc: Global, buf: &mut SliceCursor<'_>) -> Result<HeaderField, D
     }
 }
 
-/// How many fields get room at first: most sections have no more, and the list of their fields need not grow.
-const FIRST_ROOM: usize = 16;
+/// How many fields get room at first: most sections have no more, and the list of their fields need not grow. Eighteen are the most
+/// that fit 1,032 bytes, up to which an allocator of the C library keeps blocks at hand.
+const FIRST_ROOM: usize = 18;
 
 /// Adds a field behind which so many bytes are left: each may be a field.
 fn keep(fields: &mut Vec<HeaderField>, field: HeaderField, left: usize) -> Result<(), AllocError>
