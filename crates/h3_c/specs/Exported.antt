@@ -65,6 +65,7 @@ pub record CopiesOut (v : Seen) (id : ℕ) (n : Told) (before after : List ℕ) 
   pub done : n ≡ ok
   pub last : (e : EndpointHistory) → StandsFor v.endpoint e → fin ≡ bit (is_finished e id && (length (bytes_waiting e id) == count))
   pub copied : CopiesTo v.endpoint id count before after
+  pub within : count ≤ length before
 
 -- Bytes were taken; not more than wait.
 pub record Takes (v w : Seen) (id count : ℕ) (n : Told) : Type 0 where

@@ -1,5 +1,5 @@
 //! A copy of what waits to be sent.
-ghost use Rattle.std.specs.Prelude.{◌≡◌, ◌++◌, take, OnOk, OnErr};
+ghost use Rattle.std.specs.Prelude.{◌≡◌, ◌≤◌, ◌++◌, length, take, OnOk, OnErr};
 ghost use Rattle.h3_session.specs.Copied.{CopiesTo};
 ghost use Rattle.h3_session.specs.Running.{CopiesOutgoing};
 
@@ -33,7 +33,8 @@ impl Endpoint {
     /// rest of `out` stays, and they keep waiting. It takes no memory.
     #[tactic(auto, using(crate::proofs::Copying::puts_own))]
     pub fn copy_to(&self, id: StreamId, out: &mut [u8]) -> usize
-        ensures { CopiesTo self.now id result out.old out.new }
+        ensures copied { CopiesTo self.now id result out.old out.new }
+        ensures within { result ≤ length out.old }
     {
         match self.sender(id) {
             Some(stream) => stream.copy_to(out),

@@ -1,5 +1,5 @@
 //! What an endpoint sends.
-ghost use Rattle.std.specs.Prelude.{◌≡◌, ◌≤◌, ◌+◌, ◌++◌, true, false, None, length, not, unwrap_or, IfErr, IfSome, OnOk, OnErr, option_copied};
+ghost use Rattle.std.specs.Prelude.{◌≡◌, ◌≤◌, ◌+◌, ◌^◌, ◌++◌, true, false, None, length, not, unwrap_or, IfErr, IfNone, IfSome, OnOk, OnErr, option_copied};
 ghost use Rattle.h3_connection.specs.Answers.{call_refused};
 ghost use Rattle.h3_connection.specs.Calls.{AllSame, Sets, open_refused};
 ghost use Rattle.h3_connection.specs.Endpoint.{goaway_encoding};
@@ -108,7 +108,8 @@ impl Endpoint {
     // What was sent, in bytes and 64 for each field and call, with a call of this cost. No endpoint sends 2^56 bytes: such a sum
     // is refused as want of memory.
     pub(super) fn sent_with(&self, cost: u64) -> Option<u64>
-        ensures { IfSome result (λ sum. sum ≡ self.now.sent + cost + 64) }
+        ensures some { IfSome result (λ sum. sum ≡ self.now.sent + cost + 64) }
+        ensures none { IfNone result (2 ^ 56 ≤ self.now.sent + cost + 64) }
     {
         let sum = self.sent.checked_add(cost)?.checked_add(64)?;
         if sum < 1 << 56 { Some(sum) } else { None }

@@ -12,5 +12,5 @@ returns-in_default-sent_with c = body_uncounted c.args.self.now c.args.id c.args
 pub returns : goal.returns
 returns c =
     sends_body c.args.self.now c.append_body.new.self c.args.id c.args.body c.in-Some-sent_with.sent c.append_body.result (ap (λ (s : EndpointState). s.closed) (sym c.self.view_is) ∙ c.in_default.is)
-    (c.in-Some-sent_with.ensures ∙ ap (λ n. c.args.self.now.sent + n + 64) c.len.ensures.value)
+    (c.in-Some-sent_with.ensures.some ∙ ap (λ n. c.args.self.now.sent + n + 64) c.len.ensures.value)
     c.append_body.ensures.rest c.append_body.ensures.same c.append_body.ensures.ok c.append_body.ensures.taken c.append_body.ensures.why c.append_body.ensures.err
