@@ -5,4 +5,5 @@ pub mod Blockings
 pub mod Streams
 pub mod Taking
 pub mod Alones
+pub mod StreamSets
 pub mod Laid

@@ -10,6 +10,7 @@ pub mod InOrder
 pub mod Sections
 pub mod Blocking
 pub mod Alone
+pub mod StreamSet
 pub mod ByteRow
 pub mod ByteQueueInside
 pub mod FieldRow

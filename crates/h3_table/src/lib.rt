@@ -9,4 +9,5 @@ pub mod entries;
 mod field_queue;
 pub mod index;
 pub mod sections;
+pub mod stream_set;
 pub mod tracking;

@@ -1,0 +1,205 @@
+-- Streams by their bits.
+use Rattle.std.proofs.Common.{◌≡◌, ◌≢◌, ◌<◌, ◌≤◌, ℕ, zero, suc, ◌+◌, ◌*◌, ◌/◌, ◌%◌, ◌^◌, Bool, true, false, ◌||◌, ◌&&◌, List, [], ◌∷◌, filter, cond, refl, sym, ◌∙◌, ap, subst, arith, nat_lt, bit_and, bit_or, w64}
+use Rattle.std.specs.Prelude.{◌==◌, Option, Some, None}
+use Rattle.std.specs.List.{list_any, range_with_len}
+use Rattle.std.specs.Int.{bit_at}
+use Rattle.std.specs.Option.{unwrap_or}
+use Rattle.std.specs.Ordering.{nat_cmp, is_eq}
+use Rattle.std.specs.declared.cmp.Ordering.TheVariants.{Less, Equal, Greater}
+use Rattle.std.specs.BTreeMap.{is_at}
+use Rattle.std.specs.BTreeSet.{insert_key}
+use Rattle.std.specs.Map.{lookup}
+use Rattle.std.proofs.lemmas.Grind.{common_steps}
+use Rattle.std.proofs.lemmas.Map.Views.{any-filter_same}
+use Rattle.std.proofs.lemmas.Nat.Bits.{bit_at-zero, bit_at_set_same, bit_at_set_other, shr_and_one}
+use Rattle.h3_table.specs.StreamSet.{word_of, place_of, word_at, is_in, streams_in}
+
+same : (a b : ℕ) → (a == b) ≡ true → a ≡ b
+same a b e = grind (arith, common_steps)
+
+itself : (n : ℕ) → (n == n) ≡ true
+itself n = grind (arith, common_steps)
+
+apart : (a b : ℕ) → (a == b) ≡ false → a ≢ b
+apart a b e is = let both : false ≡ true = sym e ∙ ap (λ m. a == m) (sym is) ∙ itself a in cc
+
+-- a number in a row is found there
+numbered : (q a n : ℕ) → a ≤ q → q < a + n → list_any (λ other. other == q) (range_with_len a n) ≡ true
+numbered q a zero le lt = absurd (omega (arith, le, lt))
+numbered q a (suc n) le lt = by_test (a == q) refl (λ more. numbered q (a + 1) n more (omega (arith, lt)))
+  where
+    by_test : (t : Bool) → (a == q) ≡ t → (a + 1 ≤ q → list_any (λ other. other == q) (range_with_len (a + 1) n) ≡ true) → (t || list_any (λ other. other == q) (range_with_len (a + 1) n)) ≡ true
+    by_test true e later = refl
+    by_test false e later = let ne = apart a q e in later (omega (arith, le, ne))
+
+and_true : (b : Bool) → (b && true) ≡ b
+and_true true = refl
+and_true false = refl
+
+-- a number is among those that pass the test where it passes
+found_in : (p : ℕ → Bool) (q most : ℕ) → q < most → p q ≡ list_any (λ other. other == q) (filter p (range_with_len 0 most))
+found_in p q most lt =
+    sym (any-filter_same (λ other. other == q) p (p q) (λ k e. ap p (same k q e)) (range_with_len 0 most)
+    ∙ ap (λ b. p q && b) (numbered q 0 most (omega arith) (omega (arith, lt))) ∙ and_true (p q))
+
+-- tests that agree from a number on
+alike : (p r : ℕ → Bool) (a n : ℕ) → ((q : ℕ) → a ≤ q → r q ≡ p q) → filter r (range_with_len a n) ≡ filter p (range_with_len a n)
+alike p r a zero h = refl
+alike p r a (suc n) h = rw (h a (omega arith)) (by_test (p a) (alike p r (a + 1) n (λ q le. h q (omega (arith, le)))))
+  where
+    by_test : (b : Bool) → filter r (range_with_len (a + 1) n) ≡ filter p (range_with_len (a + 1) n)
+        → cond b (a ∷ filter r (range_with_len (a + 1) n)) (filter r (range_with_len (a + 1) n)) ≡ cond b (a ∷ filter p (range_with_len (a + 1) n)) (filter p (range_with_len (a + 1) n))
+    by_test true e = ap (λ qs. a ∷ qs) e
+    by_test false e = e
+
+below : (a b : ℕ) → a < b → nat_cmp a b ≡ Less
+below a b lt = let less : nat_lt a b ≡ true = grind (arith, common_steps) in rw less refl
+
+equal : (a : ℕ) → nat_cmp a a ≡ Equal
+equal a = let no : nat_lt a a ≡ false = grind (arith, common_steps) in rw (no, itself a) refl
+
+above : (a b : ℕ) → b < a → nat_cmp a b ≡ Greater
+above a b lt =
+    let no : nat_lt a b ≡ false = grind (arith, common_steps) in
+    let other : (a == b) ≡ false = grind (arith, common_steps) in
+    rw (no, other) refl
+
+-- a number goes in front of greater ones
+in_front : (p : ℕ → Bool) (q a n : ℕ) → q < a → insert_key nat_cmp (filter p (range_with_len a n)) q ≡ q ∷ filter p (range_with_len a n)
+in_front p q a zero lt = refl
+in_front p q a (suc n) lt = by_test (p a) (in_front p q (a + 1) n (omega (arith, lt)))
+  where
+    by_test : (b : Bool) → insert_key nat_cmp (filter p (range_with_len (a + 1) n)) q ≡ q ∷ filter p (range_with_len (a + 1) n)
+        → insert_key nat_cmp (cond b (a ∷ filter p (range_with_len (a + 1) n)) (filter p (range_with_len (a + 1) n))) q
+        ≡ q ∷ cond b (a ∷ filter p (range_with_len (a + 1) n)) (filter p (range_with_len (a + 1) n))
+    by_test true e = rw (below q a lt) refl
+    by_test false e = e
+
+-- r passes q, and otherwise what p passes
+abbrev PassesMore : (p r : ℕ → Bool) → ℕ → Type 0
+PassesMore p r q = (r q ≡ true) × ((other : ℕ) → other ≢ q → r other ≡ p other)
+
+-- the first number passes too
+first_more : (p r : ℕ → Bool) (a n : ℕ) → PassesMore p r a → filter r (range_with_len a (suc n)) ≡ insert_key nat_cmp (filter p (range_with_len a (suc n))) a
+first_more p r a n more =
+    rw more.0 (ap (λ qs. a ∷ qs) (alike p r (a + 1) n (λ q le. more.1 q (λ e. omega (arith, le, e)))) ∙ sym (by_test (p a)))
+  where
+    by_test : (b : Bool) → insert_key nat_cmp (cond b (a ∷ filter p (range_with_len (a + 1) n)) (filter p (range_with_len (a + 1) n))) a ≡ a ∷ filter p (range_with_len (a + 1) n)
+    by_test true = rw (equal a) refl
+    by_test false = in_front p a (a + 1) n (omega arith)
+
+-- one number more passes
+one_more : (p r : ℕ → Bool) (q a n : ℕ) → a ≤ q → q < a + n → PassesMore p r q → filter r (range_with_len a n) ≡ insert_key nat_cmp (filter p (range_with_len a n)) q
+one_more p r q a zero le lt more = absurd (omega (arith, le, lt))
+one_more p r q a (suc n) le lt more = by_test (a == q) refl (λ less. one_more p r q (a + 1) n (omega (arith, less)) (omega (arith, lt)) more)
+  where
+    by_pass : (b : Bool) → a < q → filter r (range_with_len (a + 1) n) ≡ insert_key nat_cmp (filter p (range_with_len (a + 1) n)) q
+        → cond b (a ∷ filter r (range_with_len (a + 1) n)) (filter r (range_with_len (a + 1) n))
+        ≡ insert_key nat_cmp (cond b (a ∷ filter p (range_with_len (a + 1) n)) (filter p (range_with_len (a + 1) n))) q
+    by_pass true less e = rw (above q a less) (ap (λ qs. a ∷ qs) e)
+    by_pass false less e = e
+
+    by_test : (t : Bool) → (a == q) ≡ t → (a < q → filter r (range_with_len (a + 1) n) ≡ insert_key nat_cmp (filter p (range_with_len (a + 1) n)) q)
+        → filter r (range_with_len a (suc n)) ≡ insert_key nat_cmp (filter p (range_with_len a (suc n))) q
+    by_test true e later =
+        let is = same a q e in
+        subst (λ k. filter r (range_with_len a (suc n)) ≡ insert_key nat_cmp (filter p (range_with_len a (suc n))) k) is (first_more p r a n (subst (PassesMore p r) (sym is) more))
+    by_test false e later =
+        let ne = apart a q e in
+        let less : a < q = omega (arith, le, ne) in
+        rw (more.1 a ne) (by_pass (p a) less (later less))
+
+none_pass : (a n : ℕ) → [] ≡ filter (λ q. false) (range_with_len a n)
+none_pass a zero = refl
+none_pass a (suc n) = none_pass (a + 1) n
+
+-- the streams of words that are the same at each number
+pub none_in : [] ≡ streams_in []
+unfolding streams_in
+none_in = none_pass 0 (2 ^ 64) ∙ sym (alike (λ q. false) (is_in []) 0 (2 ^ 64) (λ q le. rw (bit_at-zero (place_of q)) refl))
+
+-- a stream has its bit where it is among them
+pub found : (words : List (ℕ × ℕ)) (stream : ℕ) → stream < 2 ^ 64 → is_in words stream ≡ list_any (λ other. other == stream) (streams_in words)
+unfolding streams_in
+found words stream few = found_in (is_in words) stream (2 ^ 64) few
+
+-- a word that is there is read at the place
+pub bit_there : (words : List (ℕ × ℕ)) (stream word : ℕ) → lookup (is_at (nat_cmp (word_of stream))) words ≡ Some word → (bit_and (word / 2 ^ place_of stream) 1 == 1) ≡ is_in words stream
+bit_there words stream word at = ap (λ b. b == 1) (shr_and_one word (place_of stream)) ∙ ap (λ o. bit_at (unwrap_or o 0) (place_of stream) == 1) (sym at)
+
+pub bit_absent : (words : List (ℕ × ℕ)) (stream : ℕ) → lookup (is_at (nat_cmp (word_of stream))) words ≡ None → false ≡ is_in words stream
+bit_absent words stream at = rw (at, bit_at-zero (place_of stream)) refl
+
+-- no stream of a word that is not there
+pub none_of_word : (words : List (ℕ × ℕ)) (number : ℕ) → lookup (is_at (nat_cmp number)) words ≡ None → list_any (λ other. word_of other == number) (streams_in words) ≡ false
+unfolding streams_in
+none_of_word words number at =
+    any-filter_same (λ other. word_of other == number) (is_in words) false
+    (λ other e. sym (bit_absent words other (ap (λ k. lookup (is_at (nat_cmp k)) words) (same (word_of other) number e) ∙ at))) (range_with_len 0 (2 ^ 64))
+
+-- a stream is told by its word and its place
+told : (a b : ℕ) → word_of a ≡ word_of b → place_of a ≡ place_of b → a ≡ b
+told a b of_word of_place = omega (arith, of_word, of_place)
+
+-- The word of that number is another, and the others stay.
+abbrev pub IsOneWord : (words later : List (ℕ × ℕ)) → ℕ → ℕ → Type 0
+IsOneWord words later number word =
+    (lookup (is_at (nat_cmp number)) later ≡ Some word) × ((q : ℕ) → is_at (nat_cmp number) q ≡ false → lookup (is_at (nat_cmp q)) later ≡ lookup (is_at (nat_cmp q)) words)
+
+-- The word has the bit at the place, and otherwise those of the other.
+abbrev pub IsOneBit : (word later place : ℕ) → Type 0
+IsOneBit word later place = (bit_at later place ≡ 1) × ((i : ℕ) → i ≢ place → bit_at later i ≡ bit_at word i)
+
+at_itself : (a b : ℕ) → is_at (nat_cmp a) b ≡ true → a ≡ b
+at_itself a b e = grind (arith, common_steps)
+
+-- one bit more is one stream more
+put : (words later : List (ℕ × ℕ)) (stream word : ℕ) → stream < 2 ^ 64 → IsOneWord words later (word_of stream) word → IsOneBit (word_at words (word_of stream)) word (place_of stream)
+    → streams_in later ≡ insert_key nat_cmp (streams_in words) stream
+unfolding streams_in
+put words later stream word few words_are bits_are = one_more (is_in words) (is_in later) stream 0 (2 ^ 64) (omega arith) (omega (arith, few)) (own, others)
+  where
+    own : is_in later stream ≡ true
+    own = rw (words_are.0, bits_are.0) refl
+
+    others : (other : ℕ) → other ≢ stream → is_in later other ≡ is_in words other
+    others other ne = by_test (is_at (nat_cmp (word_of stream)) (word_of other)) refl
+      where
+        by_test : (t : Bool) → is_at (nat_cmp (word_of stream)) (word_of other) ≡ t → is_in later other ≡ is_in words other
+        by_test false e = ap (λ o. bit_at (unwrap_or o 0) (place_of other) == 1) (words_are.1 (word_of other) e)
+        by_test true e =
+            let of_word = at_itself (word_of stream) (word_of other) e in
+            let far : place_of other ≢ place_of stream = λ of_place. ne (told other stream (sym of_word) of_place) in
+            ap (λ k. bit_at (word_at later k) (place_of other) == 1) (sym of_word)
+            ∙ ap (λ o. bit_at (unwrap_or o 0) (place_of other) == 1) words_are.0
+            ∙ ap (λ b. b == 1) (bits_are.1 (place_of other) far)
+            ∙ ap (λ k. bit_at (word_at words k) (place_of other) == 1) of_word
+
+-- a word with a bit more
+bit_put : (word place : ℕ) → place < 64 → IsOneBit word (bit_or word (1 * 2 ^ place % 2 ^ 64)) place
+bit_put word place within = (bit_at_set_same w64 word place within, bit_at_set_other w64 word place within)
+
+-- the place of a stream in the word of that number
+pub record IsPlaced (stream number place : ℕ) : Type 0 where
+  pub few : stream < 2 ^ 64
+  pub of_word : number ≡ word_of stream
+  pub of_place : place ≡ place_of stream
+  pub within : place < 64
+
+put_at : (words later : List (ℕ × ℕ)) (stream number place word : ℕ) → IsPlaced stream number place → IsOneWord words later number (bit_or word (1 * 2 ^ place % 2 ^ 64)) → word_at words number ≡ word
+    → streams_in later ≡ insert_key nat_cmp (streams_in words) stream
+put_at words later stream number place word at words_are is =
+    let later_word = bit_or word (1 * 2 ^ place % 2 ^ 64) in
+    put words later stream later_word at.few (subst (λ k. IsOneWord words later k later_word) at.of_word words_are)
+    (subst (λ k. IsOneBit (word_at words k) later_word (place_of stream)) at.of_word
+    (subst (λ w. IsOneBit w later_word (place_of stream)) (sym is) (subst (IsOneBit word later_word) at.of_place (bit_put word place at.within))))
+
+-- a stream whose word is there
+pub put_there : (words later : List (ℕ × ℕ)) (stream number place word : ℕ) → IsPlaced stream number place → lookup (is_at (nat_cmp number)) words ≡ Some word
+    → IsOneWord words later number (bit_or word (1 * 2 ^ place % 2 ^ 64)) → streams_in later ≡ insert_key nat_cmp (streams_in words) stream
+put_there words later stream number place word at there words_are = put_at words later stream number place word at words_are (ap (λ o. unwrap_or o 0) there)
+
+-- the first stream of its word
+pub put_first : (words later : List (ℕ × ℕ)) (stream number place : ℕ) → IsPlaced stream number place → lookup (is_at (nat_cmp number)) words ≡ None
+    → IsOneWord words later number (1 * 2 ^ place % 2 ^ 64) → streams_in later ≡ insert_key nat_cmp (streams_in words) stream
+put_first words later stream number place at none words_are = put_at words later stream number place 0 at words_are (ap (λ o. unwrap_or o 0) none)
