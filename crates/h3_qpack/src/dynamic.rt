@@ -18,9 +18,9 @@ pub use h3_field::dynamic::Error;
 use h3_table::blocking::BlockingCounts;
 use h3_table::entries::{Entries, Entry, MAX_CAPACITY, MOST_INSERTIONS, Match, size_of};
 use h3_table::index::Index;
+use h3_table::stream_set::StreamSet;
 use h3_table::tracking::{TrackedSection, Tracking};
 use std::alloc::{AllocError, Global};
-use std::collections::BTreeSet;
 use std::marker::Model;
 
 /// The most sections that may be blocked at a decoder.
@@ -36,7 +36,7 @@ pub struct DynamicTable {
     fields: Index,
     tracking: Tracking,
     // the streams of which a cancellation was read, which nobody acknowledges any more
-    canceled: BTreeSet<u64>,
+    canceled: StreamSet,
     // how many sections may be blocked at the decoder
     limit: usize,
     // what is known to be received, and the required insert counts above that
@@ -76,7 +76,7 @@ impl DynamicTable {
             names: Index::new(alloc),
             fields: Index::new(alloc),
             tracking: Tracking::new(alloc),
-            canceled: BTreeSet::new(alloc),
+            canceled: StreamSet::new(alloc),
             limit: 0,
             blocking: BlockingCounts::new(alloc),
             alloc,
@@ -345,7 +345,7 @@ impl DynamicTable {
     pub(crate) fn is_canceled(&self, stream: u64) -> bool
         ensures { result ≡ list_any (λ other. other == stream) self.now.canceled }
     {
-        self.canceled.contains(&stream)
+        self.canceled.contains(stream)
     }
 
     /// Keeps that a cancellation of the stream was read, and releases all its tracked sections. Where memory is refused nothing
@@ -354,7 +354,7 @@ impl DynamicTable {
         ensures ok { OnOk result (self.new ≡ encoder_state_after self.old (CancelStream stream)) }
         ensures err { OnErr result ((self.new ≡ self.old) × (list_any (λ other. other == stream) self.old.canceled ≡ false)) }
     {
-        let Ok(_) = self.canceled.insert(stream) else {
+        let Ok(()) = self.canceled.insert(stream) else {
             return Err(AllocError);
         };
         self.tracking.release_all(stream);
