@@ -6,7 +6,7 @@ use Rattle.std.specs.BTreeMap.{BTreeMap, is_at}
 use Rattle.std.specs.BTreeSet.{insert_key}
 use Rattle.std.specs.Map.{lookup}
 use Rattle.h3_table.specs.StreamSet.{word_of, streams_in}
-use Rattle.h3_table.proofs.StreamSets.{IsPlaced, put_there, put_first, bit_absent, found, none_of_word}
+use Rattle.h3_table.proofs.StreamSets.{put_there, put_first, bit_absent, found, none_of_word}
 use Rattle.h3_table.proofs.stream_set.StreamSet.insert.Goals as goal
 
 pub returns-in-Some-clause-ok : goal.returns-in-Some-clause-ok
