@@ -1,6 +1,8 @@
 -- Decoded fields under a limit on the sum of their sizes.
-use Rattle.std.specs.Prelude.{◌≡◌, ◌<◌, ◌≤◌, ℕ, ◌+◌, ◌-◌, ◌^◌, Bool, List, min, fold, bytes_eq, if◌then◌else◌, Option, Some, None, option_map}
+use Rattle.std.specs.Prelude.{◌≡◌, ◌<◌, ◌≤◌, ℕ, ◌+◌, ◌-◌, ◌^◌, Bool, List, min, fold, bytes_eq, ◌++◌, if◌then◌else◌, Option, Some, None, option_map}
 use Rattle.h3_field.specs.Field.{Field, field_size, section_size}
+use Rattle.h3_table.specs.TableState.{TableState}
+use Rattle.h3_qpack.specs.DecodedSection.{fields_in}
 use Rattle.h3_qpack.specs.declared.within.DecodedWithin.{DecodedWithin}
 use Rattle.h3_qpack.specs.declared.within.DecodedWithin.TheVariants.{Fields, TooLarge}
 use Rattle.h3_qpack.specs.declared.within.LargeSection.{LargeSection}
@@ -8,6 +10,13 @@ use Rattle.h3_qpack.specs.declared.within.LargeSection.{LargeSection}
 -- the sum of the fields' sizes, which stops at the greatest number of 64 bits
 abbrev pub told_size : List Field → ℕ
 told_size fields = min (2 ^ 64 - 1) (section_size fields)
+
+-- The first lines are of fields that sum to more than the limit; of the rest nothing is said.
+pub record PassesLimit (h : TableState) (base : ℕ) (bytes : List ℕ) (max : ℕ) : Type 0 where
+  pub front : List Field
+  pub rest : List ℕ
+  pub read : fields_in h base bytes ≡ option_map (λ more. front ++ more) (fields_in h base rest)
+  pub large : max < told_size front
 
 -- the value of a field of that name, or the one before
 abbrev pub value_after : List ℕ → Option (List ℕ) → Field → Option (List ℕ)

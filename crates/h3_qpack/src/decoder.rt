@@ -20,6 +20,7 @@ ghost use Rattle.h3_qpack.specs.Hearing.{heard, hear};
 use crate::dynamic::DynamicTable;
 use crate::increment::{INCREMENT_LEN, put_increment};
 use crate::lines::{Lines, relative};
+use crate::listing::SectionSummary;
 use crate::within::DecodedWithin;
 use h3_field::block::HeaderPrefix;
 use h3_field::dynamic::Error;
@@ -130,9 +131,50 @@ impl Decoder {
         ensures refusal { IfErr result (IsRefusalOf (decode_section self.now buf.old)) }
         ensures memory { IfErr result (λ e. e ≡ OutOfMemory → MayAskMemory self.now buf.old) }
     {
-        match self.decode_header_within(buf, u64::MAX, &[]) {
-            Ok(DecodedWithin::Fields(decoded)) => Ok(decoded),
-            Ok(DecodedWithin::TooLarge(_)) => unreachable!(),
+        let mut fields = Vec::new(self.alloc);
+        match self.decode_header_into(buf, &mut fields) {
+            Ok(told) => Ok(Decoded {
+                fields,
+                dyn_ref: told.dyn_ref,
+                mem_size: told.mem_size,
+            }),
+            Err(e) => {
+                drop(fields);
+                Err(e)
+            }
+        }
+    }
+
+    /// Decodes an encoded field section, to the end of `buf` (RFC 9204, section 4.5), as `decode_header`, into a list whose memory
+    /// serves again: the fields that it holds are let go first, and its room is kept, so that it grows to the most fields of one
+    /// section. A refused read takes nothing, and leaves the list empty.
+    pub fn decode_header_into(
+        &self,
+        buf: &mut SliceCursor<'_>,
+        fields: &mut Vec<HeaderField>,
+    ) -> Result<SectionSummary, DecoderError>
+        ensures ok { IfOk result (λ d. (count : ℕ) × MeansFields self.now buf.old count fields.new.items × (d.dyn_ref ≡ nat_lt 0 count)
+            × (d.mem_size ≡ min (2 ^ 64 - 1) (section_size fields.new.items)) × (buf.new ≡ [])) }
+        ensures value { IfOk result (λ d. (count : ℕ) × (decode_section self.now buf.old ≡ Fields fields.new.items count) × (d.dyn_ref ≡ nat_lt 0 count)) }
+        ensures err { IfErr result (λ e. IsRefusal self.now buf.old e × (buf.new ≡ buf.old) × (fields.new.items ≡ [])) }
+        ensures refusal { IfErr result (IsRefusalOf (decode_section self.now buf.old)) }
+        ensures memory { IfErr result (λ e. e ≡ OutOfMemory → MayAskMemory self.now buf.old) }
+    {
+        fields.clear();
+        let mut ahead = SliceCursor::new(buf.chunk());
+        let (count, base) = match self.take_prefix(&mut ahead) {
+            Ok(found) => found,
+            Err(e) => return Err(e),
+        };
+        let lines = Lines::new(self.alloc, &self.entries, base);
+        match lines.list(&mut ahead, fields) {
+            Ok(mem_size) => {
+                *buf = ahead;
+                Ok(SectionSummary {
+                    dyn_ref: count > 0,
+                    mem_size,
+                })
+            }
             Err(e) => Err(e),
         }
     }

@@ -9,6 +9,7 @@ pub mod examples;
 mod increment;
 pub mod laws;
 mod lines;
+pub mod listing;
 mod pending_section;
 mod section;
 pub mod session;
@@ -25,6 +26,7 @@ pub use h3_field::{
     decode_stateless, encode_stateless, field, parse_error, prefix_int, prefix_string,
     section_size, static_, stream, vas,
 };
+pub use listing::SectionSummary;
 pub use session::{SessionAnswer, SessionEvent, run};
 pub use view::DynamicTableDecoder;
 pub use within::{DecodedWithin, LargeSection};

@@ -1,5 +1,5 @@
 //! Field sections whose fields are kept up to a limit on the sum of their sizes, and only counted past it.
-ghost use Rattle.std.specs.Prelude.{◌≡◌, ◌<◌, ℕ, [], ◌∷◌, ◌++◌, List, IfOk, OnOk, IfErr, Some, None};
+ghost use Rattle.std.specs.Prelude.{◌≡◌, ◌<◌, ℕ, [], List, IfOk, OnOk, IfErr, Some, None};
 ghost use Rattle.h3_field.specs.Field.{Field};
 ghost use Rattle.h3_field.specs.declared.decoder_error.DecoderError.TheVariants.{OutOfMemory};
 ghost use Rattle.h3_qpack.specs.DecodedSection.{fields_in};
@@ -7,7 +7,7 @@ ghost use Rattle.h3_qpack.specs.SectionAnswers.{LinesAskMemory, IsReasonFor};
 ghost use Rattle.h3_qpack.specs.Sizes.{IsWithin, IsTooLarge, counted, counted_on};
 
 use crate::lines::{LineField, Lines};
-use h3_field::{Decoded, DecoderError, HeaderField, SliceCursor};
+use h3_field::{Decoded, DecoderError, SliceCursor};
 use std::alloc::{AllocError, Global};
 use std::marker::Model;
 
@@ -29,21 +29,6 @@ pub struct LargeSection {
     pub dyn_ref: bool,
     /// The value of its last field of the name that was asked for.
     pub last_value: Option<Vec<u8>>,
-}
-
-/// How many fields get room at first: most sections have no more, and the list of their fields need not grow. Eighteen are the most
-/// that fit 1,032 bytes, up to which an allocator of the C library keeps blocks at hand.
-const FIRST_ROOM: usize = 18;
-
-/// Adds a field behind which so many bytes are left: each may be a field.
-fn keep(fields: &mut Vec<HeaderField>, field: HeaderField, left: usize) -> Result<(), AllocError>
-    ensures { OnOk result (fields.new.items ≡ fields.old.items ++ field ∷ []) }
-{
-    if fields.is_empty() {
-        fields.reserve(left.min(FIRST_ROOM - 1) + 1)?;
-    }
-    fields.push(field)?;
-    Ok(())
 }
 
 /// Fields that are counted and not kept.
@@ -133,31 +118,21 @@ impl<'t> Lines<'t> {
         ensures err { IfErr result (IsReasonFor (fields_in self.now.table self.now.base buf.old ≡ None) (λ count. ⊥)) }
         ensures memory { IfErr result (λ e. e ≡ OutOfMemory → LinesAskMemory self.now.table self.now.base buf.old) }
     {
-        let mut ahead = SliceCursor::new(buf.chunk());
         let mut fields = Vec::new(self.alloc());
-        let mut mem_size: u64 = 0;
-        'lines: while ahead.remaining() > 0 {
-            let line = match self.take(&mut ahead) {
-                Ok(line) => line,
-                Err(e) => return Err(e),
-            };
-            mem_size = mem_size.saturating_add(line.mem_size() as u64);
-            if mem_size > max {
+        match self.list_within(buf, max, &mut fields) {
+            Ok(Some(mem_size)) => Ok(DecodedWithin::Fields(Decoded {
+                fields,
+                dyn_ref,
+                mem_size,
+            })),
+            Ok(None) => {
                 drop(fields);
-                return self.take_large(buf, dyn_ref, name);
+                self.take_large(buf, dyn_ref, name)
             }
-            let Ok(field) = line.into_field(self.alloc()) else {
-                return Err(DecoderError::OutOfMemory);
-            };
-            let Ok(()) = keep(&mut fields, field, ahead.remaining()) else {
-                return Err(DecoderError::OutOfMemory);
-            };
+            Err(e) => {
+                drop(fields);
+                Err(e)
+            }
         }
-        *buf = ahead;
-        Ok(DecodedWithin::Fields(Decoded {
-            fields,
-            dyn_ref,
-            mem_size,
-        }))
     }
 }

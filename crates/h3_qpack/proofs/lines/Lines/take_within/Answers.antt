@@ -1,56 +1,18 @@
-use Rattle.std.proofs.Common.{[], ◌∷◌, ◌++◌, refl}
-use Rattle.h3_qpack.proofs.FieldsIn.{one_read, all_read, bad_read, one_kept, line_asks}
-use Rattle.h3_qpack.specs.ReasonLaws.{reason_with_map}
-use Rattle.h3_qpack.proofs.Sizes.{size_next, answers_large}
+use Rattle.h3_qpack.proofs.Sizes.{answers_large}
 use Rattle.h3_qpack.proofs.lines.Lines.take_within.Goals as goal
 
-pub returns-in-Err-clause-err : goal.returns-in-Err-clause-err
-returns-in-Err-clause-err c =
-    let seen = rw (c.new-ahead.ensures, c.chunk.ensures) at c.lines.invariant.0 in
-    reason_with_map _ _ _ _ c.in-Err.e (λ m. tt) (λ none. bad_read _ _ _ c.lines.fields.items _ seen (rw c.remaining.ensures at c.lines-test.true) none) c.in-Err.ensures
+pub returns-in-Ok-None-clause-ok : goal.returns-in-Ok-None-clause-ok
+returns-in-Ok-None-clause-ok c =
+    let told = rw c.in-Ok-None.field-0-is at c.in-Ok-None.ensures.ok in
+    let answer = rw told.1 at c.take_large.ensures.ok in
+    answers_large c.args.self.now.table c.args.self.now.base c.args.buf.now told.0.rest c.take_large.new.buf told.0.front c.args.max c.args.name.now c.args.dyn_ref c.take_large.result told.0.read told.0.large answer
 
-pub returns-then-mem_size-max-clause-ok : goal.returns-then-mem_size-max-clause-ok
-returns-then-mem_size-max-clause-ok c =
-    let seen = rw (c.new-ahead.ensures, c.chunk.ensures) at c.lines.invariant.0 in
-    let next = one_read _ _ _ c.lines.fields.items c.in-Ok.line _ _ seen c.in-Ok.ensures in
-    let answer = rw c.lines.invariant.3 at c.take_large.ensures.ok in
-    let sum = size_next c.lines.fields.items c.in-Ok.line _ _ _ c.lines.invariant.1 c.mem_size.ensures c.saturating_add-mem_size.ensures in
-    answers_large c.args.self.now.table c.args.self.now.base c.args.buf.now c.take.new.buf c.take_large.new.buf (c.lines.fields.items ++ c.in-Ok.line ∷ []) c.args.max c.args.name.now c.args.dyn_ref c.take_large.result next (rw sum at c.if-mem_size-max.true) answer
+pub returns-in-Ok-None-clause-err : goal.returns-in-Ok-None-clause-err
+returns-in-Ok-None-clause-err c =
+    let told = rw c.in-Ok-None.field-0-is at c.in-Ok-None.ensures.ok in
+    rw told.1 at c.take_large.ensures.err
 
-pub returns-then-mem_size-max-clause-err : goal.returns-then-mem_size-max-clause-err
-returns-then-mem_size-max-clause-err c = rw c.lines.invariant.3 at c.take_large.ensures.err
-
-pub lines-preserved : goal.lines-preserved
-lines-preserved c =
-    let same = c.in-Ok-into_field.ensures in
-    let items = c.in-Ok-keep.ensures in (
-      rw (items, same) (one_read _ _ _ c.lines.fields.items c.in-Ok.line _ _ c.lines.invariant.0 c.in-Ok.ensures),
-      rw (items, same) (size_next c.lines.fields.items c.in-Ok.line _ _ _ c.lines.invariant.1 c.mem_size.ensures c.saturating_add-mem_size.ensures),
-      c.if-mem_size-max.false,
-      c.lines.invariant.3,
-      λ asks. one_kept _ _ _ _ _ _ c.lines.invariant.4 c.in-Ok.ensures,
-    )
-
-pub returns-clause-ok : goal.returns-clause-ok
-returns-clause-ok c =
-    let seen = rw (c.new-ahead.ensures, c.chunk.ensures) at c.lines.invariant.0 in
-    let all = all_read _ _ _ c.lines.fields.items _ seen (rw c.remaining.ensures at c.lines-test.false) in
-    (c.lines.fields.items, all.0, (rw c.lines.invariant.1 at c.lines.invariant.2, refl, refl, c.lines.invariant.1), all.1)
-
-pub returns-in-Err-clause-memory : goal.returns-in-Err-clause-memory
-returns-in-Err-clause-memory c =
-    let asks = rw (c.new-ahead.ensures, c.chunk.ensures) at c.lines.invariant.4 in
-    line_asks _ _ _ _ c.in-Err.e asks c.in-Err.ensures
-
-pub returns-then-mem_size-max-clause-memory : goal.returns-then-mem_size-max-clause-memory
-returns-then-mem_size-max-clause-memory c = rw c.lines.invariant.3 at c.take_large.ensures.memory
-
-pub returns-in_default-clause-memory : goal.returns-in_default-clause-memory
-returns-in_default-clause-memory c =
-    let asks = rw (c.new-ahead.ensures, c.chunk.ensures) at c.lines.invariant.4 in
-    λ same. one_kept _ _ _ _ _ _ asks c.in-Ok.ensures
-
-pub returns-in_default-keep-clause-memory : goal.returns-in_default-keep-clause-memory
-returns-in_default-keep-clause-memory c =
-    let asks = rw (c.new-ahead.ensures, c.chunk.ensures) at c.lines.invariant.4 in
-    λ same. one_kept _ _ _ _ _ _ asks c.in-Ok.ensures
+pub returns-in-Ok-None-clause-memory : goal.returns-in-Ok-None-clause-memory
+returns-in-Ok-None-clause-memory c =
+    let told = rw c.in-Ok-None.field-0-is at c.in-Ok-None.ensures.ok in
+    rw told.1 at c.take_large.ensures.memory

@@ -1,7 +1,7 @@
 use Rattle.std.proofs.Common.{◌≡◌, ◌≤◌, length}
 use Rattle.h3_qpack.specs.Sizes.{told_size}
 use Rattle.h3_qpack.proofs.FieldsIn.{AreRead, AskAlike}
-use Rattle.h3_qpack.proofs.lines.Lines.take_within.Given as goal
+use Rattle.h3_qpack.proofs.lines.Lines.list_within.Given as goal
 
 abbrev pub invariant-lines : goal.invariant-lines
 invariant-lines l =
