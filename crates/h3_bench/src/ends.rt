@@ -1,4 +1,6 @@
 //! The two ends of a session with a dynamic table. Bytes come in any pieces: what is not whole is kept.
+ghost use Rattle.std.specs.Prelude.{◌≡◌, ℕ, nat_lt, IfOk, IfSome, IfNone};
+ghost use Rattle.h3_qpack.specs.DecodedSection.{decode_section, Fields, Missing};
 
 use crate::input::FieldList;
 use crate::report::{Failure, Report};
@@ -95,11 +97,30 @@ impl Sender {
     }
 }
 
-/// A decoder, and the start of an instruction that is not whole.
+/// Decodes a section in place of the fields that the list holds, and answers whether it has to be acknowledged. None: it waits
+/// for insertions.
+fn decode_into(
+    decoder: &Decoder,
+    section: &[u8],
+    fields: &mut Vec<HeaderField>,
+) -> Result<Option<bool>, Failure>
+    ensures decoded { IfOk result (λ told. IfSome told (λ dyn_ref. (count : ℕ) × (decode_section decoder.now section.now ≡ Fields fields.new.items count) × (dyn_ref ≡ nat_lt 0 count))) }
+    ensures waits { IfOk result (λ told. IfNone told ((count : ℕ) × (decode_section decoder.now section.now ≡ Missing count))) }
+{
+    match decoder.decode_header_into(&mut SliceCursor::new(section), fields) {
+        Ok(told) => Ok(Some(told.dyn_ref)),
+        Err(DecoderError::MissingRefs(_)) => Ok(None),
+        Err(_) => Err(Failure::Refused),
+    }
+}
+
+/// A decoder, the start of an instruction that is not whole, and the fields of the section that was decoded last.
 #[derive(Drop)]
 pub(crate) struct Receiver {
     decoder: Decoder,
     unread: Vec<u8>,
+    // one list for all sections, whose memory serves again
+    fields: Vec<HeaderField>,
 }
 
 impl Receiver {
@@ -111,6 +132,7 @@ impl Receiver {
         Ok(Receiver {
             decoder: Decoder::announced(alloc, capacity),
             unread: Vec::new(alloc),
+            fields: Vec::new(alloc),
         })
     }
 
@@ -129,22 +151,23 @@ impl Receiver {
         }
     }
 
-    /// Decodes a section, and appends the acknowledgment where it names entries. None: it waits for instructions.
+    /// Decodes a section, and appends the acknowledgment where it names entries. Its fields are lent up to the next section. None:
+    /// it waits for instructions.
     pub(crate) fn decode(
         &mut self,
         stream: u64,
         section: &[u8],
         replies: &mut Vec<u8>,
-    ) -> Result<Option<Vec<HeaderField>>, Failure> {
-        match self.decoder.decode_header(&mut SliceCursor::new(section)) {
-            Ok(decoded) => {
-                if decoded.dyn_ref {
+    ) -> Result<Option<&[HeaderField]>, Failure> {
+        match decode_into(&self.decoder, section, &mut self.fields) {
+            Ok(Some(dyn_ref)) => {
+                if dyn_ref {
                     acknowledge(stream, replies)?;
                 }
-                Ok(Some(decoded.fields))
+                Ok(Some(self.fields.as_slice()))
             }
-            Err(DecoderError::MissingRefs(_)) => Ok(None),
-            Err(_) => Err(Failure::Refused),
+            Ok(None) => Ok(None),
+            Err(e) => Err(e),
         }
     }
 

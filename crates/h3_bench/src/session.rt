@@ -160,11 +160,11 @@ fn send_all(
 }
 
 /// A step of a decoder; the fields where it decoded a section. It appends what it writes.
-fn receive(
-    receiver: &mut Receiver,
+fn receive<'r>(
+    receiver: &'r mut Receiver,
     step: &Step<'_, &[u8]>,
     replies: &mut Vec<u8>,
-) -> Result<Option<Vec<HeaderField>>, Failure> {
+) -> Result<Option<&'r [HeaderField]>, Failure> {
     match step {
         Step::Stream(stream, section) => receiver.decode(*stream, *section, replies),
         Step::Hear(bytes) => {
@@ -174,7 +174,7 @@ fn receive(
     }
 }
 
-/// A step of a decoder whose fields and replies are let go.
+/// A step of a decoder whose fields are counted, and whose replies are let go.
 fn receive_one(
     receiver: &mut Receiver,
     step: &Step<'_, &[u8]>,
@@ -182,7 +182,7 @@ fn receive_one(
     report: &mut Report,
 ) -> Result<(), Failure> {
     if let Some(fields) = receive(receiver, step, replies)? {
-        count_fields(&fields, report);
+        count_fields(fields, report);
     }
     replies.clear();
     Ok(())
@@ -218,11 +218,11 @@ fn receive_all(
 }
 
 /// Packs 1 and a list where a section was decoded, else 0.
-fn put_decoded(packed: &mut Vec<u8>, decoded: Option<Vec<HeaderField>>) -> Result<(), Failure> {
+fn put_decoded(packed: &mut Vec<u8>, decoded: Option<&[HeaderField]>) -> Result<(), Failure> {
     match decoded {
         Some(fields) => {
             output::put_number(packed, 1)?;
-            output::put_fields(packed, &fields)
+            output::put_fields(packed, fields)
         }
         None => output::put_number(packed, 0),
     }

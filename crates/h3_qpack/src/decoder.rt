@@ -1,5 +1,5 @@
 //! A decoder with its dynamic table (RFC 9204, sections 2.2 and 4).
-ghost use Rattle.std.specs.Prelude.{◌≡◌, ◌≢◌, ◌≤◌, ◌<◌, ◌^◌, ℕ, ◌-◌, List, [], true, false, length, min, nat_lt, drop, IfOk, IfErr, OnOk, OnErr, ◌++◌};
+ghost use Rattle.std.specs.Prelude.{◌≡◌, ◌≢◌, ◌≤◌, ◌<◌, ◌^◌, ℕ, ◌-◌, List, [], true, false, length, min, nat_lt, drop, IfOk, IfErr, OnOk, OnErr, ◌++◌, vec_capacity};
 ghost use Rattle.h3_field.specs.Instruction.{decoder_bytes};
 ghost use Rattle.h3_field.specs.Instruction.DecoderInstruction.{Acknowledge, CancelStream};
 ghost use Rattle.h3_field.specs.Reading.{Unfinished};
@@ -159,6 +159,7 @@ impl Decoder {
         ensures err { IfErr result (λ e. IsRefusal self.now buf.old e × (buf.new ≡ buf.old) × (fields.new.items ≡ [])) }
         ensures refusal { IfErr result (IsRefusalOf (decode_section self.now buf.old)) }
         ensures memory { IfErr result (λ e. e ≡ OutOfMemory → MayAskMemory self.now buf.old) }
+        ensures room { vec_capacity fields.old ≤ vec_capacity fields.new }
     {
         fields.clear();
         let mut ahead = SliceCursor::new(buf.chunk());

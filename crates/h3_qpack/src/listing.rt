@@ -1,5 +1,5 @@
 //! The fields of a section's lines, in a list that is handed in: its memory serves again.
-ghost use Rattle.std.specs.Prelude.{◌≡◌, ◌≤◌, ℕ, [], ◌∷◌, ◌++◌, IfOk, OnOk, IfErr, Some, None, MatchOption};
+ghost use Rattle.std.specs.Prelude.{◌≡◌, ◌≤◌, ℕ, [], ◌∷◌, ◌++◌, IfOk, OnOk, IfErr, Some, None, MatchOption, vec_capacity};
 ghost use Rattle.h3_field.specs.declared.decoder_error.DecoderError.TheVariants.{OutOfMemory};
 ghost use Rattle.h3_qpack.specs.DecodedSection.{fields_in};
 ghost use Rattle.h3_qpack.specs.SectionAnswers.{LinesAskMemory, IsReasonFor};
@@ -24,7 +24,8 @@ const FIRST_ROOM: usize = 18;
 
 /// Adds a field behind which so many bytes are left: each may be a field. A list that has the room is not given more.
 fn keep(fields: &mut Vec<HeaderField>, field: HeaderField, left: usize) -> Result<(), AllocError>
-    ensures { OnOk result (fields.new.items ≡ fields.old.items ++ field ∷ []) }
+    ensures ok { OnOk result (fields.new.items ≡ fields.old.items ++ field ∷ []) }
+    ensures room { vec_capacity fields.old ≤ vec_capacity fields.new }
 {
     if fields.is_empty() {
         fields.reserve(left.min(FIRST_ROOM - 1) + 1)?;
@@ -48,6 +49,7 @@ impl<'t> Lines<'t> {
             (λ sum. (fields_in self.now.table self.now.base buf.old ≡ Some fields.new.items) × (sum ≡ told_size fields.new.items) × (sum ≤ max) × (buf.new ≡ []))) }
         ensures err { IfErr result (IsReasonFor (fields_in self.now.table self.now.base buf.old ≡ None) (λ count. ⊥)) }
         ensures memory { IfErr result (λ e. e ≡ OutOfMemory → LinesAskMemory self.now.table self.now.base buf.old) }
+        ensures room { vec_capacity fields.old ≤ vec_capacity fields.new }
     {
         let mut ahead = SliceCursor::new(buf.chunk());
         let mut mem_size: u64 = 0;
@@ -82,6 +84,7 @@ impl<'t> Lines<'t> {
         ensures ok { IfOk result (λ sum. (fields_in self.now.table self.now.base buf.old ≡ Some fields.new.items) × (sum ≡ told_size fields.new.items) × (buf.new ≡ [])) }
         ensures err { IfErr result (λ e. IsReasonFor (fields_in self.now.table self.now.base buf.old ≡ None) (λ count. ⊥) e × (fields.new.items ≡ [])) }
         ensures memory { IfErr result (λ e. e ≡ OutOfMemory → LinesAskMemory self.now.table self.now.base buf.old) }
+        ensures room { vec_capacity fields.old ≤ vec_capacity fields.new }
     {
         match self.list_within(buf, u64::MAX, fields) {
             Ok(Some(sum)) => Ok(sum),

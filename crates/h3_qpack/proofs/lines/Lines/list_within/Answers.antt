@@ -1,4 +1,4 @@
-use Rattle.std.proofs.Common.{[], ◌∷◌, ◌++◌}
+use Rattle.std.proofs.Common.{[], ◌∷◌, ◌++◌, arith}
 use Rattle.h3_qpack.proofs.FieldsIn.{one_read, all_read, bad_read, one_kept, line_asks}
 use Rattle.h3_qpack.specs.ReasonLaws.{reason_with_map}
 use Rattle.h3_qpack.proofs.Sizes.{size_next}
@@ -19,12 +19,13 @@ returns-then-mem_size-max-clause-ok c =
 pub lines-preserved : goal.lines-preserved
 lines-preserved c =
     let same = c.in-Ok-into_field.ensures in
-    let items = c.in-Ok-keep.ensures in (
+    let items = c.in-Ok-keep.ensures.ok in (
       rw (items, same) (one_read _ _ _ c.lines.fields.items c.in-Ok.line _ _ c.lines.invariant.0 c.in-Ok.ensures),
       rw (items, same) (size_next c.lines.fields.items c.in-Ok.line _ _ _ c.lines.invariant.1 c.mem_size.ensures c.saturating_add-mem_size.ensures),
       c.if-mem_size-max.false,
       c.lines.invariant.3,
       λ asks. one_kept _ _ _ _ _ _ c.lines.invariant.4 c.in-Ok.ensures,
+      omega (arith, c.lines.invariant.5, c.in-Ok-keep.ensures.room),
     )
 
 pub returns-clause-ok : goal.returns-clause-ok
