@@ -122,7 +122,8 @@ impl Decoder {
         Ok((count, base))
     }
 
-    /// Decodes an encoded field section, to the end of `buf`, whose fields may sum to any size: as `decode_header_within`.
+    /// Decodes an encoded field section, to the end of `buf`, whose fields may sum to any size: as `decode_header_within`. A caller of
+    /// many sections may keep one list for them all: `decode_header_into`.
     pub fn decode_header(&self, buf: &mut SliceCursor<'_>) -> Result<Decoded, DecoderError>
         ensures ok { IfOk result (λ d. (count : ℕ) × MeansFields self.now buf.old count d.fields.items × (d.dyn_ref ≡ nat_lt 0 count)
             × (d.mem_size ≡ min (2 ^ 64 - 1) (section_size d.fields.items)) × (buf.new ≡ [])) }
@@ -146,8 +147,10 @@ impl Decoder {
     }
 
     /// Decodes an encoded field section, to the end of `buf` (RFC 9204, section 4.5), as `decode_header`, into a list whose memory
-    /// serves again: the fields that it holds are let go first, and its room is kept, so that it grows to the most fields of one
-    /// section. A refused read takes nothing, and leaves the list empty.
+    /// serves again: the fields that it holds are let go first, and its room is kept, which is that of the longest section so far.
+    ///
+    /// `MissingRefs(n)`: the section needs n insertions, and not all were read; no line is read then. `OutOfMemory`: it may be tried
+    /// again. Every other refusal is of a bad section. A refused read takes nothing, and leaves the list empty.
     pub fn decode_header_into(
         &self,
         buf: &mut SliceCursor<'_>,
