@@ -23,7 +23,7 @@ returns-in-Ok-list-clause-value c = (c.in-Ok.found.0, is_value c, refl)
 pub returns-in-Err-clause-err : goal.returns-in-Err-clause-err
 returns-in-Err-clause-err c =
     let refused = rw (c.new-ahead.ensures, c.chunk.ensures) at c.in-Err.ensures.err in
-    (refused_section _ _ c.in-Err.e refused, refl, c.clear.ensures.items)
+    (refused_section _ _ c.in-Err.e refused, refl, search)
 
 pub returns-in-Err-list-clause-err : goal.returns-in-Err-list-clause-err
 returns-in-Err-list-clause-err c =
