@@ -2,7 +2,9 @@ pub mod Searches
 pub mod Chains
 pub mod ReferenceCounts
 pub mod Blockings
+pub mod ByStream
 pub mod Streams
+pub mod Placed
 pub mod Taking
 pub mod Alones
 pub mod StreamSets

@@ -1,25 +1,22 @@
--- Sections by their streams.
-use Rattle.std.proofs.Common.{◌≡◌, ◌≢◌, ◌<◌, ◌≤◌, ℕ, ◌+◌, Bool, true, false, ◌||◌, List, [], ◌∷◌, ◌++◌, length, cond, refl, sym, ◌∙◌, ap, subst, arith, nat_lt, append_assoc, length-append}
-use Rattle.std.specs.Prelude.{◌==◌, Option, Some, None, IfSome, IfNone}
-use Rattle.std.specs.List.{list_any, AllByRecursion}
+-- Sections by their streams, in a map.
+use Rattle.std.proofs.Common.{◌≡◌, ◌≢◌, ◌<◌, ℕ, ◌+◌, Bool, true, false, List, [], ◌∷◌, ◌++◌, length, cond, refl, sym, ◌∙◌, ap, subst, arith, length-append}
+use Rattle.std.specs.Prelude.{◌==◌, Option, Some, None}
+use Rattle.std.specs.List.{AllByRecursion}
 use Rattle.std.specs.List.Sorted.{IsStrictlySortedBy}
 use Rattle.std.specs.Option.{unwrap_or}
-use Rattle.std.specs.Ordering.{nat_cmp, is_eq, MatchOrdering, match_ordering}
+use Rattle.std.specs.Ordering.{nat_cmp, is_eq, MatchOrdering}
 use Rattle.std.specs.declared.cmp.Ordering.{Ordering}
 use Rattle.std.specs.declared.cmp.Ordering.TheVariants.{Less, Equal, Greater}
-use Rattle.std.specs.BTreeMap.{is_at, insert_entry}
-use Rattle.std.specs.Map.{keys_of, lookup, set_value, remove_entry}
+use Rattle.std.specs.BTreeMap.{is_at}
+use Rattle.std.specs.Map.{keys_of, lookup}
 use Rattle.std.proofs.lemmas.Grind.{common_steps}
 use Rattle.std.proofs.lemmas.Cmp.{ranked}
-use Rattle.std.proofs.lemmas.List.{map-append}
-use Rattle.std.proofs.lemmas.List.Folds.{list_any-append}
+use Rattle.std.proofs.lemmas.List.{map-append, append-nil}
 use Rattle.std.proofs.lemmas.Map.Keys.{sorted_tail, sorted_head}
 use Rattle.h3_table.specs.declared.tracking.TrackedSection.{TrackedSection}
-use Rattle.h3_table.specs.InOrder.{put_last}
-use Rattle.h3_table.specs.Tracking.{is_of, without_newest, without_oldest_of}
-use Rattle.h3_table.specs.Sections.{sections_on, sections_of, IsWithoutOne, IsOldestTaken, IsNewestTaken}
-use Rattle.h3_table.specs.ReleasingLaws.{none_newest, none_removed, other_stays, last_goes}
-use Rattle.h3_table.specs.InOrderLaws.{last_stays, last_behind}
+use Rattle.h3_table.specs.Sections.{sections_on, sections_of, IsChanged, IsWithoutOne}
+use Rattle.h3_table.specs.ByStream.{of_stream, HasOneMore, IsFirstTaken, IsLastTaken}
+use Rattle.h3_table.proofs.ByStream.{itself, unlike, alike, of_none, of_both}
 
 -- each stream is below those behind it
 abbrev pub Climbs : List (ℕ × List ℕ) → Type 0
@@ -54,219 +51,85 @@ above : (stream : ℕ) (es : List (ℕ × List ℕ)) → AllByRecursion (λ o. s
 above stream [] h = tt
 above stream (e ∷ es) h = All-both (λ t. stream < t.stream) (sections_on e.0 e.1) (sections_of es) (All-on (λ t. stream < t.stream) e.0 (λ n. h.0) e.1) (above stream es h.1)
 
-higher : (low stream : ℕ) (es : List (ℕ × List ℕ)) → low < stream → AllByRecursion (λ o. stream < o.0) es → AllByRecursion (λ o. low < o.0) es
-higher low stream [] lt h = tt
-higher low stream (e ∷ es) lt h = (omega (arith, lt, h.0), higher low stream es lt h.1)
-
--- none of greater streams is this one
-none_found : (stream : ℕ) (es : List (ℕ × List ℕ)) → AllByRecursion (λ o. stream < o.0) es → lookup (is_at (nat_cmp stream)) es ≡ None
-none_found stream [] h = refl
-none_found stream (e ∷ es) h = let less : nat_lt stream e.0 ≡ true = grind (arith, common_steps, h.0) in rw less (none_found stream es h.1)
-
-none_on : (stream : ℕ) (ts : List TrackedSection) → AllByRecursion (λ t. t.stream ≢ stream) ts → list_any (is_of stream) ts ≡ false
-none_on stream [] h = refl
-none_on stream (t ∷ ts) h = let other : (t.stream == stream) ≡ false = unlike (t.stream == stream) refl h.0 in rw other (none_on stream ts h.1)
-  where
-    unlike : (b : Bool) → (t.stream == stream) ≡ b → t.stream ≢ stream → b ≡ false
-    unlike true e ne = absurd (ne (grind (arith, common_steps)))
-    unlike false e ne = refl
-
 others : (stream : ℕ) (ts : List TrackedSection) → AllByRecursion (λ t. stream < t.stream) ts → AllByRecursion (λ t. t.stream ≢ stream) ts
 others stream [] h = tt
 others stream (t ∷ ts) h = ((λ e. omega (arith, e, h.0)), others stream ts h.1)
 
--- a section more behind those of its stream
-pub added_to : (stream n : ℕ) (es : List (ℕ × List ℕ)) (ns : List ℕ) → Climbs es → lookup (is_at (nat_cmp stream)) es ≡ Some ns
-    → sections_of (set_value (is_at (nat_cmp stream)) es (ns ++ n ∷ [])) ≡ put_last (λ t. t.stream) (record { stream = stream; oldest = n }) (sections_of es)
-added_to stream n [] ns up is = absurd (cc)
-added_to stream n (e ∷ es) ns up is = by_order (nat_cmp stream e.0) refl (ranked stream e.0 (nat_cmp stream e.0) refl) is (added_to stream n es ns up.1)
+pub of_map : (k : ℕ) (es : List (ℕ × List ℕ)) → Climbs es → of_stream k (sections_of es) ≡ sections_on k (unwrap_or (lookup (is_at (nat_cmp k)) es) [])
+of_map k [] up = refl
+of_map k (e ∷ es) up = of_both k (sections_on e.0 e.1) (sections_of es) ∙ by_order (nat_cmp k e.0) (ranked k e.0 (nat_cmp k e.0) refl) (of_map k es up.1)
   where
-    Goal : Ordering → Type 0
-    Goal o = sections_of (cond (is_eq o) ((e.0, ns ++ n ∷ []) ∷ es) (e ∷ set_value (is_at (nat_cmp stream)) es (ns ++ n ∷ []))) ≡ put_last (λ t. t.stream) (section stream n) (sections_on e.0 e.1 ++ sections_of es)
+    other : e.0 ≢ k → of_stream k (sections_of es) ≡ sections_on k (unwrap_or (lookup (is_at (nat_cmp k)) es) []) → of_stream k (sections_on e.0 e.1) ++ of_stream k (sections_of es) ≡ sections_on k (unwrap_or (lookup (is_at (nat_cmp k)) es) [])
+    other ne h = rw (of_none k (sections_on e.0 e.1) (All-on (λ t. t.stream ≢ k) e.0 (λ m. ne) e.1)) h
 
-    behind : e.0 ≤ stream → put_last (λ t. t.stream) (section stream n) (sections_on e.0 e.1 ++ sections_of es) ≡ sections_on e.0 e.1 ++ put_last (λ t. t.stream) (section stream n) (sections_of es)
-    behind le = last_behind (λ (t : TrackedSection). t.stream) (section stream n) (sections_on e.0 e.1) (sections_of es) (All-on (λ t. t.stream ≤ stream) e.0 (λ m. le) e.1)
+    own : (ns : List ℕ) → of_stream k (sections_on k ns) ≡ sections_on k ns
+    own [] = refl
+    own (n ∷ ns) = rw (itself k) (ap (λ ts. section k n ∷ ts) (own ns))
 
-    by_order : (o : Ordering) → nat_cmp stream e.0 ≡ o → MatchOrdering o (stream < e.0) (stream ≡ e.0) (e.0 < stream) → cond (is_eq o) (Some e.1) (lookup (is_at (nat_cmp stream)) es) ≡ Some ns
-        → (lookup (is_at (nat_cmp stream)) es ≡ Some ns → sections_of (set_value (is_at (nat_cmp stream)) es (ns ++ n ∷ [])) ≡ put_last (λ t. t.stream) (section stream n) (sections_of es)) → Goal o
-    by_order Less e0 lt found later = absurd (let none = none_found stream es (higher stream e.0 es lt up.0) in let both = sym none ∙ found in cc)
-    by_order Equal e0 same found later =
-        let own : e.1 ≡ ns = ap (λ o. unwrap_or o []) found in
-        let stays = last_stays (λ (t : TrackedSection). t.stream) (section stream n) (sections_of es) (above stream es (subst (λ k. AllByRecursion (λ (o : ℕ × List ℕ). k < o.0) es) (sym same) up.0)) in
-        ap (λ ts. ts ++ sections_of es) (map-append (section e.0) ns (n ∷ []) ∙ ap (λ k. sections_on e.0 ns ++ section k n ∷ []) (sym same))
-        ∙ append_assoc (sections_on e.0 ns) (section stream n ∷ []) (sections_of es)
-        ∙ ap (λ ms. sections_on e.0 ms ++ section stream n ∷ sections_of es) (sym own)
-        ∙ sym (behind (omega (arith, same)) ∙ ap (λ ts. sections_on e.0 e.1 ++ ts) stays)
-    by_order Greater e0 gt found later = ap (λ ts. sections_on e.0 e.1 ++ ts) (later found) ∙ sym (behind (omega (arith, gt)))
+    by_order : (o : Ordering) → MatchOrdering o (k < e.0) (k ≡ e.0) (e.0 < k) → of_stream k (sections_of es) ≡ sections_on k (unwrap_or (lookup (is_at (nat_cmp k)) es) [])
+        → of_stream k (sections_on e.0 e.1) ++ of_stream k (sections_of es) ≡ sections_on k (unwrap_or (cond (is_eq o) (Some e.1) (lookup (is_at (nat_cmp k)) es)) [])
+    by_order Less lt h = other (λ s. omega (arith, s, lt)) h
+    by_order Equal same h =
+        let rest : of_stream k (sections_of es) ≡ [] = of_none k (sections_of es) (others k (sections_of es) (above k es (subst (λ m. AllByRecursion (λ (o : ℕ × List ℕ). m < o.0) es) (sym same) up.0))) in
+        rw rest (append-nil (of_stream k (sections_on e.0 e.1)) ∙ ap (λ m. of_stream k (sections_on m e.1)) (sym same) ∙ own e.1)
+    by_order Greater gt h = other (λ s. omega (arith, s, gt)) h
 
--- the first section of a stream
-pub begun_on : (stream n : ℕ) (es : List (ℕ × List ℕ)) → Climbs es → lookup (is_at (nat_cmp stream)) es ≡ None
-    → sections_of (insert_entry nat_cmp es stream (n ∷ [])) ≡ put_last (λ t. t.stream) (record { stream = stream; oldest = n }) (sections_of es)
-begun_on stream n [] up is = refl
-begun_on stream n (e ∷ es) up is = by_order (nat_cmp stream e.0) refl (ranked stream e.0 (nat_cmp stream e.0) refl) is (begun_on stream n es up.1)
+at_own : (stream : ℕ) (es : List (ℕ × List ℕ)) (found : Option (List ℕ)) → IsStrictlySortedBy nat_cmp (keys_of es) → lookup (is_at (nat_cmp stream)) es ≡ found → of_stream stream (sections_of es) ≡ sections_on stream (unwrap_or found [])
+at_own stream es found up is = of_map stream es (climbs es up) ∙ ap (λ o. sections_on stream (unwrap_or o [])) is
+
+others_kept : (stream : ℕ) (before after : List (ℕ × List ℕ)) (now : Option (List ℕ)) → IsStrictlySortedBy nat_cmp (keys_of before) → IsChanged stream before after now → (other : ℕ) → other ≢ stream → of_stream other (sections_of after) ≡ of_stream other (sections_of before)
+others_kept stream before after now up h other ne =
+    of_map other after (climbs after h.ordered) ∙ ap (λ o. sections_on other (unwrap_or o [])) (h.others other (apart (nat_cmp stream other) (ranked stream other (nat_cmp stream other) refl))) ∙ sym (of_map other before (climbs before up))
   where
-    behind : e.0 ≤ stream → put_last (λ t. t.stream) (section stream n) (sections_on e.0 e.1 ++ sections_of es) ≡ sections_on e.0 e.1 ++ put_last (λ t. t.stream) (section stream n) (sections_of es)
-    behind le = last_behind (λ (t : TrackedSection). t.stream) (section stream n) (sections_on e.0 e.1) (sections_of es) (All-on (λ t. t.stream ≤ stream) e.0 (λ m. le) e.1)
+    apart : (o : Ordering) → MatchOrdering o (stream < other) (stream ≡ other) (other < stream) → is_eq o ≡ false
+    apart Less lt = refl
+    apart Equal same = absurd (ne (sym same))
+    apart Greater gt = refl
 
-    by_order : (o : Ordering) → nat_cmp stream e.0 ≡ o → MatchOrdering o (stream < e.0) (stream ≡ e.0) (e.0 < stream) → cond (is_eq o) (Some e.1) (lookup (is_at (nat_cmp stream)) es) ≡ None
-        → (lookup (is_at (nat_cmp stream)) es ≡ None → sections_of (insert_entry nat_cmp es stream (n ∷ [])) ≡ put_last (λ t. t.stream) (section stream n) (sections_of es))
-        → sections_of (match_ordering o ((stream, n ∷ []) ∷ e ∷ es) ((e.0, n ∷ []) ∷ es) (e ∷ insert_entry nat_cmp es stream (n ∷ []))) ≡ put_last (λ t. t.stream) (section stream n) (sections_on e.0 e.1 ++ sections_of es)
-    by_order Less e0 lt found later =
-        sym (last_stays (λ (t : TrackedSection). t.stream) (section stream n) (sections_of (e ∷ es)) (above stream (e ∷ es) (lt, higher stream e.0 es lt up.0)))
-    by_order Equal e0 same found later = absurd (cc)
-    by_order Greater e0 gt found later = ap (λ ts. sections_on e.0 e.1 ++ ts) (later found) ∙ sym (behind (omega (arith, gt)))
-
--- sections of other streams in front
-in_front : (n : ℕ) (ts us vs : List TrackedSection) → IsWithoutOne n us vs → IsWithoutOne n (ts ++ us) (ts ++ vs)
-in_front n ts us vs h =
-    record {
-      front = ts ++ h.front;
-      back = h.back;
-      taken = h.taken;
-      names = h.names;
-      was = ap (λ ws. ts ++ ws) h.was ∙ sym (append_assoc ts h.front (h.taken ∷ h.back));
-      is = ap (λ ws. ts ++ ws) h.is ∙ sym (append_assoc ts h.front h.back);
-    }
-
-some_in_front : (named : Option ℕ) (ts us vs : List TrackedSection) → IfSome named (λ n. IsWithoutOne n us vs) → IfSome named (λ n. IsWithoutOne n (ts ++ us) (ts ++ vs))
-some_in_front None ts us vs h = tt
-some_in_front (Some n) ts us vs h = in_front n ts us vs h
-
-none_in_front : (named : Option ℕ) (ts us vs : List TrackedSection) → IfNone named (vs ≡ us) → IfNone named (ts ++ vs ≡ ts ++ us)
-none_in_front None ts us vs h = ap (λ ws. ts ++ ws) h
-none_in_front (Some n) ts us vs h = tt
-
--- there is one section less
-pub one_less : (n : ℕ) (ts us : List TrackedSection) → IsWithoutOne n ts us → length ts ≡ length us + 1
-one_less n ts us w = omega (arith, ap length w.was, ap length w.is, length-append w.front (w.taken ∷ w.back), length-append w.front w.back)
-
-unlike : (stream : ℕ) (t : TrackedSection) → t.stream ≢ stream → is_of stream t ≡ false
-unlike stream t ne = by_test (t.stream == stream) refl
+-- one more of a stream
+pub one_more : (stream n : ℕ) (before after : List (ℕ × List ℕ)) (found : Option (List ℕ)) → lookup (is_at (nat_cmp stream)) before ≡ found → IsStrictlySortedBy nat_cmp (keys_of before) → IsChanged stream before after (Some (unwrap_or found [] ++ n ∷ []))
+    → HasOneMore (record { stream = stream; oldest = n }) (sections_of before) (sections_of after)
+one_more stream n before after found is up h k = by_test (k == stream) refl
   where
-    by_test : (b : Bool) → (t.stream == stream) ≡ b → b ≡ false
-    by_test true e = absurd (ne (grind (arith, common_steps)))
-    by_test false e = refl
-
-oldest_behind : (stream : ℕ) (ts us vs : List TrackedSection) (named : Option ℕ) → AllByRecursion (λ t. t.stream ≢ stream) ts → IsOldestTaken stream us vs named → IsOldestTaken stream (ts ++ us) (ts ++ vs) named
-oldest_behind stream ts us vs named others h =
-    record { found = h.found ∙ sym (passed ts others); rest = ap (λ ws. ts ++ ws) h.rest ∙ sym (kept ts others); one = some_in_front named ts us vs h.one; none = none_in_front named ts us vs h.none }
-  where
-    passed : (ws : List TrackedSection) → AllByRecursion (λ t. t.stream ≢ stream) ws → list_any (is_of stream) (ws ++ us) ≡ list_any (is_of stream) us
-    passed [] k = refl
-    passed (t ∷ ws) k = rw (unlike stream t k.0) (passed ws k.1)
-
-    kept : (ws : List TrackedSection) → AllByRecursion (λ t. t.stream ≢ stream) ws → without_oldest_of stream (ws ++ us) ≡ ws ++ without_oldest_of stream us
-    kept [] k = refl
-    kept (t ∷ ws) k = rw (unlike stream t k.0) (ap (λ xs. t ∷ xs) (kept ws k.1))
-
-newest_behind : (stream : ℕ) (ts us vs : List TrackedSection) (named : Option ℕ) → AllByRecursion (λ t. t.stream ≢ stream) ts → IsNewestTaken stream us vs named → IsNewestTaken stream (ts ++ us) (ts ++ vs) named
-newest_behind stream ts us vs named others h =
-    record { found = h.found ∙ sym (passed ts others); rest = ap (λ ws. ts ++ ws) h.rest ∙ sym (kept ts others); one = some_in_front named ts us vs h.one; none = none_in_front named ts us vs h.none }
-  where
-    passed : (ws : List TrackedSection) → AllByRecursion (λ t. t.stream ≢ stream) ws → list_any (is_of stream) (ws ++ us) ≡ list_any (is_of stream) us
-    passed [] k = refl
-    passed (t ∷ ws) k = rw (unlike stream t k.0) (passed ws k.1)
-
-    kept : (ws : List TrackedSection) → AllByRecursion (λ t. t.stream ≢ stream) ws → without_newest (is_of stream) (ws ++ us) ≡ ws ++ without_newest (is_of stream) us
-    kept [] k = refl
-    kept (t ∷ ws) k = other_stays (is_of stream) t (ws ++ us) (unlike stream t k.0) ∙ ap (λ xs. t ∷ xs) (kept ws k.1)
-
-itself : (stream : ℕ) → (stream == stream) ≡ true
-itself stream = grind (arith, common_steps)
+    by_test : (b : Bool) → (k == stream) ≡ b → of_stream k (sections_of after) ≡ of_stream k (sections_of before) ++ of_stream k (section stream n ∷ [])
+    by_test true e =
+        rw (alike k stream e, itself stream)
+        (at_own stream after _ h.ordered h.own ∙ map-append (section stream) (unwrap_or found []) (n ∷ []) ∙ ap (λ ts. ts ++ section stream n ∷ []) (sym (at_own stream before found up is)))
+    by_test false e =
+        let ne : k ≢ stream = λ z. grind (arith, common_steps, z, e) in
+        rw (unlike stream k (λ z. ne (sym z))) (others_kept stream before after _ up h k ne ∙ sym (append-nil (of_stream k (sections_of before))))
 
 -- the first of a stream
-pub oldest_of_map : (stream n : ℕ) (es : List (ℕ × List ℕ)) (ns : List ℕ) → lookup (is_at (nat_cmp stream)) es ≡ Some (n ∷ ns)
-    → IsOldestTaken stream (sections_of es) (sections_of (set_value (is_at (nat_cmp stream)) es ns)) (Some n)
-oldest_of_map stream n [] ns is = absurd (cc)
-oldest_of_map stream n (e ∷ es) ns is = by_order (nat_cmp stream e.0) refl (ranked stream e.0 (nat_cmp stream e.0) refl) is (oldest_of_map stream n es ns)
-  where
-    other : e.0 ≢ stream → IsOldestTaken stream (sections_of es) (sections_of (set_value (is_at (nat_cmp stream)) es ns)) (Some n)
-        → IsOldestTaken stream (sections_on e.0 e.1 ++ sections_of es) (sections_on e.0 e.1 ++ sections_of (set_value (is_at (nat_cmp stream)) es ns)) (Some n)
-    other ne h = oldest_behind stream (sections_on e.0 e.1) (sections_of es) _ (Some n) (All-on (λ t. t.stream ≢ stream) e.0 (λ m. ne) e.1) h
-
-    own : e.0 ≡ stream → e.1 ≡ n ∷ ns → IsOldestTaken stream (sections_on e.0 e.1 ++ sections_of es) (sections_on e.0 ns ++ sections_of es) (Some n)
-    own same here =
-        rw (same, here)
-        (record {
-          found = rw (itself stream) refl;
-          rest = rw (itself stream) refl;
-          one = record { front = []; back = sections_on stream ns ++ sections_of es; taken = section stream n; names = refl; was = refl; is = refl };
-          none = tt;
-        })
-
-    by_order : (o : Ordering) → nat_cmp stream e.0 ≡ o → MatchOrdering o (stream < e.0) (stream ≡ e.0) (e.0 < stream) → cond (is_eq o) (Some e.1) (lookup (is_at (nat_cmp stream)) es) ≡ Some (n ∷ ns)
-        → (lookup (is_at (nat_cmp stream)) es ≡ Some (n ∷ ns) → IsOldestTaken stream (sections_of es) (sections_of (set_value (is_at (nat_cmp stream)) es ns)) (Some n))
-        → IsOldestTaken stream (sections_on e.0 e.1 ++ sections_of es) (sections_of (cond (is_eq o) ((e.0, ns) ∷ es) (e ∷ set_value (is_at (nat_cmp stream)) es ns))) (Some n)
-    by_order Less e0 lt found later = other (λ s. omega (arith, s, lt)) (later found)
-    by_order Equal e0 same found later = own (sym same) (ap (λ o. unwrap_or o []) found)
-    by_order Greater e0 gt found later = other (λ s. omega (arith, s, gt)) (later found)
+pub first_taken : (stream n : ℕ) (before after : List (ℕ × List ℕ)) (now : Option (List ℕ)) → lookup (is_at (nat_cmp stream)) before ≡ Some (n ∷ unwrap_or now []) → IsStrictlySortedBy nat_cmp (keys_of before) → IsChanged stream before after now
+    → IsFirstTaken stream (sections_of before) (sections_of after) (Some n)
+first_taken stream n before after now is up h =
+    record { others = others_kept stream before after now up h; one = at_own stream before _ up is ∙ ap (λ ts. section stream n ∷ ts) (sym (at_own stream after now h.ordered h.own)); none = tt }
 
 -- the last of a stream
-pub newest_of_map : (stream n : ℕ) (es : List (ℕ × List ℕ)) (ns : List ℕ) → Climbs es → lookup (is_at (nat_cmp stream)) es ≡ Some (ns ++ n ∷ [])
-    → IsNewestTaken stream (sections_of es) (sections_of (set_value (is_at (nat_cmp stream)) es ns)) (Some n)
-newest_of_map stream n [] ns up is = absurd (cc)
-newest_of_map stream n (e ∷ es) ns up is = by_order (nat_cmp stream e.0) refl (ranked stream e.0 (nat_cmp stream e.0) refl) is (newest_of_map stream n es ns up.1)
-  where
-    other : e.0 ≢ stream → IsNewestTaken stream (sections_of es) (sections_of (set_value (is_at (nat_cmp stream)) es ns)) (Some n)
-        → IsNewestTaken stream (sections_on e.0 e.1 ++ sections_of es) (sections_on e.0 e.1 ++ sections_of (set_value (is_at (nat_cmp stream)) es ns)) (Some n)
-    other ne h = newest_behind stream (sections_on e.0 e.1) (sections_of es) _ (Some n) (All-on (λ t. t.stream ≢ stream) e.0 (λ m. ne) e.1) h
-
-    none : list_any (is_of stream) (sections_of es) ≡ false → e.0 ≡ stream → e.1 ≡ ns ++ n ∷ [] → IsNewestTaken stream (sections_on e.0 e.1 ++ sections_of es) (sections_on e.0 ns ++ sections_of es) (Some n)
-    none others same here =
-        let was : sections_on e.0 e.1 ++ sections_of es ≡ sections_on e.0 ns ++ section e.0 n ∷ sections_of es =
-        ap (λ ms. sections_on e.0 ms ++ sections_of es) here ∙ ap (λ ts. ts ++ sections_of es) (map-append (section e.0) ns (n ∷ [])) ∙ append_assoc (sections_on e.0 ns) (section e.0 n ∷ []) (sections_of es) in
-        let it : is_of stream (section e.0 n) ≡ true = ap (λ k. k == stream) same ∙ itself stream in
-        record {
-          found = sym (ap (list_any (is_of stream)) was ∙ list_any-append (is_of stream) (sections_on e.0 ns) (section e.0 n ∷ sections_of es) ∙ rw it (or_true (list_any (is_of stream) (sections_on e.0 ns))));
-          rest = sym (ap (without_newest (is_of stream)) was ∙ last_goes (is_of stream) (sections_on e.0 ns) (section e.0 n) (sections_of es) it others);
-          one = record { front = sections_on e.0 ns; back = sections_of es; taken = section e.0 n; names = refl; was = was; is = refl };
-          none = tt;
-        }
-      where
-        or_true : (b : Bool) → (b || true) ≡ true
-        or_true true = refl
-        or_true false = refl
-
-    by_order : (o : Ordering) → nat_cmp stream e.0 ≡ o → MatchOrdering o (stream < e.0) (stream ≡ e.0) (e.0 < stream) → cond (is_eq o) (Some e.1) (lookup (is_at (nat_cmp stream)) es) ≡ Some (ns ++ n ∷ [])
-        → (lookup (is_at (nat_cmp stream)) es ≡ Some (ns ++ n ∷ []) → IsNewestTaken stream (sections_of es) (sections_of (set_value (is_at (nat_cmp stream)) es ns)) (Some n))
-        → IsNewestTaken stream (sections_on e.0 e.1 ++ sections_of es) (sections_of (cond (is_eq o) ((e.0, ns) ∷ es) (e ∷ set_value (is_at (nat_cmp stream)) es ns))) (Some n)
-    by_order Less e0 lt found later = other (λ s. omega (arith, s, lt)) (later found)
-    by_order Equal e0 same found later =
-        none (none_on stream (sections_of es) (others stream (sections_of es) (above stream es (subst (λ k. AllByRecursion (λ (o : ℕ × List ℕ). k < o.0) es) (sym same) up.0)))) (sym same) (ap (λ o. unwrap_or o []) found)
-    by_order Greater e0 gt found later = other (λ s. omega (arith, s, gt)) (later found)
+pub last_taken : (stream n : ℕ) (before after : List (ℕ × List ℕ)) (now : Option (List ℕ)) → lookup (is_at (nat_cmp stream)) before ≡ Some (unwrap_or now [] ++ n ∷ []) → IsStrictlySortedBy nat_cmp (keys_of before) → IsChanged stream before after now
+    → IsLastTaken stream (sections_of before) (sections_of after) (Some n)
+last_taken stream n before after now is up h =
+    record { others = others_kept stream before after now up h; one = at_own stream before _ up is ∙ map-append (section stream) (unwrap_or now []) (n ∷ []) ∙ ap (λ ts. ts ++ section stream n ∷ []) (sym (at_own stream after now h.ordered h.own)); none = tt }
 
 -- a stream without a section
-absent : (stream : ℕ) (es : List (ℕ × List ℕ)) → lookup (is_at (nat_cmp stream)) es ≡ None → AllByRecursion (λ t. t.stream ≢ stream) (sections_of es)
-absent stream [] is = tt
-absent stream (e ∷ es) is = by_order (nat_cmp stream e.0) refl (ranked stream e.0 (nat_cmp stream e.0) refl) is (absent stream es)
+pub none_of_map : (stream : ℕ) (es : List (ℕ × List ℕ)) → lookup (is_at (nat_cmp stream)) es ≡ None → of_stream stream (sections_of es) ≡ []
+none_of_map stream [] is = refl
+none_of_map stream (e ∷ es) is = of_both stream (sections_on e.0 e.1) (sections_of es) ∙ by_order (nat_cmp stream e.0) (ranked stream e.0 (nat_cmp stream e.0) refl) is (none_of_map stream es)
   where
-    other : e.0 ≢ stream → AllByRecursion (λ t. t.stream ≢ stream) (sections_of es) → AllByRecursion (λ t. t.stream ≢ stream) (sections_on e.0 e.1 ++ sections_of es)
-    other ne h = All-both (λ t. t.stream ≢ stream) (sections_on e.0 e.1) (sections_of es) (All-on (λ t. t.stream ≢ stream) e.0 (λ m. ne) e.1) h
+    other : e.0 ≢ stream → of_stream stream (sections_of es) ≡ [] → of_stream stream (sections_on e.0 e.1) ++ of_stream stream (sections_of es) ≡ []
+    other ne h = rw (of_none stream (sections_on e.0 e.1) (All-on (λ t. t.stream ≢ stream) e.0 (λ m. ne) e.1)) h
 
-    by_order : (o : Ordering) → nat_cmp stream e.0 ≡ o → MatchOrdering o (stream < e.0) (stream ≡ e.0) (e.0 < stream) → cond (is_eq o) (Some e.1) (lookup (is_at (nat_cmp stream)) es) ≡ None
-        → (lookup (is_at (nat_cmp stream)) es ≡ None → AllByRecursion (λ t. t.stream ≢ stream) (sections_of es)) → AllByRecursion (λ t. t.stream ≢ stream) (sections_on e.0 e.1 ++ sections_of es)
-    by_order Less e0 lt found later = other (λ s. omega (arith, s, lt)) (later found)
-    by_order Equal e0 same found later = absurd (cc)
-    by_order Greater e0 gt found later = other (λ s. omega (arith, s, gt)) (later found)
+    by_order : (o : Ordering) → MatchOrdering o (stream < e.0) (stream ≡ e.0) (e.0 < stream) → cond (is_eq o) (Some e.1) (lookup (is_at (nat_cmp stream)) es) ≡ None
+        → (lookup (is_at (nat_cmp stream)) es ≡ None → of_stream stream (sections_of es) ≡ []) → of_stream stream (sections_on e.0 e.1) ++ of_stream stream (sections_of es) ≡ []
+    by_order Less lt found later = other (λ s. omega (arith, s, lt)) (later found)
+    by_order Equal same found later = absurd (cc)
+    by_order Greater gt found later = other (λ s. omega (arith, s, gt)) (later found)
 
-pub no_oldest : (stream : ℕ) (es : List (ℕ × List ℕ)) → lookup (is_at (nat_cmp stream)) es ≡ None → IsOldestTaken stream (sections_of es) (sections_of es) None
-no_oldest stream es is =
-    let none = none_on stream (sections_of es) (absent stream es is) in
-    record { found = sym none; rest = sym (none_removed stream (sections_of es) none); one = tt; none = refl }
+pub no_first : (stream : ℕ) (es : List (ℕ × List ℕ)) → lookup (is_at (nat_cmp stream)) es ≡ None → IsFirstTaken stream (sections_of es) (sections_of es) None
+no_first stream es is = let none = none_of_map stream es is in record { others = λ other ne. refl; one = tt; none = (none, none) }
 
-pub no_newest : (stream : ℕ) (es : List (ℕ × List ℕ)) → lookup (is_at (nat_cmp stream)) es ≡ None → IsNewestTaken stream (sections_of es) (sections_of es) None
-no_newest stream es is =
-    let none = none_on stream (sections_of es) (absent stream es is) in
-    record { found = sym none; rest = sym (none_newest (is_of stream) (sections_of es) none); one = tt; none = refl }
-
--- A stream that is taken away is one without sections.
-pub entry_removed : (test : ℕ → Bool) (es : List (ℕ × List ℕ)) → sections_of (remove_entry test es) ≡ sections_of (set_value test es [])
-entry_removed test [] = refl
-entry_removed test (e ∷ es) = by_test (test e.0) (entry_removed test es)
-  where
-    by_test : (b : Bool) → sections_of (remove_entry test es) ≡ sections_of (set_value test es []) → sections_of (cond b es (e ∷ remove_entry test es)) ≡ sections_of (cond b ((e.0, []) ∷ es) (e ∷ set_value test es []))
-    by_test true h = refl
-    by_test false h = ap (λ ts. sections_on e.0 e.1 ++ ts) h
+pub no_last : (stream : ℕ) (es : List (ℕ × List ℕ)) → lookup (is_at (nat_cmp stream)) es ≡ None → IsLastTaken stream (sections_of es) (sections_of es) None
+no_last stream es is = let none = none_of_map stream es is in record { others = λ other ne. refl; one = tt; none = (none, none) }
 
 -- one number
 pub only_one : (ns : List ℕ) → length ns ≡ 1 → (n : ℕ) × (ns ≡ n ∷ [])
@@ -274,13 +137,6 @@ only_one [] is = absurd (omega (arith, is))
 only_one (n ∷ []) is = (n, refl)
 only_one (n ∷ m ∷ ns) is = absurd (omega (arith, is))
 
--- The only section of a stream was taken away with it.
-pub oldest_only : (stream n : ℕ) (es later : List (ℕ × List ℕ)) (named : Option ℕ) → lookup (is_at (nat_cmp stream)) es ≡ Some (n ∷ []) → named ≡ Some n
-    → later ≡ remove_entry (is_at (nat_cmp stream)) es → IsOldestTaken stream (sections_of es) (sections_of later) named
-oldest_only stream n es later named is found left =
-    rw (found, left, entry_removed (is_at (nat_cmp stream)) es) (oldest_of_map stream n es [] is)
-
-pub newest_only : (stream n : ℕ) (es later : List (ℕ × List ℕ)) (named : Option ℕ) → Climbs es → lookup (is_at (nat_cmp stream)) es ≡ Some (n ∷ []) → named ≡ Some n
-    → later ≡ remove_entry (is_at (nat_cmp stream)) es → IsNewestTaken stream (sections_of es) (sections_of later) named
-newest_only stream n es later named up is found left =
-    rw (found, left, entry_removed (is_at (nat_cmp stream)) es) (newest_of_map stream n es [] up is)
+-- there is one section less
+pub one_less : (n : ℕ) (ts us : List TrackedSection) → IsWithoutOne n ts us → length ts ≡ length us + 1
+one_less n ts us w = omega (arith, ap length w.was, ap length w.is, length-append w.front (w.taken ∷ w.back), length-append w.front w.back)

@@ -8,6 +8,9 @@ pub mod Tracking
 pub mod TrackingInside
 pub mod InOrder
 pub mod Sections
+pub mod SectionsInside
+pub mod ByStream
+pub mod Places
 pub mod Blocking
 pub mod Alone
 pub mod StreamSet

@@ -1,9 +1,12 @@
 -- Sections by their streams.
-use Rattle.std.specs.Prelude.{◌≡◌, ℕ, List, [], ◌∷◌, ◌++◌, length, map, Option, is_some, IfSome, IfNone}
+use Rattle.std.specs.Prelude.{◌≡◌, ℕ, false, List, [], ◌∷◌, ◌++◌, length, map, Option, is_some, IfSome, IfNone}
 use Rattle.std.specs.List.{list_any}
+use Rattle.std.specs.List.Sorted.{IsStrictlySortedBy}
+use Rattle.std.specs.Ordering.{nat_cmp}
+use Rattle.std.specs.BTreeMap.{is_at}
+use Rattle.std.specs.Map.{keys_of, lookup}
 use Rattle.h3_table.specs.Tracking.{is_of, without_oldest_of, without_newest_of}
 use Rattle.h3_table.specs.declared.tracking.TrackedSection.{TrackedSection}
-use Rattle.h3_table.specs.declared.sections.Sections.TheInside.{Inside}
 
 -- the sections of a stream, by the oldest entry of each
 abbrev pub sections_on : ℕ → List ℕ → List TrackedSection
@@ -13,6 +16,12 @@ sections_on stream entries = map (λ n. record { stream = stream; oldest = n }) 
 abbrev pub sections_of : List (ℕ × List ℕ) → List TrackedSection
 sections_of [] = []
 sections_of (one ∷ rest) = sections_on one.0 one.1 ++ sections_of rest
+
+-- A map of streams was changed at one of them, which has these now.
+pub record IsChanged (stream : ℕ) (before after : List (ℕ × List ℕ)) (now : Option (List ℕ)) : Type 0 where
+  pub ordered : IsStrictlySortedBy nat_cmp (keys_of after)
+  pub own : lookup (is_at (nat_cmp stream)) after ≡ now
+  pub others : (other : ℕ) → is_at (nat_cmp stream) other ≡ false → lookup (is_at (nat_cmp other)) after ≡ lookup (is_at (nat_cmp other)) before
 
 -- One section was taken away, whose oldest entry this is.
 pub record IsWithoutOne (oldest : ℕ) (before after : List TrackedSection) : Type 0 where
@@ -36,7 +45,3 @@ pub record IsNewestTaken (stream : ℕ) (before after : List TrackedSection) (na
   pub rest : after ≡ without_newest_of stream before
   pub one : IfSome named (λ n. IsWithoutOne n before after)
   pub none : IfNone named (after ≡ before)
-
--- The count is that of the sections.
-abbrev pub IsCounted : Inside → Type 0
-IsCounted s = s.count ≡ length (sections_of s.streams.entries)

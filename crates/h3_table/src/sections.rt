@@ -1,85 +1,22 @@
 //! Sections that are sent and neither acknowledged nor canceled, by their streams: each stream has its own in the order of sending.
-ghost use Rattle.std.specs.Prelude.{◌≡◌, ℕ, ◌<◌, ◌^◌, ◌++◌, ◌∷◌, List, [], length, None, Some, IfSome, IfNone, OnErr, OnOk};
-ghost use Rattle.std.specs.Ordering.{nat_cmp};
-ghost use Rattle.std.specs.BTreeMap.{is_at};
-ghost use Rattle.std.specs.Map.{lookup, remove_entry};
+ghost use Rattle.std.specs.Prelude.{◌≡◌, ◌<◌, ◌^◌, ◌++◌, [], length, OnErr, OnOk};
 ghost use Rattle.h3_table.specs.InOrder.{put_last};
-ghost use Rattle.h3_table.specs.Sections.{sections_of, IsOldestTaken, IsNewestTaken};
+ghost use Rattle.h3_table.specs.Sections.{IsOldestTaken, IsNewestTaken};
+ghost use Rattle.h3_table.specs.ByStream.{HaveSame, HasOneMore, IsFirstTaken, IsLastTaken};
 
+use crate::further::FurtherSections;
+use crate::places::Places;
 use crate::tracking::TrackedSection;
 use std::alloc::{AllocError, Global};
-use std::collections::{BTreeMap, VecDeque};
 use std::marker::Model;
 
-/// The oldest entries that the sections of one stream name, in the order of sending. There is at least one; further ones are few,
-/// so the first stands by itself.
-#[derive(Drop)]
-pub(crate) struct OldestEntries {
-    first: usize,
-    more: VecDeque<usize>,
-}
-
-impl Model for OldestEntries {
-    ghost use Rattle.std.specs.Prelude.{ℕ, List, ◌∷◌};
-
-    ghost Value = { List ℕ };
-
-    ghost view = { λ o. o.first ∷ o.more.items };
-}
-
-impl OldestEntries {
-    fn new(alloc: Global, first: usize) -> OldestEntries
-        ensures { result ≡ first ∷ [] }
-    {
-        OldestEntries {
-            first,
-            more: VecDeque::new(alloc),
-        }
-    }
-
-    fn add(&mut self, oldest: usize) -> Result<(), AllocError>
-        ensures ok { OnOk result (self.new ≡ self.old ++ oldest ∷ []) }
-        ensures err { OnErr result (self.new ≡ self.old) }
-    {
-        let Ok(()) = self.more.push_back(oldest) else {
-            return Err(AllocError);
-        };
-        Ok(())
-    }
-
-    /// Takes the first away, where others follow it.
-    fn take_first(&mut self) -> Option<usize>
-        ensures some { IfSome result (λ n. self.old ≡ n ∷ self.new) }
-        ensures none { IfNone result ((length self.old ≡ 1) × (self.new ≡ self.old)) }
-    {
-        let Some(next) = self.more.pop_front() else {
-            return None;
-        };
-        let first = self.first;
-        self.first = next;
-        Some(first)
-    }
-
-    /// Takes the last away, where others stand in front of it.
-    fn take_last(&mut self) -> Option<usize>
-        ensures some { IfSome result (λ n. self.old ≡ self.new ++ n ∷ []) }
-        ensures none { IfNone result ((length self.old ≡ 1) × (self.new ≡ self.old)) }
-    {
-        self.more.pop_back()
-    }
-
-    fn first(&self) -> usize
-        ensures { (rest : List ℕ) → (n : ℕ) → self.now ≡ n ∷ rest → result ≡ n }
-    {
-        self.first
-    }
-}
-
-/// The sections in the order of their streams, and those of one stream in the order of sending.
+/// The sections in the order of their streams, and those of one stream in the order of sending. A stream's section at its place is
+/// older than its further ones.
 #[derive(Drop)]
 pub struct Sections {
-    alloc: Global,
-    streams: BTreeMap<u64, OldestEntries>,
+    places: Places,
+    // the further ones of a stream, and those whose place another stream's has
+    further: FurtherSections,
     // how many sections there are
     count: usize,
 }
@@ -87,85 +24,53 @@ pub struct Sections {
 impl Model for Sections {
     ghost use Rattle.std.specs.Prelude.{List};
     ghost use Rattle.h3_table.specs.declared.tracking.TrackedSection.{TrackedSection};
-    ghost use Rattle.h3_table.specs.Sections.{sections_of, IsCounted};
+    ghost use Rattle.h3_table.specs.SectionsInside.{sections_inside, IsCounted};
 
     ghost Value = { List TrackedSection };
 
-    ghost view = { λ s. sections_of s.streams.entries };
+    ghost view = { sections_inside };
 
     ghost invariant = { IsCounted };
 }
 
-/// A section is the first of its stream.
-fn begin(
-    streams: &mut BTreeMap<u64, OldestEntries>,
-    alloc: Global,
-    section: TrackedSection,
-) -> Result<(), AllocError>
-    requires { lookup (is_at (nat_cmp section.stream)) streams.old.entries ≡ None }
-    ensures ok { OnOk result (sections_of streams.new.entries ≡ put_last (λ t. t.stream) section (sections_of streams.old.entries)) }
-    ensures err { OnErr result (sections_of streams.new.entries ≡ sections_of streams.old.entries) }
-{
-    let entries = OldestEntries::new(alloc, section.oldest);
-    let Ok(_) = streams.insert(section.stream, entries) else {
-        return Err(AllocError);
-    };
-    Ok(())
-}
-
-/// Adds a section to those of its stream.
+/// Adds a section behind those of its stream. So many sections are to have places then.
 fn add(
-    streams: &mut BTreeMap<u64, OldestEntries>,
-    alloc: Global,
+    places: &mut Places,
+    further: &mut FurtherSections,
+    count: usize,
     section: TrackedSection,
 ) -> Result<(), AllocError>
-    ensures ok { OnOk result (sections_of streams.new.entries ≡ put_last (λ t. t.stream) section (sections_of streams.old.entries)) }
-    ensures err { OnErr result (sections_of streams.new.entries ≡ sections_of streams.old.entries) }
+    ensures ok { OnOk result (HasOneMore section (places.old ++ further.old) (places.new ++ further.new)) }
+    ensures err { OnErr result (HaveSame (places.old ++ further.old) (places.new ++ further.new)) }
 {
-    let Some(entries) = streams.get_mut(&section.stream) else {
-        return begin(streams, alloc, section);
-    };
-    let Ok(()) = entries.add(section.oldest) else {
-        return Err(AllocError);
-    };
-    Ok(())
-}
-
-/// Takes a stream away, and answers what its only section names.
-fn take_only(streams: &mut BTreeMap<u64, OldestEntries>, stream: u64) -> Option<usize>
-    ensures only { (n : ℕ) → lookup (is_at (nat_cmp stream)) streams.old.entries ≡ Some (n ∷ []) → result ≡ Some n }
-    ensures after { streams.new.entries ≡ remove_entry (is_at (nat_cmp stream)) streams.old.entries }
-{
-    match streams.remove(&stream) {
-        Some(entries) => Some(entries.first()),
-        None => None,
+    places.make_room(count)?;
+    if further.has(section.stream) {
+        return further.add(section);
     }
+    if places.put(section) {
+        return Ok(());
+    }
+    further.add(section)
 }
 
 /// Takes the oldest section of a stream away, and answers what it names.
-fn take_oldest(streams: &mut BTreeMap<u64, OldestEntries>, stream: u64) -> Option<usize>
-    ensures { IsOldestTaken stream (sections_of streams.old.entries) (sections_of streams.new.entries) result }
+fn take_oldest(places: &mut Places, further: &mut FurtherSections, stream: u64) -> Option<usize>
+    ensures { IsFirstTaken stream (places.old ++ further.old) (places.new ++ further.new) result }
 {
-    let Some(entries) = streams.get_mut(&stream) else {
-        return None;
-    };
-    if let Some(oldest) = entries.take_first() {
+    if let Some(oldest) = places.take(stream) {
         return Some(oldest);
     }
-    take_only(streams, stream)
+    further.take_oldest(stream)
 }
 
 /// Takes the newest section of a stream away, and answers what it names.
-fn take_newest(streams: &mut BTreeMap<u64, OldestEntries>, stream: u64) -> Option<usize>
-    ensures { IsNewestTaken stream (sections_of streams.old.entries) (sections_of streams.new.entries) result }
+fn take_newest(places: &mut Places, further: &mut FurtherSections, stream: u64) -> Option<usize>
+    ensures { IsLastTaken stream (places.old ++ further.old) (places.new ++ further.new) result }
 {
-    let Some(entries) = streams.get_mut(&stream) else {
-        return None;
-    };
-    if let Some(oldest) = entries.take_last() {
+    if let Some(oldest) = further.take_newest(stream) {
         return Some(oldest);
     }
-    take_only(streams, stream)
+    places.take(stream)
 }
 
 impl Sections {
@@ -174,8 +79,8 @@ impl Sections {
         ensures { result ≡ [] }
     {
         Sections {
-            alloc,
-            streams: BTreeMap::new(alloc),
+            places: Places::new(alloc),
+            further: FurtherSections::new(alloc),
             count: 0,
         }
     }
@@ -196,7 +101,9 @@ impl Sections {
         let Some(count) = self.count.checked_add(1) else {
             return Err(AllocError);
         };
-        add(&mut self.streams, self.alloc, section)?;
+        let Ok(()) = add(&mut self.places, &mut self.further, count, section) else {
+            return Err(AllocError);
+        };
         self.count = count;
         Ok(())
     }
@@ -205,7 +112,7 @@ impl Sections {
     pub fn take_oldest(&mut self, stream: u64) -> Option<usize>
         ensures { IsOldestTaken stream self.old self.new result }
     {
-        let Some(oldest) = take_oldest(&mut self.streams, stream) else {
+        let Some(oldest) = take_oldest(&mut self.places, &mut self.further, stream) else {
             return None;
         };
         self.count -= 1;
@@ -216,7 +123,7 @@ impl Sections {
     pub fn take_newest(&mut self, stream: u64) -> Option<usize>
         ensures { IsNewestTaken stream self.old self.new result }
     {
-        let Some(oldest) = take_newest(&mut self.streams, stream) else {
+        let Some(oldest) = take_newest(&mut self.places, &mut self.further, stream) else {
             return None;
         };
         self.count -= 1;

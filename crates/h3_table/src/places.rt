@@ -1,0 +1,109 @@
+//! Sections that are sent and neither acknowledged nor canceled, each at the place of its stream: it is found with no search.
+ghost use Rattle.std.specs.Prelude.{◌≡◌, ◌<◌, [], true, false, IfSome};
+ghost use Rattle.h3_table.specs.Places.{place_of};
+ghost use Rattle.h3_table.specs.ByStream.{of_stream, HaveSame, HasOneMore, IsFirstTaken};
+
+use crate::tracking::TrackedSection;
+use std::alloc::{AllocError, Global};
+use std::marker::Model;
+
+/// How many places there are at first.
+const FIRST_PLACES: usize = 16;
+
+/// Streams of requests are four apart (RFC 9000, section 2.1).
+const STREAM_STEP: u64 = 4;
+
+/// What stands where no section does: entries are numbered from 1.
+const NOTHING: TrackedSection = TrackedSection {
+    stream: 0,
+    oldest: 0,
+};
+
+/// At most one section of each stream, and of the streams with one place one at most. There are twice as many places as sections, or
+/// more, so streams near one another have places of their own.
+#[derive(Drop)]
+pub(crate) struct Places {
+    // one that names no entry, or stands where its stream has no place, is none
+    slots: Vec<TrackedSection>,
+}
+
+impl Model for Places {
+    ghost use Rattle.std.specs.Prelude.{List};
+    ghost use Rattle.h3_table.specs.declared.tracking.TrackedSection.{TrackedSection};
+    ghost use Rattle.h3_table.specs.Places.{placed};
+
+    ghost Value = { List TrackedSection };
+
+    ghost view = { λ p. placed p.slots.items };
+}
+
+/// The place of a stream, of so many.
+fn place_of(count: usize, stream: u64) -> usize
+    requires { 0 < count }
+    ensures value { result ≡ place_of count stream }
+    ensures below { result < count }
+{
+    (stream / STREAM_STEP) as usize % count
+}
+
+impl Places {
+    /// No section. It takes no memory.
+    pub(crate) fn new(alloc: Global) -> Places
+        ensures { result ≡ [] }
+    {
+        Places {
+            slots: Vec::new(alloc),
+        }
+    }
+
+    /// Makes the places twice as many, where so many sections would take more than half of them. What then stands at two places counts
+    /// at one of them.
+    pub(crate) fn make_room(&mut self, count: usize) -> Result<(), AllocError>
+        ensures { HaveSame self.old self.new }
+    {
+        let len = self.slots.len();
+        if count <= len / 2 {
+            return Ok(());
+        }
+        if len == 0 {
+            return self.slots.resize(FIRST_PLACES, NOTHING);
+        }
+        self.slots.extend_from_within(..)
+    }
+
+    /// Puts a section at the place of its stream, and tells whether that was free.
+    pub(crate) fn put(&mut self, section: TrackedSection) -> bool
+        ensures put { result ≡ true → HasOneMore section self.old self.new }
+        ensures taken { result ≡ false → self.new ≡ self.old }
+    {
+        let len = self.slots.len();
+        if len == 0 || section.oldest == 0 {
+            return false;
+        }
+        let place = place_of(len, section.stream);
+        let there = self.slots[place];
+        if there.oldest != 0 && place_of(len, there.stream) == place {
+            return false;
+        }
+        self.slots[place] = section;
+        true
+    }
+
+    /// Takes the section of a stream away, and answers the oldest entry that it names.
+    pub(crate) fn take(&mut self, stream: u64) -> Option<usize>
+        ensures taken { IsFirstTaken stream self.old self.new result }
+        ensures alone { IfSome result (λ n. of_stream stream self.new ≡ []) }
+    {
+        let len = self.slots.len();
+        if len == 0 {
+            return None;
+        }
+        let place = place_of(len, stream);
+        let there = self.slots[place];
+        if there.stream != stream || there.oldest == 0 {
+            return None;
+        }
+        self.slots[place] = NOTHING;
+        Some(there.oldest)
+    }
+}
