@@ -1,5 +1,5 @@
 -- The sections of one stream among those of all.
-use Rattle.std.proofs.Common.{◌≡◌, ◌≢◌, ◌<◌, ◌≤◌, ℕ, Bool, true, false, ◌||◌, List, [], ◌∷◌, ◌++◌, length, filter, cond, refl, sym, ◌∙◌, ap, subst, arith, nat_lt, if◌then◌else◌, append_assoc}
+use Rattle.std.proofs.Common.{◌≡◌, ◌≢◌, ◌<◌, ◌≤◌, ℕ, Bool, true, false, ◌||◌, List, [], ◌∷◌, ◌++◌, length, filter, cond, refl, sym, ◌∙◌, ap, subst, arith, nat_lt, if◌then◌else◌, append_assoc, length-append}
 use Rattle.std.specs.Prelude.{◌==◌, Option, Some, None, IfSome, IfNone, is_some}
 use Rattle.std.specs.List.{list_any, AllByRecursion}
 use Rattle.std.proofs.lemmas.Grind.{common_steps}
@@ -11,7 +11,7 @@ use Rattle.h3_table.specs.InOrder.{put_first, put_last, in_order}
 use Rattle.h3_table.specs.Sections.{IsWithoutOne, IsOldestTaken, IsNewestTaken}
 use Rattle.h3_table.specs.ByStream.{of_stream, HaveSame, HasOneMore, IsFirstTaken, IsLastTaken}
 use Rattle.h3_table.specs.ReleasingLaws.{none_newest, none_removed, last_goes}
-use Rattle.h3_table.specs.InOrderLaws.{Ascends, first_stays, filter_in_order, any_in_order, in_order_more, Ascends_in_order, oldest_in_order, newest_in_order}
+use Rattle.h3_table.specs.InOrderLaws.{Ascends, first_stays, filter_in_order, length_in_order, in_order_more, Ascends_in_order, oldest_in_order, newest_in_order}
 
 pub itself : (stream : ℕ) → (stream == stream) ≡ true
 itself stream = grind (arith, common_steps)
@@ -335,3 +335,7 @@ last_in_front s ts us vs ws (Some n) g h alone =
       one = of_both s ts vs ∙ ap (λ xs. xs ++ of_stream s vs) (h.one ∙ ap (λ xs. record { stream = s; oldest = n } ∷ xs) alone) ∙ ap (λ xs. record { stream = s; oldest = n } ∷ xs) g.none.0 ∙ ap (λ xs. xs ++ record { stream = s; oldest = n } ∷ []) (sym nothing);
       none = tt;
     }
+
+pub none_left : (ts us : List TrackedSection) → length (in_order (λ t. t.stream) (ts ++ us)) ≡ 0 → ts ≡ []
+none_left [] us is = refl
+none_left (t ∷ ts) us is = absurd (omega (arith, is, length_in_order stream_of (t ∷ ts ++ us), length-append ts us))

@@ -10,6 +10,9 @@ use std::marker::Model;
 /// How many places there are at first.
 const FIRST_PLACES: usize = 16;
 
+/// More places than these are given back when no section is left.
+const KEPT_PLACES: usize = 1024;
+
 /// Streams of requests are four apart (RFC 9000, section 2.1).
 const STREAM_STEP: u64 = 4;
 
@@ -23,6 +26,7 @@ const NOTHING: TrackedSection = TrackedSection {
 /// more, so streams near one another have places of their own.
 #[derive(Drop)]
 pub(crate) struct Places {
+    alloc: Global,
     // one that names no entry, or stands where its stream has no place, is none
     slots: Vec<TrackedSection>,
 }
@@ -52,6 +56,7 @@ impl Places {
         ensures { result ≡ [] }
     {
         Places {
+            alloc,
             slots: Vec::new(alloc),
         }
     }
@@ -69,6 +74,16 @@ impl Places {
             return self.slots.resize(FIRST_PLACES, NOTHING);
         }
         self.slots.extend_from_within(..)
+    }
+
+    /// Gives the memory of many places back, where there is no section.
+    pub(crate) fn give_back(&mut self)
+        requires { self.old ≡ [] }
+        ensures { self.new ≡ [] }
+    {
+        if self.slots.len() > KEPT_PLACES {
+            self.slots = Vec::new(self.alloc);
+        }
     }
 
     /// Puts a section at the place of its stream, and tells whether that was free.

@@ -53,6 +53,16 @@ fn add(
     further.add(section)
 }
 
+/// Gives memory back, where so many sections are none.
+fn give_back(places: &mut Places, count: usize)
+    requires { count ≡ 0 → places.old ≡ [] }
+    ensures { places.new ≡ places.old }
+{
+    if count == 0 {
+        places.give_back();
+    }
+}
+
 /// Takes the oldest section of a stream away, and answers what it names.
 fn take_oldest(places: &mut Places, further: &mut FurtherSections, stream: u64) -> Option<usize>
     ensures { IsFirstTaken stream (places.old ++ further.old) (places.new ++ further.new) result }
@@ -116,6 +126,7 @@ impl Sections {
             return None;
         };
         self.count -= 1;
+        give_back(&mut self.places, self.count);
         Some(oldest)
     }
 
@@ -127,6 +138,7 @@ impl Sections {
             return None;
         };
         self.count -= 1;
+        give_back(&mut self.places, self.count);
         Some(oldest)
     }
 }

@@ -14,7 +14,7 @@ returns-clause-put c =
     let below : c.place_of-place.result < length ts = omega (arith, c.place_of-place.ensures.below, len) in
     let free : c.index-there.result.now.oldest ≢ 0 → place_of (length ts) c.index-there.result.now.stream ≢ c.place_of-place.result = λ some same.
     elim c.else-there-ne0.branch [
-      else-there-ne0-via-then-there-ne0+else-place_of-place w ↦ w.if-place_of-place.false (w.place_of.ensures.value ∙ ap (λ n. place_of n c.index-there.result.now.stream) len ∙ same)
-    | else-there-ne0-via-else-there-ne0 w ↦ some w.if-there-ne0.false
+      | else-there-ne0-via-then-there-ne0+else-place_of-place w ↦ w.if-place_of-place.false (w.place_of.ensures.value ∙ ap (λ n. place_of n c.index-there.result.now.stream) len ∙ same)
+      | else-there-ne0-via-else-there-ne0 w ↦ some w.if-there-ne0.false
     ] in
     λ it. rw (← c.self.view_is) (put_there ts c.place_of-place.result c.args.section c.index-there.result.now here below c.if-section-eq0.false is free)

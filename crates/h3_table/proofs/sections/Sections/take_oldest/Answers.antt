@@ -1,7 +1,9 @@
-use Rattle.std.proofs.Common.{◌≡◌, ◌++◌, ◌∙◌, sym, ap, subst, arith, length, Some, None}
+use Rattle.std.proofs.Common.{◌≡◌, ℕ, ◌++◌, ◌∙◌, sym, ap, subst, arith, length, Some, None}
+use Rattle.h3_table.specs.declared.tracking.TrackedSection.{TrackedSection}
+use Rattle.h3_table.specs.InOrder.{in_order}
 use Rattle.h3_table.specs.Sections.{IsOldestTaken}
 use Rattle.h3_table.proofs.Streams.{one_less}
-use Rattle.h3_table.proofs.ByStream.{oldest_taken}
+use Rattle.h3_table.proofs.ByStream.{oldest_taken, none_left}
 use Rattle.h3_table.proofs.sections.Sections.take_oldest.Goals as goal
 
 pub invariant_of-self : goal.invariant_of-self
@@ -18,11 +20,17 @@ overflow_sub-self c =
     let taken = oldest_taken c.args.stream (c.self.inside.places ++ c.self.inside.further) (c.take_oldest.new.places ++ c.take_oldest.new.further) (Some c.in-Some.oldest) c.in-Some.ensures in
     omega (arith, c.self.invariant, one_less c.in-Some.oldest _ _ taken.one)
 
+pub give_back-requires : goal.give_back-requires
+give_back-requires c = λ none.
+    let taken = oldest_taken c.args.stream (c.self.inside.places ++ c.self.inside.further) (c.take_oldest.new.places ++ c.take_oldest.new.further) (Some c.in-Some.oldest) c.in-Some.ensures in
+    let left : length (in_order (λ (t : TrackedSection). t.stream) (c.take_oldest.new.places ++ c.take_oldest.new.further)) ≡ 0 = omega (arith, none, c.self.invariant, one_less c.in-Some.oldest _ _ taken.one) in
+    none_left c.take_oldest.new.places c.take_oldest.new.further left
+
 pub invariant_of-self-2 : goal.invariant_of-self-2
 invariant_of-self-2 c =
     let taken = oldest_taken c.args.stream (c.self.inside.places ++ c.self.inside.further) (c.take_oldest.new.places ++ c.take_oldest.new.further) (Some c.in-Some.oldest) c.in-Some.ensures in
-    omega (arith, c.self.invariant, one_less c.in-Some.oldest _ _ taken.one)
+    rw c.give_back.ensures (omega (arith, c.self.invariant, one_less c.in-Some.oldest _ _ taken.one))
 
 pub returns : goal.returns
 returns c =
-    rw (← c.self.view_is) (oldest_taken c.args.stream (c.self.inside.places ++ c.self.inside.further) (c.take_oldest.new.places ++ c.take_oldest.new.further) (Some c.in-Some.oldest) c.in-Some.ensures)
+    rw (← c.self.view_is, c.give_back.ensures) (oldest_taken c.args.stream (c.self.inside.places ++ c.self.inside.further) (c.take_oldest.new.places ++ c.take_oldest.new.further) (Some c.in-Some.oldest) c.in-Some.ensures)
