@@ -34,9 +34,6 @@ of_none k (t ∷ ts) h = rw (unlike t.stream k h.0) (of_none k ts h.1)
 pub of_both : (k : ℕ) (ts us : List TrackedSection) → of_stream k (ts ++ us) ≡ of_stream k ts ++ of_stream k us
 of_both k ts us = filter-append (is_of k) ts us
 
-of_one : (k : ℕ) (t : TrackedSection) → k ≢ t.stream → of_stream k (t ∷ []) ≡ []
-of_one k t ne = rw (unlike t.stream k (λ e. ne (sym e))) refl
-
 abbrev stream_of : TrackedSection → ℕ
 stream_of t = t.stream
 
@@ -163,10 +160,6 @@ none_there s (t ∷ ts) is = by_test (t.stream == s) is (none_there s ts)
     by_test true k later = absurd (some_differs t (of_stream s ts) k)
     by_test false k later = later k
 
-or_true : (b : Bool) → (b || true) ≡ true
-or_true true = refl
-or_true false = refl
-
 pub some_there : (s : ℕ) (ts us : List TrackedSection) (t : TrackedSection) → of_stream s ts ≡ t ∷ us → list_any (is_of s) ts ≡ true
 some_there s [] us t is = absurd (some_differs t us (sym is))
 some_there s (u ∷ ts) us t is = by_test (u.stream == s) is (some_there s ts us t)
@@ -283,58 +276,6 @@ newest_taken s ts us (Some n) h =
     by_stream : (k : ℕ) (b : Bool) → (k == s) ≡ b → of_stream k us ≡ of_stream k (without_newest (is_of s) ts)
     by_stream k true e = let is = alike k s e in ap (λ m. of_stream m us) is ∙ sym (newest_own s n ts (of_stream s us) h.one) ∙ ap (λ m. of_stream m (without_newest (is_of s) ts)) (sym is)
     by_stream k false e = let ne : k ≢ s = λ z. grind (arith, common_steps, z, e) in h.others k ne ∙ sym (newest_others s k ts ne)
-
--- in two lists, one behind the other
-both_same : (s : ℕ) (ts us vs ws : List TrackedSection) → of_stream s us ≡ of_stream s ts → of_stream s ws ≡ of_stream s vs → of_stream s (us ++ ws) ≡ of_stream s (ts ++ vs)
-both_same s ts us vs ws one two = of_both s us ws ∙ ap (λ xs. xs ++ of_stream s ws) one ∙ ap (λ xs. of_stream s ts ++ xs) two ∙ sym (of_both s ts vs)
-
-pub more_behind : (t : TrackedSection) (ts vs ws : List TrackedSection) → HasOneMore t vs ws → HasOneMore t (ts ++ vs) (ts ++ ws)
-more_behind t ts vs ws more k =
-    of_both k ts ws ∙ ap (λ xs. of_stream k ts ++ xs) (more k) ∙ sym (append_assoc (of_stream k ts) (of_stream k vs) (of_stream k (t ∷ []))) ∙ ap (λ xs. xs ++ of_stream k (t ∷ [])) (sym (of_both k ts vs))
-
-pub more_in_front : (t : TrackedSection) (ts us vs : List TrackedSection) → HasOneMore t ts us → of_stream t.stream vs ≡ [] → HasOneMore t (ts ++ vs) (us ++ vs)
-more_in_front t ts us vs more none k = by_stream (t.stream == k) refl
-  where
-    by_stream : (b : Bool) → (t.stream == k) ≡ b → of_stream k (us ++ vs) ≡ of_stream k (ts ++ vs) ++ of_stream k (t ∷ [])
-    by_stream true e =
-        let no_one : of_stream k vs ≡ [] = ap (λ m. of_stream m vs) (sym (alike t.stream k e)) ∙ none in
-        of_both k us vs ∙ ap (λ xs. of_stream k us ++ xs) no_one ∙ append-nil (of_stream k us) ∙ more k ∙ ap (λ xs. xs ++ of_stream k (t ∷ [])) (sym (of_both k ts vs ∙ ap (λ xs. of_stream k ts ++ xs) no_one ∙ append-nil (of_stream k ts)))
-    by_stream false e =
-        let other : of_stream k (t ∷ []) ≡ [] = rw e refl in
-        both_same k ts us vs vs (more k ∙ ap (λ xs. of_stream k ts ++ xs) other ∙ append-nil (of_stream k ts)) refl ∙ sym (ap (λ xs. of_stream k (ts ++ vs) ++ xs) other ∙ append-nil (of_stream k (ts ++ vs)))
-
-pub first_in_front : (s n : ℕ) (ts us vs : List TrackedSection) → IsFirstTaken s ts us (Some n) → IsFirstTaken s (ts ++ vs) (us ++ vs) (Some n)
-first_in_front s n ts us vs h =
-    record { others = λ k ne. both_same k ts us vs vs (h.others k ne) refl; one = of_both s ts vs ∙ ap (λ xs. xs ++ of_stream s vs) h.one ∙ ap (λ xs. record { stream = s; oldest = n } ∷ xs) (sym (of_both s us vs)); none = tt }
-
-pub first_behind : (s : ℕ) (ts us vs ws : List TrackedSection) (named : Option ℕ) → IsFirstTaken s ts us None → IsFirstTaken s vs ws named → IsFirstTaken s (ts ++ vs) (us ++ ws) named
-first_behind s ts us vs ws None g h =
-    record { others = λ k ne. both_same k ts us vs ws (g.others k ne) (h.others k ne); one = tt; none = (of_both s ts vs ∙ rw (g.none.0) h.none.0, of_both s us ws ∙ rw (g.none.1) h.none.1) }
-first_behind s ts us vs ws (Some n) g h =
-    record {
-      others = λ k ne. both_same k ts us vs ws (g.others k ne) (h.others k ne);
-      one = of_both s ts vs ∙ ap (λ xs. xs ++ of_stream s vs) g.none.0 ∙ h.one ∙ ap (λ xs. record { stream = s; oldest = n } ∷ xs) (sym (of_both s us ws ∙ ap (λ xs. xs ++ of_stream s ws) g.none.1));
-      none = tt;
-    }
-
-pub last_behind : (s n : ℕ) (ts vs ws : List TrackedSection) → IsLastTaken s vs ws (Some n) → IsLastTaken s (ts ++ vs) (ts ++ ws) (Some n)
-last_behind s n ts vs ws h =
-    record {
-      others = λ k ne. both_same k ts ts vs ws refl (h.others k ne);
-      one = of_both s ts vs ∙ ap (λ xs. of_stream s ts ++ xs) h.one ∙ sym (append_assoc (of_stream s ts) (of_stream s ws) (record { stream = s; oldest = n } ∷ [])) ∙ ap (λ xs. xs ++ record { stream = s; oldest = n } ∷ []) (sym (of_both s ts ws));
-      none = tt;
-    }
-
-pub last_in_front : (s : ℕ) (ts us vs ws : List TrackedSection) (named : Option ℕ) → IsLastTaken s vs ws None → IsFirstTaken s ts us named → IfSome named (λ n. of_stream s us ≡ []) → IsLastTaken s (ts ++ vs) (us ++ ws) named
-last_in_front s ts us vs ws None g h alone =
-    record { others = λ k ne. both_same k ts us vs ws (h.others k ne) (g.others k ne); one = tt; none = (of_both s ts vs ∙ rw (h.none.0) g.none.0, of_both s us ws ∙ rw (h.none.1) g.none.1) }
-last_in_front s ts us vs ws (Some n) g h alone =
-    let nothing : of_stream s (us ++ ws) ≡ [] = of_both s us ws ∙ rw alone g.none.1 in
-    record {
-      others = λ k ne. both_same k ts us vs ws (h.others k ne) (g.others k ne);
-      one = of_both s ts vs ∙ ap (λ xs. xs ++ of_stream s vs) (h.one ∙ ap (λ xs. record { stream = s; oldest = n } ∷ xs) alone) ∙ ap (λ xs. record { stream = s; oldest = n } ∷ xs) g.none.0 ∙ ap (λ xs. xs ++ record { stream = s; oldest = n } ∷ []) (sym nothing);
-      none = tt;
-    }
 
 pub none_left : (ts us : List TrackedSection) → length (in_order (λ t. t.stream) (ts ++ us)) ≡ 0 → ts ≡ []
 none_left [] us is = refl

@@ -1,5 +1,5 @@
 //! Sections that are sent and neither acknowledged nor canceled, each at the place of its stream: it is found with no search.
-ghost use Rattle.std.specs.Prelude.{◌≡◌, ◌<◌, [], true, false, IfSome};
+ghost use Rattle.std.specs.Prelude.{◌≡◌, ◌<◌, [], true, false, IfSome, IfOk, OnErr};
 ghost use Rattle.h3_table.specs.Places.{place_of};
 ghost use Rattle.h3_table.specs.ByStream.{of_stream, HaveSame, HasOneMore, IsFirstTaken};
 
@@ -22,8 +22,8 @@ const NOTHING: TrackedSection = TrackedSection {
     oldest: 0,
 };
 
-/// At most one section of each stream, and of the streams with one place one at most. There are twice as many places as sections, or
-/// more, so streams near one another have places of their own.
+/// At most one section of each stream, and of the streams with one place one at most. Streams near one another have places of their
+/// own: where a place is not free and there are less than two for each section, they are made twice as many.
 #[derive(Drop)]
 pub(crate) struct Places {
     alloc: Global,
@@ -63,7 +63,7 @@ impl Places {
 
     /// Makes the places twice as many, where so many sections would take more than half of them. What then stands at two places counts
     /// at one of them.
-    pub(crate) fn make_room(&mut self, count: usize) -> Result<(), AllocError>
+    fn make_room(&mut self, count: usize) -> Result<(), AllocError>
         ensures { HaveSame self.old self.new }
     {
         let len = self.slots.len();
@@ -87,7 +87,7 @@ impl Places {
     }
 
     /// Puts a section at the place of its stream, and tells whether that was free.
-    pub(crate) fn put(&mut self, section: TrackedSection) -> bool
+    fn put_at_once(&mut self, section: TrackedSection) -> bool
         ensures put { result ≡ true → HasOneMore section self.old self.new }
         ensures taken { result ≡ false → self.new ≡ self.old }
     {
@@ -102,6 +102,19 @@ impl Places {
         }
         self.slots[place] = section;
         true
+    }
+
+    /// Puts a section at the place of its stream, and tells whether that was free or could be made so. There are so many sections then.
+    pub(crate) fn put(&mut self, count: usize, section: TrackedSection) -> Result<bool, AllocError>
+        ensures put { IfOk result (λ done. done ≡ true → HasOneMore section self.old self.new) }
+        ensures taken { IfOk result (λ done. done ≡ false → HaveSame self.old self.new) }
+        ensures err { OnErr result (HaveSame self.old self.new) }
+    {
+        if self.put_at_once(section) {
+            return Ok(true);
+        }
+        self.make_room(count)?;
+        Ok(self.put_at_once(section))
     }
 
     /// Takes the section of a stream away, and answers the oldest entry that it names.

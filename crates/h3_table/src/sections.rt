@@ -33,7 +33,7 @@ impl Model for Sections {
     ghost invariant = { IsCounted };
 }
 
-/// Adds a section behind those of its stream. So many sections are to have places then.
+/// Adds a section behind those of its stream. There are so many sections then.
 fn add(
     places: &mut Places,
     further: &mut FurtherSections,
@@ -43,11 +43,13 @@ fn add(
     ensures ok { OnOk result (HasOneMore section (places.old ++ further.old) (places.new ++ further.new)) }
     ensures err { OnErr result (HaveSame (places.old ++ further.old) (places.new ++ further.new)) }
 {
-    places.make_room(count)?;
     if further.has(section.stream) {
         return further.add(section);
     }
-    if places.put(section) {
+    let Ok(done) = places.put(count, section) else {
+        return Err(AllocError);
+    };
+    if done {
         return Ok(());
     }
     further.add(section)
