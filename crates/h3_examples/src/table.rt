@@ -1,6 +1,5 @@
 //! A table that one section may wait on, and a section that inserts into it.
 ghost use Rattle.std.specs.Prelude.{◌≡◌};
-ghost use Rattle.h3_qpack.specs.Drafting.{IsOver};
 
 use crate::log::{number, words};
 use crate::session::field;
@@ -24,10 +23,7 @@ fn insert(
     text: &mut String,
     view: &mut DynamicTableEncoder<'_>,
     field: &HeaderField,
-) -> Result<(), AllocError>
-    requires { IsOver view.old.table.now.table view.old.section }
-    ensures { IsOver view.new.table.now.table view.new.section }
-{
+) -> Result<(), AllocError> {
     let Ok(answer) = view.insert(field) else {
         return Err(AllocError);
     };

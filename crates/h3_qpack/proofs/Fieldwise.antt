@@ -38,7 +38,7 @@ grown P (Err e) old new more p q = omega (arith, ap length q.1)
 -- an entry that is there is named
 naming_over : (h : TableState) (section : Section) (number : ℕ) → IsOver h section → evicted h < number → number ≤ h.inserted → IsOver h (naming section number)
 naming_over h section number o low high =
-    record { base = o.base; above = omega (arith, o.above, low); named = inr (omega (arith, high)); newest = omega (arith, o.newest, high) }
+    record { base = o.base; above = omega (arith, o.above, low); named = λ _. omega (arith, high); newest = omega (arith, o.newest, high) }
 
 chosen_over : (t : EncoderState) (section : Section) (f : Field) (c : Choice) → IsOver t.table section → IsPossible t section f c → IsOver (encoder_state_with t f c).table (section_after t section c)
 chosen_over t section f (choice.Static index) o p = o
@@ -48,7 +48,7 @@ chosen_over t section f (choice.Insertion after) o p =
     record {
       base = omega (arith, o.base);
       above = omega (arith, p.0.own, here);
-      named = inr (omega arith);
+      named = λ _. omega arith;
       newest = omega (arith, o.newest);
     }
 chosen_over t section f (choice.StaticName index) o p = o

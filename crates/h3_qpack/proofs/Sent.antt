@@ -1,5 +1,5 @@
 -- A field section that is written whole: what is kept of it.
-use Rattle.std.proofs.Common.{◌≡◌, ◌⊎◌, inl, inr, ℕ, ◌-◌, ◌^◌, ◌<◌, ◌≤◌, Bool, true, false, List, [], ◌∷◌, ◌++◌, length, take, min, max, map, filter, fold, flat_map, refl, sym, ◌∙◌, ap, subst, arith, append-nil, append_assoc, nat_lt, if◌then◌else◌}
+use Rattle.std.proofs.Common.{◌≡◌, ◌⊎◌, inl, inr, ℕ, zero, suc, ◌-◌, ◌^◌, ◌<◌, ◌≤◌, Bool, true, false, List, [], ◌∷◌, ◌++◌, length, take, min, max, map, filter, fold, flat_map, refl, sym, ◌∙◌, ap, subst, arith, append-nil, append_assoc, nat_lt, if◌then◌else◌}
 use Rattle.std.specs.Prelude.{◌==◌}
 use Rattle.std.proofs.lemmas.Grind.{common_steps}
 use Rattle.std.proofs.lemmas.List.{map-append, take_all}
@@ -30,19 +30,11 @@ one_fits [] above = absurd (omega (arith, above))
 one_fits (f ∷ fs) above = omega (arith, sum_by-cons field_size f fs)
 
 pub named_fits : (t : EncoderState) (section : Section) → IsOver t.table section → IsSmall t → (section.newest ≡ 0) ⊎ (32 ≤ t.table.capacity)
-named_fits t section o small = by_names o.named
+named_fits t section o small = by_newest section.newest o.named
   where
-    by_names : (section.newest ≡ 0) ⊎ (section.oldest ≤ t.table.inserted) → (section.newest ≡ 0) ⊎ (32 ≤ t.table.capacity)
-    by_names (inl none) = inl none
-    by_names (inr some) = inr (omega (arith, one_fits t.table.entries (omega (arith, o.above, some)), small.fits))
-
--- the oldest entry that is named is there
-pub oldest_there : (t : EncoderState) (section : Section) → IsOver t.table section → (section.newest ≡ 0 → ⊥) → section.oldest ≤ t.table.inserted
-oldest_there t section o some = by_names o.named
-  where
-    by_names : (section.newest ≡ 0) ⊎ (section.oldest ≤ t.table.inserted) → section.oldest ≤ t.table.inserted
-    by_names (inl none) = absurd (some none)
-    by_names (inr there) = there
+    by_newest : (newest : ℕ) → (0 < newest → section.oldest ≤ t.table.inserted) → (newest ≡ 0) ⊎ (32 ≤ t.table.capacity)
+    by_newest zero there = inl refl
+    by_newest (suc n) there = inr (omega (arith, one_fits t.table.entries (omega (arith, o.above, there (omega arith))), small.fits))
 
 -- the prefix and the lines
 pub section_put : (before mid encoded lines : List ℕ) (capacity own count base : ℕ) (p : EncodedPrefix) → own ≡ capacity → p ≡ written_prefix own count base → mid ≡ before ++ encoded_bytes p → encoded ≡ mid ++ lines

@@ -34,7 +34,7 @@ naming section number = record section { oldest = min section.oldest number; new
 pub record IsOver (h : TableState) (section : Section) : Type 0 where
   pub base : section.base ≤ h.inserted
   pub above : evicted h < section.oldest
-  pub named : (section.newest ≡ 0) ⊎ (section.oldest ≤ h.inserted)
+  pub named : 0 < section.newest → section.oldest ≤ h.inserted
   pub newest : section.newest ≤ h.inserted
 
 -- What tracked sections name has numbers from 1, all numbers of entries are small, and the entries fit.

@@ -158,7 +158,6 @@ impl DynamicTable {
         ensures table { result.table.now ≡ self.old }
         ensures stream { result.stream ≡ stream }
         ensures section { result.section ≡ begun self.old }
-        ensures over { IsOver self.old.table result.section }
     {
         DynamicTableEncoder::new(self, stream)
     }

@@ -100,14 +100,28 @@ fn insertion_of(
     DynamicInsertionResult::Inserted { postbase, absolute }
 }
 
+/// Ends a section, and answers its required insert count. It is tracked where it names entries.
+fn end(table: &mut DynamicTable, stream: u64, section: &Section) -> Result<usize, Error>
+    requires { IsOver table.old.table section.now }
+    ensures ok { IfOk result (λ count. (count ≡ section.now.newest) × (table.new ≡ committed table.old stream section.now)) }
+    ensures err { IfErr result (λ e. (e ≡ OutOfMemory) × (table.new ≡ table.old)) }
+{
+    if section.newest != 0 {
+        let Ok(()) = table.track(stream, section.newest, section.oldest) else {
+            return Err(Error::OutOfMemory);
+        };
+    }
+    Ok(section.newest)
+}
+
 /// A table, with a section of one stream under way: what its lines name and what is inserted for it. The section is
-/// tracked once it is committed, and else it is released. Each call requires that what the section names is in the table, which
-/// `DynamicTable::encoder` ensures and each call keeps.
+/// tracked once it is committed, and else it is released. What it names is in the table (`over`).
 #[derive(Drop)]
 pub struct DynamicTableEncoder<'a> {
     table: &'a mut DynamicTable,
     stream: u64,
     section: Section,
+    ghost over: { IsOver table.now.table section },
 }
 
 impl<'a> DynamicTableEncoder<'a> {
@@ -116,7 +130,6 @@ impl<'a> DynamicTableEncoder<'a> {
         ensures table { result.table.now ≡ table.old }
         ensures stream { result.stream ≡ stream }
         ensures section { result.section ≡ begun table.old }
-        ensures over { IsOver table.old.table result.section }
     {
         let section = Section::begin(table);
         DynamicTableEncoder {
@@ -150,10 +163,8 @@ impl<'a> DynamicTableEncoder<'a> {
     /// An equal entry: of the static table, else the newest one that is older than the section and may be named, which a
     /// line then names (RFC 9204, section 2.1.2).
     pub fn lookup(&mut self, field: &HeaderField) -> DynamicLookupResult
-        requires { IsOver self.old.table.now.table self.old.section }
         ensures found { AnswersField self.old.table.now self.old.section field.now result }
         ensures section { self.new.section ≡ section_found self.old.section result }
-        ensures over { IsOver self.new.table.now.table self.new.section }
         ensures same_reference { self.new.table.ghost_name ≡ self.old.table.ghost_name }
         ensures table { self.new.table.now ≡ self.old.table.now }
         ensures stream { self.new.stream ≡ self.old.stream }
@@ -173,10 +184,8 @@ impl<'a> DynamicTableEncoder<'a> {
 
     /// An entry of the field's name: of the static table, else the newest one that may be named, which a line then names.
     pub fn lookup_name(&mut self, field: &HeaderField) -> DynamicLookupResult
-        requires { IsOver self.old.table.now.table self.old.section }
         ensures found { AnswersName self.old.table.now self.old.section field.now result }
         ensures section { self.new.section ≡ section_found self.old.section result }
-        ensures over { IsOver self.new.table.now.table self.new.section }
         ensures same_reference { self.new.table.ghost_name ≡ self.old.table.ghost_name }
         ensures table { self.new.table.now ≡ self.old.table.now }
         ensures stream { self.new.stream ≡ self.old.stream }
@@ -203,10 +212,8 @@ impl<'a> DynamicTableEncoder<'a> {
     /// received and named by no section (RFC 9204, sections 2.1.1 and 2.1.2). A line then names the new entry. Where memory
     /// is refused nothing changes.
     pub fn insert(&mut self, field: &HeaderField) -> Result<DynamicInsertionResult, Error>
-        requires { IsOver self.old.table.now.table self.old.section }
         ensures ok { IfOk result (AnswersInsertion self.old.table.now self.old.section field.now self.new.table.now self.new.section) }
         ensures err { IfErr result (λ e. (e ≡ OutOfMemory) × (self.new.table.now ≡ self.old.table.now) × (self.new.section ≡ self.old.section)) }
-        ensures over { IsOver self.new.table.now.table self.new.section }
         ensures same_reference { self.new.table.ghost_name ≡ self.old.table.ghost_name }
         ensures stream { self.new.stream ≡ self.old.stream }
     {
@@ -229,7 +236,6 @@ impl<'a> DynamicTableEncoder<'a> {
     /// Ends the section, and answers its required insert count. Where it names entries it is tracked under its stream, until
     /// it is acknowledged or the stream is canceled (RFC 9204, section 2.1.1). Where memory is refused it is not tracked.
     pub fn commit(self) -> Result<usize, Error>
-        requires { IsOver self.table.now.table self.section }
         ensures ok { IfOk result (λ count. (count ≡ self.entry.section.newest) × (self.exit.0.now ≡ committed self.entry.table.now self.entry.stream self.entry.section)) }
         ensures err { IfErr result (λ e. (e ≡ OutOfMemory) × (self.exit.0.now ≡ self.entry.table.now)) }
     {
@@ -238,12 +244,7 @@ impl<'a> DynamicTableEncoder<'a> {
             stream,
             section,
         } = self;
-        if section.newest != 0 {
-            let Ok(()) = table.track(stream, section.newest, section.oldest) else {
-                return Err(Error::OutOfMemory);
-            };
-        }
-        Ok(section.newest)
+        end(table, stream, &section)
     }
 
     /// Ends a section that is not sent. It is not tracked, and its insertions stay.
