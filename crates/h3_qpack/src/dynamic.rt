@@ -8,7 +8,7 @@ ghost use Rattle.h3_table.specs.Index.{IsIndexed, HasRoom};
 ghost use Rattle.h3_table.specs.Tracking.{is_of, is_free_to, without_oldest_of};
 ghost use Rattle.h3_field.specs.Instruction.DecoderInstruction.{CancelStream};
 ghost use Rattle.h3_qpack.specs.EncoderState.{EncoderState, MayInsertInto, MayHaveCapacity, IsCapacityRefusal, raised, encoder_state_sent, encoder_state_after, encoder_state_withdrawn};
-ghost use Rattle.h3_qpack.specs.Drafting.{begun, IsOver, IsSmall};
+ghost use Rattle.h3_qpack.specs.Drafting.{begun, IsSmall};
 ghost use Rattle.h3_field.specs.declared.dynamic.Error.TheVariants.{MaxBlockedStreamsTooLarge};
 
 use crate::encoder_view::DynamicTableEncoder;

@@ -121,7 +121,7 @@ pub struct DynamicTableEncoder<'a> {
     table: &'a mut DynamicTable,
     stream: u64,
     section: Section,
-    ghost over: { IsOver table.now.table section },
+    pub ghost over: { IsOver table.now.table section },
 }
 
 impl<'a> DynamicTableEncoder<'a> {
