@@ -1,5 +1,5 @@
 //! The heads and trailers that an endpoint sends.
-ghost use Rattle.std.specs.Prelude.{◌≡◌, ◌≢◌, ◌<◌, ◌^◌, ℕ, List, [], Some, None, IfOk, IfErr, IfSome, OnOk, OnErr, unwrap_or, if◌then◌else◌};
+ghost use Rattle.std.specs.Prelude.{◌≡◌, ◌≢◌, ◌<◌, ◌≤◌, ◌+◌, ◌^◌, ℕ, List, [], Some, None, IfOk, IfErr, IfSome, IfNone, OnOk, OnErr, unwrap_or, if◌then◌else◌};
 ghost use Rattle.h3_field.specs.Field.{Field, section_size};
 ghost use Rattle.h3_qpack.specs.EncoderHistory.{EncoderHistory};
 ghost use Rattle.h3_qpack.specs.EncoderState.{encoder_state};
@@ -9,7 +9,7 @@ ghost use Rattle.h3_connection.specs.Calls.{AllSame};
 ghost use Rattle.h3_connection.specs.Endpoint.{EndpointHistory};
 ghost use Rattle.h3_connection.specs.OwnIds.{other};
 ghost use Rattle.h3_connection.specs.Pulling.{is_for, is_interim};
-ghost use Rattle.h3_connection.specs.Sending.{is_too_large};
+ghost use Rattle.h3_connection.specs.Sending.{fields_cost, is_too_large};
 ghost use Rattle.h3_connection.specs.SendingContracts.{SendsHead, SendsTrailer, CutsOff};
 ghost use Rattle.h3_connection.specs.State.{StandsFor, kept_at};
 ghost use Rattle.h3_connection.specs.declared.event.Refusal.TheVariants.{OutOfMemory};
@@ -116,6 +116,7 @@ impl Endpoint {
     fn judge_size(&self, fields: &[HeaderField]) -> Result<u64, Refusal>
         ensures ok { IfOk result (λ sum. IsJudged self.now fields.now sum) }
         ensures err { IfErr result (λ refusal. refusal ≢ Refusal.OutOfMemory → size_refused self.now.peer.settings fields.now ≡ Some refusal) }
+        ensures memory { IfErr result (λ refusal. refusal ≡ Refusal.OutOfMemory → 2 ^ 56 ≤ self.now.sent + fields_cost fields.now + 64) }
     {
         let Some(size) = section_size(fields) else {
             return Err(Refusal::OutOfMemory);
@@ -216,7 +217,8 @@ fn withdraw(streams: &mut ConnectionStreams, id: StreamId, count: usize)
 
 /// The size of fields (RFC 9114, section 4.2.2), in bytes. No section of 2^62 bytes fits into memory.
 fn section_size(fields: &[HeaderField]) -> Option<u64>
-    ensures { IfSome result (λ size. (size ≡ section_size fields.now) × (size < 2 ^ 62)) }
+    ensures some { IfSome result (λ size. (size ≡ section_size fields.now) × (size < 2 ^ 62)) }
+    ensures none { IfNone result (2 ^ 62 ≤ section_size fields.now) }
 {
     let mut size: u64 = 0;
     for field in fields {
