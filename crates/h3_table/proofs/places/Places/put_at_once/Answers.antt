@@ -1,6 +1,6 @@
-use Rattle.std.proofs.Common.{◌≡◌, ◌≢◌, ◌∙◌, sym, ap, length, ◌<◌, arith}
+use Rattle.std.proofs.Common.{◌≡◌, ◌≢◌, ◌∙◌, ap, length, ◌<◌, arith}
 use Rattle.std.proofs.lemmas.List.{get_or_read_under}
-use Rattle.h3_table.specs.Places.{place_of, placed}
+use Rattle.h3_table.specs.Places.{place_of}
 use Rattle.h3_table.proofs.Placed.{put_there, nothing}
 use Rattle.h3_table.proofs.places.Places.put_at_once.Goals as goal
 use Rattle.h3_table.proofs.places.Places.put_at_once.Goals.{else-there-ne0-via-then-there-ne0+else-place_of-place, else-there-ne0-via-else-there-ne0}

@@ -1,6 +1,6 @@
-use Rattle.std.proofs.Common.{◌≡◌, ◌∙◌, sym, ap, length, ◌<◌, arith}
+use Rattle.std.proofs.Common.{◌≡◌, ◌∙◌, ap, length, ◌<◌, arith}
 use Rattle.std.proofs.lemmas.List.{get_or_read_under}
-use Rattle.h3_table.specs.Places.{place_of, placed}
+use Rattle.h3_table.specs.Places.{place_of}
 use Rattle.h3_table.proofs.Placed.{taken_there, not_there, nothing_left, nothing}
 use Rattle.h3_table.proofs.places.Places.take.Goals as goal
 use Rattle.h3_table.proofs.places.Places.take.Goals.{then-there-stream-via-then-there-stream, then-there-stream-via-else-there-stream+then-there-eq0}
