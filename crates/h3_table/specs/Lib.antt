@@ -13,6 +13,7 @@ pub mod ByStream
 pub mod Places
 pub mod Blocking
 pub mod Alone
+pub mod Words
 pub mod StreamSet
 pub mod ByteRow
 pub mod ByteQueueInside
