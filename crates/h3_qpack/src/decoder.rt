@@ -19,7 +19,7 @@ ghost use Rattle.h3_qpack.specs.Hearing.{heard, hear};
 
 use crate::dynamic::DynamicTable;
 use crate::increment::{INCREMENT_LEN, put_increment};
-use crate::lines::{Lines, relative};
+use crate::lines::{Lines, relative, relative_name_room};
 use crate::listing::SectionSummary;
 use crate::within::DecodedWithin;
 use h3_field::block::HeaderPrefix;
@@ -222,7 +222,9 @@ impl Decoder {
         requires own { begins 128 255 buf.old ≡ true }
         ensures { AnswersInsertionRead self.now.table buf.old buf.new result }
     {
-        match InsertWithNameRef::decode(self.alloc, buf) {
+        let newest = self.entries.inserted();
+        let spare = relative_name_room(&self.entries, newest, 6, buf);
+        match InsertWithNameRef::decode_with_room(self.alloc, buf, spare) {
             Ok(Some(InsertWithNameRef::Static { index, value })) => match StaticTable::get_name(
                 index,
             ) {
@@ -230,8 +232,8 @@ impl Decoder {
                 Err(e) => Err(DecoderError::InvalidStaticIndex(e)),
             },
             Ok(Some(InsertWithNameRef::Dynamic { index, value })) => {
-                match relative(&self.entries, self.entries.inserted(), index) {
-                    Ok(entry) => match entry.with_value(self.alloc, value) {
+                match relative(&self.entries, newest, index) {
+                    Ok(entry) => match entry.with_value(value) {
                         Ok(field) => Ok(Some(field)),
                         Err(_) => Err(DecoderError::OutOfMemory),
                     },
