@@ -1,0 +1,13 @@
+use Rattle.h3_field.proofs.field.HeaderField.copied.Goals as goal
+
+pub returns-in_err-extend_from_slice-clause-ok : goal.returns-in_err-extend_from_slice-clause-ok
+returns-in_err-extend_from_slice-clause-ok c = search
+
+pub returns-in_err-extend_from_slice-clause-err : goal.returns-in_err-extend_from_slice-clause-err
+returns-in_err-extend_from_slice-clause-err c = search
+
+pub returns-clause-ok : goal.returns-clause-ok
+returns-clause-ok c = search
+
+pub returns-clause-err : goal.returns-clause-err
+returns-clause-err c = search
