@@ -2,8 +2,5 @@ use Rattle.std.proofs.Common.{arith}
 use Rattle.std.proofs.lemmas.Grind.{common_steps}
 use Rattle.h3_proto.proofs.config.Config.into_settings.Goals as goal
 
-pub returns-in_err-insert : goal.returns-in_err-insert
-returns-in_err-insert c = grind (arith, common_steps)
-
 pub returns : goal.returns
 returns c = grind (arith, common_steps)

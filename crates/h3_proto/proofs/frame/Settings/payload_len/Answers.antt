@@ -2,8 +2,5 @@ use Rattle.std.proofs.Common.{arith}
 use Rattle.std.proofs.lemmas.Grind.{common_steps}
 use Rattle.h3_proto.proofs.frame.Settings.payload_len.Goals as goal
 
-pub returns-clause-value : goal.returns-clause-value
-returns-clause-value c = grind (arith, common_steps)
-
-pub returns-clause-bound : goal.returns-clause-bound
-returns-clause-bound c = grind (arith, common_steps)
+pub loop-pair-preserved : goal.loop-pair-preserved
+loop-pair-preserved c = grind (arith, common_steps)
