@@ -1,9 +1,11 @@
 //! Field sections that name no dynamic entry.
+ghost use Rattle.std.specs.Prelude.{◌^◌, ◌-◌, IfOk};
+ghost use Rattle.h3_field.specs.Section.{AnswersSection, Fields};
 
 use crate::input::{self, FieldList};
 use crate::output;
 use crate::report::{Failure, Report, answer};
-use h3_field::{Decoded, HeaderField, SliceCursor, decode_stateless, encode_stateless};
+use h3_field::{HeaderField, SliceCursor, decode_stateless_into, encode_stateless};
 use std::alloc::Global;
 
 /// Encodes a list in place of what stands in `section`.
@@ -25,9 +27,12 @@ fn encode_all(lists: &[FieldList], section: &mut Vec<u8>) -> Result<Report, Fail
     Ok(report)
 }
 
-fn decode_section(alloc: Global, section: &[u8]) -> Result<Decoded, Failure> {
-    match decode_stateless(alloc, &mut SliceCursor::new(section), u64::MAX) {
-        Ok(decoded) => Ok(decoded),
+/// Decodes a section in place of the fields that the list holds, and answers the sum of their sizes.
+fn decode_into(alloc: Global, section: &[u8], fields: &mut Vec<HeaderField>) -> Result<u64, Failure>
+    ensures { IfOk result (λ sum. AnswersSection (2 ^ 64 - 1) section.now (Fields fields.new.items sum)) }
+{
+    match decode_stateless_into(alloc, &mut SliceCursor::new(section), u64::MAX, fields) {
+        Ok(sum) => Ok(sum),
         Err(_) => Err(Failure::Refused),
     }
 }
@@ -40,12 +45,16 @@ pub(crate) fn count_fields(fields: &[HeaderField], report: &mut Report) {
     }
 }
 
-/// Decodes each section, and lets its fields go.
-fn decode_all(alloc: Global, sections: &[&[u8]]) -> Result<Report, Failure> {
+/// Decodes each section into the same list.
+fn decode_all(
+    alloc: Global,
+    sections: &[&[u8]],
+    fields: &mut Vec<HeaderField>,
+) -> Result<Report, Failure> {
     let mut report = Report::new();
     for section in sections {
-        let decoded = decode_section(alloc, *section)?;
-        count_fields(&decoded.fields, &mut report);
+        decode_into(alloc, *section, fields)?;
+        count_fields(fields.as_slice(), &mut report);
     }
     Ok(report)
 }
@@ -87,17 +96,17 @@ fn encode(alloc: Global, rounds: u64, bytes: &[u8], out: &mut [u8]) -> Result<Re
     encode_rounds(rounds, &lists, &mut section, &mut packed, out)
 }
 
-/// Packs the list of a section.
-fn put_list(alloc: Global, section: &[u8], packed: &mut Vec<u8>) -> Result<(), Failure> {
-    let decoded = decode_section(alloc, section)?;
-    output::put_fields(packed, &decoded.fields)
-}
-
 /// Packs the list of each section.
-fn put_lists(alloc: Global, sections: &[&[u8]], packed: &mut Vec<u8>) -> Result<(), Failure> {
+fn put_lists(
+    alloc: Global,
+    sections: &[&[u8]],
+    fields: &mut Vec<HeaderField>,
+    packed: &mut Vec<u8>,
+) -> Result<(), Failure> {
     output::put_number(packed, sections.len())?;
     for section in sections {
-        put_list(alloc, *section, packed)?;
+        decode_into(alloc, *section, fields)?;
+        output::put_fields(packed, fields.as_slice())?;
     }
     Ok(())
 }
@@ -106,22 +115,25 @@ fn decode_rounds(
     alloc: Global,
     rounds: u64,
     sections: &[&[u8]],
+    fields: &mut Vec<HeaderField>,
     packed: &mut Vec<u8>,
     out: &mut [u8],
 ) -> Result<Report, Failure> {
     let mut report = Report::new();
     for _ in 0..rounds {
-        report = decode_all(alloc, sections)?;
+        report = decode_all(alloc, sections, fields)?;
     }
-    put_lists(alloc, sections, packed)?;
+    put_lists(alloc, sections, fields, packed)?;
     output::hand_out(packed, out)?;
     Ok(report)
 }
 
 fn decode(alloc: Global, rounds: u64, bytes: &[u8], out: &mut [u8]) -> Result<Report, Failure> {
     let sections = input::strings(alloc, bytes)?;
+    // one list for all sections, whose memory serves again
+    let mut fields = Vec::new(alloc);
     let mut packed = Vec::new(alloc);
-    decode_rounds(alloc, rounds, &sections, &mut packed, out)
+    decode_rounds(alloc, rounds, &sections, &mut fields, &mut packed, out)
 }
 
 /// Encodes the lists `rounds` times, and once more to hand their sections out as strings.

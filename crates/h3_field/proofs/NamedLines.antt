@@ -1,11 +1,9 @@
 -- Lines with a string for which there is no memory: what names no static entry is no field.
 use Rattle.std.proofs.Common.{◌≡◌, ◌==◌, ◌%◌, ℕ, ◌≤◌, Bool, true, false, List, Option, Some, None, is_some, Err, refl, sym, ◌∙◌}
-use Rattle.h3_field.specs.Field.{Field}
 use Rattle.h3_field.specs.Reading.{Reading, Whole, Unfinished, Bad, then_read}
 use Rattle.h3_field.specs.IntegerReading.{integer}
 use Rattle.h3_field.specs.StringReading.{Payload, string}
 use Rattle.h3_field.specs.Shapes.{IndexAndString, TwoStrings, two_strings}
-use Rattle.h3_field.specs.Line.{FieldLine}
 use Rattle.h3_field.specs.Line.FieldLine.{StaticName, Literal}
 use Rattle.h3_field.specs.LineReading.{LineForm, Named, LiteralField, SaysLine, HasString, line, named, literal}
 use Rattle.h3_field.specs.LineAnswer.{AnswersLine, LineTakesMemory, named_line}

@@ -46,3 +46,4 @@ pub mod IntegerWritingLaws
 pub mod FieldForm
 pub mod FieldLaws
 pub mod ShorterLaws
+pub mod Room

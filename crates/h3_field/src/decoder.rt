@@ -1,5 +1,5 @@
 //! Field sections that name no dynamic entry, decoded (RFC 9204, section 4.5).
-ghost use Rattle.std.specs.Prelude.{◌≡◌, ◌<◌, ◌≤◌, [], true, false, length, OnOk, MatchResult, ◌∷◌, ◌++◌};
+ghost use Rattle.std.specs.Prelude.{◌≡◌, ◌<◌, ◌≤◌, [], true, false, length, OnOk, MatchResult, ◌∷◌, ◌++◌, vec_capacity};
 ghost use Rattle.h3_field.specs.Ends.{IsEndOf};
 ghost use Rattle.h3_field.specs.Shapes.{begins};
 ghost use Rattle.h3_field.specs.Section.{AnswersSection, Fields};
@@ -121,9 +121,10 @@ fn take_field(alloc: Global, buf: &mut SliceCursor<'_>) -> Result<HeaderField, D
 /// that fit 1,032 bytes, up to which an allocator of the C library keeps blocks at hand.
 const FIRST_ROOM: usize = 18;
 
-/// Adds a field behind which so many bytes are left: each may be a field.
+/// Adds a field behind which so many bytes are left: each may be a field. A list that has the room is not given more.
 fn keep(fields: &mut Vec<HeaderField>, field: HeaderField, left: usize) -> Result<(), AllocError>
-    ensures { OnOk result (fields.new.items ≡ fields.old.items ++ field ∷ []) }
+    ensures ok { OnOk result (fields.new.items ≡ fields.old.items ++ field ∷ []) }
+    ensures room { vec_capacity fields.old ≤ vec_capacity fields.new }
 {
     if fields.is_empty() {
         fields.reserve(left.min(FIRST_ROOM - 1) + 1)?;
@@ -132,24 +133,25 @@ fn keep(fields: &mut Vec<HeaderField>, field: HeaderField, left: usize) -> Resul
     Ok(())
 }
 
-/// Decodes a field section that names no dynamic entry, to the end of `buf`. It stops at the first field that makes the
-/// sum of the sizes pass `max_size`. A refused read takes nothing. Want of memory is told only where the first line is a
-/// field.
-pub fn decode_stateless(
+/// Reads the prefix and the lines of a section, to the end of `buf`, and adds their fields to an empty list, as long as they sum to at
+/// most `max_size`. Answers their sum. A refused read takes nothing, and may leave fields in the list.
+fn list_section(
     alloc: Global,
     buf: &mut SliceCursor<'_>,
     max_size: u64,
-) -> Result<Decoded, DecoderError>
+    fields: &mut Vec<HeaderField>,
+) -> Result<u64, DecoderError>
+    requires { fields.old.items ≡ [] }
     ensures answer { MatchResult result
-        (λ d. AnswersSection max_size buf.old (Fields d.fields.items d.mem_size) × (d.dyn_ref ≡ false) × (buf.new ≡ []))
+        (λ sum. AnswersSection max_size buf.old (Fields fields.new.items sum) × (buf.new ≡ []))
         (λ e. IsRefusal max_size buf.old e × (buf.new ≡ buf.old)) }
     ensures rest { IsEndOf buf.old buf.new }
+    ensures room { vec_capacity fields.old ≤ vec_capacity fields.new }
 {
     let mut ahead = SliceCursor::new(buf.chunk());
     if let Err(e) = HeaderPrefix::decode(&mut ahead) {
         return Err(DecoderError::from(e));
     }
-    let mut fields = Vec::new(alloc);
     let mut mem_size: u64 = 0;
     'lines: while ahead.remaining() > 0 {
         let field = match take_field(alloc, &mut ahead) {
@@ -160,14 +162,66 @@ pub fn decode_stateless(
         if mem_size > max_size {
             return Err(DecoderError::HeaderTooLong(mem_size));
         }
-        let Ok(()) = keep(&mut fields, field, ahead.remaining()) else {
+        let Ok(()) = keep(fields, field, ahead.remaining()) else {
             return Err(DecoderError::OutOfMemory);
         };
     }
     *buf = ahead;
-    Ok(Decoded {
-        fields,
-        dyn_ref: false,
-        mem_size,
-    })
+    Ok(mem_size)
+}
+
+/// Decodes a field section that names no dynamic entry, to the end of `buf`. It stops at the first field that makes the
+/// sum of the sizes pass `max_size`. A refused read takes nothing. Want of memory is told only where the first line is a
+/// field. A caller of many sections may keep one list for them all: `decode_stateless_into`.
+pub fn decode_stateless(
+    alloc: Global,
+    buf: &mut SliceCursor<'_>,
+    max_size: u64,
+) -> Result<Decoded, DecoderError>
+    ensures answer { MatchResult result
+        (λ d. AnswersSection max_size buf.old (Fields d.fields.items d.mem_size) × (d.dyn_ref ≡ false) × (buf.new ≡ []))
+        (λ e. IsRefusal max_size buf.old e × (buf.new ≡ buf.old)) }
+    ensures rest { IsEndOf buf.old buf.new }
+{
+    let mut fields = Vec::new(alloc);
+    match decode_stateless_into(alloc, buf, max_size, &mut fields) {
+        Ok(mem_size) => Ok(Decoded {
+            fields,
+            dyn_ref: false,
+            mem_size,
+        }),
+        Err(e) => {
+            drop(fields);
+            Err(e)
+        }
+    }
+}
+
+/// Decodes a field section that names no dynamic entry, to the end of `buf` (RFC 9204, section 4.5), as `decode_stateless`, into a list
+/// whose memory serves again: the fields that it holds are let go first, and its room is kept, which is that of the longest section so
+/// far. It answers the sum of the sizes of the fields, in bytes, which stops at the greatest number (RFC 9204, section 3.2.1).
+///
+/// `HeaderTooLong(sum)`: the first fields sum to that, more than `max_size`; no line behind them is read. `MissingRefs`: a line names a
+/// dynamic entry. `OutOfMemory`: it may be tried again; it is told only where the first line is a field. Every other refusal is of a bad
+/// section. A refused read takes nothing, and leaves the list empty.
+pub fn decode_stateless_into(
+    alloc: Global,
+    buf: &mut SliceCursor<'_>,
+    max_size: u64,
+    fields: &mut Vec<HeaderField>,
+) -> Result<u64, DecoderError>
+    ensures answer { MatchResult result
+        (λ sum. AnswersSection max_size buf.old (Fields fields.new.items sum) × (buf.new ≡ []))
+        (λ e. IsRefusal max_size buf.old e × (buf.new ≡ buf.old) × (fields.new.items ≡ [])) }
+    ensures rest { IsEndOf buf.old buf.new }
+    ensures room { vec_capacity fields.old ≤ vec_capacity fields.new }
+{
+    fields.clear();
+    match list_section(alloc, buf, max_size, fields) {
+        Ok(mem_size) => Ok(mem_size),
+        Err(e) => {
+            fields.clear();
+            Err(e)
+        }
+    }
 }

@@ -1,6 +1,7 @@
 //! A field of two byte strings, static or owned.
 ghost use Rattle.std.specs.Prelude.{◌≡◌, ◌++◌, ◌∷◌, [], codes, string_bytes, IfOk, OnErr, Some, encode_utf8_all, nat_eq, min, ◌^◌, ◌-◌, ◌+◌, ◌<◌, ◌≤◌, length, take, drop};
 ghost use Rattle.std.specs.Cow.{cow_slice_items};
+ghost use Rattle.std.specs.Vec.{vec_len, vec_capacity};
 ghost use Rattle.h3_field.specs.Field.{field_size, section_size};
 ghost use Rattle.h3_field.specs.FieldForm.{part_bytes};
 ghost use Rattle.h3_field.specs.ReadBack.{IsFieldOfBytes};
@@ -85,6 +86,17 @@ impl HeaderField {
         HeaderField {
             form: Form::StaticName(name, value),
         }
+    }
+
+    /// A copy of the name in front of the value, in the value's block. It takes memory only where that block has no room for the name.
+    pub fn with_copied_name(name: &[u8], value: Vec<u8>) -> Result<HeaderField, AllocError>
+        ensures ok { IfOk result (λ f. f ≡ record { name = name.now; value = value.items }) }
+        ensures err { OnErr result (vec_capacity value < vec_len value + length name.now) }
+    {
+        let mut block = value;
+        block.extend_from_slice(name)?;
+        block.as_mut_slice().rotate_right(name.len());
+        Ok(HeaderField::from_block(block, name.len()))
     }
 
     /// A field in one block: the first bytes, as many as the length, are the name, and those behind them the value.

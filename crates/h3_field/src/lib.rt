@@ -24,7 +24,7 @@ pub mod stream;
 pub mod vas;
 
 pub use cursor::SliceCursor;
-pub use decoder::{Decoded, decode_stateless};
+pub use decoder::{Decoded, decode_stateless, decode_stateless_into};
 pub use decoder_error::DecoderError;
 pub use encoder::encode_stateless;
 pub use encoder_error::EncoderError;

@@ -1,9 +1,10 @@
 //! What lines and instructions are made of: an integer, an integer and a string, or two strings.
-ghost use Rattle.std.specs.Prelude.{◌≡◌, ◌<◌, ◌≤◌, ◌-◌, ◌^◌, ◌++◌, true, false, length, slice_index, is_some, if◌then◌else◌, MatchOption, OnOk, OnErr};
+ghost use Rattle.std.specs.Prelude.{◌≡◌, ◌<◌, ◌≤◌, ◌-◌, ◌^◌, ◌++◌, true, false, length, slice_index, is_some, if◌then◌else◌, MatchOption, IfOk, OnOk, OnErr};
 ghost use Rattle.std.specs.Result.{IsOkUnless};
 ghost use Rattle.h3_field.specs.Ends.{IsEndOf};
 ghost use Rattle.h3_field.specs.Integer.{prefixed};
 ghost use Rattle.h3_field.specs.IntegerReading.{integer};
+ghost use Rattle.h3_field.specs.Room.{HasRoom};
 ghost use Rattle.h3_field.specs.StringLiteral.{string_literal};
 ghost use Rattle.h3_field.specs.declared.prefix_string.Error.TheVariants as string_error;
 ghost use Rattle.h3_field.specs.Shapes.{begins, index_and_string, two_strings};
@@ -40,16 +41,18 @@ pub(crate) struct IndexAndString {
     pub(crate) value: Vec<u8>,
 }
 
-/// Takes an integer and a string from the front. A refused read takes nothing.
+/// Takes an integer and a string from the front, whose block has room for `spare` bytes more. A refused read takes nothing.
 pub(crate) fn take_index_and_string(
     alloc: Global,
     size: u8,
     buf: &mut SliceCursor<'_>,
+    spare: usize,
 ) -> Result<IndexAndString, ParseError>
     requires least { 1 ≤ size }
     requires most { size ≤ 8 }
     ensures answer { AnswersIndexAndString (behind (integer size buf.old)) (index_and_string size buf.old) buf.old buf.new result }
     ensures rest { IsEndOf buf.old buf.new }
+    ensures room { IfOk result (λ parts. HasRoom spare parts.value) }
 {
     let mut ahead = SliceCursor::new(buf.chunk());
     let (flags, index) = match prefix_int::decode(size, &mut ahead) {
@@ -60,7 +63,7 @@ pub(crate) fn take_index_and_string(
         Ok((_, payload)) => payload,
         Err(e) => return Err(ParseError::String(prefix_string::Error::from(e))),
     };
-    match payload.to_bytes(alloc) {
+    match payload.to_bytes(alloc, spare) {
         Ok(value) => {
             *buf = ahead;
             Ok(IndexAndString {
@@ -99,12 +102,12 @@ fn both_strings(
 ) -> Result<TwoStrings, ParseError>
     ensures { AnswersBothStrings first.now second.now result }
 {
-    let name = match first.to_bytes(alloc) {
+    let name = match first.to_bytes(alloc, 0) {
         Ok(name) => name,
         Err(prefix_string::Error::OutOfMemory) => return Err(refusal_before(second)),
         Err(e) => return Err(ParseError::String(e)),
     };
-    match second.to_bytes(alloc) {
+    match second.to_bytes(alloc, 0) {
         Ok(value) => Ok(TwoStrings { name, value }),
         Err(prefix_string::Error::OutOfMemory) => Err(ParseError::OutOfMemory),
         Err(e) => Err(ParseError::String(e)),

@@ -19,7 +19,7 @@ ghost use Rattle.h3_qpack.specs.Hearing.{heard, hear};
 
 use crate::dynamic::DynamicTable;
 use crate::increment::{INCREMENT_LEN, put_increment};
-use crate::lines::{Lines, relative};
+use crate::lines::{Lines, relative, relative_name_room};
 use crate::listing::SectionSummary;
 use crate::within::DecodedWithin;
 use h3_field::block::HeaderPrefix;
@@ -170,7 +170,7 @@ impl Decoder {
             Ok(found) => found,
             Err(e) => return Err(e),
         };
-        let lines = Lines::new(self.alloc, &self.entries, base);
+        let lines = Lines::new(self.alloc, &self.entries, base, usize::MAX);
         match lines.list(&mut ahead, fields) {
             Ok(mem_size) => {
                 *buf = ahead;
@@ -185,7 +185,8 @@ impl Decoder {
 
     /// Decodes an encoded field section, to the end of `buf` (RFC 9204, section 4.5). It answers the fields where their
     /// sizes sum to at most `max`. Else it answers the sum, and the value of the last field named `name`, and keeps no
-    /// field: what it holds at one time is at most the fields up to the limit, one line and one value.
+    /// field: what it holds at one time is at most the fields up to the limit, one line and one value, whose block may have
+    /// room for a name of at most `max` bytes.
     ///
     /// Where the section needs insertions that were not read, no line is read. One that is bad is refused even where its
     /// fields before that pass the limit. A refused read takes nothing. No memory is asked for before the first line is read or has a
@@ -206,7 +207,7 @@ impl Decoder {
             Ok(found) => found,
             Err(e) => return Err(e),
         };
-        let lines = Lines::new(self.alloc, &self.entries, base);
+        let lines = Lines::new(self.alloc, &self.entries, base, max as usize);
         match lines.take_within(&mut ahead, count > 0, max, name) {
             Ok(decoded) => {
                 *buf = ahead;
@@ -222,7 +223,9 @@ impl Decoder {
         requires own { begins 128 255 buf.old ≡ true }
         ensures { AnswersInsertionRead self.now.table buf.old buf.new result }
     {
-        match InsertWithNameRef::decode(self.alloc, buf) {
+        let newest = self.entries.inserted();
+        let spare = relative_name_room(&self.entries, newest, 6, usize::MAX, buf);
+        match InsertWithNameRef::decode_with_room(self.alloc, buf, spare) {
             Ok(Some(InsertWithNameRef::Static { index, value })) => match StaticTable::get_name(
                 index,
             ) {
@@ -230,8 +233,8 @@ impl Decoder {
                 Err(e) => Err(DecoderError::InvalidStaticIndex(e)),
             },
             Ok(Some(InsertWithNameRef::Dynamic { index, value })) => {
-                match relative(&self.entries, self.entries.inserted(), index) {
-                    Ok(entry) => match entry.with_value(self.alloc, value) {
+                match relative(&self.entries, newest, index) {
+                    Ok(entry) => match entry.with_value(value) {
                         Ok(field) => Ok(Some(field)),
                         Err(_) => Err(DecoderError::OutOfMemory),
                     },

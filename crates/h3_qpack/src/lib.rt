@@ -23,8 +23,8 @@ pub use encoder::{Encoder, set_dynamic_table_size};
 pub use encoder_view::{DynamicInsertionResult, DynamicLookupResult, DynamicTableEncoder};
 pub use h3_field::{
     Decoded, DecoderError, EncoderError, Error, HeaderField, Part, SliceCursor, block, cursor,
-    decode_stateless, encode_stateless, field, parse_error, prefix_int, prefix_string,
-    section_size, static_, stream, vas,
+    decode_stateless, decode_stateless_into, encode_stateless, field, parse_error, prefix_int,
+    prefix_string, section_size, static_, stream, vas,
 };
 pub use listing::SectionSummary;
 pub use session::{SessionAnswer, SessionEvent, run};

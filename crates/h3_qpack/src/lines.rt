@@ -1,5 +1,5 @@
 //! The field lines of a section, read over a table (RFC 9204, section 4.5).
-ghost use Rattle.std.specs.Prelude.{◌≡◌, ◌+◌, ◌-◌, ◌^◌, ◌<◌, ℕ, true, length, min, bytes_eq, IfOk, Some, None, MatchResult};
+ghost use Rattle.std.specs.Prelude.{◌≡◌, ◌+◌, ◌-◌, ◌^◌, ◌<◌, ◌≤◌, ℕ, true, length, min, bytes_eq, IfOk, Some, None, MatchResult};
 ghost use Rattle.h3_field.specs.Field.{Field, field_size};
 ghost use Rattle.h3_field.specs.Shapes.{begins};
 ghost use Rattle.h3_field.specs.declared.decoder_error.DecoderError.TheVariants.{InvalidIndex};
@@ -12,7 +12,7 @@ use h3_field::block::{
     LiteralWithPostBaseNameRef,
 };
 use h3_field::static_::StaticTable;
-use h3_field::{DecoderError, HeaderField, SliceCursor, vas};
+use h3_field::{DecoderError, HeaderField, SliceCursor, prefix_int, vas};
 use h3_table::entries::{Entries, Entry, MOST_INSERTIONS};
 use std::alloc::{AllocError, Global};
 use std::borrow::CowSlice;
@@ -30,7 +30,7 @@ pub(crate) enum Source<'t> {
     Own(HeaderField),
     /// An entry.
     Entry(Entry<'t>),
-    /// A value under the name of an entry.
+    /// A value under the name of an entry. Its block has room for the name, where that is not static and the value is not empty.
     Named(Entry<'t>, Vec<u8>),
 }
 
@@ -111,7 +111,7 @@ impl<'t> LineField<'t> {
         match self.source {
             Source::Own(field) => Ok(field),
             Source::Entry(entry) => entry.copy(alloc),
-            Source::Named(entry, value) => entry.with_value(alloc, value),
+            Source::Named(entry, value) => entry.with_value(value),
         }
     }
 
@@ -153,12 +153,63 @@ fn post_base(entries: &Entries, base: usize, index: usize) -> Result<Entry<'_>, 
     }
 }
 
+/// How many bytes the name of an entry takes in the block of a field with another value. One of more than `most` bytes gets no room there.
+fn name_room(found: Result<Entry<'_>, DecoderError>, most: usize) -> usize {
+    match found {
+        Ok(entry) => {
+            let len = entry.owned_name_len();
+            if len <= most { len } else { 0 }
+        }
+        Err(_) => 0,
+    }
+}
+
+/// How many bytes the name that the line or instruction at the front refers to takes in the block of its field: none where the name is
+/// static, where it has more than `most` bytes or its entry is not there, or where its index is not whole. The index lies below the bit T, in `size`
+/// bits. It is read ahead of the value, so that the value's block gets this room: no clause depends on it.
+pub(crate) fn relative_name_room(
+    entries: &Entries,
+    base: usize,
+    size: u8,
+    most: usize,
+    buf: &SliceCursor<'_>,
+) -> usize
+    requires least { 1 ≤ size }
+    requires most { size ≤ 7 }
+    requires some { 0 < length buf.now }
+{
+    if buf.chunk()[0] >> size & 1 == 1 {
+        return 0;
+    }
+    let mut ahead = SliceCursor::new(buf.chunk());
+    match prefix_int::decode(size, &mut ahead) {
+        Ok((_, index)) => name_room(relative(entries, base, index as usize), most),
+        Err(_) => 0,
+    }
+}
+
+/// The same for a line that refers to its name by the distance from the base on.
+fn post_base_name_room(
+    entries: &Entries,
+    base: usize,
+    most: usize,
+    buf: &SliceCursor<'_>,
+) -> usize {
+    let mut ahead = SliceCursor::new(buf.chunk());
+    match prefix_int::decode(3, &mut ahead) {
+        Ok((_, index)) => name_room(post_base(entries, base, index as usize), most),
+        Err(_) => 0,
+    }
+}
+
 /// The lines of a section with a base, over a table.
 #[derive(Drop)]
 pub(crate) struct Lines<'t> {
     alloc: Global,
     entries: &'t Entries,
     base: usize,
+    // a longer name of an entry gets no room behind a value, since its field would pass the limit
+    longest_name: usize,
 }
 
 impl<'t> Model for Lines<'t> {
@@ -170,13 +221,20 @@ impl<'t> Model for Lines<'t> {
 }
 
 impl<'t> Lines<'t> {
-    pub(crate) fn new(alloc: Global, entries: &'t Entries, base: usize) -> Lines<'t>
+    /// The lines of a section whose fields are kept up to a limit, which is the most bytes that a name may have.
+    pub(crate) fn new(
+        alloc: Global,
+        entries: &'t Entries,
+        base: usize,
+        longest_name: usize,
+    ) -> Lines<'t>
         ensures { result ≡ record { table = entries.now; base = base } }
     {
         Lines {
             alloc,
             entries,
             base,
+            longest_name,
         }
     }
 
@@ -224,7 +282,8 @@ impl<'t> Lines<'t> {
         requires own { begins 64 127 buf.old ≡ true }
         ensures { AnswersLineAt self.now.table self.now.base buf.old buf.new result }
     {
-        match LiteralWithNameRef::decode(self.alloc, buf) {
+        let spare = relative_name_room(self.entries, self.base, 4, self.longest_name, buf);
+        match LiteralWithNameRef::decode_with_room(self.alloc, buf, spare) {
             Ok(LiteralWithNameRef::Static { index, value }) => match StaticTable::get_name(index) {
                 Ok(name) => Ok(LineField::own(HeaderField::with_static_name(name, value))),
                 Err(e) => Err(DecoderError::InvalidStaticIndex(e)),
@@ -247,7 +306,8 @@ impl<'t> Lines<'t> {
         requires own { begins 0 15 buf.old ≡ true }
         ensures { AnswersLineAt self.now.table self.now.base buf.old buf.new result }
     {
-        match LiteralWithPostBaseNameRef::decode(self.alloc, buf) {
+        let spare = post_base_name_room(self.entries, self.base, self.longest_name, buf);
+        match LiteralWithPostBaseNameRef::decode_with_room(self.alloc, buf, spare) {
             Ok(LiteralWithPostBaseNameRef { index, value }) => match post_base(
                 self.entries,
                 self.base,

@@ -1,6 +1,6 @@
 -- The sections of one stream among those of all.
-use Rattle.std.proofs.Common.{◌≡◌, ◌≢◌, ◌<◌, ◌≤◌, ℕ, Bool, true, false, ◌||◌, List, [], ◌∷◌, ◌++◌, length, filter, cond, refl, sym, ◌∙◌, ap, subst, arith, nat_lt, if◌then◌else◌, append_assoc, length-append}
-use Rattle.std.specs.Prelude.{◌==◌, Option, Some, None, IfSome, IfNone, is_some}
+use Rattle.std.proofs.Common.{◌≡◌, ◌≢◌, ◌<◌, ◌≤◌, ℕ, Bool, true, false, ◌||◌, List, [], ◌∷◌, ◌++◌, length, cond, refl, sym, ◌∙◌, ap, arith, nat_lt, if◌then◌else◌, length-append}
+use Rattle.std.specs.Prelude.{◌==◌, Option, Some, None}
 use Rattle.std.specs.List.{list_any, AllByRecursion}
 use Rattle.std.proofs.lemmas.Grind.{common_steps}
 use Rattle.std.proofs.lemmas.List.{append-nil}

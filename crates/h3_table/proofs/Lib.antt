@@ -7,5 +7,6 @@ pub mod Streams
 pub mod Placed
 pub mod Taking
 pub mod Alones
+pub mod Rows
 pub mod StreamSets
 pub mod Laid

@@ -1,12 +1,12 @@
 -- What stands at the places of streams.
-use Rattle.std.proofs.Common.{◌≡◌, ◌≢◌, ◌<◌, ◌≤◌, ℕ, zero, suc, ◌+◌, ◌-◌, ◌*◌, ◌/◌, ◌%◌, Bool, true, false, ◌&&◌, List, [], ◌∷◌, ◌++◌, length, filter, cond, refl, sym, ◌∙◌, ap, subst, arith, nat_lt, nat_le, if◌then◌else◌, get_or, set, ◌⊎◌, inl, inr, length-append}
+use Rattle.std.proofs.Common.{◌≡◌, ◌≢◌, ◌<◌, ◌≤◌, ℕ, zero, suc, ◌+◌, ◌-◌, ◌*◌, ◌/◌, ◌%◌, Bool, true, false, ◌&&◌, List, [], ◌∷◌, ◌++◌, length, cond, refl, sym, ◌∙◌, ap, arith, nat_lt, if◌then◌else◌, get_or, set, ◌⊎◌, inl, inr, length-append}
 use Rattle.std.specs.Prelude.{◌==◌, Some, None}
 use Rattle.std.proofs.lemmas.Grind.{common_steps, get_or-set_at}
 use Rattle.std.proofs.lemmas.List.{append-nil, length-set, get_or-set_other, get_or-append-add}
 use Rattle.std.proofs.Math.Nat.{mul-add, add-mul, mod-lt, mod-eq_of_lt, div-add-mod, add-mod_left, mul-add-mod_self_left}
 use Rattle.std.proofs.Math.ListN.{get_or-append}
 use Rattle.h3_table.specs.declared.tracking.TrackedSection.{TrackedSection}
-use Rattle.h3_table.specs.Places.{place_of, is_placed, placed_from, placed}
+use Rattle.h3_table.specs.Places.{place_of, placed_from, placed}
 use Rattle.h3_table.specs.ByStream.{of_stream, HaveSame, HasOneMore, IsFirstTaken}
 use Rattle.h3_table.proofs.ByStream.{itself, unlike, alike}
 

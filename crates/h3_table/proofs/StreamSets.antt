@@ -1,18 +1,16 @@
 -- Streams by their bits.
 use Rattle.std.proofs.Common.{◌≡◌, ◌≢◌, ◌<◌, ◌≤◌, ℕ, zero, suc, ◌+◌, ◌*◌, ◌/◌, ◌%◌, ◌^◌, Bool, true, false, ◌||◌, ◌&&◌, List, [], ◌∷◌, filter, cond, refl, sym, ◌∙◌, ap, subst, arith, nat_lt, bit_and, bit_or, w64}
-use Rattle.std.specs.Prelude.{◌==◌, Some, None}
+use Rattle.std.specs.Prelude.{◌==◌}
 use Rattle.std.specs.List.{list_any, range_with_len}
 use Rattle.std.specs.Int.{bit_at}
-use Rattle.std.specs.Option.{unwrap_or}
 use Rattle.std.specs.Ordering.{nat_cmp}
 use Rattle.std.specs.declared.cmp.Ordering.TheVariants.{Less, Equal, Greater}
-use Rattle.std.specs.BTreeMap.{is_at}
 use Rattle.std.specs.BTreeSet.{insert_key}
-use Rattle.std.specs.Map.{lookup}
 use Rattle.std.proofs.lemmas.Grind.{common_steps}
 use Rattle.std.proofs.lemmas.Map.Views.{any-filter_same}
 use Rattle.std.proofs.lemmas.Nat.Bits.{bit_at-zero, bit_at_set_same, bit_at_set_other, shr_and_one}
-use Rattle.h3_table.specs.StreamSet.{word_of, place_of, word_at, is_in, streams_in}
+use Rattle.h3_table.specs.StreamSet.{word_of, place_of, is_in, streams_in}
+use Rattle.h3_table.specs.Words.{HaveSameWords, IsOneWord}
 
 same : (a b : ℕ) → (a == b) ≡ true → a ≡ b
 same a b e = grind (arith, common_steps)
@@ -113,93 +111,83 @@ none_pass : (a n : ℕ) → [] ≡ filter (λ q. false) (range_with_len a n)
 none_pass a zero = refl
 none_pass a (suc n) = none_pass (a + 1) n
 
--- the streams of words that are the same at each number
-pub none_in : [] ≡ streams_in []
+no_bit : (stream word : ℕ) → word ≡ 0 → (bit_at word (place_of stream) == 1) ≡ false
+no_bit stream word is = rw (is, bit_at-zero (place_of stream)) refl
+
+-- words that are the same at each number have the same streams
+pub same_streams : (words later : ℕ → ℕ) → HaveSameWords words later → streams_in later ≡ streams_in words
 unfolding streams_in
-none_in = none_pass 0 (2 ^ 64) ∙ sym (alike (λ q. false) (is_in []) 0 (2 ^ 64) (λ q le. rw (bit_at-zero (place_of q)) refl))
+same_streams words later same = alike (is_in words) (is_in later) 0 (2 ^ 64) (λ q le. ap (λ w. bit_at w (place_of q) == 1) (same (word_of q)))
+
+-- no stream where each word is 0
+pub none_in : (words : ℕ → ℕ) → ((number : ℕ) → words number ≡ 0) → [] ≡ streams_in words
+unfolding streams_in
+none_in words none = none_pass 0 (2 ^ 64) ∙ sym (alike (λ q. false) (is_in words) 0 (2 ^ 64) (λ q le. no_bit q (words (word_of q)) (none (word_of q))))
 
 -- a stream has its bit where it is among them
-pub found : (words : List (ℕ × ℕ)) (stream : ℕ) → stream < 2 ^ 64 → is_in words stream ≡ list_any (λ other. other == stream) (streams_in words)
+found : (words : ℕ → ℕ) (stream : ℕ) → stream < 2 ^ 64 → is_in words stream ≡ list_any (λ other. other == stream) (streams_in words)
 unfolding streams_in
 found words stream few = found_in (is_in words) stream (2 ^ 64) few
 
--- a word that is there is read at the place
-pub bit_there : (words : List (ℕ × ℕ)) (stream word : ℕ) → lookup (is_at (nat_cmp (word_of stream))) words ≡ Some word → (bit_and (word / 2 ^ place_of stream) 1 == 1) ≡ is_in words stream
-bit_there words stream word at = ap (λ b. b == 1) (shr_and_one word (place_of stream)) ∙ ap (λ o. bit_at (unwrap_or o 0) (place_of stream) == 1) (sym at)
-
-pub bit_absent : (words : List (ℕ × ℕ)) (stream : ℕ) → lookup (is_at (nat_cmp (word_of stream))) words ≡ None → false ≡ is_in words stream
-bit_absent words stream at = rw (at, bit_at-zero (place_of stream)) refl
+-- the bit that is read in a word
+pub read : (words : ℕ → ℕ) (stream number place word : ℕ) → stream < 2 ^ 64 → number ≡ word_of stream → place ≡ place_of stream → word ≡ words number
+    → (bit_and (word / 2 ^ place) 1 == 1) ≡ list_any (λ other. other == stream) (streams_in words)
+read words stream number place word few of_word of_place is =
+    ap (λ b. b == 1) (shr_and_one word place) ∙ ap (λ k. bit_at word k == 1) of_place ∙ ap (λ w. bit_at w (place_of stream) == 1) (is ∙ ap words of_word) ∙ found words stream few
 
 -- no stream of a word that is not there
-pub none_of_word : (words : List (ℕ × ℕ)) (number : ℕ) → lookup (is_at (nat_cmp number)) words ≡ None → list_any (λ other. word_of other == number) (streams_in words) ≡ false
+pub not_found : (words : ℕ → ℕ) (stream number : ℕ) → stream < 2 ^ 64 → number ≡ word_of stream → words number ≡ 0 → list_any (λ other. other == stream) (streams_in words) ≡ false
+not_found words stream number few of_word is = sym (found words stream few) ∙ no_bit stream (words (word_of stream)) (ap words (sym of_word) ∙ is)
+
+pub none_of_word : (words : ℕ → ℕ) (stream number : ℕ) → number ≡ word_of stream → words number ≡ 0 → list_any (λ other. word_of other == word_of stream) (streams_in words) ≡ false
 unfolding streams_in
-none_of_word words number at =
-    any-filter_same (λ other. word_of other == number) (is_in words) false
-    (λ other e. sym (bit_absent words other (ap (λ k. lookup (is_at (nat_cmp k)) words) (same (word_of other) number e) ∙ at))) (range_with_len 0 (2 ^ 64))
+none_of_word words stream number of_word is =
+    any-filter_same (λ other. word_of other == word_of stream) (is_in words) false
+    (λ other e. no_bit other (words (word_of other)) (ap words (same (word_of other) (word_of stream) e ∙ sym of_word) ∙ is)) (range_with_len 0 (2 ^ 64))
 
 -- a stream is told by its word and its place
 told : (a b : ℕ) → word_of a ≡ word_of b → place_of a ≡ place_of b → a ≡ b
 told a b of_word of_place = omega (arith, of_word, of_place)
 
--- The word of that number is another, and the others stay.
-abbrev pub IsOneWord : (words later : List (ℕ × ℕ)) → ℕ → ℕ → Type 0
-IsOneWord words later number word =
-    (lookup (is_at (nat_cmp number)) later ≡ Some word) × ((q : ℕ) → is_at (nat_cmp number) q ≡ false → lookup (is_at (nat_cmp q)) later ≡ lookup (is_at (nat_cmp q)) words)
-
 -- The word has the bit at the place, and otherwise those of the other.
-abbrev pub IsOneBit : (word later place : ℕ) → Type 0
+abbrev IsOneBit : (word later place : ℕ) → Type 0
 IsOneBit word later place = (bit_at later place ≡ 1) × ((i : ℕ) → i ≢ place → bit_at later i ≡ bit_at word i)
 
-at_itself : (a b : ℕ) → is_at (nat_cmp a) b ≡ true → a ≡ b
-at_itself a b e = grind (arith, common_steps)
-
 -- one bit more is one stream more
-put : (words later : List (ℕ × ℕ)) (stream word : ℕ) → stream < 2 ^ 64 → IsOneWord words later (word_of stream) word → IsOneBit (word_at words (word_of stream)) word (place_of stream)
+put : (words later : ℕ → ℕ) (stream word : ℕ) → stream < 2 ^ 64 → IsOneWord (word_of stream) word words later → IsOneBit (words (word_of stream)) word (place_of stream)
     → streams_in later ≡ insert_key nat_cmp (streams_in words) stream
 unfolding streams_in
 put words later stream word few words_are bits_are = one_more (is_in words) (is_in later) stream 0 (2 ^ 64) (omega arith) (omega (arith, few)) (own, others)
   where
     own : is_in later stream ≡ true
-    own = rw (words_are.0, bits_are.0) refl
+    own = rw (words_are.own, bits_are.0) refl
 
     others : (other : ℕ) → other ≢ stream → is_in later other ≡ is_in words other
-    others other ne = by_test (is_at (nat_cmp (word_of stream)) (word_of other)) refl
+    others other ne = by_test (word_of other == word_of stream) refl
       where
-        by_test : (t : Bool) → is_at (nat_cmp (word_of stream)) (word_of other) ≡ t → is_in later other ≡ is_in words other
-        by_test false e = ap (λ o. bit_at (unwrap_or o 0) (place_of other) == 1) (words_are.1 (word_of other) e)
+        by_test : (t : Bool) → (word_of other == word_of stream) ≡ t → is_in later other ≡ is_in words other
+        by_test false e = ap (λ w. bit_at w (place_of other) == 1) (words_are.others (word_of other) (apart (word_of other) (word_of stream) e))
         by_test true e =
-            let of_word = at_itself (word_of stream) (word_of other) e in
-            let far : place_of other ≢ place_of stream = λ of_place. ne (told other stream (sym of_word) of_place) in
-            ap (λ k. bit_at (word_at later k) (place_of other) == 1) (sym of_word)
-            ∙ ap (λ o. bit_at (unwrap_or o 0) (place_of other) == 1) words_are.0
+            let of_word = same (word_of other) (word_of stream) e in
+            let far : place_of other ≢ place_of stream = λ of_place. ne (told other stream of_word of_place) in
+            ap (λ k. bit_at (later k) (place_of other) == 1) of_word
+            ∙ ap (λ w. bit_at w (place_of other) == 1) words_are.own
             ∙ ap (λ b. b == 1) (bits_are.1 (place_of other) far)
-            ∙ ap (λ k. bit_at (word_at words k) (place_of other) == 1) of_word
+            ∙ ap (λ k. bit_at (words k) (place_of other) == 1) (sym of_word)
 
--- a word with a bit more
-bit_put : (word place : ℕ) → place < 64 → IsOneBit word (bit_or word (1 * 2 ^ place % 2 ^ 64)) place
-bit_put word place within = (bit_at_set_same w64 word place within, bit_at_set_other w64 word place within)
+-- the bit of a stream is added to its word
+pub added : (words later : ℕ → ℕ) (stream number bit : ℕ) → stream < 2 ^ 64 → number ≡ word_of stream → bit ≡ 1 * 2 ^ place_of stream % 2 ^ 64
+    → IsOneWord number (bit_or (words number) bit) words later → streams_in later ≡ insert_key nat_cmp (streams_in words) stream
+added words later stream number bit few of_word bit_is is =
+    let within : place_of stream < 64 = omega arith in
+    let whole = ap (λ b. bit_or (words (word_of stream)) b) bit_is in
+    put words later stream (bit_or (words (word_of stream)) bit) few (subst (λ k. IsOneWord k (bit_or (words k) bit) words later) of_word is)
+    (subst (λ w. IsOneBit (words (word_of stream)) w (place_of stream)) (sym whole)
+    (bit_at_set_same w64 (words (word_of stream)) (place_of stream) within, bit_at_set_other w64 (words (word_of stream)) (place_of stream) within))
 
--- the place of a stream in the word of that number
-pub record IsPlaced (stream number place : ℕ) : Type 0 where
-  pub few : stream < 2 ^ 64
-  pub of_word : number ≡ word_of stream
-  pub of_place : place ≡ place_of stream
-  pub within : place < 64
-
-put_at : (words later : List (ℕ × ℕ)) (stream number place word : ℕ) → IsPlaced stream number place → IsOneWord words later number (bit_or word (1 * 2 ^ place % 2 ^ 64)) → word_at words number ≡ word
-    → streams_in later ≡ insert_key nat_cmp (streams_in words) stream
-put_at words later stream number place word at words_are is =
-    let later_word = bit_or word (1 * 2 ^ place % 2 ^ 64) in
-    put words later stream later_word at.few (subst (λ k. IsOneWord words later k later_word) at.of_word words_are)
-    (subst (λ k. IsOneBit (word_at words k) later_word (place_of stream)) at.of_word
-    (subst (λ w. IsOneBit w later_word (place_of stream)) (sym is) (subst (IsOneBit word later_word) at.of_place (bit_put word place at.within))))
-
--- a stream whose word is there
-pub put_there : (words later : List (ℕ × ℕ)) (stream number place word : ℕ) → IsPlaced stream number place → lookup (is_at (nat_cmp number)) words ≡ Some word
-    → IsOneWord words later number (bit_or word (1 * 2 ^ place % 2 ^ 64)) → streams_in later ≡ insert_key nat_cmp (streams_in words) stream
-put_there words later stream number place word at there words_are = put_at words later stream number place word at words_are (ap (λ o. unwrap_or o 0) there)
-
--- the first stream of its word
-pub put_first : (words later : List (ℕ × ℕ)) (stream number place : ℕ) → IsPlaced stream number place → lookup (is_at (nat_cmp number)) words ≡ None
-    → IsOneWord words later number (1 * 2 ^ place % 2 ^ 64) → streams_in later ≡ insert_key nat_cmp (streams_in words) stream
-put_first words later stream number place at none words_are = put_at words later stream number place 0 at words_are (ap (λ o. unwrap_or o 0) none)
+-- the bit of a stream is the first of its word
+pub put_first : (words between later : ℕ → ℕ) (stream number bit : ℕ) → stream < 2 ^ 64 → number ≡ word_of stream → bit ≡ 1 * 2 ^ place_of stream % 2 ^ 64 → HaveSameWords words between → words number ≡ 0
+    → IsOneWord number bit between later → streams_in later ≡ insert_key nat_cmp (streams_in words) stream
+put_first words between later stream number bit few of_word bit_is same none is =
+    let alone : bit_or (between number) bit ≡ bit = ap (λ w. bit_or w bit) (same number ∙ none) in
+    added between later stream number bit few of_word bit_is (subst (λ w. IsOneWord number w between later) (sym alone) is) ∙ ap (λ (ss : List ℕ). insert_key nat_cmp ss stream) (same_streams words between same)

@@ -10,9 +10,11 @@ pub mod InOrder
 pub mod Sections
 pub mod SectionsInside
 pub mod ByStream
+pub mod PlacedSectionInside
 pub mod Places
 pub mod Blocking
 pub mod Alone
+pub mod Words
 pub mod StreamSet
 pub mod ByteRow
 pub mod ByteQueueInside

@@ -1,12 +1,11 @@
 //! Fields in the order of their insertion, whose bytes lie end to end.
-ghost use Rattle.std.specs.Prelude.{◌≡◌, ℕ, ◌+◌, ◌-◌, ◌*◌, ◌/◌, ◌^◌, ◌<◌, ◌≤◌, ◌++◌, ◌∷◌, [], List, length, slice_get, slice_index_or, min, Some, None, IfSome, IfNone, IfOk, OnOk};
-ghost use Rattle.std.specs.Vec.{vec_capacity};
+ghost use Rattle.std.specs.Prelude.{◌≡◌, ℕ, ◌+◌, ◌-◌, ◌*◌, ◌/◌, ◌^◌, ◌<◌, ◌≤◌, ◌++◌, ◌∷◌, [], List, length, slice_get, slice_index_or, min, Some, None, IfSome, IfNone, IfOk, OnOk, OnErr};
+ghost use Rattle.std.specs.Vec.{vec_len, vec_capacity};
 ghost use Rattle.h3_field.specs.Field.{Field, field_size, section_size};
 
 use crate::byte_queue::ByteQueue;
 use h3_field::HeaderField;
 use std::alloc::{AllocError, Global};
-use std::borrow::CowSlice;
 use std::collections::VecDeque;
 use std::marker::Model;
 
@@ -63,15 +62,26 @@ impl<'t> Entry<'t> {
             .saturating_add(32)
     }
 
-    /// A field of the entry's name and another value. A static name is not copied.
-    pub fn with_value(&self, alloc: Global, value: Vec<u8>) -> Result<HeaderField, AllocError>
-        ensures { IfOk result (λ f. f ≡ record { name = self.now.name; value = value.items }) }
+    /// How many bytes of its name a field of the entry's name and another value owns: none where the name is static.
+    pub fn owned_name_len(&self) -> usize
+        ensures { result ≤ length self.now.name }
+    {
+        match self.static_name {
+            Some(_) => 0,
+            None => self.name.len(),
+        }
+    }
+
+    /// A field of the entry's name and another value. A static name is not copied, and any other is copied in front of the value, in the
+    /// value's block: memory is taken only where that block has no room for it (`owned_name_len`).
+    pub fn with_value(&self, value: Vec<u8>) -> Result<HeaderField, AllocError>
+        ensures ok { IfOk result (λ f. f ≡ record { name = self.now.name; value = value.items }) }
+        ensures err { OnErr result (vec_capacity value < vec_len value + length self.now.name) }
     {
         if let Some(name) = self.static_name {
             return Ok(HeaderField::with_static_name(name, value));
         }
-        let name = Vec::from_slice(alloc, self.name)?;
-        Ok(HeaderField::new(CowSlice::Owned(name), CowSlice::Owned(value)))
+        HeaderField::with_copied_name(self.name, value)
     }
 
     /// A copy, with one allocation: of the value where the name is static, and of both in one block else. An empty value or block takes none.

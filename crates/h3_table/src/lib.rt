@@ -13,3 +13,4 @@ mod places;
 pub mod sections;
 pub mod stream_set;
 pub mod tracking;
+mod words;

@@ -16,11 +16,62 @@ const KEPT_PLACES: usize = 1024;
 /// Streams of requests are four apart (RFC 9000, section 2.1).
 const STREAM_STEP: u64 = 4;
 
-/// What stands where no section does: entries are numbered from 1.
-const NOTHING: TrackedSection = TrackedSection {
-    stream: 0,
+/// A section in eight bytes, so that eight of them share a line of memory. Entries are numbered from 1, so one that names entry 0 is none.
+#[derive(Clone, Copy)]
+struct PlacedSection {
+    // the stream's number among request streams
+    index: u32,
+    oldest: u32,
+}
+
+impl Model for PlacedSection {
+    ghost use Rattle.h3_table.specs.declared.tracking.TrackedSection.{TrackedSection};
+    ghost use Rattle.h3_table.specs.PlacedSectionInside.{placed_section_inside, placed_section_of, placed_section_is_back};
+
+    ghost Value = { TrackedSection };
+
+    ghost view = { placed_section_inside };
+
+    ghost inverse = { placed_section_of };
+
+    ghost inverse_ok = { λ s h. placed_section_is_back s };
+}
+
+/// What stands where no section does.
+const NOTHING: PlacedSection = PlacedSection {
+    index: 0,
     oldest: 0,
 };
+
+impl PlacedSection {
+    /// The section, where it fits: its stream is of the kind of requests, and neither number needs more than 32 bits.
+    fn of(section: TrackedSection) -> Option<PlacedSection>
+        ensures { IfSome result (λ slot. slot ≡ section) }
+    {
+        if section.stream % STREAM_STEP != 0 {
+            return None;
+        }
+        let Ok(index) = u32::try_from(section.stream / STREAM_STEP) else {
+            return None;
+        };
+        let Ok(oldest) = u32::try_from(section.oldest) else {
+            return None;
+        };
+        Some(PlacedSection { index, oldest })
+    }
+
+    fn stream(self) -> u64
+        ensures { result ≡ self.stream }
+    {
+        u64::from(self.index) * STREAM_STEP
+    }
+
+    fn oldest(self) -> usize
+        ensures { result ≡ self.oldest }
+    {
+        self.oldest as usize
+    }
+}
 
 /// At most one section of each stream, and of the streams with one place one at most. Streams near one another have places of their
 /// own: where a place is not free and there are less than two for each section, they are made twice as many.
@@ -28,7 +79,7 @@ const NOTHING: TrackedSection = TrackedSection {
 pub(crate) struct Places {
     alloc: Global,
     // one that names no entry, or stands where its stream has no place, is none
-    slots: Vec<TrackedSection>,
+    slots: Vec<PlacedSection>,
 }
 
 impl Model for Places {
@@ -87,17 +138,17 @@ impl Places {
     }
 
     /// Puts a section at the place of its stream, and tells whether that was free.
-    fn put_at_once(&mut self, section: TrackedSection) -> bool
+    fn put_at_once(&mut self, section: PlacedSection) -> bool
         ensures put { result ≡ true → HasOneMore section self.old self.new }
         ensures taken { result ≡ false → self.new ≡ self.old }
     {
         let len = self.slots.len();
-        if len == 0 || section.oldest == 0 {
+        if len == 0 || section.oldest() == 0 {
             return false;
         }
-        let place = place_of(len, section.stream);
+        let place = place_of(len, section.stream());
         let there = self.slots[place];
-        if there.oldest != 0 && place_of(len, there.stream) == place {
+        if there.oldest() != 0 && place_of(len, there.stream()) == place {
             return false;
         }
         self.slots[place] = section;
@@ -110,11 +161,14 @@ impl Places {
         ensures taken { IfOk result (λ done. done ≡ false → HaveSame self.old self.new) }
         ensures err { OnErr result (HaveSame self.old self.new) }
     {
-        if self.put_at_once(section) {
+        let Some(slot) = PlacedSection::of(section) else {
+            return Ok(false);
+        };
+        if self.put_at_once(slot) {
             return Ok(true);
         }
         self.make_room(count)?;
-        Ok(self.put_at_once(section))
+        Ok(self.put_at_once(slot))
     }
 
     /// Takes the section of a stream away, and answers the oldest entry that it names.
@@ -128,10 +182,10 @@ impl Places {
         }
         let place = place_of(len, stream);
         let there = self.slots[place];
-        if there.stream != stream || there.oldest == 0 {
+        if there.stream() != stream || there.oldest() == 0 {
             return None;
         }
         self.slots[place] = NOTHING;
-        Some(there.oldest)
+        Some(there.oldest())
     }
 }

@@ -1,28 +1,28 @@
 //! Sets of streams that only grow, such as those of which a cancellation was read (RFC 9204, section 4.4.2).
-ghost use Rattle.std.specs.Prelude.{◌≡◌, ◌==◌, ◌<◌, [], false, OnErr, OnOk};
+ghost use Rattle.std.specs.Prelude.{◌≡◌, ◌==◌, ◌<◌, ◌*◌, ◌%◌, ◌^◌, [], false, OnErr, OnOk};
 ghost use Rattle.std.specs.List.{list_any};
 ghost use Rattle.std.specs.Ordering.{nat_cmp};
 ghost use Rattle.std.specs.BTreeSet.{insert_key};
 ghost use Rattle.h3_table.specs.StreamSet.{word_of, place_of};
 
+use crate::words::Words;
 use std::alloc::{AllocError, Global};
-use std::collections::BTreeMap;
 use std::marker::Model;
 
 /// A set of streams by words of 64 bits, where 64 request streams, one behind the other, share a word.
 #[derive(Drop)]
 pub struct StreamSet {
-    // the words that have a bit, by their numbers
-    words: BTreeMap<u64, u64>,
+    words: Words,
 }
 
 impl Model for StreamSet {
     ghost use Rattle.std.specs.Prelude.{ℕ, List};
     ghost use Rattle.h3_table.specs.StreamSet.{streams_in};
+    ghost use Rattle.h3_table.specs.Words.{word_at};
 
     ghost Value = { List ℕ };
 
-    ghost view = { λ s. streams_in s.words.entries };
+    ghost view = { λ s. streams_in (word_at s.words) };
 }
 
 /// The number of the word in which a stream has its bit: a number of its kind (request, push and so on, by the last two bits) for each
@@ -41,13 +41,21 @@ fn place_of(stream: u64) -> u32
     (stream / 4 % 64) as u32
 }
 
+/// The stream's bit in its word.
+fn bit_of(stream: u64) -> u64
+    ensures value { result ≡ 1 * 2 ^ place_of stream % 2 ^ 64 }
+    ensures some { 0 < result }
+{
+    1 << place_of(stream)
+}
+
 impl StreamSet {
     /// No stream. It takes no memory.
     pub fn new(alloc: Global) -> StreamSet
         ensures { result ≡ [] }
     {
         StreamSet {
-            words: BTreeMap::new(alloc),
+            words: Words::new(alloc),
         }
     }
 
@@ -55,10 +63,7 @@ impl StreamSet {
     pub fn contains(&self, stream: u64) -> bool
         ensures { result ≡ list_any (λ other. other == stream) self.now }
     {
-        match self.words.get(&word_of(stream)) {
-            Some(word) => (*word >> place_of(stream)) & 1 == 1,
-            None => false,
-        }
+        (self.words.get(word_of(stream)) >> place_of(stream)) & 1 == 1
     }
 
     /// Puts a stream into the set. Where memory is refused nothing changes; none is needed where a stream of the same word is there.
@@ -68,12 +73,11 @@ impl StreamSet {
         ensures room { OnErr result (list_any (λ other. word_of other == word_of stream) self.old ≡ false) }
     {
         let number = word_of(stream);
-        let bit = 1 << place_of(stream);
-        if let Some(word) = self.words.get_mut(&number) {
-            *word |= bit;
+        let bit = bit_of(stream);
+        if self.words.add(number, bit) {
             return Ok(());
         }
-        let Ok(_) = self.words.insert(number, bit) else {
+        let Ok(()) = self.words.insert(number, bit) else {
             return Err(AllocError);
         };
         Ok(())

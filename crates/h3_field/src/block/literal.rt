@@ -1,11 +1,12 @@
 //! Lines with a literal value (RFC 9204, sections 4.5.4 to 4.5.6). The bit N is written 0, and read either way: that a line
 //! with N stays a literal at a next hop is not enforced (docs/RFC.md).
-ghost use Rattle.std.specs.Prelude.{◌≡◌, ◌<◌, ◌^◌, ◌++◌, true, false, length, slice_index, OnOk, OnErr, Err};
+ghost use Rattle.std.specs.Prelude.{◌≡◌, ◌<◌, ◌^◌, ◌++◌, true, false, length, slice_index, IfOk, OnOk, OnErr, Err};
 ghost use Rattle.std.specs.Result.{IsOkUnless};
 ghost use Rattle.h3_field.specs.Line.{line_bytes};
 ghost use Rattle.h3_field.specs.Line.FieldLine.{StaticName, RelativeName, PostBaseName};
 ghost use Rattle.h3_field.specs.Line.{FieldLine as line};
 ghost use Rattle.h3_field.specs.Ends.{IsEndOf};
+ghost use Rattle.h3_field.specs.Room.{HasRoom, line_value};
 ghost use Rattle.h3_field.specs.ShapeAnswer.{AtString, behind};
 ghost use Rattle.h3_field.specs.IntegerReading.{integer};
 ghost use Rattle.h3_field.specs.Shapes.{begins};
@@ -45,7 +46,6 @@ impl LiteralWithNameRef {
     }
 
     /// Takes the line from the front. A refused read takes nothing.
-    #[tactic(auto, using(crate::specs::EndLaws::none_dropped))]
     pub fn decode(
         alloc: Global,
         buf: &mut SliceCursor<'_>,
@@ -54,10 +54,26 @@ impl LiteralWithNameRef {
         ensures other { begins 64 127 buf.old ≡ false → (result ≡ Err (InvalidPrefix (slice_index buf.old 0))) × (buf.new ≡ buf.old) }
         ensures rest { IsEndOf buf.old buf.new }
     {
+        LiteralWithNameRef::decode_with_room(alloc, buf, 0)
+    }
+
+    /// Takes the line from the front as `decode` does, into a block that has room for `spare` bytes behind the value, so that the name of
+    /// the entry can be put there with no second block (`HeaderField::with_copied_name`). An empty value has no block.
+    #[tactic(auto, using(crate::specs::EndLaws::none_dropped))]
+    pub fn decode_with_room(
+        alloc: Global,
+        buf: &mut SliceCursor<'_>,
+        spare: usize,
+    ) -> Result<LiteralWithNameRef, ParseError>
+        ensures own { begins 64 127 buf.old ≡ true → AnswersLine named_line (behind (integer 4 buf.old)) (named buf.old) buf.old buf.new result }
+        ensures other { begins 64 127 buf.old ≡ false → (result ≡ Err (InvalidPrefix (slice_index buf.old 0))) × (buf.new ≡ buf.old) }
+        ensures rest { IsEndOf buf.old buf.new }
+        ensures room { IfOk result (λ line. HasRoom spare (line_value line)) }
+    {
         if let Some(first) = other_first(buf, 64, 127) {
             return Err(ParseError::InvalidPrefix(u64::from(first)));
         }
-        match take_index_and_string(alloc, 4, buf) {
+        match take_index_and_string(alloc, 4, buf, spare) {
             Ok(parts) => {
                 let index = parts.index as usize;
                 let value = parts.value;
@@ -135,7 +151,6 @@ impl LiteralWithPostBaseNameRef {
     }
 
     /// Takes the line from the front. A refused read takes nothing.
-    #[tactic(auto, using(crate::specs::EndLaws::none_dropped))]
     pub fn decode(
         alloc: Global,
         buf: &mut SliceCursor<'_>,
@@ -144,10 +159,26 @@ impl LiteralWithPostBaseNameRef {
         ensures other { begins 0 15 buf.old ≡ false → (result ≡ Err (InvalidPrefix (slice_index buf.old 0))) × (buf.new ≡ buf.old) }
         ensures rest { IsEndOf buf.old buf.new }
     {
+        LiteralWithPostBaseNameRef::decode_with_room(alloc, buf, 0)
+    }
+
+    /// Takes the line from the front as `decode` does, into a block that has room for `spare` bytes behind the value, so that the name of
+    /// the entry can be put there with no second block (`HeaderField::with_copied_name`). An empty value has no block.
+    #[tactic(auto, using(crate::specs::EndLaws::none_dropped))]
+    pub fn decode_with_room(
+        alloc: Global,
+        buf: &mut SliceCursor<'_>,
+        spare: usize,
+    ) -> Result<LiteralWithPostBaseNameRef, ParseError>
+        ensures own { begins 0 15 buf.old ≡ true → AnswersLine post_base_named_line (behind (integer 3 buf.old)) (post_base_named buf.old) buf.old buf.new result }
+        ensures other { begins 0 15 buf.old ≡ false → (result ≡ Err (InvalidPrefix (slice_index buf.old 0))) × (buf.new ≡ buf.old) }
+        ensures rest { IsEndOf buf.old buf.new }
+        ensures room { IfOk result (λ line. HasRoom spare line.value) }
+    {
         if let Some(first) = other_first(buf, 0, 15) {
             return Err(ParseError::InvalidPrefix(u64::from(first)));
         }
-        match take_index_and_string(alloc, 3, buf) {
+        match take_index_and_string(alloc, 3, buf, spare) {
             Ok(parts) => Ok(LiteralWithPostBaseNameRef {
                 index: parts.index as usize,
                 value: parts.value,

@@ -113,7 +113,7 @@ pub fn decode(alloc: Global, size: u8, buf: &mut SliceCursor<'_>) -> Result<Vec<
         Err(prefix_int::Error::UnexpectedEnd) => return Err(Error::UnexpectedEnd),
         Err(prefix_int::Error::Overflow) => return Err(Error::Integer(prefix_int::Error::Overflow)),
     };
-    match payload.to_bytes(alloc) {
+    match payload.to_bytes(alloc, 0) {
         Ok(bytes) => {
             *buf = ahead;
             Ok(bytes)

@@ -1,6 +1,7 @@
 //! The bytes of a string, before they are decoded.
-ghost use Rattle.std.specs.Prelude.{◌≡◌, ◌-◌, ◌≤◌, ℕ, List, length, is_some, true};
+ghost use Rattle.std.specs.Prelude.{◌≡◌, ◌+◌, ◌-◌, ◌≤◌, ℕ, List, length, is_some, true, IfOk, vec_len, vec_capacity};
 ghost use Rattle.h3_field.specs.Ends.{IsEndOf};
+ghost use Rattle.h3_field.specs.Room.{HasRoom};
 ghost use Rattle.h3_field.specs.StringReading.{string};
 ghost use Rattle.h3_field.specs.Values.{string_of};
 ghost use Rattle.h3_field.specs.StringAnswer.{AnswersPayload, AnswersBytes};
@@ -9,7 +10,7 @@ use crate::cursor::SliceCursor;
 use crate::octets::are_bytes;
 use crate::prefix_int;
 use crate::prefix_string::Error;
-use std::alloc::Global;
+use std::alloc::{AllocError, Global};
 use std::marker::Model;
 
 /// The bytes of a string, and whether they are Huffman coded.
@@ -58,10 +59,31 @@ pub(crate) fn take_payload<'a>(
     ))
 }
 
+/// A copy of bytes, in a block with room for `spare` bytes more.
+fn copy_with_room(alloc: Global, bytes: &[u8], spare: usize) -> Result<Vec<u8>, AllocError>
+    ensures items { IfOk result (λ copy. copy.items ≡ bytes.now) }
+    ensures room { IfOk result (λ copy. vec_len copy + spare ≤ vec_capacity copy) }
+{
+    let mut copy = Vec::with_capacity(alloc, bytes.len().saturating_add(spare))?;
+    copy.extend_from_slice(bytes)?;
+    Ok(copy)
+}
+
+/// So many zeros, in a block with room for `spare` bytes more.
+fn zeros_with_room(alloc: Global, count: usize, spare: usize) -> Result<Vec<u8>, AllocError>
+    ensures len { IfOk result (λ zeros. vec_len zeros ≡ count) }
+    ensures room { IfOk result (λ zeros. count + spare ≤ vec_capacity zeros) }
+{
+    let mut zeros = Vec::with_capacity(alloc, count.saturating_add(spare))?;
+    zeros.resize(count, 0)?;
+    Ok(zeros)
+}
+
 impl<'a> Payload<'a> {
-    /// The string that it stands for.
-    pub(crate) fn to_bytes(&self, alloc: Global) -> Result<Vec<u8>, Error>
-        ensures { AnswersBytes self.now result }
+    /// The string that it stands for, in a block with room for `spare` bytes more. The empty string has no block.
+    pub(crate) fn to_bytes(&self, alloc: Global, spare: usize) -> Result<Vec<u8>, Error>
+        ensures answer { AnswersBytes self.now result }
+        ensures room { IfOk result (λ bytes. HasRoom spare bytes) }
     {
         let encoded = self.bytes;
         are_bytes(encoded);
@@ -69,12 +91,12 @@ impl<'a> Payload<'a> {
             return Ok(Vec::new(alloc));
         }
         if !self.is_huffman {
-            let Ok(bytes) = Vec::from_slice(alloc, encoded) else {
+            let Ok(bytes) = copy_with_room(alloc, encoded, spare) else {
                 return Err(Error::OutOfMemory);
             };
             return Ok(bytes);
         }
-        decode_payload(alloc, encoded)
+        decode_payload(alloc, encoded, spare)
     }
 
     /// Whether it stands for a string. It asks for no memory.
@@ -87,16 +109,18 @@ impl<'a> Payload<'a> {
     }
 }
 
-/// The string of a Huffman encoding. What is no encoding is refused as such, whether there is memory or not.
-pub(crate) fn decode_payload(alloc: Global, encoded: &[u8]) -> Result<Vec<u8>, Error>
-    ensures { AnswersBytes (record { is_huffman = true; bytes = encoded.now }) result }
+/// The string of a Huffman encoding, in a block with room for `spare` bytes more. What is no encoding is refused as such, whether there
+/// is memory or not.
+pub(crate) fn decode_payload(alloc: Global, encoded: &[u8], spare: usize) -> Result<Vec<u8>, Error>
+    ensures answer { AnswersBytes (record { is_huffman = true; bytes = encoded.now }) result }
+    ensures room { IfOk result (λ bytes. HasRoom spare bytes) }
 {
     if encoded.is_empty() {
         return Ok(Vec::new(alloc));
     }
     // a code word has at least five bits, and the decoder writes two symbols at a time
     let room = encoded.len() / 5 * 8 + 12;
-    let Ok(mut bytes) = vec![in alloc; 0u8; room] else {
+    let Ok(mut bytes) = zeros_with_room(alloc, room, spare) else {
         if h3_huffman::decode::is_encoding(encoded) {
             return Err(Error::OutOfMemory);
         }

@@ -102,7 +102,7 @@ impl HpackStringDecode for Vec<u8> {
 
     fn hpack_decode(&self, alloc: Global) -> Result<DecodeIter, AllocError> {
         let encoded = self.as_slice();
-        match decode_payload(alloc, encoded) {
+        match decode_payload(alloc, encoded, 0) {
             Ok(bytes) => Ok(DecodeIter {
                 bytes,
                 next: 0,

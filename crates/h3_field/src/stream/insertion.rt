@@ -1,9 +1,10 @@
 //! Instructions of an encoder, on its stream to a decoder (RFC 9204, section 4.3).
-ghost use Rattle.std.specs.Prelude.{◌≡◌, ◌<◌, ◌^◌, ◌++◌, true, false, length, slice_index, OnOk, OnErr, Err};
+ghost use Rattle.std.specs.Prelude.{◌≡◌, ◌<◌, ◌^◌, ◌++◌, true, false, length, slice_index, IfOk, IfSome, OnOk, OnErr, Err};
 ghost use Rattle.std.specs.Result.{IsOkUnless};
 ghost use Rattle.h3_field.specs.Instruction.{encoder_bytes};
 ghost use Rattle.h3_field.specs.Instruction.{EncoderInstruction as instruction};
 ghost use Rattle.h3_field.specs.Ends.{IsEndOf};
+ghost use Rattle.h3_field.specs.Room.{HasRoom, inserted_value};
 ghost use Rattle.h3_field.specs.ShapeAnswer.{AtString, behind};
 ghost use Rattle.h3_field.specs.IntegerReading.{integer};
 ghost use Rattle.h3_field.specs.Shapes.{begins};
@@ -44,7 +45,6 @@ impl InsertWithNameRef {
 
     /// Takes the instruction from the front, or answers `None` where it is not whole. Then, and on a refusal, nothing is
     /// taken.
-    #[tactic(auto, using(crate::specs::EndLaws::none_dropped))]
     pub fn decode(
         alloc: Global,
         buf: &mut SliceCursor<'_>,
@@ -53,10 +53,26 @@ impl InsertWithNameRef {
         ensures other { begins 128 255 buf.old ≡ false → (result ≡ Err (InvalidPrefix (slice_index buf.old 0))) × (buf.new ≡ buf.old) }
         ensures rest { IsEndOf buf.old buf.new }
     {
+        InsertWithNameRef::decode_with_room(alloc, buf, 0)
+    }
+
+    /// Takes the instruction from the front as `decode` does, into a block that has room for `spare` bytes behind the value, so that the
+    /// name of the entry can be put there with no second block (`HeaderField::with_copied_name`). An empty value has no block.
+    #[tactic(auto, using(crate::specs::EndLaws::none_dropped))]
+    pub fn decode_with_room(
+        alloc: Global,
+        buf: &mut SliceCursor<'_>,
+        spare: usize,
+    ) -> Result<Option<InsertWithNameRef>, ParseError>
+        ensures own { begins 128 255 buf.old ≡ true → AnswersInstruction named_insertion (behind (integer 6 buf.old)) (name_reference buf.old) buf.old buf.new result }
+        ensures other { begins 128 255 buf.old ≡ false → (result ≡ Err (InvalidPrefix (slice_index buf.old 0))) × (buf.new ≡ buf.old) }
+        ensures rest { IsEndOf buf.old buf.new }
+        ensures room { IfOk result (λ read. IfSome read (λ insertion. HasRoom spare (inserted_value insertion))) }
+    {
         if let Some(first) = other_first(buf, 128, 255) {
             return Err(ParseError::InvalidPrefix(u64::from(first)));
         }
-        match take_index_and_string(alloc, 6, buf) {
+        match take_index_and_string(alloc, 6, buf, spare) {
             Ok(parts) => {
                 let index = parts.index as usize;
                 let value = parts.value;

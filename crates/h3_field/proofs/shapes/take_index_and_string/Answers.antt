@@ -10,4 +10,4 @@ returns-in-Err-take_payload-clause-answer c =
 
 pub returns-in-Ok-to_bytes-clause-answer : goal.returns-in-Ok-to_bytes-clause-answer
 returns-in-Ok-to_bytes-clause-answer c =
-    value_read _ _ _ _ _ _ _ (rw (c.new-ahead.ensures, c.chunk.ensures) at c.in-Ok.ensures.answer) c.in-Ok-take_payload.ensures.answer c.in-Ok-to_bytes.ensures
+    value_read _ _ _ _ _ _ _ (rw (c.new-ahead.ensures, c.chunk.ensures) at c.in-Ok.ensures.answer) c.in-Ok-take_payload.ensures.answer c.in-Ok-to_bytes.ensures.answer

@@ -24,14 +24,14 @@ returns-in-Err-get_name c =
 pub returns-in-Ok-with_value : goal.returns-in-Ok-with_value
 returns-in-Ok-with_value c =
     let there : entry_at c.self.inside.entries (c.self.inside.entries.inserted - c.in-Ok-Some-Dynamic.index) ≡ Some c.in-Ok-relative.entry =
-    ap (λ n. entry_at c.self.inside.entries (n - c.in-Ok-Some-Dynamic.index)) (sym c.inserted.ensures.value) ∙ c.in-Ok-relative.ensures in
+    ap (λ n. entry_at c.self.inside.entries (n - c.in-Ok-Some-Dynamic.index)) (sym c.inserted-newest.ensures.value) ∙ c.in-Ok-relative.ensures in
     rw (← c.self.view_is) (begins_insertion (behind (integer 6 c.args.buf.now)) c.self.inside.entries named_insertion name_reference c.args.buf.now _ _ _ _ name_reference_less (instruction_named _ c.requires.some c.requires.own) c.in-Ok-Some-Dynamic.field-0-is (c.in-Ok-Some-Dynamic.ensures.own c.requires.own)
-    (rw c.in-Ok-Some-Dynamic.field-0-0-is refl) (rw (c.in-Ok-Some-Dynamic.field-0-0-is, c.in-Ok-with_value.ensures, there) refl))
+    (rw c.in-Ok-Some-Dynamic.field-0-0-is refl) (rw (c.in-Ok-Some-Dynamic.field-0-0-is, c.in-Ok-with_value.ensures.ok, there) refl))
 
 pub returns-in-Err-relative : goal.returns-in-Err-relative
 returns-in-Err-relative c =
     let none : entry_at c.self.inside.entries (c.self.inside.entries.inserted - c.in-Ok-Some-Dynamic.index) ≡ None =
-    ap (λ n. entry_at c.self.inside.entries (n - c.in-Ok-Some-Dynamic.index)) (sym c.inserted.ensures.value) ∙ c.in-Err-relative.ensures.0 in
+    ap (λ n. entry_at c.self.inside.entries (n - c.in-Ok-Some-Dynamic.index)) (sym c.inserted-newest.ensures.value) ∙ c.in-Err-relative.ensures.0 in
     rw (c.in-Err-relative.ensures.1, ← c.self.view_is) (begins_no_insertion (behind (integer 6 c.args.buf.now)) c.self.inside.entries named_insertion (name_reference c.args.buf.now) c.args.buf.now _ _ _ (instruction_named _ c.requires.some c.requires.own) c.in-Ok-Some-Dynamic.field-0-is (c.in-Ok-Some-Dynamic.ensures.own c.requires.own)
     (rw c.in-Ok-Some-Dynamic.field-0-0-is refl) (rw (c.in-Ok-Some-Dynamic.field-0-0-is, none) refl))
 

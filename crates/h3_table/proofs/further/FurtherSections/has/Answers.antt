@@ -1,9 +1,7 @@
-use Rattle.std.proofs.Common.{◌≡◌, Bool, true, false, sym, ◌∙◌, List, ℕ, [], Some, None, Option, is_some, refl}
+use Rattle.std.proofs.Common.{◌≡◌, false, sym, ◌∙◌, List, ℕ, Some, None, Option, is_some, refl}
 use Rattle.std.specs.Ordering.{nat_cmp}
 use Rattle.std.specs.BTreeMap.{is_at}
 use Rattle.std.specs.Map.{lookup}
-use Rattle.h3_table.specs.ByStream.{of_stream}
-use Rattle.h3_table.specs.Sections.{sections_of}
 use Rattle.h3_table.proofs.Streams.{none_of_map}
 use Rattle.h3_table.proofs.further.FurtherSections.has.Goals as goal
 

@@ -1,4 +1,4 @@
-use Rattle.std.proofs.Common.{◌≡◌, ◌<◌, ℕ, Bool, true, false, List, ◌++◌, ◌-◌, length, refl, sym, ◌∙◌, ap, arith, if◌then◌else◌, slice_range, take, drop}
+use Rattle.std.proofs.Common.{◌≡◌, ◌<◌, ℕ, Bool, true, false, List, ◌++◌, ◌-◌, length, refl, ◌∙◌, ap, arith, if◌then◌else◌, slice_range, take}
 use Rattle.std.proofs.Math.Seq.{take-length}
 use Rattle.std.specs.Prelude.{is_ok}
 use Rattle.h3_table.specs.declared.tracking.TrackedSection.{TrackedSection}

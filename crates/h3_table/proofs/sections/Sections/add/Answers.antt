@@ -1,4 +1,4 @@
-use Rattle.std.proofs.Common.{◌≡◌, ◌++◌, sym, ◌∙◌, ap, arith, length}
+use Rattle.std.proofs.Common.{◌++◌, sym, ◌∙◌, ap, arith, length}
 use Rattle.h3_table.specs.declared.tracking.TrackedSection.{TrackedSection}
 use Rattle.h3_table.specs.InOrder.{in_order, put_last}
 use Rattle.h3_table.specs.InOrderLaws.{length-put_last}

@@ -1,7 +1,6 @@
-use Rattle.std.proofs.Common.{◌≡◌, ℕ, ◌++◌, ◌∙◌, sym, ap, subst, arith, length, Some, None}
+use Rattle.std.proofs.Common.{◌≡◌, ◌++◌, ◌∙◌, sym, ap, arith, length, Some, None}
 use Rattle.h3_table.specs.declared.tracking.TrackedSection.{TrackedSection}
 use Rattle.h3_table.specs.InOrder.{in_order}
-use Rattle.h3_table.specs.Sections.{IsOldestTaken}
 use Rattle.h3_table.proofs.Streams.{one_less}
 use Rattle.h3_table.proofs.ByStream.{oldest_taken, none_left}
 use Rattle.h3_table.proofs.sections.Sections.take_oldest.Goals as goal

@@ -1,9 +1,0 @@
-use Rattle.std.proofs.Common.{length}
-use Rattle.h3_field.proofs.Standing.{Standing}
-use Rattle.h3_field.proofs.decoder.decode_stateless.Given as goal
-
-abbrev pub invariant-lines : goal.invariant-lines
-invariant-lines l = Standing l.max_size l.buf l.mem_size l.fields.items l.ahead
-
-abbrev pub decreases-lines : goal.decreases-lines
-decreases-lines l = length l.ahead
