@@ -4,6 +4,3 @@ use Rattle.h3_qpack.proofs.encoder_view.end.Goals as goal
 
 pub returns-clause-ok : goal.returns-clause-ok
 returns-clause-ok c = grind (arith, common_steps)
-
-pub returns-clause-err : goal.returns-clause-err
-returns-clause-err c = search

@@ -10,6 +10,3 @@ returns-then-not-is_needed-clause-err c = search
 
 pub returns-clause-ok : goal.returns-clause-ok
 returns-clause-ok c = grind (arith, common_steps)
-
-pub returns-clause-err : goal.returns-clause-err
-returns-clause-err c = search

@@ -4,9 +4,3 @@ use Rattle.h3_qpack.proofs.decoder.Decoder.table_size.Goals as goal
 
 pub returns-clause-value : goal.returns-clause-value
 returns-clause-value c = grind (arith, common_steps)
-
-pub returns-clause-small : goal.returns-clause-small
-returns-clause-small c = grind (arith, common_steps)
-
-pub returns-clause-announced : goal.returns-clause-announced
-returns-clause-announced c = grind (arith, common_steps)

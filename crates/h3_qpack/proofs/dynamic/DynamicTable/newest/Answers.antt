@@ -2,12 +2,6 @@ use Rattle.std.proofs.Common.{arith}
 use Rattle.std.proofs.lemmas.Grind.{common_steps}
 use Rattle.h3_qpack.proofs.dynamic.DynamicTable.newest.Goals as goal
 
-pub returns-in-Name-clause-value : goal.returns-in-Name-clause-value
-returns-in-Name-clause-value c = grind (arith, common_steps)
-
-pub returns-in-Name-clause-within : goal.returns-in-Name-clause-within
-returns-in-Name-clause-within c = grind (arith, common_steps)
-
 pub returns-in-Field-clause-value : goal.returns-in-Field-clause-value
 returns-in-Field-clause-value c = grind (arith, common_steps)
 

@@ -5,8 +5,5 @@ use Rattle.h3_qpack.proofs.encoder.Encoder.table_size.Goals as goal
 pub returns-clause-value : goal.returns-clause-value
 returns-clause-value c = search
 
-pub returns-clause-small : goal.returns-clause-small
-returns-clause-small c = grind (arith, common_steps)
-
 pub returns-clause-history : goal.returns-clause-history
 returns-clause-history c = grind (arith, common_steps)

@@ -4,6 +4,3 @@ use Rattle.h3_qpack.proofs.section.Section.begin.Goals as goal
 
 pub returns-clause-value : goal.returns-clause-value
 returns-clause-value c = grind (arith, common_steps)
-
-pub returns-clause-over : goal.returns-clause-over
-returns-clause-over c = grind (arith, common_steps)

@@ -10,12 +10,3 @@ returns-in-Some-room_for-clause-possible c = grind (arith, common_steps)
 
 pub returns-in-Some-room_for-clause-missed : goal.returns-in-Some-room_for-clause-missed
 returns-in-Some-room_for-clause-missed c = grind (arith, common_steps)
-
-pub returns-clause-rule : goal.returns-clause-rule
-returns-clause-rule c = search
-
-pub returns-clause-possible : goal.returns-clause-possible
-returns-clause-possible c = search
-
-pub returns-clause-missed : goal.returns-clause-missed
-returns-clause-missed c = search
