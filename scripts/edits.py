@@ -5,36 +5,47 @@ import re
 import sys
 
 
-def problems(edit, crate):
+class NotApplied(Exception):
+    """Why an edit does not apply."""
+
+
+def edited(edit, crate):
+    """The texts of the files that the edit changes, by their paths in the crate, as it leaves them."""
     path, old, pairs, texts = None, None, 0, {}
     for line in edit.read_text().split("\n"):
         if line.startswith("file: "):
             path = line[len("file: ") :].strip()
             if not (crate / path).is_file():
-                yield f"there is no file {path}"
-                return
+                raise NotApplied(f"there is no file {path}")
             texts.setdefault(path, (crate / path).read_text())
         elif line.startswith("old: "):
             old = line[len("old: ") :]
         elif line.startswith("new:"):
             if path is None or not old:
-                yield "a line new: with no file: or old: before it"
-                return
+                raise NotApplied("a line new: with no file: or old: before it")
             found = texts[path].count(old)
             if found != 1:
-                yield f"{path} has the text of an old: {found} times: {old}"
-                return
+                raise NotApplied(f"{path} has the text of an old: {found} times: {old}")
             texts[path] = texts[path].replace(old, line[len("new:") :].removeprefix(" "))
             old, pairs = None, pairs + 1
     if pairs == 0:
-        yield "it changes nothing"
+        raise NotApplied("it changes nothing")
+    return texts
+
+
+def problem(edit, crate):
+    try:
+        edited(edit, crate)
+    except NotApplied as why:
+        return f"{edit}: {why}"
+    return None
 
 
 def main():
     crate = pathlib.Path(sys.argv[1])
     edits = sorted(crate.glob("must-fail/*"))
     wrong = [f"{it}: not a name of an edit" for it in edits if not re.fullmatch(r"[A-Za-z0-9_-][A-Za-z0-9_.-]*\.(edit|md)", it.name)]
-    wrong += [f"{it}: {why}" for it in edits if it.suffix == ".edit" for why in problems(it, crate)]
+    wrong += filter(None, (problem(it, crate) for it in edits if it.suffix == ".edit"))
     if wrong:
         sys.exit("\n".join(wrong))
     print(f"{len([it for it in edits if it.suffix == '.edit'])} edits apply")

@@ -1,0 +1,9 @@
+use Rattle.std.proofs.Common.{arith}
+use Rattle.std.proofs.lemmas.Grind.{common_steps}
+use Rattle.h3_qpack.proofs.dynamic.DynamicTable.newest.Goals as goal
+
+pub returns-in-Field-clause-value : goal.returns-in-Field-clause-value
+returns-in-Field-clause-value c = grind (arith, common_steps)
+
+pub returns-in-Field-clause-within : goal.returns-in-Field-clause-within
+returns-in-Field-clause-within c = grind (arith, common_steps)

@@ -1,0 +1,117 @@
+use Rattle.std.proofs.Common.{arith}
+use Rattle.std.proofs.lemmas.Grind.{common_steps}
+use Rattle.h3_wire.proofs.frame.FrameStream.take_data.Goals as goal
+
+pub invariant_of-self : goal.invariant_of-self
+invariant_of-self g c = grind (arith, common_steps)
+
+pub invariant_of-self-in-ToEnd : goal.invariant_of-self-in-ToEnd
+invariant_of-self-in-ToEnd g c = grind (arith, common_steps)
+
+pub returns-in-Ok-Some-clause-takes : goal.returns-in-Ok-Some-clause-takes
+returns-in-Ok-Some-clause-takes g c = grind (arith, common_steps)
+
+pub returns-in-Ok-Some-clause-pieces : goal.returns-in-Ok-Some-clause-pieces
+returns-in-Ok-Some-clause-pieces g c = grind (arith, common_steps)
+
+pub returns-in-Ok-Some-clause-err : goal.returns-in-Ok-Some-clause-err
+returns-in-Ok-Some-clause-err g c = search
+
+pub returns-in-Ok-Some-clause-first : goal.returns-in-Ok-Some-clause-first
+returns-in-Ok-Some-clause-first g c = grind (arith, common_steps)
+
+pub returns-in-Ok-Some-clause-none : goal.returns-in-Ok-Some-clause-none
+returns-in-Ok-Some-clause-none g c = search
+
+pub returns-in-Ok-Some-clause-memory : goal.returns-in-Ok-Some-clause-memory
+returns-in-Ok-Some-clause-memory g c = search
+
+pub returns-in-Ok-Some-clause-decoder : goal.returns-in-Ok-Some-clause-decoder
+returns-in-Ok-Some-clause-decoder g c = search
+
+pub returns-in-Ok-Some-clause-source : goal.returns-in-Ok-Some-clause-source
+returns-in-Ok-Some-clause-source g c = search
+
+pub returns-in-Ok-Some-clause-is_eos : goal.returns-in-Ok-Some-clause-is_eos
+returns-in-Ok-Some-clause-is_eos g c = search
+
+pub returns-in-Ok-None-clause-takes : goal.returns-in-Ok-None-clause-takes
+returns-in-Ok-None-clause-takes g c = grind (arith, common_steps)
+
+pub returns-in-Ok-None-clause-pieces : goal.returns-in-Ok-None-clause-pieces
+returns-in-Ok-None-clause-pieces g c = grind (arith, common_steps)
+
+pub returns-in-Ok-None-clause-err : goal.returns-in-Ok-None-clause-err
+returns-in-Ok-None-clause-err g c = search
+
+pub returns-in-Ok-None-clause-first : goal.returns-in-Ok-None-clause-first
+returns-in-Ok-None-clause-first g c = grind (arith, common_steps)
+
+pub returns-in-Ok-None-clause-none : goal.returns-in-Ok-None-clause-none
+returns-in-Ok-None-clause-none g c = search
+
+pub returns-in-Ok-None-clause-memory : goal.returns-in-Ok-None-clause-memory
+returns-in-Ok-None-clause-memory g c = search
+
+pub returns-in-Ok-None-clause-decoder : goal.returns-in-Ok-None-clause-decoder
+returns-in-Ok-None-clause-decoder g c = search
+
+pub returns-in-Ok-None-clause-source : goal.returns-in-Ok-None-clause-source
+returns-in-Ok-None-clause-source g c = search
+
+pub returns-in-Ok-None-clause-is_eos : goal.returns-in-Ok-None-clause-is_eos
+returns-in-Ok-None-clause-is_eos g c = search
+
+pub returns-in-Err-clause-takes : goal.returns-in-Err-clause-takes
+returns-in-Err-clause-takes g c = grind (arith, common_steps)
+
+pub returns-in-Err-clause-pieces : goal.returns-in-Err-clause-pieces
+returns-in-Err-clause-pieces g c = search
+
+pub returns-in-Err-clause-err : goal.returns-in-Err-clause-err
+returns-in-Err-clause-err g c = grind (arith, common_steps)
+
+pub returns-in-Err-clause-first : goal.returns-in-Err-clause-first
+returns-in-Err-clause-first g c = search
+
+pub returns-in-Err-clause-none : goal.returns-in-Err-clause-none
+returns-in-Err-clause-none g c = grind (arith, common_steps)
+
+pub returns-in-Err-clause-memory : goal.returns-in-Err-clause-memory
+returns-in-Err-clause-memory g c = search
+
+pub returns-in-Err-clause-decoder : goal.returns-in-Err-clause-decoder
+returns-in-Err-clause-decoder g c = search
+
+pub returns-in-Err-clause-source : goal.returns-in-Err-clause-source
+returns-in-Err-clause-source g c = search
+
+pub returns-in-Err-clause-is_eos : goal.returns-in-Err-clause-is_eos
+returns-in-Err-clause-is_eos g c = search
+
+pub returns-in-ToEnd-clause-takes : goal.returns-in-ToEnd-clause-takes
+returns-in-ToEnd-clause-takes g c = grind (arith, common_steps)
+
+pub returns-in-ToEnd-clause-pieces : goal.returns-in-ToEnd-clause-pieces
+returns-in-ToEnd-clause-pieces g c = grind (arith, common_steps)
+
+pub returns-in-ToEnd-clause-err : goal.returns-in-ToEnd-clause-err
+returns-in-ToEnd-clause-err g c = search
+
+pub returns-in-ToEnd-clause-first : goal.returns-in-ToEnd-clause-first
+returns-in-ToEnd-clause-first g c = grind (arith, common_steps)
+
+pub returns-in-ToEnd-clause-none : goal.returns-in-ToEnd-clause-none
+returns-in-ToEnd-clause-none g c = search
+
+pub returns-in-ToEnd-clause-memory : goal.returns-in-ToEnd-clause-memory
+returns-in-ToEnd-clause-memory g c = search
+
+pub returns-in-ToEnd-clause-decoder : goal.returns-in-ToEnd-clause-decoder
+returns-in-ToEnd-clause-decoder g c = search
+
+pub returns-in-ToEnd-clause-source : goal.returns-in-ToEnd-clause-source
+returns-in-ToEnd-clause-source g c = search
+
+pub returns-in-ToEnd-clause-is_eos : goal.returns-in-ToEnd-clause-is_eos
+returns-in-ToEnd-clause-is_eos g c = search
