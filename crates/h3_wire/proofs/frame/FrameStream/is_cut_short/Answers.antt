@@ -28,12 +28,3 @@ returns-else-there-count-clause-short g c = grind (arith, common_steps)
 
 pub returns-else-there-count-clause-whole : goal.returns-else-there-count-clause-whole
 returns-else-there-count-clause-whole g c = grind (arith, common_steps)
-
-pub returns-in-ToEnd-clause-is : goal.returns-in-ToEnd-clause-is
-returns-in-ToEnd-clause-is g c = grind (arith, common_steps)
-
-pub returns-in-ToEnd-clause-short : goal.returns-in-ToEnd-clause-short
-returns-in-ToEnd-clause-short g c = grind (arith, common_steps)
-
-pub returns-in-ToEnd-clause-whole : goal.returns-in-ToEnd-clause-whole
-returns-in-ToEnd-clause-whole g c = grind (arith, common_steps)

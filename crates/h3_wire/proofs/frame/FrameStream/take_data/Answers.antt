@@ -2,12 +2,6 @@ use Rattle.std.proofs.Common.{arith}
 use Rattle.std.proofs.lemmas.Grind.{common_steps}
 use Rattle.h3_wire.proofs.frame.FrameStream.take_data.Goals as goal
 
-pub invariant_of-self : goal.invariant_of-self
-invariant_of-self g c = grind (arith, common_steps)
-
-pub invariant_of-self-in-ToEnd : goal.invariant_of-self-in-ToEnd
-invariant_of-self-in-ToEnd g c = grind (arith, common_steps)
-
 pub returns-in-Ok-Some-clause-takes : goal.returns-in-Ok-Some-clause-takes
 returns-in-Ok-Some-clause-takes g c = grind (arith, common_steps)
 
@@ -34,60 +28,6 @@ returns-in-Ok-Some-clause-source g c = search
 
 pub returns-in-Ok-Some-clause-is_eos : goal.returns-in-Ok-Some-clause-is_eos
 returns-in-Ok-Some-clause-is_eos g c = search
-
-pub returns-in-Ok-None-clause-takes : goal.returns-in-Ok-None-clause-takes
-returns-in-Ok-None-clause-takes g c = grind (arith, common_steps)
-
-pub returns-in-Ok-None-clause-pieces : goal.returns-in-Ok-None-clause-pieces
-returns-in-Ok-None-clause-pieces g c = grind (arith, common_steps)
-
-pub returns-in-Ok-None-clause-err : goal.returns-in-Ok-None-clause-err
-returns-in-Ok-None-clause-err g c = search
-
-pub returns-in-Ok-None-clause-first : goal.returns-in-Ok-None-clause-first
-returns-in-Ok-None-clause-first g c = grind (arith, common_steps)
-
-pub returns-in-Ok-None-clause-none : goal.returns-in-Ok-None-clause-none
-returns-in-Ok-None-clause-none g c = search
-
-pub returns-in-Ok-None-clause-memory : goal.returns-in-Ok-None-clause-memory
-returns-in-Ok-None-clause-memory g c = search
-
-pub returns-in-Ok-None-clause-decoder : goal.returns-in-Ok-None-clause-decoder
-returns-in-Ok-None-clause-decoder g c = search
-
-pub returns-in-Ok-None-clause-source : goal.returns-in-Ok-None-clause-source
-returns-in-Ok-None-clause-source g c = search
-
-pub returns-in-Ok-None-clause-is_eos : goal.returns-in-Ok-None-clause-is_eos
-returns-in-Ok-None-clause-is_eos g c = search
-
-pub returns-in-Err-clause-takes : goal.returns-in-Err-clause-takes
-returns-in-Err-clause-takes g c = grind (arith, common_steps)
-
-pub returns-in-Err-clause-pieces : goal.returns-in-Err-clause-pieces
-returns-in-Err-clause-pieces g c = search
-
-pub returns-in-Err-clause-err : goal.returns-in-Err-clause-err
-returns-in-Err-clause-err g c = grind (arith, common_steps)
-
-pub returns-in-Err-clause-first : goal.returns-in-Err-clause-first
-returns-in-Err-clause-first g c = search
-
-pub returns-in-Err-clause-none : goal.returns-in-Err-clause-none
-returns-in-Err-clause-none g c = grind (arith, common_steps)
-
-pub returns-in-Err-clause-memory : goal.returns-in-Err-clause-memory
-returns-in-Err-clause-memory g c = search
-
-pub returns-in-Err-clause-decoder : goal.returns-in-Err-clause-decoder
-returns-in-Err-clause-decoder g c = search
-
-pub returns-in-Err-clause-source : goal.returns-in-Err-clause-source
-returns-in-Err-clause-source g c = search
-
-pub returns-in-Err-clause-is_eos : goal.returns-in-Err-clause-is_eos
-returns-in-Err-clause-is_eos g c = search
 
 pub returns-in-ToEnd-clause-takes : goal.returns-in-ToEnd-clause-takes
 returns-in-ToEnd-clause-takes g c = grind (arith, common_steps)

@@ -2,9 +2,6 @@ use Rattle.std.proofs.Common.{arith}
 use Rattle.std.proofs.lemmas.Grind.{common_steps}
 use Rattle.h3_wire.proofs.stream.accept.carries_id.Goals as goal
 
-pub invariant_of-eq : goal.invariant_of-eq
-invariant_of-eq c = grind (arith, common_steps)
-
 pub invariant_of-eq-2 : goal.invariant_of-eq-2
 invariant_of-eq-2 c = grind (arith, common_steps)
 

@@ -2,6 +2,3 @@ use Rattle.h3_field.proofs.stream.table.Duplicate.encode.Goals as goal
 
 pub returns-clause-ok : goal.returns-clause-ok
 returns-clause-ok c = search
-
-pub returns-clause-err : goal.returns-clause-err
-returns-clause-err c = search
