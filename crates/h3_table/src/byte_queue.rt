@@ -42,13 +42,10 @@ impl ByteQueue {
         self.bytes.len() - self.start
     }
 
-    /// So many bytes, from a place on.
-    pub(crate) fn get(&self, at: usize, len: usize) -> &[u8]
-        requires { at + len ≤ length self.now.bytes }
-        ensures { result.now ≡ take len (drop at self.now.bytes) }
+    pub(crate) fn as_slice(&self) -> &[u8]
+        ensures { result.now ≡ self.now.bytes }
     {
-        let from = self.start + at;
-        &self.bytes[from..from + len]
+        &self.bytes[self.start..]
     }
 
     /// A new block for what is kept of the bytes and so many more, where there is no room for these behind the bytes.

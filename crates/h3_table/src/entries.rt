@@ -9,7 +9,7 @@ ghost use Rattle.h3_table.specs.Index.{IsIndexed};
 
 pub use crate::field_queue::Entry;
 use crate::field_queue::FieldQueue;
-use crate::index::{Index, slot_of_field, slot_of_name};
+use crate::index::{Index, older, slot_of_field, slot_of_name};
 use h3_field::{HeaderField, Part};
 use std::alloc::{AllocError, Global};
 use std::marker::Model;
@@ -53,13 +53,13 @@ impl Match {
         }
     }
 
-    fn is_met(self, field: &HeaderField, entry: &Entry<'_>) -> bool
-        ensures { result ≡ matches self field.now entry.now }
+    fn is_met(self, name: &[u8], value: &[u8], entry: &Entry<'_>) -> bool
+        ensures { result ≡ matches self (record { name = name.now; value = value.now }) entry.now }
     {
         match self {
-            Match::Name => entry.name() == field.name(),
+            Match::Name => entry.name() == name,
             // entries of one slot mostly have one name
-            Match::Field => entry.value() == field.value() && entry.name() == field.name(),
+            Match::Field => entry.value() == value && entry.name() == name,
         }
     }
 }
@@ -183,16 +183,21 @@ impl Entries {
         ensures within { IfSome result (λ n. (above < n) × (n ≤ most) × (n ≤ self.now.inserted)) }
     {
         let evicted = self.inserted - self.fields.len();
+        // read once, and not at each entry
+        let name = field.name();
+        let value = field.value();
+        let fields = self.fields.slices();
+        let links = index.links();
         let mut number = index.newest(what.slot(field));
         while number > above {
             let place = number - evicted - 1;
-            let Some(entry) = self.fields.get(place) else {
+            let Some(entry) = fields.get(place) else {
                 return None;
             };
-            if number <= most && what.is_met(field, &entry) {
+            if number <= most && what.is_met(name, value, &entry) {
                 return Some(number);
             }
-            number = index.older(place);
+            number = older(&links, place);
         }
         None
     }

@@ -1,9 +1,11 @@
 //! Fields in the order of their insertion, whose bytes lie end to end.
-ghost use Rattle.std.specs.Prelude.{◌≡◌, ℕ, ◌+◌, ◌-◌, ◌*◌, ◌/◌, ◌^◌, ◌<◌, ◌≤◌, ◌++◌, ◌∷◌, [], List, length, slice_get, slice_index_or, min, Some, None, IfSome, IfNone, IfOk, OnOk, OnErr};
+ghost use Rattle.std.specs.Prelude.{◌≡◌, ℕ, ◌+◌, ◌-◌, ◌*◌, ◌/◌, ◌^◌, ◌<◌, ◌≤◌, ◌++◌, ◌∷◌, [], List, length, take, drop, slice_get, slice_index_or, min, Some, None, IfSome, IfNone, IfOk, OnOk, OnErr};
 ghost use Rattle.std.specs.Vec.{vec_len, vec_capacity};
 ghost use Rattle.h3_field.specs.Field.{Field, field_size, section_size};
+ghost use Rattle.h3_table.specs.Records.{byte_count, first_field};
 
 use crate::byte_queue::ByteQueue;
+use crate::slices::Slices;
 use h3_field::HeaderField;
 use std::alloc::{AllocError, Global};
 use std::collections::VecDeque;
@@ -96,6 +98,59 @@ impl<'t> Entry<'t> {
     }
 }
 
+/// The entry of a record, whose bytes begin at a place.
+fn entry_at<'t>(bytes: &'t [u8], at: usize, found: &Record) -> Entry<'t>
+    requires within { at + byte_count found.now ≤ length bytes.now }
+    requires few { length bytes.now < 2 ^ 33 }
+    requires static_name { IfSome found.now.static_name (λ name. name.now ≡ take found.now.name_len (drop at bytes.now)) }
+    ensures { result ≡ first_field (drop at bytes.now) found.now }
+{
+    let middle = at + found.name_len;
+    Entry {
+        name: &bytes[at..middle],
+        value: &bytes[middle..middle + found.value_len],
+        static_name: found.static_name,
+    }
+}
+
+/// The fields where they lie, for a search that reads many of them.
+#[derive(Drop)]
+pub(crate) struct FieldSlices<'a> {
+    records: Slices<'a, Record>,
+    bytes: &'a [u8],
+    // the place of the first byte
+    first: u128,
+}
+
+impl<'a> Model for FieldSlices<'a> {
+    ghost use Rattle.std.specs.Prelude.{List};
+    ghost use Rattle.h3_field.specs.Field.{Field};
+
+    ghost Value = { List Field };
+
+    ghost use Rattle.h3_table.specs.FieldQueueInside.{fields_inside, AreFieldSlices};
+
+    ghost view = { fields_inside };
+
+    ghost invariant = { AreFieldSlices };
+}
+
+impl<'a> FieldSlices<'a> {
+    /// The field at a place, the oldest at 0.
+    pub(crate) fn get(&self, place: usize) -> Option<Entry<'a>>
+        ensures value { result ≡ slice_get self.now place }
+        ensures lookup { IfSome result (λ e. e ≡ slice_index_or self.now place e) }
+        ensures inside { IfSome result (λ e. place < length self.now) }
+        ensures none { IfNone result (length self.now ≤ place) }
+    {
+        let Some(record) = self.records.get(place) else {
+            return None;
+        };
+        let at = (record.place - self.first) as usize;
+        Some(entry_at(self.bytes, at, record))
+    }
+}
+
 /// The fields, the oldest first. A record of each says where its bytes lie.
 #[derive(Drop)]
 pub(crate) struct FieldQueue {
@@ -153,11 +208,18 @@ impl FieldQueue {
             return None;
         };
         let at = (record.place - self.first) as usize;
-        Some(Entry {
-            name: self.bytes.get(at, record.name_len),
-            value: self.bytes.get(at + record.name_len, record.value_len),
-            static_name: record.static_name,
-        })
+        Some(entry_at(self.bytes.as_slice(), at, record))
+    }
+
+    /// The fields where they lie.
+    pub(crate) fn slices(&self) -> FieldSlices<'_>
+        ensures { result ≡ self.now.fields }
+    {
+        FieldSlices {
+            records: Slices::of(&self.records),
+            bytes: self.bytes.as_slice(),
+            first: self.first,
+        }
     }
 
     /// Takes memory for a record more, and for so many bytes more beside those that are kept: a new block, where the one that is

@@ -3,6 +3,7 @@ ghost use Rattle.std.specs.Prelude.{◌≡◌, ◌<◌, ◌≤◌, ◌+◌, ◌+
 ghost use Rattle.h3_table.specs.Index.{IsIndexed, HasRoom};
 ghost use Rattle.h3_table.specs.Slots.{name_slot, field_slot};
 
+use crate::slices::Slices;
 use crate::tracking::drop_front;
 use std::alloc::{AllocError, Global};
 use std::collections::VecDeque;
@@ -105,10 +106,20 @@ impl Index {
         self.heads.get(slot).copied().unwrap_or(0)
     }
 
-    /// The number of the next older entry of the slot of the entry at a place, as `newest` gives it.
-    pub fn older(&self, place: usize) -> usize
-        ensures { result ≡ slice_index_or self.now.links.items place 0 }
+    /// For each entry the number of the next older one of its slot, as `newest` gives it.
+    pub(crate) fn links(&self) -> Slices<'_, usize>
+        ensures { result.first.now ++ result.further.now ≡ self.now.links.items }
     {
-        self.links.get(place).copied().unwrap_or(0)
+        Slices::of(&self.links)
+    }
+}
+
+/// The number of the next older entry of the slot of the entry at a place.
+pub(crate) fn older(links: &Slices<'_, usize>, place: usize) -> usize
+    ensures { result ≡ slice_index_or (links.now.first.now ++ links.now.further.now) place 0 }
+{
+    match links.get(place) {
+        Some(number) => *number,
+        None => 0,
     }
 }

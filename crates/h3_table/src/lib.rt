@@ -11,6 +11,7 @@ mod further;
 pub mod index;
 mod places;
 pub mod sections;
+mod slices;
 pub mod stream_set;
 pub mod tracking;
 mod words;

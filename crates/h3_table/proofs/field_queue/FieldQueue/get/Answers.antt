@@ -1,6 +1,5 @@
-use Rattle.std.proofs.Common.{◌≡◌, ◌-◌, take, drop, slice_get, refl, sym, ◌∙◌, ap, arith, Some, drop-drop}
+use Rattle.std.proofs.Common.{◌-◌, drop, slice_get, refl, sym, ◌∙◌, ap, arith, Some}
 use Rattle.std.proofs.lemmas.Option.{slice_get_read, slice_get_past, get_or_from_slice_get}
-use Rattle.h3_field.specs.Field.{Field}
 use Rattle.h3_table.specs.FieldRow.{FieldRow}
 use Rattle.h3_table.specs.Records.{first_field, fields_of}
 use Rattle.h3_table.proofs.Laid.{laid_at, length-fields_of}
@@ -27,39 +26,27 @@ overflow_cast-at c =
     let there = laid_at _ _ _ c.args.place c.in-Some.record.now c.self.invariant.laid (slice_get_read c.self.inside.records.items _ c.args.place c.in-Some.record.now refl item.3.0 item.1) in
     omega (arith, there.within, c.self.invariant.few)
 
-pub get-requires-2 : goal.get-requires-2
-get-requires-2 c =
+pub entry_at-requires-clause-within : goal.entry_at-requires-clause-within
+entry_at-requires-clause-within c =
     let item = c.in-Some.ensures.item in
     let there = laid_at _ _ _ c.args.place c.in-Some.record.now c.self.invariant.laid (slice_get_read c.self.inside.records.items _ c.args.place c.in-Some.record.now refl item.3.0 item.1) in
-    omega (arith, there.within)
+    rw c.as_slice.ensures there.within
 
-pub overflow_add-at : goal.overflow_add-at
-overflow_add-at c =
-    let item = c.in-Some.ensures.item in
-    let there = laid_at _ _ _ c.args.place c.in-Some.record.now c.self.invariant.laid (slice_get_read c.self.inside.records.items _ c.args.place c.in-Some.record.now refl item.3.0 item.1) in
-    omega (arith, there.within, c.self.invariant.few)
+pub entry_at-requires-clause-few : goal.entry_at-requires-clause-few
+entry_at-requires-clause-few c = rw c.as_slice.ensures c.self.invariant.few
 
-pub get-requires-3 : goal.get-requires-3
-get-requires-3 c =
+pub entry_at-requires-clause-static_name : goal.entry_at-requires-clause-static_name
+entry_at-requires-clause-static_name c =
     let item = c.in-Some.ensures.item in
     let there = laid_at _ _ _ c.args.place c.in-Some.record.now c.self.invariant.laid (slice_get_read c.self.inside.records.items _ c.args.place c.in-Some.record.now refl item.3.0 item.1) in
-    omega (arith, there.within)
-
-pub invariant_of-result : goal.invariant_of-result
-invariant_of-result c =
-    let item = c.in-Some.ensures.item in
-    let there = laid_at _ _ _ c.args.place c.in-Some.record.now c.self.invariant.laid (slice_get_read c.self.inside.records.items _ c.args.place c.in-Some.record.now refl item.3.0 item.1) in
-    rw c.get-2.ensures there.static_name
+    rw c.as_slice.ensures there.static_name
 
 pub returns-clause-value : goal.returns-clause-value
 returns-clause-value c =
     let item = c.in-Some.ensures.item in
     let r = c.in-Some.record.now in
-    let bytes = c.self.inside.bytes.bytes in
-    let off = r.place - c.self.inside.first in
     let there = laid_at _ _ _ c.args.place r c.self.invariant.laid (slice_get_read c.self.inside.records.items _ c.args.place r refl item.3.0 item.1) in
-    let value_is = c.get-3.ensures ∙ ap (take r.value_len) (sym (drop-drop r.name_len off bytes)) in
-    let entry_is : ◌≡◌ {A = Field} (record { name = c.get-2.result.now; value = c.get-3.result.now }) (first_field (drop off bytes) r) = λ i. record { name = c.get-2.ensures i; value = value_is i } in
+    let entry_is = c.entry_at.ensures ∙ ap (λ bytes. first_field (drop (r.place - c.self.inside.first) bytes) r) c.as_slice.ensures in
     ap Some entry_is ∙ sym there.found_is ∙ ap (λ (k : FieldRow). slice_get k.fields c.args.place) c.self.view_is
 
 pub returns-clause-lookup : goal.returns-clause-lookup
