@@ -1,4 +1,4 @@
-/* What a stranger can drive up at a decoder: a literal that comes byte by byte, and lines that each name a large entry. */
+/* What a stranger can drive up at a decoder: a literal and an integer that come byte by byte, and lines that each name a large entry. */
 #include "measure.h"
 #include "peer_session.h"
 #include "rows.h"
@@ -28,6 +28,22 @@ static work work_of(size_t capacity, size_t value_len) {
   return w;
 }
 
+/* Sets a capacity of 128 by an integer with so many groups of no worth (RFC 9204, section 4.1.1; RFC 7541, section 5.1), and inserts a field. */
+static work integer_work(size_t groups) {
+  enum { CAPACITY = 128 };
+  work w = {.capacity = CAPACITY};
+  make_room(&w.instructions, groups + 3);
+  memcpy(w.instructions.bytes, (const uint8_t[]){32 + 31, 128 + CAPACITY - 31}, 2);
+  memset(w.instructions.bytes + 2, 128, groups);
+  w.instructions.bytes[groups + 2] = 0;
+  w.instructions.len = groups + 3;
+  put_integer(&w.instructions, 64, 5, 1);
+  put_bytes(&w.instructions, "a", 1);
+  put_integer(&w.instructions, 0, 7, 1);
+  put_bytes(&w.instructions, "a", 1);
+  return w;
+}
+
 static void free_work(work *w) {
   free_pack(&w->instructions);
   free_pack(&w->steps);
@@ -51,9 +67,8 @@ static void peer_bytes(void *data, uint64_t rounds) {
   }
 }
 
-/* The time of a byte is to be the same however long the literal is. */
-static void bytewise_row(const char *set, size_t value_len) {
-  work w = work_of(1 << 17, value_len);
+/* The time of a byte is to be the same however many come. */
+static void bytewise_row(const char *row, const char *set, work w, int with_peer) {
   session_steps steps = {0};
   for (size_t i = 0; i < w.instructions.len; i++) add_heard(&steps, w.instructions.bytes + i, 1);
   w.steps = pack_steps(&steps, NULL);
@@ -63,9 +78,9 @@ static void bytewise_row(const char *set, size_t value_len) {
   our_bytes(&w, 0);
   /* it is inserted with its last byte: an increment of 1 is the last string that is handed out */
   size_t end = 4 + 8 * w.instructions.len;
-  if (number_at(w.out + end - 4) != 1 || w.out[end] != 1) stop("the literal was not inserted", (long)w.instructions.len);
-  const contender both[CONTENDERS] = {{our_bytes, &w}, {peer_bytes, &w}, {0}};
-  measure_row(&(row_kind){"literal byte by byte", set, "ns", (double)w.instructions.len, 1, 1, 0, 0, NULL, 100}, both, 0);
+  if (number_at(w.out + end - 4) != 1 || w.out[end] != 1) stop("the field was not inserted", (long)w.instructions.len);
+  const contender both[CONTENDERS] = {{our_bytes, &w}, {with_peer ? peer_bytes : NULL, &w}, {0}};
+  measure_row(&(row_kind){row, set, "ns", (double)w.instructions.len, 1, 1, 0, 0, NULL, 100}, both, 0);
   free_work(&w);
 }
 
@@ -116,7 +131,10 @@ static void large_section_row(void) {
 }
 
 void hostile_decoder_rows(void) {
-  bytewise_row("6,000", 6000);
-  bytewise_row("60,000", 60000);
+  bytewise_row("literal byte by byte", "6,000", work_of(1 << 17, 6000), 1);
+  bytewise_row("literal byte by byte", "60,000", work_of(1 << 17, 60000), 1);
+  /* nghttp3 refuses such an integer */
+  bytewise_row("integer byte by byte", "6,000", integer_work(6000), 0);
+  bytewise_row("integer byte by byte", "60,000", integer_work(60000), 0);
   large_section_row();
 }

@@ -4,6 +4,7 @@ ghost use Rattle.h3_qpack.specs.DecodedSection.{decode_section, Fields, Missing}
 
 use crate::input::FieldList;
 use crate::report::{Failure, Report};
+use h3_field::waiting::{Wait, decoder_wait, encoder_wait};
 use h3_qpack::{
     DecodedWithin, Decoder, DecoderError, DynamicTable, Encoder, HeaderField, SliceCursor,
     ack_header, set_dynamic_table_size,
@@ -41,6 +42,7 @@ fn set_limits(
 pub(crate) struct Sender {
     encoder: Encoder,
     unread: Vec<u8>,
+    wait: Wait,
 }
 
 impl Sender {
@@ -56,6 +58,7 @@ impl Sender {
             Ok(()) => Ok(Sender {
                 encoder: Encoder::from(table),
                 unread: Vec::new(alloc),
+                wait: Wait::Unknown,
             }),
             Err(e) => {
                 drop(table);
@@ -86,10 +89,15 @@ impl Sender {
         if self.unread.extend_from_slice(bytes).is_err() {
             return Err(Failure::Memory);
         }
+        self.wait = self.wait.behind(bytes);
+        if self.wait.goes_on() {
+            return Ok(());
+        }
         let mut read = SliceCursor::new(&self.unread);
         let heard = self.encoder.on_decoder_recv(&mut read);
         let left = read.remaining();
         keep_last(&mut self.unread, left);
+        self.wait = decoder_wait(&self.unread);
         match heard {
             Ok(()) => Ok(()),
             Err(_) => Err(Failure::Refused),
@@ -119,6 +127,7 @@ fn decode_into(
 pub(crate) struct Receiver {
     decoder: Decoder,
     unread: Vec<u8>,
+    wait: Wait,
     // one list for all sections, whose memory serves again
     fields: Vec<HeaderField>,
 }
@@ -132,6 +141,7 @@ impl Receiver {
         Ok(Receiver {
             decoder: Decoder::announced(alloc, capacity),
             unread: Vec::new(alloc),
+            wait: Wait::Unknown,
             fields: Vec::new(alloc),
         })
     }
@@ -141,10 +151,15 @@ impl Receiver {
         if self.unread.extend_from_slice(bytes).is_err() {
             return Err(Failure::Memory);
         }
+        self.wait = self.wait.behind(bytes);
+        if self.wait.goes_on() {
+            return Ok(());
+        }
         let mut read = SliceCursor::new(&self.unread);
         let heard = self.decoder.on_encoder_recv(&mut read, replies);
         let left = read.remaining();
         keep_last(&mut self.unread, left);
+        self.wait = encoder_wait(&self.unread);
         match heard {
             Ok(_) => Ok(()),
             Err(_) => Err(Failure::Refused),

@@ -8,3 +8,4 @@ pub mod Standing
 pub mod SectionWriting
 pub mod SectionReadBack
 pub mod Decodings
+pub mod Waits

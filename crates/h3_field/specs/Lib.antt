@@ -47,3 +47,4 @@ pub mod FieldForm
 pub mod FieldLaws
 pub mod ShorterLaws
 pub mod Room
+pub mod Waiting

@@ -22,6 +22,7 @@ mod shapes;
 pub mod static_;
 pub mod stream;
 pub mod vas;
+pub mod waiting;
 
 pub use cursor::SliceCursor;
 pub use decoder::{Decoded, decode_stateless, decode_stateless_into};

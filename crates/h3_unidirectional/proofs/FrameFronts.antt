@@ -1,5 +1,5 @@
 -- What is read of a frame rests on its own bytes alone, whatever follows.
-use Rattle.std.proofs.Common.{◌≡◌, ℕ, zero, suc, ◌+◌, ◌-◌, ◌<◌, ◌≤◌, ◌==◌, Bool, true, false, List, [], ◌∷◌, ◌++◌, length, take, drop, nat_lt, arith, sym, ◌∙◌, ap, ap₂, subst, refl, inl, inr, ◌⊎◌, append_assoc, length-append, length-take-le, Option, Some, None, if◌then◌else◌}
+use Rattle.std.proofs.Common.{◌≡◌, ℕ, zero, suc, ◌+◌, ◌-◌, ◌≤◌, ◌==◌, Bool, true, false, List, [], ◌∷◌, ◌++◌, length, take, drop, nat_lt, arith, sym, ◌∙◌, ap, ap₂, subst, refl, inl, inr, ◌⊎◌, append_assoc, length-append, length-take-le, Some, if◌then◌else◌}
 use Rattle.std.proofs.lemmas.List.{take_at, drop_at, take-append-drop, nil_from_length}
 use Rattle.std.proofs.lemmas.Bool.{cases_lt, lt-ltb, le-ltb}
 use Rattle.h3_coding.specs.Varint.{varint_at}

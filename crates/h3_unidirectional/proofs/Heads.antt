@@ -1,5 +1,5 @@
 -- What the first bytes of a unidirectional stream tell rests on those bytes alone.
-use Rattle.std.proofs.Common.{◌≡◌, ℕ, ◌+◌, ◌-◌, ◌<◌, ◌≤◌, ◌==◌, Bool, true, false, if◌then◌else◌, List, [], ◌∷◌, ◌++◌, length, take, drop, append-nil, append_assoc, length-append, zero, suc, refl, ap, ap₂, sym, ◌∙◌, subst, inl, inr, ◌⊎◌, arith, Option, Some, None}
+use Rattle.std.proofs.Common.{◌≡◌, ℕ, ◌+◌, ◌-◌, ◌<◌, ◌≤◌, ◌==◌, Bool, true, false, if◌then◌else◌, List, [], ◌∷◌, ◌++◌, length, take, drop, append-nil, append_assoc, length-append, zero, suc, refl, ap, ap₂, sym, ◌∙◌, subst, inl, inr, ◌⊎◌, arith, Some}
 use Rattle.std.proofs.lemmas.List.{take_at, drop_at, take-append-drop, append_cancel_right}
 use Rattle.std.proofs.lemmas.Bool.{cases_lt}
 use Rattle.std.proofs.Math.Seq.{take-append-add, drop-append-add}

@@ -1,6 +1,6 @@
 -- What `on_encoder_recv` says, as what the peer's encoder stream makes of it.
 use Rattle.std.proofs.Common.{◌≡◌, ℕ, ◌-◌, ◌++◌, true, false, List, [], ◌∷◌, append-nil, append_assoc, length, length-append, Result, Ok, Err, drop, Some, None, refl, ap, sym, ◌∙◌, subst, arith}
-use Rattle.std.specs.Prelude.{IfOk, IfErr, OnOk, OnErr}
+use Rattle.std.specs.Prelude.{IfErr, OnOk, OnErr}
 use Rattle.h3_field.specs.Instruction.{EncoderInstruction}
 use Rattle.h3_field.specs.declared.decoder_error.DecoderError.{DecoderError}
 use Rattle.h3_qpack.specs.Increments.{increment_for}
@@ -48,7 +48,7 @@ dropped bytes front left is =
 left_is : (old new : DecoderState) (bytes left : List ℕ) → HasRead old new bytes left → drop (length bytes - length left) bytes ≡ left
 left_is old new bytes left read = let f = instructions_front bytes left read.instructions read.split in dropped bytes f.front left f.split
 
-hears : (old new : Decoding) (left before after : List ℕ) (is_bad : _) → hear old.decoder old.unread ≡ heard new.decoder left is_bad → new.unread ≡ left
+pub hears : (old new : Decoding) (left before after : List ℕ) (is_bad : _) → hear old.decoder old.unread ≡ heard new.decoder left is_bad → new.unread ≡ left
     → after ≡ before ++ increment_for (new.decoder.table.inserted - old.decoder.table.inserted) → Hears old new [] (fault_if is_bad encoder_stream_error) before after
 hears old new left before after is_bad is rest increment =
     let all : heard_more old [] ≡ heard new.decoder left is_bad = ap (λ l. hear old.decoder l) (append-nil old.unread) ∙ is in

@@ -4,4 +4,5 @@ mod InstructionFronts
 mod Heard
 mod Listened
 mod Waits
+mod Unfinished
 mod Heads

@@ -42,7 +42,7 @@ instructions_front bytes left (i ∷ is) (NextDecoderInstruction b rest l j js h
 left_is : (old new : EncoderState) (bytes left : List ℕ) → HasReadDecoderInstructions old new bytes left → drop (length bytes - length left) bytes ≡ left
 left_is old new bytes left read = let f = instructions_front bytes left read.instructions read.split in dropped bytes f.front left f.split
 
-listens : (s : EncoderHistory) (new : Encoding) (bytes left : List ℕ) (is_bad : Bool) → new.unread ≡ left → HasListened s new.encoder bytes left is_bad → Listens s bytes new (fault_if is_bad decoder_stream_error)
+pub listens : (s : EncoderHistory) (new : Encoding) (bytes left : List ℕ) (is_bad : Bool) → new.unread ≡ left → HasListened s new.encoder bytes left is_bad → Listens s bytes new (fault_if is_bad decoder_stream_error)
 listens s new bytes left is_bad end h = record { encoder = h.state; left = end ∙ h.rest; fault = ap (λ b. fault_if b decoder_stream_error) h.bad }
 
 pub listens_ok : (r : Result (Unit {0}) EncoderError) (old : EncoderState) (new : Encoding) (bytes left : List ℕ) → HasReadDecoderInstructions old new.encoder bytes left

@@ -1,5 +1,5 @@
 -- What waits on the own streams stands for what a history wrote and did not hand over.
-use Rattle.std.proofs.Common.{◌≡◌, ℕ, zero, suc, ◌+◌, ◌-◌, ◌≤◌, ◌==◌, Bool, true, false, if◌then◌else◌, List, [], ◌∷◌, ◌++◌, length, drop, flat_map, append-nil, append_assoc, length-append, Option, Some, None, refl, ap, sym, ◌∙◌, subst, arith}
+use Rattle.std.proofs.Common.{◌≡◌, ℕ, zero, suc, ◌+◌, ◌≤◌, ◌==◌, Bool, true, false, if◌then◌else◌, List, [], ◌∷◌, ◌++◌, length, drop, flat_map, append-nil, append_assoc, length-append, Some, None, refl, ap, sym, ◌∙◌, subst, arith}
 use Rattle.h3_coding.specs.Encodings.{encoding}
 use Rattle.h3_field.specs.Instruction.{EncoderInstruction, DecoderInstruction, encoder_bytes, decoder_bytes}
 use Rattle.h3_proto.specs.declared.stream.Side.{Side}
@@ -11,7 +11,6 @@ use Rattle.h3_connection.specs.OwnIds.{control_id, encoder_id, decoder_id}
 use Rattle.h3_connection.specs.Sending.{own_advanced}
 use Rattle.h3_connection.specs.State.{OwnState, OwnStands, TakesWhatIsThere}
 use Rattle.h3_unidirectional.specs.Owned.{first_own, waiting_of, waiting_on, having_taken_of, having_taken}
-use Rattle.h3_unidirectional.specs.declared.own.OwnStream.{OwnStream}
 use Rattle.h3_unidirectional.specs.declared.own.OwnStream.TheVariants.{Control, Encoder, Decoder}
 
 -- the texts of the own streams

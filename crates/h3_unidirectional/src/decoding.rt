@@ -9,6 +9,7 @@ ghost use Rattle.h3_unidirectional.specs.Faults.{IsFaultOf};
 ghost use Rattle.h3_unidirectional.specs.Fronts.{HearsFront, StopsHearing};
 
 use crate::waiting::WaitingBytes;
+use h3_field::waiting::{Wait, encoder_wait};
 use h3_proto::error::Code;
 use h3_qpack::{Decoder, DecoderError, SliceCursor};
 use std::alloc::{AllocError, Global};
@@ -20,6 +21,8 @@ use std::marker::Model;
 pub struct Decoding {
     decoder: Decoder,
     unread: Vec<u8>,
+    // what the unread bytes wait for, so that they are not read again at each delivery
+    wait: Wait,
 }
 
 impl Model for Decoding {
@@ -28,6 +31,11 @@ impl Model for Decoding {
     ghost Value = { Heard };
 
     ghost view = { λ d. record { decoder = d.decoder; unread = d.unread.items } };
+
+    ghost use Rattle.h3_field.specs.InstructionReading.{instruction};
+    ghost use Rattle.h3_field.specs.Waiting.{WaitsFor};
+
+    ghost invariant = { λ d. WaitsFor instruction d.unread.items d.wait };
 }
 
 impl Decoding {
@@ -39,6 +47,7 @@ impl Decoding {
         Decoding {
             decoder: Decoder::announced(alloc, capacity),
             unread: Vec::new(alloc),
+            wait: Wait::Unknown,
         }
     }
 
@@ -54,7 +63,9 @@ impl Decoding {
         ensures ok { OnOk result (self.new ≡ record self.old { unread = self.old.unread ++ bytes.now }) }
         ensures err { OnErr result (self.new ≡ self.old) }
     {
-        self.unread.extend_from_slice(bytes)
+        self.unread.extend_from_slice(bytes)?;
+        self.wait = self.wait.behind(bytes);
+        Ok(())
     }
 
     fn read_front(&mut self, replies: &mut Vec<u8>) -> Result<usize, DecoderError>
@@ -68,6 +79,7 @@ impl Decoding {
         let outcome = self.decoder.on_encoder_recv(&mut cursor, replies);
         let taken = bytes.len().saturating_sub(cursor.remaining());
         drop_front(&mut self.unread, taken);
+        self.wait = encoder_wait(self.unread.as_slice());
         outcome
     }
 
@@ -83,16 +95,29 @@ impl Decoding {
         }
     }
 
-    /// Reads what is unread, up to the first instruction that is bad or not whole, and writes one increment where something
-    /// was inserted. It answers the fault of a bad instruction. Where memory is refused the instructions that were read stand,
-    /// and the increment counts them; the others stay unread, and the next reading goes on with them.
+    // Reads what is unread, as `read` does, whatever it waits for.
     #[tactic(auto, using(crate::proofs::Waits::waiting_ok, crate::proofs::Heard::hearing_stopped))]
-    pub fn read(&mut self, out: &mut WaitingBytes) -> Result<Option<Code>, AllocError>
+    fn read_instructions(&mut self, out: &mut WaitingBytes) -> Result<Option<Code>, AllocError>
         ensures ok { IfOk result (λ fault. Hears self.old self.new [] fault out.old out.new) }
         ensures increment { out.new ≡ out.old ++ increment_for (self.new.decoder.table.inserted - self.old.decoder.table.inserted) }
         ensures refused { OnErr result (StopsHearing self.old self.new) }
     {
         self.read_into(&mut out.bytes)
+    }
+
+    /// Reads what is unread, up to the first instruction that is bad or not whole, and writes one increment where something
+    /// was inserted. It answers the fault of a bad instruction. Where memory is refused the instructions that were read stand,
+    /// and the increment counts them; the others stay unread, and the next reading goes on with them. Bytes that are known to leave
+    /// the instruction at the front unfinished are not read again, so a stream costs no more however it is cut.
+    pub fn read(&mut self, out: &mut WaitingBytes) -> Result<Option<Code>, AllocError>
+        ensures ok { IfOk result (λ fault. Hears self.old self.new [] fault out.old out.new) }
+        ensures increment { out.new ≡ out.old ++ increment_for (self.new.decoder.table.inserted - self.old.decoder.table.inserted) }
+        ensures refused { OnErr result (StopsHearing self.old self.new) }
+    {
+        if self.wait.goes_on() {
+            return Ok(None);
+        }
+        self.read_instructions(out)
     }
 }
 

@@ -14,6 +14,7 @@ ghost use Rattle.h3_unidirectional.specs.Learned.{having_learned, usable_capacit
 use crate::decoding::drop_front;
 use crate::waiting::WaitingBytes;
 use h3_field::HeaderField;
+use h3_field::waiting::{Wait, decoder_wait};
 use h3_proto::error::Code;
 use h3_proto::frame::{SettingId, Settings};
 use h3_proto::stream::StreamId;
@@ -27,6 +28,8 @@ use std::marker::Model;
 pub struct Encoding {
     encoder: Encoder,
     unread: Vec<u8>,
+    // what the unread bytes wait for, so that they are not read again at each delivery
+    wait: Wait,
 }
 
 impl Model for Encoding {
@@ -35,6 +38,11 @@ impl Model for Encoding {
     ghost Value = { Kept };
 
     ghost view = { λ e. record { encoder = e.encoder; unread = e.unread.items } };
+
+    ghost use Rattle.h3_field.specs.InstructionReading.{decoder_instruction};
+    ghost use Rattle.h3_field.specs.Waiting.{WaitsFor};
+
+    ghost invariant = { λ e. WaitsFor decoder_instruction e.unread.items e.wait };
 }
 
 impl Encoding {
@@ -45,6 +53,7 @@ impl Encoding {
         Encoding {
             encoder: Encoder::new(alloc),
             unread: Vec::new(alloc),
+            wait: Wait::Unknown,
         }
     }
 
@@ -53,7 +62,9 @@ impl Encoding {
         ensures ok { OnOk result (self.new ≡ record self.old { unread = self.old.unread ++ bytes.now }) }
         ensures err { OnErr result (self.new ≡ self.old) }
     {
-        self.unread.extend_from_slice(bytes)
+        self.unread.extend_from_slice(bytes)?;
+        self.wait = self.wait.behind(bytes);
+        Ok(())
     }
 
     /// The encoder.
@@ -132,6 +143,7 @@ impl Encoding {
         let outcome = self.encoder.on_decoder_recv(&mut cursor);
         let taken = bytes.len().saturating_sub(cursor.remaining());
         drop_front(&mut self.unread, taken);
+        self.wait = decoder_wait(self.unread.as_slice());
         outcome
     }
 
@@ -143,6 +155,9 @@ impl Encoding {
         ensures ok { IfOk result (λ fault. (s : EncoderHistory) → self.old.encoder ≡ encoder_state s → Listens s self.old.unread self.new fault) }
         ensures refused { OnErr result ((s : EncoderHistory) → self.old.encoder ≡ encoder_state s → StopsListening s self.old self.new) }
     {
+        if self.wait.goes_on() {
+            return Ok(None);
+        }
         match self.read_front() {
             Ok(()) => Ok(None),
             Err(e) => fault_of(e),

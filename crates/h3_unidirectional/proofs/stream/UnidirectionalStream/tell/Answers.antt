@@ -1,7 +1,4 @@
-use Rattle.std.proofs.Common.{◌≡◌, ◌+◌, ◌≤◌, ◌^◌, ◌-◌, length, arith, sym, ◌∙◌, subst, refl}
-use Rattle.std.specs.Prelude.{IfOk}
-use Rattle.h3_connection.specs.Unidirectional.{with_bytes}
-use Rattle.h3_unidirectional.specs.Kinds.{received_by}
+use Rattle.std.proofs.Common.{◌≡◌, ◌+◌, ◌≤◌, length, arith, sym, refl}
 use Rattle.h3_unidirectional.proofs.Heads.{told_of_both}
 use Rattle.h3_unidirectional.proofs.stream.UnidirectionalStream.tell.Goals as goal
 
