@@ -1,7 +1,7 @@
 # The commands of this repository. `make help` lists them.
 SCRIPT ?= examples/first.talk
 
-.PHONY: help run build lib test test-c bench bench-build bench-page bench-exchange interop
+.PHONY: help run build lib test test-c refused bench bench-build bench-page bench-exchange interop
 
 help: ## list the commands
 	@grep -hE '^[a-z-]+:.*## ' $(MAKEFILE_LIST) | sed -E 's/^([a-z-]+):.*## /make \1: /'
@@ -20,8 +20,11 @@ lib: ## prove and build the library for C, Go and Rust: libh3.a, h3.h and h3.pc 
 test-c: ## build the library, and run the C programs of tests/c over it
 	@bash scripts/test-c.sh
 
-test: ## prove every crate from nothing, try the must-fail edits, run the tests and the program
+test: ## prove every crate from nothing, try the wrong bodies that must be refused, run the tests and the programs
 	@bash scripts/test.sh
+
+refused: ## try the wrong bodies of crates/*/refused, or of CRATE=name: the prover must refuse each
+	@python3 scripts/refused.py $(CRATE)
 
 bench: ## print our figures beside nghttp3's and plain C's, measured in one run
 	@bash scripts/bench.sh

@@ -1,4 +1,4 @@
-"""answers.py CRATE [EDIT..]: gives the goals that must-fail edits turn answers of their own, so that an edit costs the gate less.
+"""answers.py CRATE [EDIT..]: gives the goals that edits turn answers of their own, so that an edit costs the gate less.
 
 Where a goal without an answer is not proved, the check runs once more to offer one, which is a third of what an edit takes. Each edit is tried here on
 a copy of the repository, over the proofs that are kept; each goal that is offered for it is written into the Answers.antt of its function as `search`, or
@@ -10,7 +10,7 @@ import subprocess
 import sys
 import tempfile
 
-from edits import edited
+from edits import edited, edits_of
 
 ROOT = pathlib.Path(__file__).resolve().parent.parent
 BODIES = ["search", "grind (arith, common_steps)"]
@@ -114,7 +114,7 @@ def settle(crate, found):
 
 def main():
     crate = ROOT / "crates" / sys.argv[1]
-    edits = [it for it in sorted(crate.glob("must-fail/*.edit")) if not sys.argv[2:] or it.stem in sys.argv[2:]]
+    edits = [it for it in edits_of(crate) if not sys.argv[2:] or it.stem in sys.argv[2:]]
     with tempfile.TemporaryDirectory() as room:
         copy = copied(pathlib.Path(room)) / sys.argv[1]
         found = turned(crate, copy, edits)

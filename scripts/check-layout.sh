@@ -1,5 +1,5 @@
 #!/usr/bin/env bash
-# Is every file in the layout of `rt fmt`, and does every must-fail edit apply to the sources as they are? `rt ci` refuses a crate for the first, and
+# Is every file in the layout of `rt fmt`, and does every edit that must be refused apply to the sources as they are? `rt ci` refuses a crate for the first, and
 # counts an edit that does not apply as failed, but only after what stands below was proved. One line 'ok CRATE' or 'failed CRATE' a crate.
 set -uo pipefail
 export LC_ALL=C

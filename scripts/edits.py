@@ -1,5 +1,5 @@
-"""edits.py CRATE: does each edit in the crate's must-fail/ apply, so that each of its `old:` texts stands in its file exactly once? Says how many do, and
-ends with an error, after a line for each that does not, where there is one."""
+"""edits.py CRATE: does each edit in the crate's refused/ and must-fail/ apply, so that each of its `old:` texts stands in its file exactly once, and does each
+in refused/ name one function? Says how many do, and ends with an error, after a line for each that does not, where there is one."""
 import pathlib
 import re
 import sys
@@ -33,7 +33,15 @@ def edited(edit, crate):
     return texts
 
 
+def edits_of(crate):
+    """What stands in the folders of edits: refused/, which scripts/refused.py tries, and must-fail/, which `rt ci` does."""
+    return [it for folder in ("refused", "must-fail") for it in sorted(crate.glob(f"{folder}/*"))]
+
+
 def problem(edit, crate):
+    named = len(re.findall(r"(?m)^function: \S+$", edit.read_text()))
+    if edit.parent.name == "refused" and named != 1:
+        return f"{edit}: one line 'function: NAME' says whose contract refuses it"
     try:
         edited(edit, crate)
     except NotApplied as why:
@@ -43,12 +51,14 @@ def problem(edit, crate):
 
 def main():
     crate = pathlib.Path(sys.argv[1])
-    edits = sorted(crate.glob("must-fail/*"))
-    wrong = [f"{it}: not a name of an edit" for it in edits if not re.fullmatch(r"[A-Za-z0-9_-][A-Za-z0-9_.-]*\.(edit|md)", it.name)]
-    wrong += filter(None, (problem(it, crate) for it in edits if it.suffix == ".edit"))
+    edits = edits_of(crate)
+    wrong = [f"{it}: not a name of an edit" for it in edits if not re.fullmatch(r"[A-Za-z0-9_-][A-Za-z0-9_.-]*\.edit", it.name)]
+    names = [it.name for it in edits]
+    wrong += [f"{it}: the name stands in both folders" for it in edits if names.count(it.name) > 1]
+    wrong += filter(None, (problem(it, crate) for it in edits))
     if wrong:
         sys.exit("\n".join(wrong))
-    print(f"{len([it for it in edits if it.suffix == '.edit'])} edits apply")
+    print(f"{len(edits)} edits apply")
 
 
 if __name__ == "__main__":

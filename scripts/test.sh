@@ -1,8 +1,9 @@
 #!/usr/bin/env bash
 # The gate: the checks of this repository (scripts/check-*.sh), which take about a minute and each print one line 'ok NAME' or
-# 'failed NAME' for each thing that they check, then `rt ci`, and then the programs that it built: a large exchange, scripts with
-# memory refused, input and output that fail, and hostile calls of an endpoint. Where one of these fails the gate ends there. The last line is
-# the sum. The C programs of tests/c have a command of their own (make test-c), which CI runs next: it builds the library over what rt ci has proved.
+# 'failed NAME' for each thing that they check; then `rt ci`; then the wrong bodies of crates/*/refused, over the libraries that it left
+# (scripts/refused.py); and then the programs that it built: a large exchange, scripts with memory refused, input and output that fail, and hostile
+# calls of an endpoint. Where one of these fails the gate ends there. The last line is the sum. The C programs of tests/c have a command of their own
+# (make test-c), which CI runs next: it builds the library over what rt ci has proved.
 set -uo pipefail
 cd "$(dirname "$0")/.."
 
@@ -41,14 +42,32 @@ for script in scripts/check-*.sh; do
   count bash "$script"
 done
 
+# As many proofs at a time as there are processors, where there are 4 GB for each: left to itself rt ci runs fewer, since it reckons with more than twice the
+# memory that was seen (3.0 GB at most).
+free_kib=$(awk '/^MemAvailable:/ { print $2 }' /proc/meminfo)
+lanes=$((free_kib / 4000000))
+if [ "$lanes" -gt "$(nproc)" ]; then lanes=$(nproc); fi
+if [ "$lanes" -lt 1 ]; then lanes=1; fi
+
+# What an earlier rt ci left has no stamp. This one would put it back in the place of its own libraries, over which what follows is built.
+for library in crates/*/out/rlib; do
+  if [ ! -e "$library/stamp" ]; then rm -rf "$library"; fi
+done
+
 if [ "$failed" -eq 0 ]; then
-  rt ci 2>&1 | clock | tee "$log"
+  RT_JOBS=${RT_JOBS:-$lanes} rt ci 2>&1 | clock | tee "$log"
   last=$(grep -E '^[0-9]+ passed, [0-9]+ failed' "$log" | tail -n 1)
   good=$(sed -nE 's/^([0-9]+) passed, .*/\1/p' <<<"$last")
   bad=$(sed -nE 's/^[0-9]+ passed, ([0-9]+) failed.*/\1/p' <<<"$last")
   # no closing line: the gate itself did not finish
   passed=$((passed + ${good:-0}))
   failed=$((failed + ${bad:-1}))
+fi
+
+if [ "$failed" -eq 0 ]; then
+  began=$SECONDS
+  count python3 scripts/refused.py
+  printf '%7d s  all edits of refused/\n' $((SECONDS - began)) >> "$times"
 fi
 
 if [ "$failed" -eq 0 ]; then
@@ -59,7 +78,7 @@ if [ "$failed" -eq 0 ]; then
 fi
 
 if [ -s "$times" ]; then
-  echo "when each crate and its tests were proved, and its edits begun (several at a time, edits last; each edit's answer comes at the end):"
+  echo "when each crate was proved, and its edits of must-fail/ begun (several at a time; each edit's answer comes at the end), and what took how long then:"
   cat "$times"
 fi
 echo "$passed passed, $failed failed"
