@@ -15,8 +15,6 @@ import dataclasses
 import os
 import re
 import resource
-import shutil
-import subprocess
 import sys
 import tempfile
 import threading
@@ -24,7 +22,7 @@ import threading
 import kit
 
 ROOT = os.path.dirname(os.path.dirname(os.path.realpath(__file__)))
-LANE_MEMORY = 4_000_000_000  # the most that one check was seen to take is 3.0 GB
+LANE_MEMORY = 4_000_000_000  # the most that one of these checks was seen to take is 2.6 GB
 # An error of a proof file that names what the edit took away, which says little of the contract.
 NAMES = re.compile(r"has no field|is not in scope|has no `|was not admitted")
 UNSOLVED = "`search` did not prove"
@@ -112,7 +110,11 @@ class Checks:
             flags += ["--only", f"{self.crate.name}::{name}"]
         ran = rt.checked(self.crate, texts, flags, self.kept)
         if not re.search(r"(?m)^only=\d+ proved=\d+", ran.stdout) or ran.returncode not in (0, 1) or rt.rtlib.STALE.search(ran.stdout):
-            raise Broken(f"a check of {self.crate.name} judged nothing (status {ran.returncode}): {ran.stdout[-900:]}")
+            last = " ".join(ran.stdout.split()[-60:])
+            raise Broken(f"a check judged nothing (status {ran.returncode}): {last}")
+        unread = next((it for it in ran.stdout.split("\n") if rt.unread(it, texts)), None)
+        if unread:
+            raise Broken(f"the prover cannot read the edited text: {unread[:200]}")
         said = dict(re.findall(rf"(?m)^\w+ {self.crate.name}::(\S+): (.*)", ran.stdout))
         return said, ran.stdout
 
@@ -176,7 +178,15 @@ def in_turn(checks, edits):
     while left:
         batch = left.pop(0)
         texts = joined(checks.crate, batch)
-        said, printed = checks.check(texts, [it.function for it in batch])
+        try:
+            said, printed = checks.check(texts, [it.function for it in batch])
+        except Broken as why:
+            # (whose edit it is shows when each is tried by itself)
+            if len(batch) > 1:
+                left += [[it] for it in batch]
+            else:
+                yield batch[0], False, str(why)
+            continue
         others = stray(batch, said) if batch[0].body else []
         if others:
             raise Broken(f"with edits of other bodies: {'; '.join(others)[:900]}")
@@ -205,7 +215,7 @@ def tried(rt, bodies, crate, paths):
         with tempfile.TemporaryDirectory(prefix="refused-") as kept:
             checks = Checks(rt, crate, kept)
             for edit, refused, why in in_turn(checks, edits):
-                lines.append(f"{'ok' if refused else 'failed'} {edit.label}: {why if refused else f'NOT REFUSED: {why}'}")
+                lines.append(f"ok {edit.label}: {why}" if refused else f"failed {edit.label}: NOT REFUSED: {why}")
     except Broken as why:
         lines.append(f"failed {crate.name}/refused: {why}")
     return lines
@@ -216,16 +226,10 @@ def edits_of(crate):
     return sorted(f"{folder}/{it}" for it in os.listdir(folder)) if os.path.isdir(folder) else []
 
 
-def main():
-    os.chdir(ROOT)
-    rt, bodies = kit.load_rt(), kit.load("rt-plant-bodies")
-    rt.rtlib.guarded()
-    crates = [it for it in kit.crates_of(rt, ROOT) if edits_of(it) and (not sys.argv[1:] or it.name in sys.argv[1:])]
-    for it in crates:
-        build_below(rt, it)
+def try_all(rt, crates):
+    """Prints the lines for the crates' edits, several crates side by side, and says how many lines tell of a failure."""
+    bodies, printing = kit.load("rt-plant-bodies"), threading.Lock()
     lanes = max(1, min(rt.processors(), int(rt.free() / LANE_MEMORY)))
-    printing = threading.Lock()
-    failed = 0
 
     def work(crate):
         lines = tried(rt, bodies, crate, edits_of(crate))
@@ -235,7 +239,26 @@ def main():
 
     with concurrent.futures.ThreadPoolExecutor(lanes) as pool:
         dearest_first = sorted(crates, key=lambda it: -it.count(rb"\n") - 100 * len(edits_of(it)))
-        failed = sum(pool.map(work, dearest_first))
+        return sum(pool.map(work, dearest_first))
+
+
+def main():
+    os.chdir(ROOT)
+    rt = kit.load_rt()
+    # (its first call sets a signal's handler, which only the main thread may)
+    rt.rtlib.guarded()
+    crates = {it.name: it for it in kit.crates_of(rt, ROOT) if edits_of(it)}
+    unknown = [it for it in sys.argv[1:] if it not in crates]
+    if unknown:
+        sys.exit(f"no edits in crates/{unknown[0]}/refused, or no such crate")
+    crates = [crates[it] for it in sys.argv[1:] or crates]
+    try:
+        for it in crates:
+            build_below(rt, it)
+        failed = try_all(rt, crates)
+    except Broken as why:
+        print(f"failed refused.py: {why}")
+        failed = 1
     used = resource.getrusage(resource.RUSAGE_CHILDREN)
     print(f"edits of {len(crates)} crates, {used.ru_utime + used.ru_stime:.0f} seconds of a processor", flush=True)
     return 1 if failed else 0
