@@ -42,20 +42,13 @@ for script in scripts/check-*.sh; do
   count bash "$script"
 done
 
-# As many proofs at a time as there are processors, where there are 4 GB for each: left to itself rt ci runs fewer, since it reckons with more than twice the
-# memory that was seen (3.0 GB at most).
-free_kib=$(awk '/^MemAvailable:/ { print $2 }' /proc/meminfo)
-lanes=$((free_kib / 4000000))
-if [ "$lanes" -gt "$(nproc)" ]; then lanes=$(nproc); fi
-if [ "$lanes" -lt 1 ]; then lanes=1; fi
-
 # What an earlier rt ci left has no stamp. This one would put it back in the place of its own libraries, over which what follows is built.
 for library in crates/*/out/rlib; do
   if [ ! -e "$library/stamp" ]; then rm -rf "$library"; fi
 done
 
 if [ "$failed" -eq 0 ]; then
-  RT_JOBS=${RT_JOBS:-$lanes} rt ci 2>&1 | clock | tee "$log"
+  rt ci 2>&1 | clock | tee "$log"
   last=$(grep -E '^[0-9]+ passed, [0-9]+ failed' "$log" | tail -n 1)
   good=$(sed -nE 's/^([0-9]+) passed, .*/\1/p' <<<"$last")
   bad=$(sed -nE 's/^[0-9]+ passed, ([0-9]+) failed.*/\1/p' <<<"$last")
