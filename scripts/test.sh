@@ -42,6 +42,13 @@ for script in scripts/check-*.sh; do
   count bash "$script"
 done
 
+# On four processors and more, as many proofs of one job at a time as there are processors, where there are 5 GB for each (4.3 GB were seen at most): left to
+# itself rt ci runs fewer, since it reckons with twice the memory. On fewer it gives both processors to a proof that all others wait for, which serves better.
+free_kib=$(awk '/^MemAvailable:/ { print $2 }' /proc/meminfo)
+if [ "$(nproc)" -ge 4 ] && [ "$free_kib" -ge $(($(nproc) * 5000000)) ]; then
+  export RT_JOBS=${RT_JOBS:-$(nproc)}
+fi
+
 # What an earlier rt ci left has no stamp. This one would put it back in the place of its own libraries, over which what follows is built.
 for library in crates/*/out/rlib; do
   if [ ! -e "$library/stamp" ]; then rm -rf "$library"; fi
