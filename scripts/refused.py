@@ -22,7 +22,7 @@ import threading
 import kit
 
 ROOT = os.path.dirname(os.path.dirname(os.path.realpath(__file__)))
-LANE_MEMORY = 4_000_000_000  # the most that one of these checks was seen to take is 2.6 GB
+LANE_MEMORY = 4_000_000_000  # a proof of h3_session, the largest of these crates, was seen to take 3.3 GB
 # An error of a proof file that names what the edit took away, which says little of the contract.
 NAMES = re.compile(r"has no field|is not in scope|has no `|was not admitted")
 UNSOLVED = "`search` did not prove"
