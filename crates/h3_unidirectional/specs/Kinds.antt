@@ -1,4 +1,4 @@
--- A unidirectional stream's role by what is kept of it, and for whom what came is.
+-- A unidirectional stream's role and the code of its reset by what is kept of it, and for whom what came is.
 use Rattle.std.specs.Prelude.{◌≡◌, ℕ, Bool, true, false, List, [], ◌++◌, Option, Some, None}
 use Rattle.h3_coding.specs.Varint.{varint_at}
 use Rattle.h3_connection.specs.Unidirectional.{Role, of_kind, role_after}
@@ -16,6 +16,11 @@ role_of kind.Decoder front = Decoder
 role_of (kind.Session id) front = Session id
 role_of (kind.Push id) front = Push id
 role_of kind.Ignored front = Ignored
+
+-- the code that it was cut off with, if it was
+abbrev pub code_of : Bool → ℕ → Option ℕ
+code_of true code = Some code
+code_of false _ = None
 
 -- what some bytes make of a stream, and the bytes behind that
 abbrev pub head_of : List ℕ → Role × List ℕ

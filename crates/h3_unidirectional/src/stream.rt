@@ -51,19 +51,21 @@ pub struct UnidirectionalStream {
     front: Vec<u8>,
     // what came of a session and was not handed out
     unread: BufList<Bytes>,
+    // where it was reset, the code; apart from `is_reset`, and the flags side by side, since the first stream takes room for 15 (104 bytes each)
+    reset_code: u64,
+    is_reset: bool,
     ended: bool,
-    reset_code: Option<u64>,
     is_told: bool,
     is_over: bool,
 }
 
 impl Model for UnidirectionalStream {
     ghost use Rattle.h3_connection.specs.Unidirectional.{Unidirectional};
-    ghost use Rattle.h3_unidirectional.specs.Kinds.{role_of, IsUnfinished};
+    ghost use Rattle.h3_unidirectional.specs.Kinds.{role_of, code_of, IsUnfinished};
 
     ghost Value = { Unidirectional };
 
-    ghost view = { λ s. record { role = role_of s.kind s.front.items; unread = s.unread.pieces; ended = s.ended; reset_code = s.reset_code; is_told = s.is_told; is_over = s.is_over } };
+    ghost view = { λ s. record { role = role_of s.kind s.front.items; unread = s.unread.pieces; ended = s.ended; reset_code = code_of s.is_reset s.reset_code; is_told = s.is_told; is_over = s.is_over } };
 
     ghost invariant = { λ s. IsUnfinished s.kind s.front.items };
 }
@@ -120,8 +122,9 @@ impl UnidirectionalStream {
             kind: Kind::Untold,
             front: Vec::new(alloc),
             unread: BufList::new(alloc),
+            reset_code: 0,
+            is_reset: false,
             ended: false,
-            reset_code: None,
             is_told: false,
             is_over: false,
         }
@@ -131,7 +134,7 @@ impl UnidirectionalStream {
     pub fn is_closed(&self) -> bool
         ensures { result ≡ is_closed self.now }
     {
-        self.ended || self.reset_code.is_some()
+        self.ended || self.is_reset
     }
 
     /// Whether it may not be closed: it is read as the control, encoder or decoder stream.
@@ -155,7 +158,7 @@ impl UnidirectionalStream {
     {
         let kind = self.kind;
         match kind {
-            Kind::Session(_) => self.is_over || self.reset_code.is_some(),
+            Kind::Session(_) => self.is_over || self.is_reset,
             Kind::Control => false,
             Kind::Encoder => false,
             Kind::Decoder => false,
@@ -183,7 +186,8 @@ impl UnidirectionalStream {
     pub fn reset(&mut self, code: u64)
         ensures { self.new ≡ record self.old { reset_code = Some code } }
     {
-        self.reset_code = Some(code);
+        self.reset_code = code;
+        self.is_reset = true;
     }
 
     /// Stores the bytes of a session without those that were passed.
@@ -321,8 +325,8 @@ impl UnidirectionalStream {
         if self.is_over {
             return Pull::Item(Item::End);
         }
-        if let Some(code) = self.reset_code {
-            return Pull::Fault(Fault::Stream(StreamFault::Reset(code)));
+        if self.is_reset {
+            return Pull::Fault(Fault::Stream(StreamFault::Reset(self.reset_code)));
         }
         if !self.is_told {
             self.is_told = true;
