@@ -43,6 +43,7 @@ int main(int argc, char **argv) {
   session_rows(&responses, 1, (session_targets){1.2, 1.0, 0, 1.0, 0.34});
   session_rows(&requests, 50, (session_targets){1.2, 1.0, 0, 1.0, 0});
   session_rows(&responses, 50, (session_targets){1.2, 1.0, 0, 1.0, 0});
+  endpoint_rows(&requests, &responses);
   hostile_rows();
   length_rows();
   printf("\n%d rows below their target\n", rows_below());

@@ -11,7 +11,8 @@ typedef struct {
   const field_lists *requests, *responses;
   size_t request_body, response_body; /* bytes; 0: none */
   size_t exchanges, under_way;        /* how many in all, and how many at once */
-  size_t piece;                       /* the most bytes that are carried at once, at most MOST_CARRIED */
+  size_t piece;                       /* the most bytes that are carried at once, at most MOST_CARRIED; 0 (not through C): each piece that an end lends
+                                         is carried in a block of its own, and what comes out is counted and not copied */
   size_t table, blocked;              /* what both sides announce for QPACK */
 } exchange_kind;
 
@@ -30,6 +31,7 @@ extern uint8_t carried[MOST_CARRIED], copied[LONGEST_BODY];
 /* Work for contenders: each round is a connection, from its making to its end. The data are an exchange_kind. Both end the program where something
  * else comes out than was sent. */
 void our_exchanges(void *kind, uint64_t rounds);
+void our_endpoints(void *kind, uint64_t rounds);
 void peer_exchanges(void *kind, uint64_t rounds);
 
 /* Ends the program where an end did not get all. */

@@ -10,6 +10,7 @@ typedef struct {
   size_t body;
   int64_t *whole; /* streams whose end came, not yet answered or closed */
   size_t whole_count;
+  int is_copied; /* whether what comes out is copied */
   came_out got;
 } side;
 
@@ -21,8 +22,10 @@ static int on_field(nghttp3_conn *end, int64_t id, int32_t token, nghttp3_rcbuf 
                     void *of_stream) {
   side *to = data;
   nghttp3_vec n = nghttp3_rcbuf_get_buf(name), v = nghttp3_rcbuf_get_buf(value);
-  memcpy(copied, n.base, n.len);
-  memcpy(copied + (1 << 8), v.base, v.len);
+  if (to->is_copied) {
+    memcpy(copied, n.base, n.len);
+    memcpy(copied + (1 << 8), v.base, v.len);
+  }
   to->got.fields++;
   to->got.field_bytes += n.len + v.len;
   return 0;
@@ -34,8 +37,9 @@ static int on_head(nghttp3_conn *end, int64_t id, int last, void *data, void *of
 }
 
 static int on_body(nghttp3_conn *end, int64_t id, const uint8_t *bytes, size_t len, void *data, void *of_stream) {
-  memcpy(copied, bytes, len);
-  ((side *)data)->got.body += len;
+  side *to = data;
+  if (to->is_copied) memcpy(copied, bytes, len);
+  to->got.body += len;
   return 0;
 }
 
@@ -65,6 +69,28 @@ static size_t gather(const nghttp3_vec *pieces, size_t count, size_t room, size_
   return len;
 }
 
+/* Copies the pieces as far as they fit, one behind the other, and reads them at once. Answers how many bytes were read. */
+static size_t read_gathered(side *to, int64_t id, const nghttp3_vec *pieces, size_t count, int fin, size_t room) {
+  size_t all, len = gather(pieces, count, room, &all);
+  done("nghttp3_conn_read_stream", nghttp3_conn_read_stream(to->end, id, carried, len, fin && len == all));
+  return len;
+}
+
+/* Reads each piece from a block of its own. Answers how many bytes were read. */
+static size_t read_blocks(side *to, int64_t id, const nghttp3_vec *pieces, size_t count, int fin) {
+  size_t len = 0;
+  if (!count) done("nghttp3_conn_read_stream", nghttp3_conn_read_stream(to->end, id, NULL, 0, fin));
+  for (size_t i = 0; i < count; i++) {
+    uint8_t *block = malloc(pieces[i].len);
+    if (!block) stop("no memory", (long)pieces[i].len);
+    memcpy(block, pieces[i].base, pieces[i].len);
+    done("nghttp3_conn_read_stream", nghttp3_conn_read_stream(to->end, id, block, pieces[i].len, fin && i + 1 == count));
+    free(block);
+    len += pieces[i].len;
+  }
+  return len;
+}
+
 /* Carries all that waits. */
 static void carry_all(side *from, side *to, size_t room) {
   enum { PIECES = 16 };
@@ -75,8 +101,7 @@ static void carry_all(side *from, side *to, size_t room) {
     nghttp3_ssize count = nghttp3_conn_writev_stream(from->end, &id, &fin, pieces, PIECES);
     done("nghttp3_conn_writev_stream", count);
     if (id == -1) return;
-    size_t all, len = gather(pieces, (size_t)count, room, &all);
-    done("nghttp3_conn_read_stream", nghttp3_conn_read_stream(to->end, id, carried, len, fin && len == all));
+    size_t len = room ? read_gathered(to, id, pieces, (size_t)count, fin, room) : read_blocks(to, id, pieces, (size_t)count, fin);
     done("nghttp3_conn_add_write_offset", nghttp3_conn_add_write_offset(from->end, id, len));
     done("nghttp3_conn_add_ack_offset", nghttp3_conn_add_ack_offset(from->end, id, len));
   }
@@ -142,8 +167,9 @@ void peer_exchanges(void *data, uint64_t rounds) {
   const exchange_kind *kind = data;
   int64_t *whole = calloc(2 * (kind->under_way + 1), sizeof *whole);
   for (; rounds; rounds--) {
-    side client = {NULL, kind->requests, kind->request_body, whole, 0, {0}};
-    side server = {NULL, kind->responses, kind->response_body, whole + kind->under_way + 1, 0, {0}};
+    const int is_copied = kind->piece > 0;
+    side client = {NULL, kind->requests, kind->request_body, whole, 0, is_copied, {0}};
+    side server = {NULL, kind->responses, kind->response_body, whole + kind->under_way + 1, 0, is_copied, {0}};
     count_held_from_here();
     run_connection(kind, &client, &server);
     want_all("nghttp3", kind, &server.got, &client.got);

@@ -67,4 +67,11 @@ uint32_t h3_bench_session_encode(uint64_t rounds, size_t capacity, size_t limit,
                                  uint8_t *out, size_t room, h3_report *report);
 uint32_t h3_bench_session_decode(uint64_t rounds, size_t capacity, const uint8_t *bytes, size_t len, uint8_t *out,
                                  size_t room, h3_report *report);
+
+/* Connections of two endpoints that announce such a table and such a limit on blocked streams. `batches` times, `under_way` requests are sent at once,
+ * each with one of the requests' heads, in turn, and the request's body; they are carried, read and answered. Heads are encoded field sections, as
+ * strings. The report, of one connection: the fields that came out at both ends, the bytes of bodies, and the ends of streams. */
+uint32_t h3_bench_endpoints(uint64_t rounds, uint64_t table, uint64_t blocked, size_t batches, size_t under_way, const uint8_t *requests,
+                            size_t requests_len, const uint8_t *request_body, size_t request_body_len, const uint8_t *responses, size_t responses_len,
+                            const uint8_t *response_body, size_t response_body_len, h3_report *report);
 #endif

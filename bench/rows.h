@@ -12,6 +12,10 @@ void length_rows(void);
 /* The strings of these lists as values of one field. */
 void literal_rows(const field_lists *lists);
 void header_rows(const field_lists *lists);
+/* The sections that we encode these lists to without a table, as strings. */
+pack sections_of(const field_lists *lists);
+/* Exchanges of these lists, and of small ones. */
+void endpoint_rows(const field_lists *requests, const field_lists *responses);
 void wire_rows(void);
 /* Streams of frames; those of HEADERS frames have the sections of these lists. */
 void frame_rows(const field_lists *lists);

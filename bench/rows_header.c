@@ -33,7 +33,7 @@ static void list_fields(void *data, uint64_t rounds) {
         &report);
 }
 
-static pack sections_of(const field_lists *lists) {
+pack sections_of(const field_lists *lists) {
   pack packed = pack_lists(lists), sections = {0};
   size_t room = 4 * packed.len + 64, len = 4;
   uint8_t *out = malloc(room);

@@ -93,12 +93,18 @@ fn add_header(alloc: Global, section: &[u8], headers: &mut Vec<Header>) -> Resul
     }
 }
 
-fn list(alloc: Global, rounds: u64, bytes: &[u8]) -> Result<Report, Failure> {
+/// The headers of sections.
+pub(crate) fn headers(alloc: Global, bytes: &[u8]) -> Result<Vec<Header>, Failure> {
     let sections = input::strings(alloc, bytes)?;
     let mut headers = Vec::new(alloc);
     for section in &sections {
         add_header(alloc, *section, &mut headers)?;
     }
+    Ok(headers)
+}
+
+fn list(alloc: Global, rounds: u64, bytes: &[u8]) -> Result<Report, Failure> {
+    let headers = headers(alloc, bytes)?;
     let mut report = Report::new();
     for _ in 0..rounds {
         report = list_all(alloc, &headers)?;

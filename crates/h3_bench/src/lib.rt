@@ -4,6 +4,7 @@
 //! the counts and the bytes.
 #![tactic(auto)]
 
+mod endpoints;
 mod ends;
 mod exchange;
 mod frames;

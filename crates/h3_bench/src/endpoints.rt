@@ -1,0 +1,334 @@
+//! Connections of two endpoints, with no C between: requests are sent some at a time, carried piece by piece, read and answered.
+
+use crate::header::headers;
+use crate::report::{Failure, Report, answer};
+use bytes::Bytes;
+use h3_coding::varint::VarInt;
+use h3_connection::event::{DeliverError, Item, Pull};
+use h3_connection::setup::Limits;
+use h3_header::Header;
+use h3_proto::config::Config;
+use h3_proto::stream::{Side, StreamId};
+use h3_session::endpoint::Endpoint;
+use std::alloc::Global;
+
+/// The table and the blocked streams that both ends announce; how often requests are sent, and how many each time.
+#[derive(Copy, Clone)]
+struct Shape {
+    limits: Limits,
+    batches: usize,
+    under_way: usize,
+}
+
+/// What an end sends on each stream: one of its headers, in turn, and the body.
+#[derive(Drop)]
+struct Messages {
+    headers: Vec<Header>,
+    body: Bytes,
+}
+
+impl Messages {
+    /// Of encoded field sections, and the body's bytes.
+    fn new(alloc: Global, sections: &[u8], body: &[u8]) -> Result<Messages, Failure> {
+        let Ok(body) = Bytes::copy_from_slice(alloc, body) else {
+            return Err(Failure::Memory);
+        };
+        let headers = headers(alloc, sections)?;
+        Ok(Messages { headers, body })
+    }
+
+    /// Sends a whole message. Its body is the same bytes each time.
+    fn send(&self, from: &mut Endpoint, id: StreamId) -> Result<(), Failure> {
+        let number = (id.into_inner() / 4) as usize;
+        let count = self.headers.len();
+        if count == 0 {
+            return Err(Failure::Input);
+        }
+        done(from.send_head(id, &self.headers[number % count]).is_ok())?;
+        if !self.body.is_empty() {
+            self.send_body(from, id)?;
+        }
+        done(from.finish(id).is_ok())
+    }
+
+    fn send_body(&self, from: &mut Endpoint, id: StreamId) -> Result<(), Failure> {
+        let Ok(body) = self.body.clone() else {
+            return Err(Failure::Memory);
+        };
+        done(from.send_body(id, body).is_ok())
+    }
+}
+
+fn done(is_done: bool) -> Result<(), Failure> {
+    if is_done {
+        Ok(())
+    } else {
+        Err(Failure::Refused)
+    }
+}
+
+/// What goes on between both ends.
+#[derive(Copy, Clone)]
+struct Exchanges<'a> {
+    alloc: Global,
+    shape: Shape,
+    requests: &'a Messages,
+    responses: &'a Messages,
+}
+
+impl Exchanges<'_> {
+    /// A connection, from its making to its end.
+    fn connect(&self, report: &mut Report) -> Result<(), Failure> {
+        match endpoint(self.alloc, Side::Client, self.shape.limits) {
+            Ok(mut client) => {
+                let done = self.with_server(&mut client, report);
+                drop(client);
+                done
+            }
+            Err(e) => Err(e),
+        }
+    }
+
+    fn with_server(&self, client: &mut Endpoint, report: &mut Report) -> Result<(), Failure> {
+        match endpoint(self.alloc, Side::Server, self.shape.limits) {
+            Ok(mut server) => {
+                let done = self.talk(client, &mut server, report);
+                drop(server);
+                done
+            }
+            Err(e) => Err(e),
+        }
+    }
+
+    fn talk(
+        &self,
+        client: &mut Endpoint,
+        server: &mut Endpoint,
+        report: &mut Report,
+    ) -> Result<(), Failure> {
+        self.carry_own(client, server)?;
+        let mut streams = Vec::new(self.alloc);
+        for _ in 0..self.shape.batches {
+            self.request(client, &mut streams)?;
+            self.exchange(client, server, &streams, report)?;
+            streams.clear();
+        }
+        Ok(())
+    }
+
+    /// Opens streams and sends a request on each.
+    fn request(&self, client: &mut Endpoint, streams: &mut Vec<StreamId>) -> Result<(), Failure> {
+        for _ in 0..self.shape.under_way {
+            let Ok(id) = client.open_request() else {
+                return Err(Failure::Refused);
+            };
+            self.requests.send(client, id)?;
+            if streams.push(id).is_err() {
+                return Err(Failure::Memory);
+            }
+        }
+        Ok(())
+    }
+
+    /// Requests are carried, read and answered. What waits on the own streams is carried first, since heads may need it.
+    fn exchange(
+        &self,
+        client: &mut Endpoint,
+        server: &mut Endpoint,
+        streams: &[StreamId],
+        report: &mut Report,
+    ) -> Result<(), Failure> {
+        self.carry_own(client, server)?;
+        self.carry_all(client, server, streams, report)?;
+        for id in streams {
+            self.responses.send(server, *id)?;
+        }
+        self.carry_own(client, server)?;
+        self.carry_all(server, client, streams, report)?;
+        self.carry_own(client, server)
+    }
+
+    /// Carries what waits on the own streams of both: control, encoder and decoder stream.
+    fn carry_own(&self, client: &mut Endpoint, server: &mut Endpoint) -> Result<(), Failure> {
+        for number in [2, 6, 10] {
+            self.carry(client, server, StreamId::from(VarInt::from_u32(number)))?;
+        }
+        for number in [3, 7, 11] {
+            self.carry(server, client, StreamId::from(VarInt::from_u32(number)))?;
+        }
+        Ok(())
+    }
+
+    /// Carries what waits on request streams, and reads it.
+    fn carry_all(
+        &self,
+        from: &mut Endpoint,
+        to: &mut Endpoint,
+        streams: &[StreamId],
+        report: &mut Report,
+    ) -> Result<(), Failure> {
+        for id in streams {
+            self.carry(from, to, *id)?;
+            pull_all(to, *id, report);
+        }
+        Ok(())
+    }
+
+    /// Carries all that waits on a stream, and the end of one that is finished.
+    fn carry(&self, from: &mut Endpoint, to: &mut Endpoint, id: StreamId) -> Result<(), Failure> {
+        // a piece has a byte at least
+        for _ in 0..from.waiting(id) {
+            if !self.carry_piece(from, to, id)? {
+                break;
+            }
+        }
+        if from.is_finished(id) {
+            return delivered(to.deliver_end(id));
+        }
+        Ok(())
+    }
+
+    /// Carries the first piece of what waits, in a block of its own, and says whether there was one.
+    fn carry_piece(
+        &self,
+        from: &mut Endpoint,
+        to: &mut Endpoint,
+        id: StreamId,
+    ) -> Result<bool, Failure> {
+        let waits = from.outgoing(id);
+        let count = waits.len();
+        if count == 0 {
+            return Ok(false);
+        }
+        let Ok(piece) = Bytes::copy_from_slice(self.alloc, waits) else {
+            return Err(Failure::Memory);
+        };
+        delivered(to.deliver(id, piece))?;
+        from.advance(id, count);
+        Ok(true)
+    }
+}
+
+fn endpoint(alloc: Global, side: Side, limits: Limits) -> Result<Endpoint, Failure> {
+    let config = Config::default().with_grease(false);
+    match Endpoint::new(alloc, side, config, limits, 0) {
+        Ok(endpoint) => Ok(endpoint),
+        Err(_) => Err(Failure::Input),
+    }
+}
+
+fn delivered(tried: Result<(), DeliverError>) -> Result<(), Failure> {
+    let is_done = tried.is_ok();
+    drop(tried);
+    done(is_done)
+}
+
+/// Reads what came on a stream, until a pause or its end.
+fn pull_all(to: &mut Endpoint, id: StreamId, report: &mut Report) {
+    for _ in 0..u32::MAX {
+        let pull = to.pull(id);
+        let goes_on = read(&pull, report);
+        drop(pull);
+        if !goes_on {
+            return;
+        }
+    }
+}
+
+/// Counts what came out, and says whether to pull again at once. A fault comes out as counts that are too small.
+fn read(pull: &Pull, report: &mut Report) -> bool {
+    match pull {
+        Pull::Item(Item::Head(head)) => {
+            report.add(head.len(), 0);
+            true
+        }
+        Pull::Item(Item::Body(piece)) => {
+            report.add(0, piece.len());
+            true
+        }
+        Pull::Item(Item::End) => {
+            report.checksum = report.checksum.wrapping_add(1);
+            false
+        }
+        _ => false,
+    }
+}
+
+fn connections(rounds: u64, exchanges: &Exchanges<'_>) -> Result<Report, Failure> {
+    let mut report = Report::new();
+    for _ in 0..rounds {
+        report = Report::new();
+        exchanges.connect(&mut report)?;
+    }
+    Ok(report)
+}
+
+fn with_messages(
+    alloc: Global,
+    rounds: u64,
+    shape: Shape,
+    requests: &Messages,
+    responses: &Messages,
+) -> Result<Report, Failure> {
+    let exchanges = Exchanges {
+        alloc,
+        shape,
+        requests,
+        responses,
+    };
+    connections(rounds, &exchanges)
+}
+
+/// What an end sends, as C hands it in.
+#[derive(Copy, Clone)]
+struct Given<'a> {
+    sections: &'a [u8],
+    body: &'a [u8],
+}
+
+fn with_given(
+    alloc: Global,
+    rounds: u64,
+    shape: Shape,
+    requests: Given<'_>,
+    responses: Given<'_>,
+) -> Result<Report, Failure> {
+    let requests = Messages::new(alloc, requests.sections, requests.body)?;
+    let responses = Messages::new(alloc, responses.sections, responses.body)?;
+    with_messages(alloc, rounds, shape, &requests, &responses)
+}
+
+/// Connections, in each of which so many times so many requests are sent at once, and answered. The report is of one connection: the fields that came
+/// out at both ends, the bytes of bodies, and the ends of streams.
+#[unsafe(no_mangle)]
+pub extern "C" fn h3_bench_endpoints(
+    alloc: Global,
+    rounds: u64,
+    table: u64,
+    blocked: u64,
+    batches: usize,
+    under_way: usize,
+    requests: &[u8],
+    request_body: &[u8],
+    responses: &[u8],
+    response_body: &[u8],
+    report: &mut Report,
+) -> u32 {
+    let shape = Shape {
+        limits: Limits { table, blocked },
+        batches,
+        under_way,
+    };
+    let requests = Given {
+        sections: requests,
+        body: request_body,
+    };
+    let responses = Given {
+        sections: responses,
+        body: response_body,
+    };
+    answer(
+        with_given(alloc, rounds, shape, requests, responses),
+        report,
+    )
+}
