@@ -42,10 +42,10 @@ for script in scripts/check-*.sh; do
   count bash "$script"
 done
 
-# As many proofs of one job at a time as there are processors, where there are 5 GB for each (4.3 GB were seen at most): left to itself rt ci runs
-# fewer, since it reckons with twice the memory, or gives two processors to one proof, which then takes more of both.
+# On four processors and more, as many proofs of one job at a time as there are processors, where there are 5 GB for each (4.4 GB were seen at most): left to
+# itself rt ci runs fewer, since it reckons with twice the memory. On fewer the choice is left to it: it gives both to a proof that all others wait for.
 free_kib=$(awk '/^MemAvailable:/ { print $2 }' /proc/meminfo)
-if [ "$(nproc)" -ge 2 ] && [ "$free_kib" -ge $(($(nproc) * 5000000)) ]; then
+if [ "$(nproc)" -ge 4 ] && [ "$free_kib" -ge $(($(nproc) * 5000000)) ]; then
   export RT_JOBS=${RT_JOBS:-$(nproc)}
 fi
 
