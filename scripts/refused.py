@@ -1,5 +1,5 @@
 #!/usr/bin/env python3
-"""Does the prover refuse each wrong body in crates/CRATE/refused/? refused.py [CRATE..]
+"""Does the prover refuse each wrong body in crates/CRATE/refused/? refused.py [--beside LOG] [CRATE..]
 
 Such an edit is a must-fail edit (`file:`, `old:`, `new:`) that also names the function whose contract refuses it: `function: decode::is_padding`. Here
 many are tried by one check, where `rt ci` tries each by a check of its own: a check has edits of distinct bodies, and asks for these functions alone. A
@@ -8,7 +8,8 @@ so for the function's own edit, and every function that no edit of the check tou
 function of which the check says no more than that it calls one that is not proved is tried again by itself. An edit of anything but one body (a
 constant, a clause, a definition) has a check to itself.
 
-The libraries below a crate are those that `rt ci` left, or what `rt lib` makes. A line 'ok CRATE/EDIT' or 'failed CRATE/EDIT' for each edit."""
+The libraries below a crate are those that `rt ci` left, or what `rt lib` makes. With --beside, `rt ci` is running and writes to the file LOG: a crate's edits
+are tried once it says that those below are proved. A line 'ok CRATE/EDIT' or 'failed CRATE/EDIT' for each edit."""
 import collections
 import concurrent.futures
 import dataclasses
@@ -18,11 +19,12 @@ import resource
 import sys
 import tempfile
 import threading
+import time
 
 import kit
+import turns
 
 ROOT = os.path.dirname(os.path.dirname(os.path.realpath(__file__)))
-LANE_MEMORY = 4_000_000_000  # a proof of h3_session, the largest of these crates, was seen to take 3.3 GB
 # An error of a proof file that names what the edit took away, which says little of the contract.
 NAMES = re.compile(r"has no field|is not in scope|has no `|was not admitted")
 UNSOLVED = "`search` did not prove"
@@ -98,17 +100,21 @@ def joined(crate, edits):
 
 
 class Checks:
-    """The checks of one crate, each over what those before it proved."""
+    """The checks of one crate, each over what those before it proved, and each in its turn. How many there were, and the seconds that they took."""
 
-    def __init__(self, rt, crate, kept):
-        self.rt, self.crate, self.kept = rt, crate, kept
+    def __init__(self, rt, crate, kept, turns):
+        self.rt, self.crate, self.kept, self.turns = rt, crate, kept, turns
+        self.count, self.seconds = 0, 0
 
     def check(self, texts, functions):
         """what a check of these functions says of each, and all that it printed"""
         rt, flags = self.rt, ["--jobs", "1"]
         for name in dict.fromkeys(functions):
             flags += ["--only", f"{self.crate.name}::{name}"]
-        ran = rt.checked(self.crate, texts, flags, self.kept)
+        with self.turns.turn():
+            began = time.monotonic()
+            ran = rt.checked(self.crate, texts, flags, self.kept)
+            self.count, self.seconds = self.count + 1, self.seconds + time.monotonic() - began
         if not re.search(r"(?m)^only=\d+ proved=\d+", ran.stdout) or ran.returncode not in (0, 1) or rt.rtlib.STALE.search(ran.stdout):
             last = " ".join(ran.stdout.split()[-60:])
             raise Broken(f"a check judged nothing (status {ran.returncode}): {last}")
@@ -204,18 +210,19 @@ def build_below(rt, crate):
             raise Broken(f"the library {it.name} is not proved")
 
 
-def tried(rt, bodies, crate, paths):
+def tried(rt, bodies, crate, turns):
     """the lines for a crate's edits"""
-    lines = []
+    lines, paths = [], edits_of(crate)
     try:
         edits = [read_edit(rt, crate, it) for it in paths]
         functions = functions_of(bodies, crate)
         for it in edits:
             it.body = body_of(functions, it)
         with tempfile.TemporaryDirectory(prefix="refused-") as kept:
-            checks = Checks(rt, crate, kept)
+            checks = Checks(rt, crate, kept, turns)
             for edit, refused, why in in_turn(checks, edits):
                 lines.append(f"ok {edit.label}: {why}" if refused else f"failed {edit.label}: NOT REFUSED: {why}")
+        lines.append(f"{crate.name}: {len(edits)} edits in {checks.count} checks, which took {checks.seconds:.0f} seconds")
     except Broken as why:
         lines.append(f"failed {crate.name}/refused: {why}")
     return lines
@@ -226,20 +233,22 @@ def edits_of(crate):
     return sorted(f"{folder}/{it}" for it in os.listdir(folder)) if os.path.isdir(folder) else []
 
 
-def try_all(rt, crates):
+def try_all(rt, crates, room):
     """Prints the lines for the crates' edits, several crates side by side, and says how many lines tell of a failure."""
-    bodies, printing = kit.load("rt-plant-bodies"), threading.Lock()
-    lanes = max(1, min(rt.processors(), int(rt.free() / LANE_MEMORY)))
+    bodies, printing, in_turns = kit.load("rt-plant-bodies"), threading.Lock(), turns.Turns(room)
+    left = sorted(crates, key=lambda it: -it.count(rb"\n") - 100 * len(edits_of(it)))
 
-    def work(crate):
-        lines = tried(rt, bodies, crate, edits_of(crate))
-        with printing:
-            print("\n".join(lines), flush=True)
-        return sum(it.startswith("failed") for it in lines)
+    def work(lane):
+        failed = 0
+        while crate := in_turns.take_ready(left):
+            lines = tried(rt, bodies, crate, in_turns)
+            failed += sum(it.startswith("failed") for it in lines)
+            with printing:
+                print("\n".join(lines), flush=True)
+        return failed
 
-    with concurrent.futures.ThreadPoolExecutor(lanes) as pool:
-        dearest_first = sorted(crates, key=lambda it: -it.count(rb"\n") - 100 * len(edits_of(it)))
-        return sum(pool.map(work, dearest_first))
+    with concurrent.futures.ThreadPoolExecutor(room.lanes) as pool:
+        return sum(pool.map(work, range(room.lanes)))
 
 
 def main():
@@ -247,15 +256,18 @@ def main():
     rt = kit.load_rt()
     # (its first call sets a signal's handler, which only the main thread may)
     rt.rtlib.guarded()
+    named = sys.argv[1:]
+    log = named[1] if named[:1] == ["--beside"] else None
+    named = named[2:] if log else named
     crates = {it.name: it for it in kit.crates_of(rt, ROOT) if edits_of(it)}
-    unknown = [it for it in sys.argv[1:] if it not in crates]
+    unknown = [it for it in named if it not in crates]
     if unknown:
         sys.exit(f"no edits in crates/{unknown[0]}/refused, or no such crate")
-    crates = [crates[it] for it in sys.argv[1:] or crates]
+    crates = [crates[it] for it in named or crates]
     try:
-        for it in crates:
+        for it in crates if not log else []:
             build_below(rt, it)
-        failed = try_all(rt, crates)
+        failed = try_all(rt, crates, turns.Beside(rt, log) if log else turns.Alone(rt))
     except Broken as why:
         print(f"failed refused.py: {why}")
         failed = 1

@@ -1,15 +1,17 @@
 #!/usr/bin/env bash
 # The gate: the checks of this repository (scripts/check-*.sh), which take about a minute and each print one line 'ok NAME' or
-# 'failed NAME' for each thing that they check; then `rt ci`; then the wrong bodies of crates/*/refused, over the libraries that it left
-# (scripts/refused.py); and then the programs that it built: a large exchange, scripts with memory refused, input and output that fail, and hostile
-# calls of an endpoint. Where one of these fails the gate ends there. The last line is the sum. The C programs of tests/c have a command of their own
-# (make test-c), which CI runs next: it builds the library over what rt ci has proved.
+# 'failed NAME' for each thing that they check; then `rt ci` and beside it, with what it leaves of the processors, the wrong bodies of
+# crates/*/refused, each crate's once the libraries below it are proved (scripts/refused.py); and then the programs that rt ci built: a large exchange, scripts
+# with memory refused, input and output that fail, and hostile calls of an endpoint. Where one of these fails the gate ends there. The last line is the
+# sum. The C programs of tests/c have a command of their own (make test-c), which CI runs next: it builds the library over what rt ci has proved.
 set -uo pipefail
 cd "$(dirname "$0")/.."
 
 log=$(mktemp)
 times=$(mktemp)
-trap 'rm -f "$log" "$times"' EXIT
+ci=$(mktemp)
+tried=$(mktemp)
+trap 'rm -f "$log" "$times" "$ci" "$tried"' EXIT
 passed=0
 failed=0
 
@@ -55,19 +57,27 @@ for library in crates/*/out/rlib; do
 done
 
 if [ "$failed" -eq 0 ]; then
-  rt ci 2>&1 | clock | tee "$log"
+  nice -n 19 python3 scripts/refused.py --beside "$ci" > "$tried" 2>&1 &
+  edits=$!
+  rt ci 2>&1 | tee "$ci" | clock | tee "$log"
   last=$(grep -E '^[0-9]+ passed, [0-9]+ failed' "$log" | tail -n 1)
   good=$(sed -nE 's/^([0-9]+) passed, .*/\1/p' <<<"$last")
   bad=$(sed -nE 's/^[0-9]+ passed, ([0-9]+) failed.*/\1/p' <<<"$last")
   # no closing line: the gate itself did not finish
   passed=$((passed + ${good:-0}))
   failed=$((failed + ${bad:-1}))
+  if [ "$failed" -ne 0 ]; then
+    pkill -P "$edits"
+    kill "$edits"
+  fi
 fi
 
 if [ "$failed" -eq 0 ]; then
   began=$SECONDS
-  count python3 scripts/refused.py
-  printf '%7d s  all edits of refused/\n' $((SECONDS - began)) >> "$times"
+  wait "$edits"
+  status=$?
+  count bash -c 'cat "$0"; exit "$1"' "$tried" "$status"
+  printf '%7d s  behind that, the edits of refused/ that were left\n' $((SECONDS - began)) >> "$times"
 fi
 
 if [ "$failed" -eq 0 ]; then
