@@ -2,17 +2,12 @@
 use Rattle.std.proofs.Common.{arith, ◌≡◌, ℕ, ◌+◌, true, false, [], ◌∷◌, refl, sym, ◌∙◌, ap, inl, inr}
 use Rattle.std.specs.Prelude.{Option, Some, None, ◌==◌, ◌≢◌, if◌then◌else◌, sum_by, option_map, unwrap_or}
 use Rattle.std.specs.BTreeMap.{is_at}
-use Rattle.std.specs.List.{AllByRecursion}
-use Rattle.std.specs.List.Sorted.{IsStrictlySortedBy}
-use Rattle.std.specs.Map.{keys_of, values_of}
 use Rattle.std.specs.Ordering.{nat_cmp}
-use Rattle.std.proofs.Common.{Less}
 use Rattle.std.proofs.lemmas.Option.{none-some}
-use Rattle.std.proofs.lemmas.Map.Keys.{sorted_head, sorted_tail}
 use Rattle.std.proofs.lemmas.List.Sums.{sum_by-cons}
 use Rattle.std.proofs.lemmas.Grind.{common_steps}
 use Rattle.std.proofs.lemmas.Bool.{cases_eq}
-use Rattle.h3_connection.specs.Calls.{Sets, AllSame}
+use Rattle.h3_connection.specs.Calls.{Sets}
 use Rattle.h3_connection.specs.State.{kept_at}
 use Rattle.h3_connection.specs.StreamSets.{Streams, HaveDistinctIds, stream_at, set_stream}
 use Rattle.h3_connection.specs.StreamSetLaws.{other_id, set-here, set-other, set-distinct}
@@ -119,7 +114,7 @@ total-same f g ((q, x) ∷ xs) ys h k same =
     let behind : total f xs ≡ total g (without_stream ys q) = total-same f g xs (without_stream ys q) h.1 (without-distinct ys q k) (same-behind f g q x xs ys h k same) in
     omega (arith, total-cons f q x xs, first, behind, total-without g ys q)
 
--- a stream of a map, found as in a list
+-- `kept_at` finds what `stream_at` does
 pub kept_is_at : {X : Type 0} (streams : Streams X) (id : ℕ) → kept_at streams id ≡ stream_at streams id
 kept_is_at [] id = refl
 kept_is_at ((q, x) ∷ streams) id = elim (cases_eq q id) [
@@ -133,24 +128,7 @@ kept_is_at ((q, x) ∷ streams) id = elim (cases_eq q id) [
       rw there (rw passed (kept_is_at streams id))
 ]
 
-none_after : {X : Type 0} (q : ℕ) (streams : Streams X) → AllByRecursion (λ p. nat_cmp q p ≡ Less) (keys_of streams) → stream_at streams q ≡ None
-none_after q [] h = refl
-none_after q ((p, x) ∷ streams) h =
-    let there : (p == q) ≡ false = grind (arith, common_steps, h.0) in
-    rw there (none_after q streams h.1)
-
--- a map has no id twice
-pub ordered_is_distinct : {X : Type 0} (streams : Streams X) → IsStrictlySortedBy nat_cmp (keys_of streams) → HaveDistinctIds streams
-ordered_is_distinct [] h = tt
-ordered_is_distinct ((q, x) ∷ streams) h =
-    (none_after q streams (sorted_head nat_cmp q (keys_of streams) h), ordered_is_distinct streams (sorted_tail nat_cmp q (keys_of streams) h))
-
--- the sum over a map as its values have it
-pub total-values : {X : Type 0} (f : X → ℕ) (streams : Streams X) → sum_by f (values_of streams) ≡ total f streams
-total-values f [] = refl
-total-values f ((q, x) ∷ streams) = omega (arith, total-cons f q x streams, sum_by-cons f x (values_of streams), total-values f streams)
-
--- the sum over a map, when a stream is set
+-- The same of streams as `kept_at` finds them, in whatever order: when one is set,
 pub total_sets : {X : Type 0} (f : X → ℕ) (old new : Streams X) (id : ℕ) (x : X) → HaveDistinctIds old → HaveDistinctIds new → Sets old new id x
     → total f new + part_of f (kept_at old id) ≡ total f old + f x
 total_sets f old new id x h k sets =
@@ -177,15 +155,11 @@ total_takes_out f old new id h k takes =
     let whole : total f new ≡ total f (without_stream old id) = total-same f f new (without_stream old id) k (without-distinct old id h) (λ q. ap (option_map f) (each q)) in
     omega (arith, whole, total-without f old id, ap (part_of f) (kept_is_at old id))
 
--- two maps with the same streams
-pub total_all_same : {X : Type 0} (f : X → ℕ) (old new : Streams X) → HaveDistinctIds old → HaveDistinctIds new → AllSame old new → total f new ≡ total f old
-total_all_same f old new h k same = total-same f f new old k h (λ q. ap (option_map f) (sym (kept_is_at new q) ∙ same.each q ∙ kept_is_at old q))
-
 twice : {X Y : Type 0} (part : X → Y) (g : Y → ℕ) (o : Option X) → option_map g (option_map part o) ≡ option_map (λ x. g (part x)) o
 twice part g None = refl
 twice part g (Some x) = refl
 
--- a map and a list that has one part of each of its streams
+-- streams, and a list that has one part of each of them
 pub total_parts : {X Y : Type 0} (part : X → Y) (g : Y → ℕ) (streams : Streams X) (parts : Streams Y) → HaveDistinctIds streams → HaveDistinctIds parts
     → ((q : ℕ) → option_map part (kept_at streams q) ≡ stream_at parts q) → total (λ x. g (part x)) streams ≡ total g parts
 total_parts part g streams parts h k same =

@@ -1,2 +1,4 @@
 pub mod Counts
+pub mod Found
 pub mod Pulls
+pub mod Received

@@ -2,7 +2,6 @@
 use Rattle.std.proofs.Common.{◌≡◌, ℕ, true, List, [], ◌++◌, Some, refl, sym, ap, ◌∙◌, append-nil}
 use Rattle.std.specs.Prelude.{None, nat_lt}
 use Rattle.h3_blocked.specs.Counting.{above, Replaces}
-use Rattle.h3_blocked.specs.CountingLaws.{HasIdsInOrder}
 use Rattle.h3_connection.specs.Incoming.{Incoming}
 use Rattle.h3_connection.specs.Pulling.{Pulled, just, pull_stream}
 use Rattle.h3_connection.specs.Sending.{if_too_many}
@@ -48,12 +47,12 @@ gives_by p answer i said replies written is writes =
 
 -- What was pulled, judged by the counts, is what the limit makes of it.
 pub gives_limited : (side : Side) (own : Announced) (id : ℕ) (r : DecoderState) (streams : Streams RequestState) (before : RequestState) (given answer : Pull) (i after : Incoming) (counts others : List ℕ) (inserted : ℕ) (replies written : List ℕ)
-    → AreCounted counts streams → HasIdsInOrder streams → kept_at streams id ≡ Some before → Gives (pull_stream side own id r before.incoming) given i replies written → Replaces counts others before.incoming.waits_for i.waits_for
+    → AreCounted counts streams → kept_at streams id ≡ Some before → Gives (pull_stream side own id r before.incoming) given i replies written → Replaces counts others before.incoming.waits_for i.waits_for
     → inserted ≡ r.table.inserted → ((said : List DecoderInstruction) → if_too_many (nat_lt own.limits.blocked (above inserted others)) (record { answer = given; incoming = i; replies = said }) ≡ record { answer = answer; incoming = after; replies = said })
     → (receivers : Streams Incoming) → AreReceivers receivers streams → Gives (limited own id r receivers (pull_stream side own id r before.incoming)) answer after replies written
-gives_limited side own id r streams before given answer i after counts others inserted replies written h ordered there gives replaces is judged receivers are =
+gives_limited side own id r streams before given answer i after counts others inserted replies written h there gives replaces is judged receivers are =
     let p : Pulled = pull_stream side own id r before.incoming in
     let q : Pulled = record { answer = given; incoming = i; replies = p.replies } in
     let within : limited own id r receivers q ≡ if_too_many (nat_lt own.limits.blocked (above inserted others)) q =
-    ap (λ n. if_too_many (nat_lt own.limits.blocked n) q) (waits_then counts others streams receivers id before i h ordered are there replaces r.table.inserted ∙ ap (λ n. above n others) (sym is)) in
+    ap (λ n. if_too_many (nat_lt own.limits.blocked n) q) (waits_then counts others streams receivers id before i h are there replaces r.table.inserted ∙ ap (λ n. above n others) (sym is)) in
     gives_by (limited own id r receivers p) answer after p.replies replies written (ap (limited own id r receivers) gives.is ∙ within ∙ judged p.replies) gives.replies

@@ -1,4 +1,5 @@
 pub mod Changing
 pub mod Counted
+pub mod Lending
 pub mod Limited
 pub mod Refused

@@ -5,11 +5,11 @@ ghost use Rattle.h3_blocked.specs.Sums.{TakesOut};
 ghost use Rattle.h3_connection.specs.Calls.{fresh_request, Sets};
 ghost use Rattle.h3_connection.specs.State.{kept_at};
 
+use crate::map::StreamMap;
 use crate::stream::RequestStream;
 use h3_blocked::replace;
 use h3_proto::stream::StreamId;
 use std::alloc::{AllocError, Global};
-use std::collections::BTreeMap;
 use std::marker::Model;
 
 mod judged;
@@ -20,7 +20,7 @@ mod sending;
 /// The request streams of a connection, by their ids. A contract sees the list of them, and finds one by `kept_at`.
 #[derive(Drop)]
 pub struct RequestStreams {
-    streams: BTreeMap<u64, RequestStream>,
+    streams: StreamMap,
     // what the streams wait for, in order, and no 0
     blocked: Vec<usize>,
 }
@@ -31,11 +31,11 @@ impl Model for RequestStreams {
 
     ghost Value = { Streams RequestState };
 
-    ghost view = { λ s. s.streams.entries };
+    ghost view = { λ s. s.streams.by_id.entries };
 
     ghost use Rattle.h3_requests.specs.Counted.{AreCounted};
 
-    ghost invariant = { λ s. AreCounted s.blocked.items s.streams.entries };
+    ghost invariant = { λ s. AreCounted s.blocked.items s.streams.by_id.entries };
 }
 
 impl RequestStreams {
@@ -44,7 +44,7 @@ impl RequestStreams {
         ensures { result ≡ [] }
     {
         RequestStreams {
-            streams: BTreeMap::new(alloc),
+            streams: StreamMap::new(alloc),
             blocked: Vec::new(alloc),
         }
     }
@@ -53,7 +53,7 @@ impl RequestStreams {
     pub fn get(&self, id: StreamId) -> Option<&RequestStream>
         ensures { option_copied result ≡ kept_at self.now id }
     {
-        self.streams.get(&id.into_inner())
+        self.streams.get(id)
     }
 
     /// A stream on which nothing has happened is there under that id, in the place of one that was there. An `Err` changes
@@ -63,10 +63,7 @@ impl RequestStreams {
         ensures absent { OnErr result (kept_at self.old id ≡ None) }
         ensures err { OnErr result (self.new ≡ self.old) }
     {
-        let Ok(before) = self
-            .streams
-            .insert(id.into_inner(), RequestStream::new(alloc))
-        else {
+        let Ok(before) = self.streams.insert(id, RequestStream::new(alloc)) else {
             return Err(AllocError);
         };
         replace(&mut self.blocked, waits_of(&before), 0);
@@ -77,7 +74,7 @@ impl RequestStreams {
     pub fn undo_open(&mut self, id: StreamId)
         ensures { TakesOut self.old self.new id }
     {
-        let stream = self.streams.remove(&id.into_inner());
+        let stream = self.streams.remove(id);
         replace(&mut self.blocked, waits_of(&stream), 0);
     }
 }

@@ -25,7 +25,7 @@ impl RequestStreams {
         ensures why { IfErr result (λ r. r ≡ unwrap_or (or_later (head_refused_at (kept_at self.old id)) later) OutOfMemory) }
         ensures same { AllSame self.old self.new }
     {
-        let Some(stream) = self.streams.get_mut(&id.into_inner()) else {
+        let Some(stream) = self.streams.get_mut(id) else {
             return Err(Refusal::NotOpen);
         };
         if !stream.outgoing.takes_head() {
@@ -47,7 +47,7 @@ impl RequestStreams {
         ensures why { IfErr result (λ r. r ≡ unwrap_or (or_later (body_refused_at (kept_at self.old id)) later) OutOfMemory) }
         ensures same { AllSame self.old self.new }
     {
-        let Some(stream) = self.streams.get_mut(&id.into_inner()) else {
+        let Some(stream) = self.streams.get_mut(id) else {
             return Err(Refusal::NotOpen);
         };
         if !stream.outgoing.takes_body() {
@@ -71,7 +71,7 @@ impl RequestStreams {
         ensures why { IfErr result (λ e. e.0 ≡ unwrap_or (body_refused_at (kept_at self.old id)) OutOfMemory) }
         ensures err { IfErr result (λ e. (e.1 ≡ body) × AllSame self.old self.new) }
     {
-        let Some(stream) = self.streams.get_mut(&id.into_inner()) else {
+        let Some(stream) = self.streams.get_mut(id) else {
             return Err((Refusal::NotOpen, body));
         };
         if !stream.outgoing.takes_body() {
@@ -91,7 +91,7 @@ impl RequestStreams {
         ensures absent { kept_at self.old id ≡ None → self.new ≡ self.old }
         ensures err { OnErr result (AllSame self.old self.new) }
     {
-        let Some(stream) = self.streams.get_mut(&id.into_inner()) else {
+        let Some(stream) = self.streams.get_mut(id) else {
             return Err(Refusal::NotOpen);
         };
         if !stream.outgoing.takes_end() {
@@ -109,7 +109,7 @@ impl RequestStreams {
         ensures absent { kept_at self.old id ≡ None → self.new ≡ self.old }
         ensures err { OnErr result (AllSame self.old self.new) }
     {
-        let Some(stream) = self.streams.get_mut(&id.into_inner()) else {
+        let Some(stream) = self.streams.get_mut(id) else {
             return Err(Refusal::NotOpen);
         };
         if stream.outgoing.is_sent_off() {
@@ -134,7 +134,7 @@ impl RequestStreams {
         ensures absent { kept_at self.old id ≡ None → (self.new ≡ self.old) × (replies.new.items ≡ replies.old.items) }
         ensures err { OnErr result (AllSame self.old self.new × (replies.new.items ≡ replies.old.items)) }
     {
-        let Some(stream) = self.streams.get_mut(&id.into_inner()) else {
+        let Some(stream) = self.streams.get_mut(id) else {
             return Err(Refusal::NotOpen);
         };
         if stream.is_settled() {

@@ -27,8 +27,6 @@ impl RequestStreams {
     pub fn waiting(&self, inserted: usize) -> usize
         ensures { (receivers : Streams Incoming) → AreReceivers receivers self.now → result ≡ count_by (λ s. nat_lt inserted s.1.waits_for) receivers }
     {
-        // tells that the ids are in order
-        let _len = self.streams.len();
         above(&self.blocked, inserted)
     }
 
@@ -54,7 +52,7 @@ impl RequestStreams {
             ResumesThere self.old self.new id before after)) × (replies.new.items ≡ replies.old.items) }
         ensures settled { IfSome (kept_at self.old id) (λ before. is_settled_request (Some before.incoming) ≡ true → is_memory result ≡ false) }
     {
-        let Some(stream) = self.streams.get_mut(&id.into_inner()) else {
+        let Some(stream) = self.streams.get_mut(id) else {
             return unopened(side);
         };
         let limit = announced.limits.blocked;

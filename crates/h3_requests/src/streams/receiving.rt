@@ -23,7 +23,7 @@ impl RequestStreams {
         ensures back { IfErr result (λ b. b ≡ bytes) }
         ensures err { OnErr result (AllSame self.old self.new) }
     {
-        let Some(stream) = self.streams.get_mut(&id.into_inner()) else {
+        let Some(stream) = self.streams.get_mut(id) else {
             return self.deliver_first(alloc, id, bytes);
         };
         stream.deliver(bytes)
@@ -43,7 +43,7 @@ impl RequestStreams {
         ensures why { IfErr result (λ e. IsRefusedBy (receiver_refusal side (kept_at self.old id)) bytes e) }
         ensures err { OnErr result (AllSame self.old self.new) }
     {
-        let Some(stream) = self.streams.get_mut(&id.into_inner()) else {
+        let Some(stream) = self.streams.get_mut(id) else {
             return self.deliver_unopened(alloc, side, id, bytes);
         };
         if stream.has_ended() {
@@ -100,7 +100,7 @@ impl RequestStreams {
         ensures ok { OnOk result (Receives self.old self.new id with_end) }
         ensures err { OnErr result (AllSame self.old self.new) }
     {
-        let Some(stream) = self.streams.get_mut(&id.into_inner()) else {
+        let Some(stream) = self.streams.get_mut(id) else {
             return self.end_first(alloc, id);
         };
         stream.incoming.end();
@@ -151,7 +151,7 @@ impl RequestStreams {
         ensures ok { OnOk result (Sets self.old self.new id (opened_at self.old id)) }
         ensures err { OnErr result (self.new ≡ self.old) }
     {
-        if self.streams.contains_key(&id.into_inner()) {
+        if self.streams.contains(id) {
             return Ok(true);
         }
         match self.open(alloc, id) {
@@ -176,7 +176,7 @@ impl RequestStreams {
         ensures back { IfErr result (λ b. b ≡ bytes) }
         ensures err { OnErr result (AllSame self.old self.new) }
     {
-        let Some(stream) = self.streams.get_mut(&id.into_inner()) else {
+        let Some(stream) = self.streams.get_mut(id) else {
             return Err(bytes);
         };
         stream.deliver(bytes)
@@ -185,7 +185,7 @@ impl RequestStreams {
     fn end_there(&mut self, id: StreamId)
         ensures { IfSome (kept_at self.old id) (λ r. Sets self.old self.new id (record r { incoming = with_end r.incoming })) }
     {
-        let Some(stream) = self.streams.get_mut(&id.into_inner()) else {
+        let Some(stream) = self.streams.get_mut(id) else {
             return;
         };
         stream.incoming.end();
@@ -203,7 +203,7 @@ impl RequestStreams {
         ensures replies { OnOk result (IfSome (kept_at self.old id) (λ r. replies.new.items ≡ replies.old.items ++ encodings (cancellation id r.incoming.fault))) }
         ensures err { OnErr result (AllSame self.old self.new × (replies.new.items ≡ replies.old.items)) }
     {
-        let Some(stream) = self.streams.get_mut(&id.into_inner()) else {
+        let Some(stream) = self.streams.get_mut(id) else {
             return Ok(());
         };
         let before = stream.incoming.waits_for();

@@ -23,7 +23,7 @@ impl RequestStreams {
         ensures there { OnOk result (IsSome (kept_at self.old id)) }
         ensures err { IfErr result (λ b. (b ≡ section) × AllSame self.old self.new) }
     {
-        let Some(stream) = self.streams.get_mut(&id.into_inner()) else {
+        let Some(stream) = self.streams.get_mut(id) else {
             return Err(section);
         };
         stream.outgoing.send_section(section, place)
@@ -36,7 +36,7 @@ impl RequestStreams {
             Sets self.old self.new id (record r { outgoing = taken_from r.outgoing (min count (length (bytes_of r.outgoing.pieces))) })) }
         ensures absent { kept_at self.old id ≡ None → self.new ≡ self.old }
     {
-        let Some(stream) = self.streams.get_mut(&id.into_inner()) else {
+        let Some(stream) = self.streams.get_mut(id) else {
             return false;
         };
         let waiting = stream.outgoing.waiting();

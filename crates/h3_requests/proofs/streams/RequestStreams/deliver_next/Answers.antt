@@ -8,12 +8,12 @@ use Rattle.h3_requests.proofs.streams.RequestStreams.deliver_next.Goals as goal
 
 pub returns-in_default-clause-why : goal.returns-in_default-clause-why
 returns-in_default-clause-why c =
-    let absent : kept_at c.self.inside.streams.entries c.args.id ≡ None = search rules in
+    let absent : kept_at c.self.inside.streams.by_id.entries c.args.id ≡ None = search rules in
     subst (λ v. IfErr c.deliver_unopened.result (λ e. IsRefusedBy (receiver_refusal c.args.side (kept_at v c.args.id)) c.args.bytes e)) c.self.view_is
     (subst (λ o. IfErr c.deliver_unopened.result (λ e. IsRefusedBy (receiver_refusal c.args.side o) c.args.bytes e)) (sym absent) c.deliver_unopened.ensures.why)
 
 pub invariant_of-self-then-has_ended : goal.invariant_of-self-then-has_ended
-invariant_of-self-then-has_ended c = written _ _ _ c.into_inner.result c.in-Some.stream.now _ (c.get_mut.follows.holds _).0 (search rules) (search rules) c.self.invariant
+invariant_of-self-then-has_ended c = written _ _ _ c.args.id c.in-Some.stream.now _ (c.get_mut.follows.holds _) (search rules) (search rules) c.self.invariant
 
 pub invariant_of-self-2 : goal.invariant_of-self-2
-invariant_of-self-2 c = written _ _ _ c.into_inner.result c.in-Some.stream.now _ (c.get_mut.follows.holds _).0 (search rules) (search rules) c.self.invariant
+invariant_of-self-2 c = written _ _ _ c.args.id c.in-Some.stream.now _ (c.get_mut.follows.holds _) (search rules) (search rules) c.self.invariant

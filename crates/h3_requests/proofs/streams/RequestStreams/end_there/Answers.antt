@@ -4,4 +4,4 @@ use Rattle.h3_requests.proofs.Counts.{written}
 use Rattle.h3_requests.proofs.streams.RequestStreams.end_there.Goals as goal
 
 pub invariant_of-self-2 : goal.invariant_of-self-2
-invariant_of-self-2 c = written _ _ _ c.into_inner.result c.in-Some.stream.now _ (c.get_mut.follows.holds _).0 (search rules) (search rules) c.self.invariant
+invariant_of-self-2 c = written _ _ _ c.args.id c.in-Some.stream.now _ (c.get_mut.follows.holds _) (search rules) (search rules) c.self.invariant

@@ -4,7 +4,7 @@ use Rattle.h3_requests.proofs.Counts.{written}
 use Rattle.h3_requests.proofs.streams.RequestStreams.finish_stream.Goals as goal
 
 pub invariant_of-self-then-not-takes_end : goal.invariant_of-self-then-not-takes_end
-invariant_of-self-then-not-takes_end c = written _ _ _ c.into_inner.result c.in-Some.stream.now _ (c.get_mut.follows.holds _).0 (search rules) (search rules) c.self.invariant
+invariant_of-self-then-not-takes_end c = written _ _ _ c.args.id c.in-Some.stream.now _ (c.get_mut.follows.holds _) (search rules) (search rules) c.self.invariant
 
 pub invariant_of-self-2 : goal.invariant_of-self-2
-invariant_of-self-2 c = written _ _ _ c.into_inner.result c.in-Some.stream.now _ (c.get_mut.follows.holds _).0 (search rules) (search rules) c.self.invariant
+invariant_of-self-2 c = written _ _ _ c.args.id c.in-Some.stream.now _ (c.get_mut.follows.holds _) (search rules) (search rules) c.self.invariant

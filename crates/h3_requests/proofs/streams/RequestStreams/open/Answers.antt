@@ -5,9 +5,9 @@ use Rattle.h3_requests.proofs.Counts.{has_count_at, inserted}
 use Rattle.h3_requests.proofs.streams.RequestStreams.open.Goals as goal
 
 pub replace-requires-clause-among : goal.replace-requires-clause-among
-replace-requires-clause-among c = has_count_at _ _ c.into_inner.result _ (c.waits_of.ensures ∙ ap waits_at c.in-Ok.ensures.old) c.self.invariant
+replace-requires-clause-among c = has_count_at _ _ c.args.id _ (c.waits_of.ensures ∙ ap waits_at c.in-Ok.ensures.before) c.self.invariant
 
 pub invariant_of-self-2 : goal.invariant_of-self-2
 invariant_of-self-2 c =
-    inserted _ _ _ _ c.into_inner.result _ _ c.in-Ok.ensures.entries c.in-Ok.ensures.was_ordered (ap (λ r. r.incoming.waits_for) c.new.ensures) (c.waits_of.ensures ∙ ap waits_at c.in-Ok.ensures.old)
+    inserted _ _ _ _ c.args.id _ _ c.in-Ok.ensures.ok c.in-Ok.ensures.distinct (ap (λ r. r.incoming.waits_for) c.new.ensures) (c.waits_of.ensures ∙ ap waits_at c.in-Ok.ensures.before)
     c.replace.ensures.sorted c.replace.ensures.replaced c.self.invariant

@@ -4,10 +4,10 @@ use Rattle.h3_requests.proofs.Counts.{has_count_at, replaced, written}
 use Rattle.h3_requests.proofs.streams.RequestStreams.reset_there.Goals as goal
 
 pub invariant_of-self-in_default-reset : goal.invariant_of-self-in_default-reset
-invariant_of-self-in_default-reset c = written _ _ _ c.into_inner.result c.in-Some.stream.now _ (c.get_mut.follows.holds _).0 (search rules) (search rules) c.self.invariant
+invariant_of-self-in_default-reset c = written _ _ _ c.args.id c.in-Some.stream.now _ (c.get_mut.follows.holds _) (search rules) (search rules) c.self.invariant
 
 pub replace-requires-clause-among : goal.replace-requires-clause-among
-replace-requires-clause-among c = has_count_at _ c.self.inside.streams.entries c.into_inner.result _ (search rules) c.self.invariant
+replace-requires-clause-among c = has_count_at _ c.self.inside.streams.by_id.entries c.args.id _ (search rules) c.self.invariant
 
 pub invariant_of-self-2 : goal.invariant_of-self-2
-invariant_of-self-2 c = replaced _ _ _ _ c.into_inner.result c.in-Some.stream.now _ (c.get_mut.follows.holds _).0 (search rules) c.replace.ensures.sorted (search rules) c.self.invariant
+invariant_of-self-2 c = replaced _ _ _ _ c.args.id c.in-Some.stream.now _ (c.get_mut.follows.holds _) (search rules) c.replace.ensures.sorted (search rules) c.self.invariant
