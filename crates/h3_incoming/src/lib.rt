@@ -2,6 +2,7 @@
 //! answers rests on this stream, the decoder's table and what was announced alone.
 #![tactic(auto)]
 
+pub mod answer;
 mod judge;
 mod replies;
 mod section;

@@ -4,6 +4,7 @@ ghost use Rattle.h3_connection.specs.declared.event.Item.TheVariants.{End};
 ghost use Rattle.h3_connection.specs.Pulling.{just, in_payload, raw, is_memory};
 
 use super::IncomingStream;
+use crate::answer::{end, fail, pause, put};
 use bytes::Buf;
 use h3_connection::event::{Fault, Item, Pull};
 use h3_proto::error::Code;
@@ -14,46 +15,47 @@ use std::mem;
 
 impl IncomingStream {
     /// The next bytes of the payload under way. One that the end cuts short is a fault of the connection (RFC 9114, section 7.1).
-    pub(super) fn pull_payload(&mut self) -> Pull
-        ensures answer { is_memory result ≡ false → in_payload self.old ≡ just result self.new }
-        ensures memory { is_memory result ≡ true → self.new ≡ self.old }
+    pub(super) fn pull_payload(&mut self, out: &mut Pull)
+        ensures answer { is_memory out.new ≡ false → in_payload self.old ≡ just out.new self.new }
+        ensures memory { is_memory out.new ≡ true → self.new ≡ self.old }
     {
         if self.ended && self.unread.remaining() < self.body_left {
-            return Pull::Fault(Fault::Connection(Code::H3_FRAME_ERROR));
+            fail(out, Fault::Connection(Code::H3_FRAME_ERROR));
+            return;
         }
         match self.unread.take_chunk(self.body_left) {
-            Err(_) => Pull::Fault(Fault::Memory),
-            Ok(None) => Pull::Pending,
+            Err(_) => fail(out, Fault::Memory),
+            Ok(None) => pause(out),
             Ok(Some(bytes)) => {
                 self.body_left = self.body_left.saturating_sub(bytes.len());
-                Pull::Item(Item::Body(bytes))
+                put(out, Pull::Item(Item::Body(bytes)));
             }
         }
     }
 
     /// The next bytes of a session. At its end no buffer is kept.
-    pub(super) fn pull_raw(&mut self, alloc: Global) -> Pull
+    pub(super) fn pull_raw(&mut self, alloc: Global, out: &mut Pull)
         requires { self.old.fault ≡ None }
-        ensures answer { raw self.old ≡ just result self.new }
-        ensures memory { is_memory result ≡ false }
+        ensures answer { raw self.old ≡ just out.new self.new }
+        ensures memory { is_memory out.new ≡ false }
     {
         // no frame is under way in a session
         self.decoder = FrameDecoder::default();
         match self.unread.take_first_chunk() {
-            Some(bytes) => Pull::Item(Item::Raw(bytes)),
-            None if !self.ended => Pull::Pending,
-            None => self.finish(alloc),
+            Some(bytes) => put(out, Pull::Item(Item::Raw(bytes))),
+            None if !self.ended => pause(out),
+            None => self.finish(alloc, out),
         }
     }
 
     /// The end is handed out, and no buffer is kept.
-    pub(super) fn finish(&mut self, alloc: Global) -> Pull
+    pub(super) fn finish(&mut self, alloc: Global, out: &mut Pull)
         ensures stream { self.new ≡ record self.old { unread = []; is_over = true } }
-        ensures answer { result ≡ Pull.Item End }
+        ensures answer { out.new ≡ Pull.Item End }
     {
         self.decoder = FrameDecoder::default();
         drop(mem::replace(&mut self.unread, BufList::new(alloc)));
         self.is_over = true;
-        Pull::Item(Item::End)
+        end(out);
     }
 }

@@ -13,6 +13,7 @@ ghost use Rattle.h3_incoming.specs.Placing.{is_session, promise_code};
 
 use super::IncomingStream;
 use super::front::Found;
+use crate::answer::{fail, pause, put};
 use crate::replies::reply;
 use bytes::{Buf, Bytes};
 use h3_connection::event::{Fault, Item, Malformation, Pull};
@@ -37,47 +38,51 @@ impl IncomingStream {
         id: StreamId,
         decoder: &Decoder,
         replies: &mut Vec<u8>,
-    ) -> Pull
+        out: &mut Pull,
+    )
         requires closed { self.old.body_left ≡ 0 }
         requires open { self.old.fault ≡ None }
         requires none { self.old.section ≡ None }
         requires goes_on { self.old.is_over ≡ false }
         requires message { is_session self.old.place ≡ false }
         requires waits { self.old.waits_for ≡ 0 }
-        ensures answer { is_memory result ≡ false
-            → Gives (between_frames side announced.now id decoder.now self.old) result self.new replies.old.items replies.new.items }
-        ensures memory { is_memory result ≡ true → Resumes self.old self.new × (replies.new.items ≡ replies.old.items) }
+        ensures answer { is_memory out.new ≡ false
+            → Gives (between_frames side announced.now id decoder.now self.old) out.new self.new replies.old.items replies.new.items }
+        ensures memory { is_memory out.new ≡ true → Resumes self.old self.new × (replies.new.items ≡ replies.old.items) }
     {
         match self.front(alloc) {
-            Err(_) => Pull::Fault(Fault::Memory),
-            Ok(Found::Unfinished) => self.pull_end(alloc, id, replies),
-            Ok(Found::Refused(e)) => Pull::Fault(Fault::Connection(refused_code(e))),
+            Err(_) => fail(out, Fault::Memory),
+            Ok(Found::Unfinished) => self.pull_end(alloc, id, replies, out),
+            Ok(Found::Refused(e)) => fail(out, Fault::Connection(refused_code(e))),
             Ok(Found::Frame(frame)) => {
-                self.take_frame(alloc, side, announced, id, decoder, frame, replies)
+                self.take_frame(alloc, side, announced, id, decoder, frame, replies, out)
             }
         }
     }
 
     // No frame is whole.
-    fn pull_end(&mut self, alloc: Global, id: StreamId, replies: &mut Vec<u8>) -> Pull
+    fn pull_end(&mut self, alloc: Global, id: StreamId, replies: &mut Vec<u8>, out: &mut Pull)
         requires { IsWaiting (frame_at (concat self.old.unread)) }
-        ensures answer { (side : Side) (own : Announced) (r : DecoderState) → is_memory result ≡ false
-            → Gives (next_frame side own id r self.old (concat self.old.unread)) result self.new replies.old.items replies.new.items }
-        ensures memory { is_memory result ≡ true → (self.new ≡ self.old) × (replies.new.items ≡ replies.old.items) }
+        ensures answer { (side : Side) (own : Announced) (r : DecoderState) → is_memory out.new ≡ false
+            → Gives (next_frame side own id r self.old (concat self.old.unread)) out.new self.new replies.old.items replies.new.items }
+        ensures memory { is_memory out.new ≡ true → (self.new ≡ self.old) × (replies.new.items ≡ replies.old.items) }
     {
         if !self.ended {
-            return Pull::Pending;
+            pause(out);
+            return;
         }
         if self.unread.remaining() > 0 {
-            return Pull::Fault(Fault::Connection(Code::H3_FRAME_ERROR));
+            fail(out, Fault::Connection(Code::H3_FRAME_ERROR));
+            return;
         }
         if let Place::BeforeHead = self.place {
             if reply(alloc, id, false, true, replies).is_err() {
-                return Pull::Fault(Fault::Memory);
+                fail(out, Fault::Memory);
+                return;
             }
-            return self.fail_message(alloc, Malformation::NoHead);
+            return self.fail_message(alloc, Malformation::NoHead, out);
         }
-        self.finish(alloc)
+        self.finish(alloc, out)
     }
 
     // A frame was read. It may not stand at any place.
@@ -90,67 +95,69 @@ impl IncomingStream {
         decoder: &Decoder,
         frame: Frame<PayloadLen>,
         replies: &mut Vec<u8>,
-    ) -> Pull
+        out: &mut Pull,
+    )
         requires { self.old.body_left ≡ 0 }
-        ensures answer { is_memory result ≡ false
-            → Gives (at_frame side announced.now id decoder.now side self.old self.old.place frame) result self.new replies.old.items replies.new.items }
-        ensures memory { is_memory result ≡ true → Begins self.old.place frame self.old self.new × (replies.new.items ≡ replies.old.items) }
+        ensures answer { is_memory out.new ≡ false
+            → Gives (at_frame side announced.now id decoder.now side self.old self.old.place frame) out.new self.new replies.old.items replies.new.items }
+        ensures memory { is_memory out.new ≡ true → Begins self.old.place frame self.old self.new × (replies.new.items ≡ replies.old.items) }
     {
         match frame {
             Frame::Headers(section) => match self.place {
                 Place::BeforeHead | Place::InBody => {
                     self.section = Some(section);
                     self.waits_for = 0;
-                    self.pull_section(alloc, side, announced, id, decoder, replies)
+                    self.pull_section(alloc, side, announced, id, decoder, replies, out)
                 }
-                Place::AfterTrailer | Place::InSession => unexpected(),
+                Place::AfterTrailer | Place::InSession => unexpected(out),
             },
             Frame::Data(len) => match self.place {
                 Place::InBody => {
                     self.decoder = FrameDecoder::default();
                     self.body_left = len.0;
-                    self.pull_payload()
+                    self.pull_payload(out)
                 }
-                Place::BeforeHead | Place::AfterTrailer | Place::InSession => unexpected(),
+                Place::BeforeHead | Place::AfterTrailer | Place::InSession => unexpected(out),
             },
-            Frame::WebTransportStream(session) => self.begin_session(side, session),
-            Frame::PushPromise(_) => refuse_promise(side),
+            Frame::WebTransportStream(session) => self.begin_session(side, session, out),
+            Frame::PushPromise(_) => refuse_promise(side, out),
             Frame::CancelPush(_)
             | Frame::Settings(_)
             | Frame::Goaway(_)
             | Frame::MaxPushId(_)
-            | Frame::Grease(_) => unexpected(),
+            | Frame::Grease(_) => unexpected(out),
         }
     }
 
     // At a server a session may stand in the place of a message.
-    fn begin_session(&mut self, side: Side, session: SessionId) -> Pull
-        ensures answer { (own : Announced) (id : ℕ) (r : DecoderState) → at_frame side own id r side self.old self.old.place (Frame.WebTransportStream session) ≡ just result self.new }
-        ensures memory { is_memory result ≡ false }
+    fn begin_session(&mut self, side: Side, session: SessionId, out: &mut Pull)
+        ensures answer { (own : Announced) (id : ℕ) (r : DecoderState) → at_frame side own id r side self.old self.old.place (Frame.WebTransportStream session) ≡ just out.new self.new }
+        ensures memory { is_memory out.new ≡ false }
     {
         if let Side::Client = side {
-            return unexpected();
+            return unexpected(out);
         }
         if let Place::BeforeHead = self.place {
             self.place = Place::InSession;
-            return Pull::Item(Item::Session(session));
+            put(out, Pull::Item(Item::Session(session)));
+            return;
         }
-        unexpected()
+        unexpected(out)
     }
 }
 
 // The frame may not stand there.
-fn unexpected() -> Pull
-    ensures { result ≡ Pull.Fault (Connection frame_unexpected) }
+fn unexpected(out: &mut Pull)
+    ensures { out.new ≡ Pull.Fault (Connection frame_unexpected) }
 {
-    Pull::Fault(Fault::Connection(Code::H3_FRAME_UNEXPECTED))
+    fail(out, Fault::Connection(Code::H3_FRAME_UNEXPECTED));
 }
 
 // A promise: a client permits none, since it sends no MAX_PUSH_ID (RFC 9114, section 7.2.5), and a server gets none.
-fn refuse_promise(side: Side) -> Pull
-    ensures { result ≡ Pull.Fault (Connection (promise_code side)) }
+fn refuse_promise(side: Side, out: &mut Pull)
+    ensures { out.new ≡ Pull.Fault (Connection (promise_code side)) }
 {
-    Pull::Fault(Fault::Connection(promise_code(side)))
+    fail(out, Fault::Connection(promise_code(side)));
 }
 
 fn promise_code(side: Side) -> Code

@@ -6,6 +6,7 @@ ghost use Rattle.h3_incoming.specs.Placing.{is_session};
 ghost use Rattle.h3_incoming.specs.Resuming.{Resumes};
 
 use super::IncomingStream;
+use crate::answer::{end, fail};
 use h3_connection::event::{Fault, Item, Pull};
 use h3_connection::place::Place;
 use h3_connection::setup::Announced;
@@ -31,22 +32,44 @@ impl IncomingStream {
             → Gives (pull_stream side announced.now id decoder.now self.old) result self.new replies.old.items replies.new.items }
         ensures memory { is_memory result ≡ true → Resumes self.old self.new × (replies.new.items ≡ replies.old.items) }
     {
+        let mut out = Pull::Pending;
+        self.pull_into(alloc, side, announced, id, decoder, replies, &mut out);
+        out
+    }
+
+    /// As `pull`, with the answer in the place of what `out` was, so that it is moved nowhere.
+    pub fn pull_into(
+        &mut self,
+        alloc: Global,
+        side: Side,
+        announced: &Announced,
+        id: StreamId,
+        decoder: &Decoder,
+        replies: &mut Vec<u8>,
+        out: &mut Pull,
+    )
+        ensures answer { is_memory out.new ≡ false
+            → Gives (pull_stream side announced.now id decoder.now self.old) out.new self.new replies.old.items replies.new.items }
+        ensures memory { is_memory out.new ≡ true → Resumes self.old self.new × (replies.new.items ≡ replies.old.items) }
+    {
         if let Some(fault) = self.fault() {
-            return Pull::Fault(Fault::Stream(fault));
+            fail(out, Fault::Stream(fault));
+            return;
         }
         if self.is_over() {
-            return Pull::Item(Item::End);
+            end(out);
+            return;
         }
         if self.is_in_session() {
-            return self.pull_raw(alloc);
+            return self.pull_raw(alloc, out);
         }
         if self.has_section() {
-            return self.pull_section(alloc, side, announced, id, decoder, replies);
+            return self.pull_section(alloc, side, announced, id, decoder, replies, out);
         }
         if self.is_in_payload() {
-            return self.pull_payload();
+            return self.pull_payload(out);
         }
-        self.pull_frame(alloc, side, announced, id, decoder, replies)
+        self.pull_frame(alloc, side, announced, id, decoder, replies, out)
     }
 
     // Whether its bytes are those of a session.

@@ -14,6 +14,7 @@ ghost use Rattle.h3_incoming.specs.Judging.{judged_as};
 ghost use Rattle.h3_incoming.specs.Gives.{Gives};
 
 use super::IncomingStream;
+use crate::answer::{fail, put, wait};
 use crate::judge::{Judged, judge, names_entries};
 use crate::replies::reply;
 use crate::section::{Tried, try_section};
@@ -36,24 +37,26 @@ impl IncomingStream {
         id: StreamId,
         decoder: &Decoder,
         replies: &mut Vec<u8>,
-    ) -> Pull
+        out: &mut Pull,
+    )
         requires { is_some self.old.section ≡ true }
-        ensures answer { IfSome self.old.section (λ bytes. is_memory result ≡ false
-            → Gives (at_section side announced.now id decoder.now self.old bytes) result self.new replies.old.items replies.new.items) }
-        ensures memory { is_memory result ≡ true → (self.new ≡ self.old) × (replies.new.items ≡ replies.old.items) }
+        ensures answer { IfSome self.old.section (λ bytes. is_memory out.new ≡ false
+            → Gives (at_section side announced.now id decoder.now self.old bytes) out.new self.new replies.old.items replies.new.items) }
+        ensures memory { is_memory out.new ≡ true → (self.new ≡ self.old) × (replies.new.items ≡ replies.old.items) }
     {
         if decoder.inserted() < self.waits_for {
-            return Pull::Waiting(self.waits_for);
+            wait(out, self.waits_for);
+            return;
         }
         let tried = match &self.section {
             Some(section) => try_section(decoder, section.as_slice(), announced.section()),
             None => unreachable!(),
         };
         match tried {
-            Tried::Decoded(decoded) => self.finish_section(alloc, side, id, decoded, replies),
-            Tried::Missing(count) => self.miss_entries(count),
-            Tried::Bad => self.fail_section(),
-            Tried::OutOfMemory => Pull::Fault(Fault::Memory),
+            Tried::Decoded(decoded) => self.finish_section(alloc, side, id, decoded, replies, out),
+            Tried::Missing(count) => self.miss_entries(count, out),
+            Tried::Bad => self.fail_section(out),
+            Tried::OutOfMemory => fail(out, Fault::Memory),
         }
     }
 
@@ -65,16 +68,17 @@ impl IncomingStream {
         id: StreamId,
         decoded: DecodedWithin,
         replies: &mut Vec<u8>,
-    ) -> Pull
+        out: &mut Pull,
+    )
         ensures answer { (own : Announced) (r : DecoderState) (count : ℕ) (fields : List Field) → IsWithin (section_of own) (codes ":status") (nat_lt 0 count) fields decoded
-            → is_memory result ≡ false
-            → Gives (read_section side own id r (past_section self.old) (acknowledgment id count) fields) result self.new replies.old.items replies.new.items }
-        ensures memory { is_memory result ≡ true → (self.new ≡ self.old) × (replies.new.items ≡ replies.old.items) }
+            → is_memory out.new ≡ false
+            → Gives (read_section side own id r (past_section self.old) (acknowledgment id count) fields) out.new self.new replies.old.items replies.new.items }
+        ensures memory { is_memory out.new ≡ true → (self.new ≡ self.old) × (replies.new.items ≡ replies.old.items) }
     {
         let acknowledges = names_entries(&decoded);
         match judge(alloc, side, self.place, decoded) {
-            Err(_) => Pull::Fault(Fault::Memory),
-            Ok(judged) => self.answer_section(alloc, id, acknowledges, judged, replies),
+            Err(_) => fail(out, Fault::Memory),
+            Ok(judged) => self.answer_section(alloc, id, acknowledges, judged, replies, out),
         }
     }
 
@@ -86,62 +90,65 @@ impl IncomingStream {
         acknowledges: bool,
         judged: Judged,
         replies: &mut Vec<u8>,
-    ) -> Pull
-        ensures answer { (count : ℕ) → acknowledges ≡ nat_lt 0 count → is_memory result ≡ false
-            → Gives (judged_as id (past_section self.old) (acknowledgment id count) judged) result self.new replies.old.items replies.new.items }
-        ensures memory { is_memory result ≡ true → (self.new ≡ self.old) × (replies.new.items ≡ replies.old.items) }
+        out: &mut Pull,
+    )
+        ensures answer { (count : ℕ) → acknowledges ≡ nat_lt 0 count → is_memory out.new ≡ false
+            → Gives (judged_as id (past_section self.old) (acknowledgment id count) judged) out.new self.new replies.old.items replies.new.items }
+        ensures memory { is_memory out.new ≡ true → (self.new ≡ self.old) × (replies.new.items ≡ replies.old.items) }
     {
         match judged {
             Judged::HandsOut(item, place) => {
                 if reply(alloc, id, acknowledges, false, replies).is_err() {
                     drop(item);
-                    return Pull::Fault(Fault::Memory);
+                    fail(out, Fault::Memory);
+                    return;
                 }
                 self.pass_section();
                 self.place = place;
-                Pull::Item(item)
+                put(out, Pull::Item(item));
             }
             Judged::Malformed(why) => {
                 if reply(alloc, id, acknowledges, true, replies).is_err() {
-                    return Pull::Fault(Fault::Memory);
+                    fail(out, Fault::Memory);
+                    return;
                 }
                 self.pass_section();
-                self.fail_message(alloc, why)
+                self.fail_message(alloc, why, out)
             }
         }
     }
 
     /// The message is malformed: the stream gives no more (RFC 9114, section 4.1.2).
-    pub(super) fn fail_message(&mut self, alloc: Global, why: Malformation) -> Pull
+    pub(super) fn fail_message(&mut self, alloc: Global, why: Malformation, out: &mut Pull)
         ensures stream { self.new ≡ given_up self.old (Malformed why) }
-        ensures answer { result ≡ Pull.Fault (Stream (Malformed why)) }
+        ensures answer { out.new ≡ Pull.Fault (Stream (Malformed why)) }
     {
         let fault = StreamFault::Malformed(why);
         self.give_up(alloc, fault);
-        Pull::Fault(Fault::Stream(fault))
+        fail(out, Fault::Stream(fault));
     }
 
     // The section needs so many insertions. One that waited already names what is not there.
-    fn miss_entries(&mut self, count: usize) -> Pull
+    fn miss_entries(&mut self, count: usize, out: &mut Pull)
         requires { is_some self.old.section ≡ true }
-        ensures answer { (side : Side) (own : Announced) (id : ℕ) (r : DecoderState) → decoded side own id r self.old (Missing count) ≡ just result self.new }
-        ensures memory { is_memory result ≡ false }
+        ensures answer { (side : Side) (own : Announced) (id : ℕ) (r : DecoderState) → decoded side own id r self.old (Missing count) ≡ just out.new self.new }
+        ensures memory { is_memory out.new ≡ false }
     {
         if self.waits_for > 0 {
-            return self.fail_section();
+            return self.fail_section(out);
         }
         self.tries = 1;
         self.waits_for = count;
-        Pull::Waiting(count)
+        wait(out, count);
     }
 
     // The section is bad (RFC 9204, section 2.2.3).
-    fn fail_section(&mut self) -> Pull
+    fn fail_section(&mut self, out: &mut Pull)
         ensures stream { self.new ≡ past_section self.old }
-        ensures answer { result ≡ Pull.Fault (Connection decompression_failed) }
+        ensures answer { out.new ≡ Pull.Fault (Connection decompression_failed) }
     {
         self.pass_section();
-        Pull::Fault(Fault::Connection(Code::QPACK_DECOMPRESSION_FAILED))
+        fail(out, Fault::Connection(Code::QPACK_DECOMPRESSION_FAILED));
     }
 
     // A try was made, and no section is next any more.

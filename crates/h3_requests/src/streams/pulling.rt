@@ -17,6 +17,7 @@ use h3_blocked::{above, replace};
 use h3_connection::event::{Fault, Item, Pull};
 use h3_connection::setup::Announced;
 use h3_incoming::IncomingStream;
+use h3_incoming::answer::{end, fail, no_messages, pause};
 use h3_proto::error::Code;
 use h3_proto::stream::{Side, StreamId};
 use h3_qpack::Decoder;
@@ -52,29 +53,54 @@ impl RequestStreams {
             ResumesThere self.old self.new id before after)) × (replies.new.items ≡ replies.old.items) }
         ensures settled { IfSome (kept_at self.old id) (λ before. is_settled_request (Some before.incoming) ≡ true → is_memory result ≡ false) }
     {
+        let mut out = Pull::Pending;
+        self.pull_into(alloc, side, announced, id, decoder, replies, &mut out);
+        out
+    }
+
+    /// As `pull`, with the answer in the place of what `out` was, so that it is moved nowhere.
+    pub fn pull_into(
+        &mut self,
+        alloc: Global,
+        side: Side,
+        announced: &Announced,
+        id: StreamId,
+        decoder: &Decoder,
+        replies: &mut Vec<u8>,
+        out: &mut Pull,
+    )
+        ensures absent { kept_at self.old id ≡ None → (out.new ≡ unopened_answer side) × (self.new ≡ self.old) × (replies.new.items ≡ replies.old.items) }
+        ensures there { is_some (kept_at self.new id) ≡ is_some (kept_at self.old id) }
+        ensures answer { is_memory out.new ≡ false → IfSome (kept_at self.old id) (λ before. IfSome (kept_at self.new id) (λ after.
+            PullsWithin side announced.now id decoder.now self.old self.new before after out.new replies.old.items replies.new.items)) }
+        ensures memory { is_memory out.new ≡ true → IfSome (kept_at self.old id) (λ before. IfSome (kept_at self.new id) (λ after.
+            ResumesThere self.old self.new id before after)) × (replies.new.items ≡ replies.old.items) }
+        ensures settled { IfSome (kept_at self.old id) (λ before. is_settled_request (Some before.incoming) ≡ true → is_memory out.new ≡ false) }
+    {
         let Some(stream) = self.streams.get_mut(id) else {
-            return unopened(side);
+            return unopened(side, out);
         };
         let limit = announced.limits.blocked;
         let inserted = decoder.inserted();
-        if let Some(answer) = settled(&stream.incoming) {
+        if answer_settled(&stream.incoming, out) {
             return within_limit(
                 &mut stream.incoming,
                 &mut self.blocked,
                 limit,
                 inserted,
-                answer,
+                out,
             );
         }
         let Ok(()) = self.blocked.reserve(1) else {
-            return Pull::Fault(Fault::Memory);
+            fail(out, Fault::Memory);
+            return;
         };
         let before = stream.incoming.waits_for();
-        let answer = stream
+        stream
             .incoming
-            .pull(alloc, side, announced, id, decoder, replies);
-        if is_memory(&answer) {
-            return answer;
+            .pull_into(alloc, side, announced, id, decoder, replies, out);
+        if is_memory(out) {
+            return;
         }
         replace(&mut self.blocked, before, stream.incoming.waits_for());
         within_limit(
@@ -82,34 +108,36 @@ impl RequestStreams {
             &mut self.blocked,
             limit,
             inserted,
-            answer,
+            out,
         )
     }
 }
 
 /// What a stream gives that is not there: a server's peer may still open it.
-fn unopened(side: Side) -> Pull
-    ensures { result ≡ unopened_answer side }
+fn unopened(side: Side, out: &mut Pull)
+    ensures { out.new ≡ unopened_answer side }
 {
     match side {
-        Side::Client => Pull::NoMessages,
-        Side::Server => Pull::Pending,
+        Side::Client => no_messages(out),
+        Side::Server => pause(out),
     }
 }
 
-/// The answer of a stream that was given up, or whose end was handed out.
-fn settled(stream: &IncomingStream) -> Option<Pull>
-    ensures some { IfSome result (λ answer. (is_memory answer ≡ false)
-        × ((side : Side) (own : Announced) (id : ℕ) (r : DecoderState) → pull_stream side own id r stream.now ≡ just answer stream.now)) }
-    ensures none { result ≡ None → is_settled_request (Some stream.now) ≡ false }
+/// Answers for a stream that was given up, or whose end was handed out, and says whether it is one.
+fn answer_settled(stream: &IncomingStream, out: &mut Pull) -> bool
+    ensures settled { result ≡ true → (is_memory out.new ≡ false)
+        × ((side : Side) (own : Announced) (id : ℕ) (r : DecoderState) → pull_stream side own id r stream.now ≡ just out.new stream.now) }
+    ensures open { result ≡ false → is_settled_request (Some stream.now) ≡ false }
 {
     if let Some(fault) = stream.fault() {
-        return Some(Pull::Fault(Fault::Stream(fault)));
+        fail(out, Fault::Stream(fault));
+        return true;
     }
     if stream.is_over() {
-        return Some(Pull::Item(Item::End));
+        end(out);
+        return true;
     }
-    None
+    false
 }
 
 /// Whether memory was refused.
@@ -125,21 +153,21 @@ fn within_limit(
     counts: &mut Vec<usize>,
     limit: u64,
     inserted: usize,
-    answer: Pull,
-) -> Pull
+    out: &mut Pull,
+)
     requires sorted { IsNonDecreasing counts.old.items }
     requires among { HasCount counts.old.items stream.old.waits_for }
     ensures limited { (replies : List DecoderInstruction)
-        → if_too_many (nat_lt limit (above inserted counts.old.items)) (record { answer = answer; incoming = stream.old; replies = replies })
-        ≡ record { answer = result; incoming = stream.new; replies = replies } }
-    ensures memory { is_memory answer ≡ false → is_memory result ≡ false }
+        → if_too_many (nat_lt limit (above inserted counts.old.items)) (record { answer = out.old; incoming = stream.old; replies = replies })
+        ≡ record { answer = out.new; incoming = stream.new; replies = replies } }
+    ensures memory { is_memory out.old ≡ false → is_memory out.new ≡ false }
     ensures replaced { Replaces counts.old.items counts.new.items stream.old.waits_for stream.new.waits_for }
     ensures sorted { IsNonDecreasing counts.new.items }
 {
     if above(counts, inserted) as u64 <= limit {
-        return answer;
+        return;
     }
     replace(counts, stream.waits_for(), 0);
     stream.stop_waiting();
-    Pull::Fault(Fault::Connection(Code::QPACK_DECOMPRESSION_FAILED))
+    fail(out, Fault::Connection(Code::QPACK_DECOMPRESSION_FAILED));
 }

@@ -18,6 +18,7 @@ ghost use Rattle.h3_session.specs.OpenedLaws.{ChangesRequests};
 use super::Endpoint;
 use h3_connection::event::{Fault, Pull, Refusal};
 use h3_connection::setup::Announced;
+use h3_incoming::answer::{fail, no_messages, put};
 use h3_proto::error::Code;
 use h3_proto::stream::{Side, StreamId};
 use h3_requests::{RequestStream, RequestStreams};
@@ -64,25 +65,27 @@ fn pull_stream(
     announced: &Announced,
     id: StreamId,
     streams: &mut ConnectionStreams,
-) -> Pull
-    ensures absent { kept_at requests.old id ≡ None → (result ≡ unopened_answer side) × (requests.new ≡ requests.old) × (streams.new.own.decoder ≡ streams.old.own.decoder) }
+    out: &mut Pull,
+)
+    ensures absent { kept_at requests.old id ≡ None → (out.new ≡ unopened_answer side) × (requests.new ≡ requests.old) × (streams.new.own.decoder ≡ streams.old.own.decoder) }
     ensures there { is_some (kept_at requests.new id) ≡ is_some (kept_at requests.old id) }
-    ensures answer { is_memory result ≡ false → IfSome (kept_at requests.old id) (λ before. IfSome (kept_at requests.new id) (λ after.
-        PullsWithin side announced.now id streams.old.decoding.decoder requests.old requests.new before after result streams.old.own.decoder streams.new.own.decoder)) }
-    ensures memory { is_memory result ≡ true → IfSome (kept_at requests.old id) (λ before. IfSome (kept_at requests.new id) (λ after.
+    ensures answer { is_memory out.new ≡ false → IfSome (kept_at requests.old id) (λ before. IfSome (kept_at requests.new id) (λ after.
+        PullsWithin side announced.now id streams.old.decoding.decoder requests.old requests.new before after out.new streams.old.own.decoder streams.new.own.decoder)) }
+    ensures memory { is_memory out.new ≡ true → IfSome (kept_at requests.old id) (λ before. IfSome (kept_at requests.new id) (λ after.
         ResumesThere requests.old requests.new id before after)) × (streams.new.own.decoder ≡ streams.old.own.decoder) }
     ensures rest { streams.new ≡ record streams.old { own = record streams.old.own { decoder = streams.new.own.decoder } } }
-    ensures settled { IfSome (kept_at requests.old id) (λ before. is_settled_request (Some before.incoming) ≡ true → is_memory result ≡ false) }
+    ensures settled { IfSome (kept_at requests.old id) (λ before. is_settled_request (Some before.incoming) ≡ true → is_memory out.new ≡ false) }
 {
     let replies = &mut streams.own.decoder;
     let decoding = &streams.decoding;
-    requests.pull(
+    requests.pull_into(
         alloc,
         side,
         announced,
         id,
         decoding.decoder(),
         replies.bytes_mut(),
+        out,
     )
 }
 
@@ -109,22 +112,33 @@ impl Endpoint {
     pub fn pull(&mut self, id: StreamId) -> Pull
         ensures { PullsNext self.old self.new id result }
     {
+        let mut out = Pull::Pending;
+        self.pull_into(id, &mut out);
+        out
+    }
+
+    // The same, with the answer in the place of what `out` was.
+    #[tactic(auto, using(crate::proofs::PullingKept::pull_closed, crate::proofs::PullingKept::pull_alone, crate::proofs::PullingKept::pull_settled, crate::proofs::PullingKept::pull_behind, crate::proofs::PullingKept::pull_faulty, crate::proofs::PullingKept::pull_lacked))]
+    fn pull_into(&mut self, id: StreamId, out: &mut Pull)
+        ensures { PullsNext self.old self.new id out.new }
+    {
         if let Some(code) = self.closed {
-            return Pull::Fault(Fault::Connection(code));
+            fail(out, Fault::Connection(code));
+            return;
         }
         if self.kept.is_empty() {
-            return self.pull_next(id);
+            return self.pull_next(id, out);
         }
         if self.is_settled(id) {
-            return self.pull_next(id);
+            return self.pull_next(id, out);
         }
         match self.read_kept() {
-            Ok(None) => self.pull_next(id),
+            Ok(None) => self.pull_next(id, out),
             Ok(Some(code)) => {
                 self.closed = Some(code);
-                Pull::Fault(Fault::Connection(code))
+                fail(out, Fault::Connection(code));
             }
-            Err(_) => Pull::Fault(Fault::Memory),
+            Err(_) => fail(out, Fault::Memory),
         }
     }
 
@@ -168,33 +182,32 @@ impl Endpoint {
 
     // The stream's next item, whatever is kept.
     #[tactic(auto, using(crate::proofs::PullingStreams::pulls_server_opened, crate::proofs::PullingStreams::pulls_own))]
-    fn pull_next(&mut self, id: StreamId) -> Pull
-        ensures { PullsItem self.old self.new id result }
+    fn pull_next(&mut self, id: StreamId, out: &mut Pull)
+        ensures { PullsItem self.old self.new id out.new }
     {
         match StreamKind::of(self.side, id) {
-            StreamKind::Request => self.pull_request(id),
-            StreamKind::PeerUnidirectional => self.pull_peer(id),
-            StreamKind::ServerOpened => Pull::NoMessages,
-            StreamKind::OwnUnidirectional => Pull::NoMessages,
+            StreamKind::Request => self.pull_request(id, out),
+            StreamKind::PeerUnidirectional => self.pull_peer(id, out),
+            StreamKind::ServerOpened => no_messages(out),
+            StreamKind::OwnUnidirectional => no_messages(out),
         }
     }
 
     #[tactic(auto, using(crate::proofs::PullingStreams::pulls_peer))]
-    fn pull_peer(&mut self, id: StreamId) -> Pull
+    fn pull_peer(&mut self, id: StreamId, out: &mut Pull)
         requires { kind_of self.old.side id ≡ PeerUnidirectional }
-        ensures { PullsItem self.old self.new id result }
+        ensures { PullsItem self.old self.new id out.new }
     {
-        self.streams.pull(id)
+        put(out, self.streams.pull(id));
     }
 
     // A fault of the connection closes it.
-    fn pull_request(&mut self, id: StreamId) -> Pull
+    fn pull_request(&mut self, id: StreamId, out: &mut Pull)
         requires { kind_of self.old.side id ≡ Request }
-        ensures { PullsItem self.old self.new id result }
+        ensures { PullsItem self.old self.new id out.new }
     {
-        let answer = self.pull_stored(id);
-        self.close_with(&answer);
-        answer
+        self.pull_stored(id, out);
+        self.close_with(out);
     }
 
     fn close_with(&mut self, answer: &Pull)
@@ -205,22 +218,22 @@ impl Endpoint {
         }
     }
 
-    fn pull_stored(&mut self, id: StreamId) -> Pull
+    fn pull_stored(&mut self, id: StreamId, out: &mut Pull)
         ensures rest { ChangesRequests self.old self.new }
-        ensures absent { kept_at self.old.requests id ≡ None → (result ≡ unopened_answer self.old.side) × (self.new.requests ≡ self.old.requests) × (self.new.own.decoder ≡ self.old.own.decoder) }
+        ensures absent { kept_at self.old.requests id ≡ None → (out.new ≡ unopened_answer self.old.side) × (self.new.requests ≡ self.old.requests) × (self.new.own.decoder ≡ self.old.own.decoder) }
         ensures there { is_some (kept_at self.new.requests id) ≡ is_some (kept_at self.old.requests id) }
-        ensures answer { is_memory result ≡ false → IfSome (kept_at self.old.requests id) (λ before. IfSome (kept_at self.new.requests id) (λ after.
-            PullsWithin self.old.side self.old.announced id self.old.decoding.decoder self.old.requests self.new.requests before after result self.old.own.decoder self.new.own.decoder)) }
-        ensures memory { is_memory result ≡ true → IfSome (kept_at self.old.requests id) (λ before. IfSome (kept_at self.new.requests id) (λ after.
+        ensures answer { is_memory out.new ≡ false → IfSome (kept_at self.old.requests id) (λ before. IfSome (kept_at self.new.requests id) (λ after.
+            PullsWithin self.old.side self.old.announced id self.old.decoding.decoder self.old.requests self.new.requests before after out.new self.old.own.decoder self.new.own.decoder)) }
+        ensures memory { is_memory out.new ≡ true → IfSome (kept_at self.old.requests id) (λ before. IfSome (kept_at self.new.requests id) (λ after.
             ResumesThere self.old.requests self.new.requests id before after)) × (self.new.own.decoder ≡ self.old.own.decoder) }
-        ensures settled { IfSome (kept_at self.old.requests id) (λ before. is_settled_request (Some before.incoming) ≡ true → is_memory result ≡ false) }
+        ensures settled { IfSome (kept_at self.old.requests id) (λ before. is_settled_request (Some before.incoming) ≡ true → is_memory out.new ≡ false) }
     {
         let alloc = self.alloc;
         let side = self.side;
         let announced = &self.announced;
         let streams = &mut self.streams;
         let requests = &mut self.requests;
-        pull_stream(requests, alloc, side, announced, id, streams)
+        pull_stream(requests, alloc, side, announced, id, streams, out)
     }
 
     /// Nothing more is wanted of a request stream: what came on it is thrown away, and the peer's encoder is told (RFC 9204,

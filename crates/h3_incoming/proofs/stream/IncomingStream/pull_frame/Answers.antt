@@ -26,8 +26,9 @@ returns-in-Ok-Unfinished-clause-memory c = λ h.
 pub returns-in-Ok-Refused-clause-answer : goal.returns-in-Ok-Refused-clause-answer
 returns-in-Ok-Refused-clause-answer c = λ h.
     let finds = rw c.in-Ok-Refused.field-0-is at c.in-Ok-Refused.ensures.finds in
-    gives_just _ _ _ _ _ (between_refused c.args.side c.args.announced.now c.args.id c.args.decoder.now c.args.self.now c.front.new.self c.in-Ok-Refused.e c.front.ensures.passes finds
-    ∙ ap (λ code. connection_fault code c.front.new.self) (sym c.refused_code.ensures)) refl
+    rw c.fail-in-Ok-Refused.ensures
+    (gives_just _ _ _ _ _ (between_refused c.args.side c.args.announced.now c.args.id c.args.decoder.now c.args.self.now c.front.new.self c.in-Ok-Refused.e c.front.ensures.passes finds
+    ∙ ap (λ code. connection_fault code c.front.new.self) (sym c.refused_code.ensures)) refl)
 
 pub returns-in-Ok-Frame-clause-answer : goal.returns-in-Ok-Frame-clause-answer
 returns-in-Ok-Frame-clause-answer c = λ h.

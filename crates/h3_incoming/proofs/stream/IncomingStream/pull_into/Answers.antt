@@ -1,15 +1,15 @@
 use Rattle.std.proofs.Common.{refl, sym, ◌∙◌}
 use Rattle.h3_incoming.proofs.PullLaws.{gives_as, gives_just, none_there, none_left, some_left, pull_of_fault, pull_of_end, pull_of_session, pull_of_payload, pull_of_frame, session_there, gives_section}
 use Rattle.h3_incoming.proofs.ResumeLaws.{resumes_same}
-use Rattle.h3_incoming.proofs.stream.IncomingStream.pull.Goals as goal
+use Rattle.h3_incoming.proofs.stream.IncomingStream.pull_into.Goals as goal
 
 pub returns-in-Some-clause-answer : goal.returns-in-Some-clause-answer
-returns-in-Some-clause-answer c = λ h.
-    gives_just _ _ _ _ _ (pull_of_fault c.args.side c.args.announced.now c.args.id c.args.decoder.now c.args.self.now c.in-Some.fault (sym c.fault.ensures ∙ c.in-Some.is)) refl
+returns-in-Some-clause-answer c = λ h. rw c.fail.ensures
+    (gives_just _ _ _ _ _ (pull_of_fault c.args.side c.args.announced.now c.args.id c.args.decoder.now c.args.self.now c.in-Some.fault (sym c.fault.ensures ∙ c.in-Some.is)) refl)
 
 pub returns-then-is_over-clause-answer : goal.returns-then-is_over-clause-answer
-returns-then-is_over-clause-answer c = λ h.
-    gives_just _ _ _ _ _ (pull_of_end c.args.side c.args.announced.now c.args.id c.args.decoder.now c.args.self.now (sym c.fault.ensures ∙ c.in_default.is) (sym c.is_over.ensures ∙ c.if-is_over.true)) refl
+returns-then-is_over-clause-answer c = λ h. rw c.end.ensures
+    (gives_just _ _ _ _ _ (pull_of_end c.args.side c.args.announced.now c.args.id c.args.decoder.now c.args.self.now (sym c.fault.ensures ∙ c.in_default.is) (sym c.is_over.ensures ∙ c.if-is_over.true)) refl)
 
 pub returns-then-is_in_session-clause-answer : goal.returns-then-is_in_session-clause-answer
 returns-then-is_in_session-clause-answer c = λ h.

@@ -5,21 +5,21 @@ use Rattle.h3_connection.specs.Keeping.{read_all, unkept}
 use Rattle.h3_connection.specs.State.{StandsFor}
 use Rattle.h3_session.specs.Reading.{Finds}
 use Rattle.h3_session.proofs.PullingKept.{pull_alone, pull_behind, pull_faulty}
-use Rattle.h3_session.proofs.endpoint.Endpoint.pull.Goals as goal
+use Rattle.h3_session.proofs.endpoint.Endpoint.pull_into.Goals as goal
 
 pub returns-then-is_empty : goal.returns-then-is_empty
 returns-then-is_empty c =
     let open_still : c.args.self.now.closed ≡ None = sym (ap (λ v. v.closed) c.self.view_is) ∙ c.in_default.is in
     let kept : c.args.self.now.kept ≡ c.self.inside.kept.items = sym (ap (λ v. v.kept) c.self.view_is) in
     let none : c.self.inside.kept.items ≡ [] = grind (arith, common_steps, c.if-is_empty.ensures) in
-    pull_alone c.args.self.now c.pull_next.new.self c.args.id c.pull_next.result open_still (kept ∙ none) c.pull_next.ensures
+    pull_alone c.args.self.now c.pull_next.new.self c.args.id c.pull_next.new.out open_still (kept ∙ none) c.pull_next.ensures
 
 pub returns-in-Ok-None : goal.returns-in-Ok-None
 returns-in-Ok-None c =
     let open_still : c.args.self.now.closed ≡ None = sym (ap (λ v. v.closed) c.self.view_is) ∙ c.in_default.is in
     let kept : c.args.self.now.kept ≡ c.self.inside.kept.items = sym (ap (λ v. v.kept) c.self.view_is) in
     let some : c.self.inside.kept.items ≡ [] → ⊥ = λ none. grind (arith, common_steps, c.if-is_empty.ensures) in
-    pull_behind c.args.self.now c.read_kept.new.self c.pull_next-in-Ok-None.new.self c.args.id c.pull_next-in-Ok-None.result open_still (λ none. some (sym kept ∙ none)) c.in-Ok-None.ensures.none_kept
+    pull_behind c.args.self.now c.read_kept.new.self c.pull_next-in-Ok-None.new.self c.args.id c.pull_next-in-Ok-None.new.out open_still (λ none. some (sym kept ∙ none)) c.in-Ok-None.ensures.none_kept
     c.if-is_settled.ensures (rw c.in-Ok-None.field-0-is at c.in-Ok-None.ensures.reads) c.pull_next-in-Ok-None.ensures
 
 pub returns-in-Ok-Some : goal.returns-in-Ok-Some

@@ -11,23 +11,23 @@ use Rattle.h3_connection.specs.State.{RequestState, kept_at}
 use Rattle.h3_requests.specs.Counted.{AreCounted}
 use Rattle.h3_requests.proofs.Counts.{counted_again, has_count_at, replaced, replaced_twice, written}
 use Rattle.h3_requests.proofs.Pulls.{gives_just, gives_limited}
-use Rattle.h3_requests.proofs.streams.RequestStreams.pull.Goals as goal
+use Rattle.h3_requests.proofs.streams.RequestStreams.pull_into.Goals as goal
 
 pub within_limit-requires-clause-among : goal.within_limit-requires-clause-among
 within_limit-requires-clause-among c = has_count_at _ c.self.inside.streams.by_id.entries c.args.id _ (search rules) c.self.invariant
 
-pub invariant_of-self-in-Some-settled : goal.invariant_of-self-in-Some-settled
-invariant_of-self-in-Some-settled c =
+pub invariant_of-self-then-answer_settled : goal.invariant_of-self-then-answer_settled
+invariant_of-self-then-answer_settled c =
     replaced _ _ _ _ c.args.id c.in-Some.stream.now _ (c.get_mut.follows.holds _) (search rules) c.within_limit.ensures.sorted (search rules) c.self.invariant
 
-pub returns-in-Some-settled-clause-answer : goal.returns-in-Some-settled-clause-answer
-returns-in-Some-settled-clause-answer c = λ passed.
+pub returns-then-answer_settled-clause-answer : goal.returns-then-answer_settled-clause-answer
+returns-then-answer_settled-clause-answer c = λ passed.
     let before : RequestState = record { incoming = c.stream.inside.incoming; outgoing = c.stream.inside.outgoing } in
     let there : kept_at c.self.inside.streams.by_id.entries c.args.id ≡ Some before = search rules in
-    let pulled : Gives (pull_stream c.args.side c.args.announced.now c.args.id c.args.decoder.now before.incoming) c.in-Some-settled.answer before.incoming c.args.replies.now.items c.args.replies.now.items = gives_just _ _ _ _ (c.in-Some-settled.ensures.some.1 _ _ _ _) in
+    let pulled : Gives (pull_stream c.args.side c.args.announced.now c.args.id c.args.decoder.now before.incoming) c.answer_settled.new.out before.incoming c.args.replies.now.items c.args.replies.now.items = gives_just _ _ _ _ ((c.answer_settled.ensures.settled c.if-answer_settled.true).1 _ _ _ _) in
     let gives : (receivers : Streams Incoming) → AreReceivers receivers c.self.inside.streams.by_id.entries
-    → Gives (limited c.args.announced.now c.args.id c.args.decoder.now receivers (pull_stream c.args.side c.args.announced.now c.args.id c.args.decoder.now before.incoming)) c.within_limit.result c.within_limit.new.stream c.args.replies.now.items c.args.replies.now.items =
-    gives_limited c.args.side c.args.announced.now c.args.id c.args.decoder.now c.self.inside.streams.by_id.entries before c.in-Some-settled.answer c.within_limit.result before.incoming c.within_limit.new.stream
+    → Gives (limited c.args.announced.now c.args.id c.args.decoder.now receivers (pull_stream c.args.side c.args.announced.now c.args.id c.args.decoder.now before.incoming)) c.within_limit.new.out c.within_limit.new.stream c.args.replies.now.items c.args.replies.now.items =
+    gives_limited c.args.side c.args.announced.now c.args.id c.args.decoder.now c.self.inside.streams.by_id.entries before c.answer_settled.new.out c.within_limit.new.out before.incoming c.within_limit.new.stream
     c.self.inside.blocked.items c.self.inside.blocked.items c.inserted-inserted.result _ _ c.self.invariant there pulled (λ n. refl) c.inserted-inserted.ensures.value c.within_limit.ensures.limited in
     search (rules, gives)
 
@@ -46,7 +46,7 @@ replace-requires-clause-among c =
 -- as among the streams with the one that was pulled
 pub within_limit-requires-2-clause-among : goal.within_limit-requires-2-clause-among
 within_limit-requires-2-clause-among c =
-    let now : RequestState = record { incoming = c.pull-answer.new.self; outgoing = c.stream.inside.outgoing } in
+    let now : RequestState = record { incoming = c.pull_into.new.self; outgoing = c.stream.inside.outgoing } in
     let between : AreCounted c.replace.new.counts.items (c.get_mut.follows.lender now).by_id.entries =
     replaced _ _ _ _ c.args.id c.in-Some.stream.now now (c.get_mut.follows.holds now) (search rules) c.replace.ensures.sorted (search rules) (counted_again c.reserve.ensures.items c.self.invariant) in
     let found : kept_at c.self.inside.streams.by_id.entries c.args.id ≡ Some c.in-Some.stream.now = search rules in
@@ -61,9 +61,9 @@ pub returns-clause-answer : goal.returns-clause-answer
 returns-clause-answer c = λ passed.
     let before : RequestState = record { incoming = c.stream.inside.incoming; outgoing = c.stream.inside.outgoing } in
     let there : kept_at c.self.inside.streams.by_id.entries c.args.id ≡ Some before = search rules in
-    let replaces : Replaces c.reserve.new.self.items c.replace.new.counts.items before.incoming.waits_for c.pull-answer.new.self.waits_for = search rules in
+    let replaces : Replaces c.reserve.new.self.items c.replace.new.counts.items before.incoming.waits_for c.pull_into.new.self.waits_for = search rules in
     let gives : (receivers : Streams Incoming) → AreReceivers receivers c.self.inside.streams.by_id.entries
-    → Gives (limited c.args.announced.now c.args.id c.args.decoder.now receivers (pull_stream c.args.side c.args.announced.now c.args.id c.args.decoder.now before.incoming)) c.within_limit-2.result c.within_limit-2.new.stream c.args.replies.now.items c.pull-answer.new.replies.items =
-    gives_limited c.args.side c.args.announced.now c.args.id c.args.decoder.now c.self.inside.streams.by_id.entries before c.pull-answer.result c.within_limit-2.result c.pull-answer.new.self c.within_limit-2.new.stream
-    c.reserve.new.self.items c.replace.new.counts.items c.inserted-inserted.result _ _ (counted_again c.reserve.ensures.items c.self.invariant) there (c.pull-answer.ensures.answer (sym c.is_memory.ensures ∙ c.if-is_memory.false)) replaces c.inserted-inserted.ensures.value c.within_limit-2.ensures.limited in
+    → Gives (limited c.args.announced.now c.args.id c.args.decoder.now receivers (pull_stream c.args.side c.args.announced.now c.args.id c.args.decoder.now before.incoming)) c.within_limit-2.new.out c.within_limit-2.new.stream c.args.replies.now.items c.pull_into.new.replies.items =
+    gives_limited c.args.side c.args.announced.now c.args.id c.args.decoder.now c.self.inside.streams.by_id.entries before c.pull_into.new.out c.within_limit-2.new.out c.pull_into.new.self c.within_limit-2.new.stream
+    c.reserve.new.self.items c.replace.new.counts.items c.inserted-inserted.result _ _ (counted_again c.reserve.ensures.items c.self.invariant) there (c.pull_into.ensures.answer (sym c.is_memory.ensures ∙ c.if-is_memory.false)) replaces c.inserted-inserted.ensures.value c.within_limit-2.ensures.limited in
     search (rules, gives)
