@@ -52,7 +52,8 @@
  *
  *   connection is there      h3_new; open three unidirectional streams before anything else, so that QUIC gives them the ids of the
  *                            control, encoder and decoder stream: 2, 6, 10 of a client, 3, 7, 11 of a server (h3_control_id and so on).
- *                            Let the peer open at least three unidirectional streams (RFC 9114, section 6.2).
+ *                            Let the peer open at least three unidirectional streams (RFC 9114, section 6.2), and request streams
+ *                            as others close.
  *   a request is to be sent  open a bidirectional stream of QUIC and call h3_open_request: both give 0, 4, 8, .. in turn
  *   stream data came         h3_deliver(id, bytes), in order of the stream's bytes; then pull that stream until a pause (H3_PENDING,
  *                            H3_WAITING, H3_NO_MESSAGES) or H3_END or a fault. After data on a stream of the peer's that is
