@@ -7,7 +7,7 @@ ghost use Rattle.h3_incoming.specs.Resuming.{Resumes};
 
 use super::IncomingStream;
 use crate::answer::{end, fail};
-use h3_connection::event::{Fault, Item, Pull};
+use h3_connection::event::{Fault, Pull};
 use h3_connection::place::Place;
 use h3_connection::setup::Announced;
 use h3_proto::stream::{Side, StreamId};
@@ -18,26 +18,8 @@ impl IncomingStream {
     /// The next item of the message, or why there is none now: the fault for which the stream was given up, its end again, or what
     /// its bytes and the decoder's table say. The answer, the stream after it, and what is written behind the replies to the
     /// peer's encoder rest on this stream, the table and what was announced alone. `Fault::Memory` writes nothing and loses
-    /// nothing: whatever is delivered later, the stream's pulls answer the same.
-    pub fn pull(
-        &mut self,
-        alloc: Global,
-        side: Side,
-        announced: &Announced,
-        id: StreamId,
-        decoder: &Decoder,
-        replies: &mut Vec<u8>,
-    ) -> Pull
-        ensures answer { is_memory result ≡ false
-            → Gives (pull_stream side announced.now id decoder.now self.old) result self.new replies.old.items replies.new.items }
-        ensures memory { is_memory result ≡ true → Resumes self.old self.new × (replies.new.items ≡ replies.old.items) }
-    {
-        let mut out = Pull::Pending;
-        self.pull_into(alloc, side, announced, id, decoder, replies, &mut out);
-        out
-    }
-
-    /// As `pull`, with the answer in the place of what `out` was, so that it is moved nowhere.
+    /// nothing: whatever is delivered later, the stream's pulls answer the same. The answer takes the place of what `out` was, so that
+    /// it is moved nowhere.
     pub fn pull_into(
         &mut self,
         alloc: Global,

@@ -14,7 +14,7 @@ ghost use Rattle.h3_requests.specs.Limited.{AreReceivers, PullsWithin, ResumesTh
 
 use super::RequestStreams;
 use h3_blocked::{above, replace};
-use h3_connection::event::{Fault, Item, Pull};
+use h3_connection::event::{Fault, Pull};
 use h3_connection::setup::Announced;
 use h3_incoming::IncomingStream;
 use h3_incoming::answer::{end, fail, no_messages, pause};
@@ -35,30 +35,8 @@ impl RequestStreams {
     /// of the connection, and this stream waits no more then (RFC 9204, section 2.1.2). Room for what it may come to wait for is
     /// asked for first, but not where the stream was given up or its end was handed out. `Fault::Memory` writes nothing and loses
     /// nothing: whatever is delivered later, the stream's pulls answer the same. Nothing happens where the stream is not there: a
-    /// server's peer may still open it (`Pending`), a client's does not (`NoMessages`).
-    pub fn pull(
-        &mut self,
-        alloc: Global,
-        side: Side,
-        announced: &Announced,
-        id: StreamId,
-        decoder: &Decoder,
-        replies: &mut Vec<u8>,
-    ) -> Pull
-        ensures absent { kept_at self.old id ≡ None → (result ≡ unopened_answer side) × (self.new ≡ self.old) × (replies.new.items ≡ replies.old.items) }
-        ensures there { is_some (kept_at self.new id) ≡ is_some (kept_at self.old id) }
-        ensures answer { is_memory result ≡ false → IfSome (kept_at self.old id) (λ before. IfSome (kept_at self.new id) (λ after.
-            PullsWithin side announced.now id decoder.now self.old self.new before after result replies.old.items replies.new.items)) }
-        ensures memory { is_memory result ≡ true → IfSome (kept_at self.old id) (λ before. IfSome (kept_at self.new id) (λ after.
-            ResumesThere self.old self.new id before after)) × (replies.new.items ≡ replies.old.items) }
-        ensures settled { IfSome (kept_at self.old id) (λ before. is_settled_request (Some before.incoming) ≡ true → is_memory result ≡ false) }
-    {
-        let mut out = Pull::Pending;
-        self.pull_into(alloc, side, announced, id, decoder, replies, &mut out);
-        out
-    }
-
-    /// As `pull`, with the answer in the place of what `out` was, so that it is moved nowhere.
+    /// server's peer may still open it (`Pending`), a client's does not (`NoMessages`). The answer takes the
+    /// place of what `out` was.
     pub fn pull_into(
         &mut self,
         alloc: Global,
