@@ -39,7 +39,8 @@ fn item(alloc: Global, item: Item) -> Result<String, CaseError> {
     line(alloc, Answer::Pulled(Pull::Item(item)))
 }
 
-fn line(alloc: Global, answer: Answer) -> Result<String, CaseError> {
+/// The line of an answer, which is let go by one call: at the end of a scope its parts would be dropped one by one.
+pub fn line(alloc: Global, answer: Answer) -> Result<String, CaseError> {
     let told = answer_text(alloc, &answer);
     drop(answer);
     Ok(told?)

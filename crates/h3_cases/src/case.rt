@@ -84,9 +84,14 @@ pub fn bytes(alloc: Global, word: &str) -> Result<Vec<u8>, CaseError>
 pub fn text(alloc: Global, word: &str) -> Result<Vec<u8>, CaseError>
     ensures { IfOk result (λ found. length found.items ≤ 1000) }
 {
+    at_most_1000(decoded(alloc, word)?)
+}
+
+/// The bytes of a word in which any byte may be an escape, as `%20`.
+pub fn decoded(alloc: Global, word: &str) -> Result<Vec<u8>, CaseError> {
     let mut found = Vec::new(alloc);
     percent_decode(word.as_bytes()).append_to(&mut found)?;
-    at_most_1000(found)
+    Ok(found)
 }
 
 fn at_most_1000(found: Vec<u8>) -> Result<Vec<u8>, CaseError>

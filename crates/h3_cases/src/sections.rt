@@ -1,5 +1,5 @@
 //! Whole field sections without a dynamic table, and the fields that they are of.
-use crate::case::{CaseError, bytes, number, text};
+use crate::case::{CaseError, bytes, decoded, number, text};
 use h3_field::{
     Decoded, DecoderError, EncoderError, HeaderField, SliceCursor, decode_stateless, dynamic,
     encode_stateless, prefix_int, section_size, vas,
@@ -41,8 +41,8 @@ pub fn fields(alloc: Global, words: &[&str]) -> Result<Vec<HeaderField>, CaseErr
         let Some((name, value)) = word.split_once('=') else {
             return Err(CaseError::Unreadable);
         };
-        let name = text(alloc, name)?;
-        fields.push(field(name, text(alloc, value)?))?;
+        let name = decoded(alloc, name)?;
+        fields.push(field(name, decoded(alloc, value)?))?;
     }
     Ok(fields)
 }

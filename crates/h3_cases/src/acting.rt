@@ -1,30 +1,28 @@
 //! Calls of an endpoint, and what they answer.
+use crate::answers::line;
 use crate::call::Call;
+use crate::case::{CaseError, digits, said};
+use crate::items::pull_text;
 use crate::reading::call;
-use crate::text::{bytes_text, pull_text};
 use bytes::Bytes;
 use h3_connection::event::{DeliverError, Fault, Pull, Refusal};
 use h3_connection::setup::{Limits, NewError};
 use h3_header::Header;
 use h3_proto::config::Config;
 use h3_proto::stream::{Side, StreamId};
-use h3_script::text::answer_text;
 use h3_session::endpoint::Endpoint;
 use h3_world::event::Answer;
-use std::alloc::{AllocError, Global};
+use std::alloc::Global;
 
-/// The line that a line gets. An empty line and one that begins with `#` come back as they are.
+/// What a call answers.
 pub fn answer(
     alloc: Global,
     endpoint: &mut Option<Endpoint>,
     line: &str,
-) -> Result<String, AllocError> {
-    if line.is_empty() || line.starts_with('#') {
-        return String::from_str(alloc, line);
-    }
+) -> Result<String, CaseError> {
     match call(alloc, line) {
-        Ok(Some(call)) => perform(alloc, endpoint, call),
-        Ok(None) => String::from_str(alloc, "no such call"),
+        Ok(call) => perform(alloc, endpoint, call),
+        Err(CaseError::Unreadable) => said(alloc, "no such call"),
         Err(e) => Err(e),
     }
 }
@@ -34,7 +32,7 @@ fn perform(
     alloc: Global,
     endpoint: &mut Option<Endpoint>,
     call: Call,
-) -> Result<String, AllocError> {
+) -> Result<String, CaseError> {
     match call {
         Call::New(side, section, table, blocked) => {
             begin(alloc, endpoint, side, section, Limits { table, blocked })
@@ -43,7 +41,7 @@ fn perform(
             Some(endpoint) => act(alloc, endpoint, call),
             None => {
                 drop(call);
-                String::from_str(alloc, "no endpoint")
+                said(alloc, "no endpoint")
             }
         },
     }
@@ -56,26 +54,26 @@ fn begin(
     side: Side,
     section: u64,
     limits: Limits,
-) -> Result<String, AllocError> {
+) -> Result<String, CaseError> {
     let config = Config::default()
         .with_grease(false)
         .with_max_field_section_size(section);
     match Endpoint::new(alloc, side, config, limits, 0) {
         Ok(made) => {
             drop(endpoint.replace(made));
-            String::from_str(alloc, "ok")
+            said(alloc, "ok")
         }
-        Err(NewError::TableLimit) => String::from_str(alloc, "refused TableLimit"),
-        Err(NewError::BlockedLimit) => String::from_str(alloc, "refused BlockedLimit"),
-        Err(NewError::Settings(_)) => String::from_str(alloc, "refused Settings"),
-        Err(NewError::OutOfMemory) => String::from_str(alloc, "refused OutOfMemory"),
+        Err(NewError::TableLimit) => said(alloc, "refused TableLimit"),
+        Err(NewError::BlockedLimit) => said(alloc, "refused BlockedLimit"),
+        Err(NewError::Settings(_)) => said(alloc, "refused Settings"),
+        Err(NewError::OutOfMemory) => said(alloc, "refused OutOfMemory"),
     }
 }
 
 /// What a call answers.
-fn act(alloc: Global, endpoint: &mut Endpoint, call: Call) -> Result<String, AllocError> {
+fn act(alloc: Global, endpoint: &mut Endpoint, call: Call) -> Result<String, CaseError> {
     match call {
-        Call::New(_, _, _, _) => String::from_str(alloc, "no such call"),
+        Call::New(_, _, _, _) => said(alloc, "no such call"),
         Call::Open => opened(alloc, endpoint.open_request()),
         Call::Head(id, head) => send_head(alloc, endpoint, id, head),
         Call::Body(id, body) => sent(alloc, endpoint.send_body(id, body)),
@@ -90,9 +88,9 @@ fn act(alloc: Global, endpoint: &mut Endpoint, call: Call) -> Result<String, All
         Call::Pull(id) => pulled(alloc, pull(endpoint, id)),
         Call::Advance(id, count) => advance(alloc, endpoint, id, count),
         Call::Waits(id) => waits(alloc, endpoint, id),
-        Call::Lends(id) => bytes_text(alloc, "lends ", endpoint.outgoing(id)),
+        Call::Lends(id) => lends(alloc, endpoint.outgoing(id)),
         Call::Tries(id) => tries(alloc, endpoint, id),
-        Call::Sends(id) => String::from_str(alloc, sends(endpoint, id)),
+        Call::Sends(id) => said(alloc, sends(endpoint, id)),
         Call::Show => shown(alloc, endpoint),
         Call::Sent => sum(alloc, endpoint),
         Call::Goaways => goaways(alloc, endpoint),
@@ -104,7 +102,7 @@ fn send_head(
     endpoint: &mut Endpoint,
     id: StreamId,
     head: Header,
-) -> Result<String, AllocError> {
+) -> Result<String, CaseError> {
     let tried = endpoint.send_head(id, &head);
     drop(head);
     done(alloc, tried)
@@ -115,7 +113,7 @@ fn send_trailer(
     endpoint: &mut Endpoint,
     id: StreamId,
     trailer: Header,
-) -> Result<String, AllocError> {
+) -> Result<String, CaseError> {
     let tried = endpoint.send_trailer(id, &trailer);
     drop(trailer);
     done(alloc, tried)
@@ -126,9 +124,9 @@ fn advance(
     endpoint: &mut Endpoint,
     id: StreamId,
     count: usize,
-) -> Result<String, AllocError> {
+) -> Result<String, CaseError> {
     endpoint.advance(id, count);
-    String::from_str(alloc, "ok")
+    said(alloc, "ok")
 }
 
 /// Delivers bytes. Those that come back for want of memory are delivered once more, and where they were taken and not read no
@@ -173,45 +171,38 @@ fn cancel(endpoint: &mut Endpoint, id: StreamId) -> Result<(), Refusal> {
     }
 }
 
-fn pulled(alloc: Global, pull: Pull) -> Result<String, AllocError> {
+fn pulled(alloc: Global, pull: Pull) -> Result<String, CaseError> {
     let text = pull_text(alloc, &pull);
     drop(pull);
     text
 }
 
-/// The line of an answer, which is let go by one call: at the end of a scope its parts would be dropped one by one.
-fn answered(alloc: Global, answer: Answer) -> Result<String, AllocError> {
-    let text = answer_text(alloc, &answer);
-    drop(answer);
-    text
-}
-
-fn opened(alloc: Global, tried: Result<StreamId, Refusal>) -> Result<String, AllocError> {
+fn opened(alloc: Global, tried: Result<StreamId, Refusal>) -> Result<String, CaseError> {
     match tried {
-        Ok(id) => answered(alloc, Answer::Opened(id)),
+        Ok(id) => line(alloc, Answer::Opened(id)),
         Err(refusal) => refused(alloc, refusal),
     }
 }
 
-fn done(alloc: Global, tried: Result<(), Refusal>) -> Result<String, AllocError> {
+fn done(alloc: Global, tried: Result<(), Refusal>) -> Result<String, CaseError> {
     match tried {
-        Ok(()) => answered(alloc, Answer::Done),
+        Ok(()) => line(alloc, Answer::Done),
         Err(refusal) => refused(alloc, refusal),
     }
 }
 
-fn refused(alloc: Global, refusal: Refusal) -> Result<String, AllocError> {
-    answered(alloc, Answer::Refused(refusal))
+fn refused(alloc: Global, refusal: Refusal) -> Result<String, CaseError> {
+    line(alloc, Answer::Refused(refusal))
 }
 
-fn sent(alloc: Global, tried: Result<(), (Refusal, Bytes)>) -> Result<String, AllocError> {
+fn sent(alloc: Global, tried: Result<(), (Refusal, Bytes)>) -> Result<String, CaseError> {
     match tried {
         Ok(()) => done(alloc, Ok(())),
         Err((refusal, _body)) => refused(alloc, refusal),
     }
 }
 
-fn delivered(alloc: Global, tried: Result<(), DeliverError>) -> Result<String, AllocError> {
+fn delivered(alloc: Global, tried: Result<(), DeliverError>) -> Result<String, CaseError> {
     match tried {
         Ok(()) => done(alloc, Ok(())),
         Err(e) => refused(alloc, refusal_of(&e)),
@@ -228,10 +219,16 @@ fn refusal_of(e: &DeliverError) -> Refusal {
 }
 
 /// All that waits on a stream, over pieces.
-fn waits(alloc: Global, endpoint: &Endpoint, id: StreamId) -> Result<String, AllocError> {
+fn waits(alloc: Global, endpoint: &Endpoint, id: StreamId) -> Result<String, CaseError> {
     let mut bytes = Vec::new(alloc);
     endpoint.copy_outgoing(id, endpoint.waiting(id), &mut bytes)?;
-    bytes_text(alloc, "waits ", &bytes)
+    let digits = digits(alloc, &bytes)?;
+    Ok(format!(in alloc; "waits {digits}")?)
+}
+
+fn lends(alloc: Global, piece: &[u8]) -> Result<String, CaseError> {
+    let digits = digits(alloc, piece)?;
+    Ok(format!(in alloc; "lends {digits}")?)
 }
 
 /// Whether anything can be sent on a stream, and whether that was finished or cut off.
@@ -248,25 +245,25 @@ fn sends(endpoint: &Endpoint, id: StreamId) -> &'static str {
     "sends"
 }
 
-fn tries(alloc: Global, endpoint: &Endpoint, id: StreamId) -> Result<String, AllocError> {
+fn tries(alloc: Global, endpoint: &Endpoint, id: StreamId) -> Result<String, CaseError> {
     let tries = endpoint.block_tries(id);
-    format!(in alloc; "tries {tries}")
+    Ok(format!(in alloc; "tries {tries}")?)
 }
 
 /// The sum of what was sent.
-fn sum(alloc: Global, endpoint: &Endpoint) -> Result<String, AllocError> {
+fn sum(alloc: Global, endpoint: &Endpoint) -> Result<String, CaseError> {
     let sent = endpoint.sent();
-    format!(in alloc; "sent {sent}")
+    Ok(format!(in alloc; "sent {sent}")?)
 }
 
-fn shown(alloc: Global, endpoint: &Endpoint) -> Result<String, AllocError> {
+fn shown(alloc: Global, endpoint: &Endpoint) -> Result<String, CaseError> {
     let limits = endpoint.peer_limits();
     let answer = Answer::Shown(limits, endpoint.table_size(), endpoint.waiting_heads());
-    answered(alloc, answer)
+    line(alloc, answer)
 }
 
-fn goaways(alloc: Global, endpoint: &Endpoint) -> Result<String, AllocError> {
-    let mut text = String::from_str(alloc, "goaways")?;
+fn goaways(alloc: Global, endpoint: &Endpoint) -> Result<String, CaseError> {
+    let mut text = said(alloc, "goaways")?;
     for id in endpoint.peer_goaways() {
         let number = id.into_inner();
         let word = format!(in alloc; " {number}")?;

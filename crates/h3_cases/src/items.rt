@@ -1,9 +1,10 @@
 //! The lines of what is handed out: bytes that are no letters are written as escapes, so that no two items have one line.
+use crate::case::{CaseError, said};
 use h3_connection::event::{Item, Pull};
 use h3_header::Header;
 use h3_script::text::FaultText;
 use percent_encoding::{AsciiSet, CONTROLS, percent_encode};
-use std::alloc::{AllocError, Global};
+use std::alloc::Global;
 
 /// What is escaped: control characters, blanks and the sign of escapes.
 fn escaped() -> AsciiSet {
@@ -11,37 +12,37 @@ fn escaped() -> AsciiSet {
 }
 
 /// The line of what a pull answers.
-pub fn pull_text(alloc: Global, pull: &Pull) -> Result<String, AllocError> {
+pub fn pull_text(alloc: Global, pull: &Pull) -> Result<String, CaseError> {
     match pull {
         Pull::Item(item) => item_text(alloc, item),
-        Pull::Pending => String::from_str(alloc, "pending"),
-        Pull::Waiting(count) => format!(in alloc; "waiting {count}"),
+        Pull::Pending => said(alloc, "pending"),
+        Pull::Waiting(count) => Ok(format!(in alloc; "waiting {count}")?),
         Pull::Fault(fault) => {
             let fault = FaultText(*fault);
-            format!(in alloc; "fault {fault}")
+            Ok(format!(in alloc; "fault {fault}")?)
         }
-        Pull::NoMessages => String::from_str(alloc, "no messages"),
+        Pull::NoMessages => said(alloc, "no messages"),
     }
 }
 
-fn item_text(alloc: Global, item: &Item) -> Result<String, AllocError> {
+fn item_text(alloc: Global, item: &Item) -> Result<String, CaseError> {
     match item {
         Item::Interim(head) => section_text(alloc, "interim", head),
         Item::Head(head) => section_text(alloc, "head", head),
         Item::Body(bytes) => escaped_text(alloc, "body ", bytes.as_slice()),
         Item::Trailer(trailer) => section_text(alloc, "trailer", trailer),
-        Item::TooLarge(size) => format!(in alloc; "too large {size}"),
+        Item::TooLarge(size) => Ok(format!(in alloc; "too large {size}")?),
         Item::Session(id) => {
             let number = id.into_inner();
-            format!(in alloc; "session {number}")
+            Ok(format!(in alloc; "session {number}")?)
         }
         Item::Raw(bytes) => escaped_text(alloc, "raw ", bytes.as_slice()),
-        Item::End => String::from_str(alloc, "end"),
+        Item::End => said(alloc, "end"),
     }
 }
 
 /// The name, and the fields behind it.
-fn section_text(alloc: Global, name: &str, section: &Header) -> Result<String, AllocError> {
+fn section_text(alloc: Global, name: &str, section: &Header) -> Result<String, CaseError> {
     let mut text = String::from_str(alloc, name)?;
     for field in &section.fields(alloc)? {
         text.push(' ')?;
@@ -52,20 +53,8 @@ fn section_text(alloc: Global, name: &str, section: &Header) -> Result<String, A
     Ok(text)
 }
 
-fn escaped_text(alloc: Global, name: &str, bytes: &[u8]) -> Result<String, AllocError> {
+fn escaped_text(alloc: Global, name: &str, bytes: &[u8]) -> Result<String, CaseError> {
     let mut text = String::from_str(alloc, name)?;
     percent_encode(bytes, escaped()).append_to(&mut text)?;
-    Ok(text)
-}
-
-/// The name, and the bytes in hex digits behind it, or a `-` where there are none.
-pub fn bytes_text(alloc: Global, name: &str, bytes: &[u8]) -> Result<String, AllocError> {
-    let mut text = String::from_str(alloc, name)?;
-    if bytes.is_empty() {
-        text.push('-')?;
-        return Ok(text);
-    }
-    let digits = hex::encode(alloc, bytes)?;
-    text.push_str(digits.as_str())?;
     Ok(text)
 }
