@@ -1,8 +1,8 @@
 //! Calls of an endpoint, and what they answer.
 use crate::answers::line;
 use crate::call::Call;
-use crate::case::{CaseError, digits, said};
-use crate::items::pull_text;
+use crate::case::Told;
+use crate::items::pulled;
 use crate::reading::call;
 use bytes::Bytes;
 use h3_connection::event::{DeliverError, Fault, Pull, Refusal};
@@ -12,121 +12,93 @@ use h3_proto::config::Config;
 use h3_proto::stream::{Side, StreamId};
 use h3_session::endpoint::Endpoint;
 use h3_world::event::Answer;
-use std::alloc::Global;
 
-/// What a call answers.
-pub fn answer(
-    alloc: Global,
-    endpoint: &mut Option<Endpoint>,
-    line: &str,
-) -> Result<String, CaseError> {
-    match call(alloc, line) {
-        Ok(call) => perform(alloc, endpoint, call),
-        Err(CaseError::Unreadable) => said(alloc, "no such call"),
-        Err(e) => Err(e),
+/// What a call answers. None is made of a line that cannot be read.
+pub fn answer(told: &mut Told, endpoint: &mut Option<Endpoint>, words: &[&str]) {
+    let call = call(told, words);
+    if told.has_failed() {
+        drop(call);
+    } else {
+        perform(told, endpoint, call);
     }
 }
 
 /// Makes a call of the endpoint, where there is one, or makes a new one.
-fn perform(
-    alloc: Global,
-    endpoint: &mut Option<Endpoint>,
-    call: Call,
-) -> Result<String, CaseError> {
+fn perform(told: &mut Told, endpoint: &mut Option<Endpoint>, call: Call) {
     match call {
         Call::New(side, section, table, blocked) => {
-            begin(alloc, endpoint, side, section, Limits { table, blocked })
+            begin(told, endpoint, (side, section), Limits { table, blocked });
         }
         call => match endpoint {
-            Some(endpoint) => act(alloc, endpoint, call),
+            Some(endpoint) => act(told, endpoint, call),
             None => {
                 drop(call);
-                said(alloc, "no endpoint")
+                told.say("no endpoint");
             }
         },
     }
 }
 
 /// A new endpoint takes the place of the one before.
-fn begin(
-    alloc: Global,
-    endpoint: &mut Option<Endpoint>,
-    side: Side,
-    section: u64,
-    limits: Limits,
-) -> Result<String, CaseError> {
+fn begin(told: &mut Told, endpoint: &mut Option<Endpoint>, asked: (Side, u64), limits: Limits) {
+    let (side, section) = asked;
     let config = Config::default()
         .with_grease(false)
         .with_max_field_section_size(section);
-    match Endpoint::new(alloc, side, config, limits, 0) {
+    match Endpoint::new(told.alloc(), side, config, limits, 0) {
         Ok(made) => {
             drop(endpoint.replace(made));
-            said(alloc, "ok")
+            told.say("ok");
         }
-        Err(NewError::TableLimit) => said(alloc, "refused TableLimit"),
-        Err(NewError::BlockedLimit) => said(alloc, "refused BlockedLimit"),
-        Err(NewError::Settings(_)) => said(alloc, "refused Settings"),
-        Err(NewError::OutOfMemory) => said(alloc, "refused OutOfMemory"),
+        Err(NewError::TableLimit) => told.say("refused TableLimit"),
+        Err(NewError::BlockedLimit) => told.say("refused BlockedLimit"),
+        Err(NewError::Settings(_)) => told.say("refused Settings"),
+        Err(NewError::OutOfMemory) => told.say("refused OutOfMemory"),
     }
 }
 
 /// What a call answers.
-fn act(alloc: Global, endpoint: &mut Endpoint, call: Call) -> Result<String, CaseError> {
+fn act(told: &mut Told, endpoint: &mut Endpoint, call: Call) {
     match call {
-        Call::New(_, _, _, _) => said(alloc, "no such call"),
-        Call::Open => opened(alloc, endpoint.open_request()),
-        Call::Head(id, head) => send_head(alloc, endpoint, id, head),
-        Call::Body(id, body) => sent(alloc, endpoint.send_body(id, body)),
-        Call::Trailer(id, trailer) => send_trailer(alloc, endpoint, id, trailer),
-        Call::Finish(id) => done(alloc, endpoint.finish(id)),
-        Call::Reset(id) => done(alloc, endpoint.reset(id)),
-        Call::Cancel(id) => done(alloc, cancel(endpoint, id)),
-        Call::Goaway(id) => done(alloc, endpoint.goaway(id)),
-        Call::Deliver(id, bytes) => delivered(alloc, deliver(endpoint, id, bytes)),
-        Call::End(id) => delivered(alloc, deliver_end(endpoint, id)),
-        Call::Gone(id, code) => delivered(alloc, deliver_reset(endpoint, id, code)),
-        Call::Pull(id) => pulled(alloc, pull(endpoint, id)),
-        Call::Advance(id, count) => advance(alloc, endpoint, id, count),
-        Call::Waits(id) => waits(alloc, endpoint, id),
-        Call::Lends(id) => lends(alloc, endpoint.outgoing(id)),
-        Call::Tries(id) => tries(alloc, endpoint, id),
-        Call::Sends(id) => said(alloc, sends(endpoint, id)),
-        Call::Show => shown(alloc, endpoint),
-        Call::Sent => sum(alloc, endpoint),
-        Call::Goaways => goaways(alloc, endpoint),
+        Call::New(_, _, _, _) => told.unreadable(),
+        Call::Open => opened(told, endpoint.open_request()),
+        Call::Head(id, head) => send_head(told, endpoint, id, head),
+        Call::Body(id, body) => sent(told, endpoint.send_body(id, body)),
+        Call::Trailer(id, trailer) => send_trailer(told, endpoint, id, trailer),
+        Call::Finish(id) => done(told, endpoint.finish(id)),
+        Call::Reset(id) => done(told, endpoint.reset(id)),
+        Call::Cancel(id) => done(told, cancel(endpoint, id)),
+        Call::Goaway(id) => done(told, endpoint.goaway(id)),
+        Call::Deliver(id, bytes) => delivered(told, deliver(endpoint, id, bytes)),
+        Call::End(id) => delivered(told, deliver_end(endpoint, id)),
+        Call::Gone(id, code) => delivered(told, deliver_reset(endpoint, id, code)),
+        Call::Pull(id) => pulled(told, pull(endpoint, id)),
+        Call::Advance(id, count) => advance(told, endpoint, id, count),
+        Call::Waits(id) => waits(told, endpoint, id),
+        Call::Lends(id) => lends(told, endpoint, id),
+        Call::Tries(id) => tries(told, endpoint, id),
+        Call::Sends(id) => told.say(sends(endpoint, id)),
+        Call::Show => shown(told, endpoint),
+        Call::Sent => sum(told, endpoint),
+        Call::Goaways => goaways(told, endpoint),
     }
 }
 
-fn send_head(
-    alloc: Global,
-    endpoint: &mut Endpoint,
-    id: StreamId,
-    head: Header,
-) -> Result<String, CaseError> {
+fn send_head(told: &mut Told, endpoint: &mut Endpoint, id: StreamId, head: Header) {
     let tried = endpoint.send_head(id, &head);
     drop(head);
-    done(alloc, tried)
+    done(told, tried);
 }
 
-fn send_trailer(
-    alloc: Global,
-    endpoint: &mut Endpoint,
-    id: StreamId,
-    trailer: Header,
-) -> Result<String, CaseError> {
+fn send_trailer(told: &mut Told, endpoint: &mut Endpoint, id: StreamId, trailer: Header) {
     let tried = endpoint.send_trailer(id, &trailer);
     drop(trailer);
-    done(alloc, tried)
+    done(told, tried);
 }
 
-fn advance(
-    alloc: Global,
-    endpoint: &mut Endpoint,
-    id: StreamId,
-    count: usize,
-) -> Result<String, CaseError> {
+fn advance(told: &mut Told, endpoint: &mut Endpoint, id: StreamId, count: usize) {
     endpoint.advance(id, count);
-    said(alloc, "ok")
+    told.say("ok");
 }
 
 /// Delivers bytes. Those that come back for want of memory are delivered once more, and where they were taken and not read no
@@ -171,41 +143,35 @@ fn cancel(endpoint: &mut Endpoint, id: StreamId) -> Result<(), Refusal> {
     }
 }
 
-fn pulled(alloc: Global, pull: Pull) -> Result<String, CaseError> {
-    let text = pull_text(alloc, &pull);
-    drop(pull);
-    text
-}
-
-fn opened(alloc: Global, tried: Result<StreamId, Refusal>) -> Result<String, CaseError> {
+fn opened(told: &mut Told, tried: Result<StreamId, Refusal>) {
     match tried {
-        Ok(id) => line(alloc, Answer::Opened(id)),
-        Err(refusal) => refused(alloc, refusal),
+        Ok(id) => line(told, Answer::Opened(id)),
+        Err(refusal) => refused(told, refusal),
     }
 }
 
-fn done(alloc: Global, tried: Result<(), Refusal>) -> Result<String, CaseError> {
+fn done(told: &mut Told, tried: Result<(), Refusal>) {
     match tried {
-        Ok(()) => line(alloc, Answer::Done),
-        Err(refusal) => refused(alloc, refusal),
+        Ok(()) => line(told, Answer::Done),
+        Err(refusal) => refused(told, refusal),
     }
 }
 
-fn refused(alloc: Global, refusal: Refusal) -> Result<String, CaseError> {
-    line(alloc, Answer::Refused(refusal))
+fn refused(told: &mut Told, refusal: Refusal) {
+    line(told, Answer::Refused(refusal));
 }
 
-fn sent(alloc: Global, tried: Result<(), (Refusal, Bytes)>) -> Result<String, CaseError> {
+fn sent(told: &mut Told, tried: Result<(), (Refusal, Bytes)>) {
     match tried {
-        Ok(()) => done(alloc, Ok(())),
-        Err((refusal, _body)) => refused(alloc, refusal),
+        Ok(()) => done(told, Ok(())),
+        Err((refusal, _body)) => refused(told, refusal),
     }
 }
 
-fn delivered(alloc: Global, tried: Result<(), DeliverError>) -> Result<String, CaseError> {
+fn delivered(told: &mut Told, tried: Result<(), DeliverError>) {
     match tried {
-        Ok(()) => done(alloc, Ok(())),
-        Err(e) => refused(alloc, refusal_of(&e)),
+        Ok(()) => done(told, Ok(())),
+        Err(e) => refused(told, refusal_of(&e)),
     }
 }
 
@@ -219,16 +185,16 @@ fn refusal_of(e: &DeliverError) -> Refusal {
 }
 
 /// All that waits on a stream, over pieces.
-fn waits(alloc: Global, endpoint: &Endpoint, id: StreamId) -> Result<String, CaseError> {
-    let mut bytes = Vec::new(alloc);
-    endpoint.copy_outgoing(id, endpoint.waiting(id), &mut bytes)?;
-    let digits = digits(alloc, &bytes)?;
-    Ok(format!(in alloc; "waits {digits}")?)
+fn waits(told: &mut Told, endpoint: &Endpoint, id: StreamId) {
+    let mut bytes = Vec::new(told.alloc());
+    told.done(endpoint.copy_outgoing(id, endpoint.waiting(id), &mut bytes));
+    told.say("waits ");
+    told.digits(&bytes);
 }
 
-fn lends(alloc: Global, piece: &[u8]) -> Result<String, CaseError> {
-    let digits = digits(alloc, piece)?;
-    Ok(format!(in alloc; "lends {digits}")?)
+fn lends(told: &mut Told, endpoint: &Endpoint, id: StreamId) {
+    told.say("lends ");
+    told.digits(endpoint.outgoing(id));
 }
 
 /// Whether anything can be sent on a stream, and whether that was finished or cut off.
@@ -245,29 +211,26 @@ fn sends(endpoint: &Endpoint, id: StreamId) -> &'static str {
     "sends"
 }
 
-fn tries(alloc: Global, endpoint: &Endpoint, id: StreamId) -> Result<String, CaseError> {
-    let tries = endpoint.block_tries(id);
-    Ok(format!(in alloc; "tries {tries}")?)
+fn tries(told: &mut Told, endpoint: &Endpoint, id: StreamId) {
+    told.say("tries");
+    told.then_show(endpoint.block_tries(id));
 }
 
 /// The sum of what was sent.
-fn sum(alloc: Global, endpoint: &Endpoint) -> Result<String, CaseError> {
-    let sent = endpoint.sent();
-    Ok(format!(in alloc; "sent {sent}")?)
+fn sum(told: &mut Told, endpoint: &Endpoint) {
+    told.say("sent");
+    told.then_show(endpoint.sent());
 }
 
-fn shown(alloc: Global, endpoint: &Endpoint) -> Result<String, CaseError> {
+fn shown(told: &mut Told, endpoint: &Endpoint) {
     let limits = endpoint.peer_limits();
     let answer = Answer::Shown(limits, endpoint.table_size(), endpoint.waiting_heads());
-    line(alloc, answer)
+    line(told, answer);
 }
 
-fn goaways(alloc: Global, endpoint: &Endpoint) -> Result<String, CaseError> {
-    let mut text = said(alloc, "goaways")?;
+fn goaways(told: &mut Told, endpoint: &Endpoint) {
+    told.say("goaways");
     for id in endpoint.peer_goaways() {
-        let number = id.into_inner();
-        let word = format!(in alloc; " {number}")?;
-        text.push_str(word.as_str())?;
+        told.then_show(id.into_inner());
     }
-    Ok(text)
 }

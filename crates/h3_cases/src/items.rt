@@ -1,60 +1,68 @@
 //! The lines of what is handed out: bytes that are no letters are written as escapes, so that no two items have one line.
-use crate::case::{CaseError, said};
+use crate::case::Told;
 use h3_connection::event::{Item, Pull};
+use h3_field::HeaderField;
 use h3_header::Header;
 use h3_script::text::FaultText;
-use percent_encoding::{AsciiSet, CONTROLS, percent_encode};
-use std::alloc::Global;
-
-/// What is escaped: control characters, blanks and the sign of escapes.
-fn escaped() -> AsciiSet {
-    CONTROLS.add(b' ').add(b'%')
-}
 
 /// The line of what a pull answers.
-pub fn pull_text(alloc: Global, pull: &Pull) -> Result<String, CaseError> {
+pub fn pulled(told: &mut Told, pull: Pull) {
+    tell_pull(told, &pull);
+    drop(pull);
+}
+
+fn tell_pull(told: &mut Told, pull: &Pull) {
     match pull {
-        Pull::Item(item) => item_text(alloc, item),
-        Pull::Pending => said(alloc, "pending"),
-        Pull::Waiting(count) => Ok(format!(in alloc; "waiting {count}")?),
-        Pull::Fault(fault) => {
-            let fault = FaultText(*fault);
-            Ok(format!(in alloc; "fault {fault}")?)
+        Pull::Item(item) => tell_item(told, item),
+        Pull::Pending => told.say("pending"),
+        Pull::Waiting(count) => {
+            told.say("waiting");
+            told.then_show(*count);
         }
-        Pull::NoMessages => said(alloc, "no messages"),
+        Pull::Fault(fault) => {
+            told.say("fault");
+            told.then_show(FaultText(*fault));
+        }
+        Pull::NoMessages => told.say("no messages"),
     }
 }
 
-fn item_text(alloc: Global, item: &Item) -> Result<String, CaseError> {
+fn tell_item(told: &mut Told, item: &Item) {
     match item {
-        Item::Interim(head) => section_text(alloc, "interim", head),
-        Item::Head(head) => section_text(alloc, "head", head),
-        Item::Body(bytes) => escaped_text(alloc, "body ", bytes.as_slice()),
-        Item::Trailer(trailer) => section_text(alloc, "trailer", trailer),
-        Item::TooLarge(size) => Ok(format!(in alloc; "too large {size}")?),
-        Item::Session(id) => {
-            let number = id.into_inner();
-            Ok(format!(in alloc; "session {number}")?)
+        Item::Interim(head) => section(told, "interim", head),
+        Item::Head(head) => section(told, "head", head),
+        Item::Body(bytes) => escaped(told, "body ", bytes.as_slice()),
+        Item::Trailer(trailer) => section(told, "trailer", trailer),
+        Item::TooLarge(size) => {
+            told.say("too large");
+            told.then_show(*size);
         }
-        Item::Raw(bytes) => escaped_text(alloc, "raw ", bytes.as_slice()),
-        Item::End => said(alloc, "end"),
+        Item::Session(id) => {
+            told.say("session");
+            told.then_show(id.into_inner());
+        }
+        Item::Raw(bytes) => escaped(told, "raw ", bytes.as_slice()),
+        Item::End => told.say("end"),
     }
 }
 
 /// The name, and the fields behind it.
-fn section_text(alloc: Global, name: &str, section: &Header) -> Result<String, CaseError> {
-    let mut text = String::from_str(alloc, name)?;
-    for field in &section.fields(alloc)? {
-        text.push(' ')?;
-        percent_encode(field.name(), escaped()).append_to(&mut text)?;
-        text.push('=')?;
-        percent_encode(field.value(), escaped()).append_to(&mut text)?;
+fn section(told: &mut Told, name: &str, section: &Header) {
+    told.say(name);
+    match section.fields(told.alloc()) {
+        Ok(fields) => each(told, &fields),
+        Err(_) => told.refused(),
     }
-    Ok(text)
 }
 
-fn escaped_text(alloc: Global, name: &str, bytes: &[u8]) -> Result<String, CaseError> {
-    let mut text = String::from_str(alloc, name)?;
-    percent_encode(bytes, escaped()).append_to(&mut text)?;
-    Ok(text)
+fn each(told: &mut Told, fields: &[HeaderField]) {
+    for field in fields {
+        escaped(told, " ", field.name());
+        escaped(told, "=", field.value());
+    }
+}
+
+fn escaped(told: &mut Told, front: &str, bytes: &[u8]) {
+    told.say(front);
+    told.escaped(bytes);
 }

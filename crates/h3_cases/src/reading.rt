@@ -1,166 +1,123 @@
-//! Lines that are read as calls of an endpoint.
+//! Lines that are read as calls of an endpoint. Of a line that cannot be read any call comes, and none is made.
 use crate::call::Call;
-use crate::case::{CaseError, number, words};
+use crate::case::Told;
+use crate::ids;
 use crate::sections::fields;
-use bytes::Bytes;
 use h3_coding::varint::VarInt;
 use h3_header::Header;
 use h3_proto::stream::{Side, StreamId};
-use h3_script::digits::bytes_of_digits;
-use std::alloc::Global;
+use http_header::HeaderMap;
 
 /// The call that a line asks for.
-pub fn call(alloc: Global, line: &str) -> Result<Call, CaseError> {
-    let words = words(alloc, line)?;
-    match words.as_slice() {
-        [command] => plain(*command),
-        [command, id, more @ ..] => {
-            match *command {
-                "new" => new(*id, more),
-                _ => on_stream(alloc, *command, stream_id(*id)?, more),
-            }
-        }
-        [] => Err(CaseError::Unreadable),
+pub fn call(told: &mut Told, words: &[&str]) -> Call {
+    match words {
+        [command] => plain(told, *command),
+        [command, id, more @ ..] => of_words(told, *command, *id, more),
+        [] => unreadable(told),
     }
+}
+
+fn unreadable(told: &mut Told) -> Call {
+    told.unreadable();
+    Call::Show
+}
+
+fn of_words(told: &mut Told, command: &str, id: &str, more: &[&str]) -> Call {
+    if command == "new" {
+        return new(told, id, more);
+    }
+    let number = told.number(id);
+    let id = ids::stream_id(told, number);
+    on_stream(told, command, id, more)
 }
 
 /// A call of one word.
-fn plain(command: &str) -> Result<Call, CaseError> {
+fn plain(told: &mut Told, command: &str) -> Call {
     match command {
-        "open" => Ok(Call::Open),
-        "show" => Ok(Call::Show),
-        "sent" => Ok(Call::Sent),
-        "goaways" => Ok(Call::Goaways),
-        _ => Err(CaseError::Unreadable),
+        "open" => Call::Open,
+        "show" => Call::Show,
+        "sent" => Call::Sent,
+        "goaways" => Call::Goaways,
+        _ => unreadable(told),
     }
 }
 
-fn side(word: &str) -> Result<Side, CaseError> {
+fn side(told: &mut Told, word: &str) -> Side {
     match word {
-        "c" => Ok(Side::Client),
-        "s" => Ok(Side::Server),
-        _ => Err(CaseError::Unreadable),
+        "c" => Side::Client,
+        "s" => Side::Server,
+        _ => {
+            told.unreadable();
+            Side::Client
+        }
     }
 }
 
-fn new(side_word: &str, limits: &[&str]) -> Result<Call, CaseError> {
+fn new(told: &mut Told, side_word: &str, limits: &[&str]) -> Call {
     let [section, table, blocked] = limits else {
-        return Err(CaseError::Unreadable);
+        return unreadable(told);
     };
-    let side = side(side_word)?;
-    let section = number(*section)?;
-    let table = number(*table)?;
-    let blocked = number(*blocked)?;
-    Ok(Call::New(side, section, table, blocked))
-}
-
-fn stream_id(word: &str) -> Result<StreamId, CaseError> {
-    Ok(StreamId::try_from(number(word)?)?)
+    let side = side(told, side_word);
+    let (section, table) = (told.number(*section), told.number(*table));
+    Call::New(side, section, table, told.number(*blocked))
 }
 
 /// A call on a stream.
-fn on_stream(
-    alloc: Global,
-    command: &str,
-    id: StreamId,
-    words: &[&str],
-) -> Result<Call, CaseError> {
+fn on_stream(told: &mut Told, command: &str, id: StreamId, words: &[&str]) -> Call {
     match command {
-        "head" => head(alloc, id, words),
-        "trailer" => trailer(alloc, id, words),
+        "head" => Call::Head(id, section(told, words)),
+        "trailer" => Call::Trailer(id, section(told, words)),
         _ => match words {
-            [] => alone(command, id),
-            [word] => with_word(alloc, command, id, *word),
-            _ => Err(CaseError::Unreadable),
+            [] => alone(told, command, id),
+            [word] => with_word(told, command, id, *word),
+            _ => unreadable(told),
         },
-    }
-}
-
-fn head(alloc: Global, id: StreamId, words: &[&str]) -> Result<Call, CaseError> {
-    match section(alloc, words) {
-        Ok(head) => Ok(Call::Head(id, head)),
-        Err(e) => Err(e),
-    }
-}
-
-fn trailer(alloc: Global, id: StreamId, words: &[&str]) -> Result<Call, CaseError> {
-    match section(alloc, words) {
-        Ok(trailer) => Ok(Call::Trailer(id, trailer)),
-        Err(e) => Err(e),
     }
 }
 
 /// A call on a stream with one word behind its id.
-fn with_word(alloc: Global, command: &str, id: StreamId, word: &str) -> Result<Call, CaseError> {
+fn with_word(told: &mut Told, command: &str, id: StreamId, word: &str) -> Call {
     match command {
-        "body" => body(alloc, id, word),
-        "deliver" => delivery(alloc, id, word),
-        _ => with_number(command, id, number(word)?),
-    }
-}
-
-fn body(alloc: Global, id: StreamId, word: &str) -> Result<Call, CaseError> {
-    match bytes(alloc, word) {
-        Ok(bytes) => Ok(Call::Body(id, bytes)),
-        Err(e) => Err(e),
-    }
-}
-
-fn delivery(alloc: Global, id: StreamId, word: &str) -> Result<Call, CaseError> {
-    match bytes(alloc, word) {
-        Ok(bytes) => Ok(Call::Deliver(id, bytes)),
-        Err(e) => Err(e),
-    }
-}
-
-fn with_number(command: &str, id: StreamId, number: u64) -> Result<Call, CaseError> {
-    match command {
-        "gone" => Ok(Call::Gone(id, number)),
-        "advance" => Ok(Call::Advance(id, number as usize)),
-        _ => Err(CaseError::Unreadable),
+        "body" => Call::Body(id, told.payload(word)),
+        "deliver" => Call::Deliver(id, told.payload(word)),
+        "gone" => Call::Gone(id, told.number(word)),
+        "advance" => Call::Advance(id, told.number(word) as usize),
+        _ => unreadable(told),
     }
 }
 
 /// A call on a stream with nothing else.
-fn alone(command: &str, id: StreamId) -> Result<Call, CaseError> {
+fn alone(told: &mut Told, command: &str, id: StreamId) -> Call {
     match command {
-        "pull" => Ok(Call::Pull(id)),
-        "waits" => Ok(Call::Waits(id)),
-        "lends" => Ok(Call::Lends(id)),
-        "sends" => Ok(Call::Sends(id)),
-        "tries" => Ok(Call::Tries(id)),
-        _ => ending(command, id),
+        "pull" => Call::Pull(id),
+        "waits" => Call::Waits(id),
+        "lends" => Call::Lends(id),
+        "sends" => Call::Sends(id),
+        "tries" => Call::Tries(id),
+        _ => ending(told, command, id),
     }
 }
 
 /// A call that ends something.
-fn ending(command: &str, id: StreamId) -> Result<Call, CaseError> {
+fn ending(told: &mut Told, command: &str, id: StreamId) -> Call {
     match command {
-        "finish" => Ok(Call::Finish(id)),
-        "reset" => Ok(Call::Reset(id)),
-        "cancel" => Ok(Call::Cancel(id)),
-        "goaway" => Ok(Call::Goaway(VarInt::from(id))),
-        "end" => Ok(Call::End(id)),
-        _ => Err(CaseError::Unreadable),
-    }
-}
-
-/// The bytes of hex digits, of any number, or none of them for a `-`.
-fn bytes(alloc: Global, word: &str) -> Result<Bytes, CaseError> {
-    match word {
-        "-" => Ok(Bytes::new()),
-        _ => match bytes_of_digits(alloc, word) {
-            Ok(Some(bytes)) => Ok(bytes),
-            Ok(None) => Err(CaseError::Unreadable),
-            Err(_) => Err(CaseError::Refused),
-        },
+        "finish" => Call::Finish(id),
+        "reset" => Call::Reset(id),
+        "cancel" => Call::Cancel(id),
+        "goaway" => Call::Goaway(VarInt::from(id)),
+        "end" => Call::End(id),
+        _ => unreadable(told),
     }
 }
 
 /// The head or trailer of fields, each a word `name=value`.
-fn section(alloc: Global, words: &[&str]) -> Result<Header, CaseError> {
-    match Header::try_from(alloc, fields(alloc, words)?) {
-        Ok(header) => Ok(header),
-        Err(_) => Err(CaseError::Unreadable),
+fn section(told: &mut Told, words: &[&str]) -> Header {
+    let fields = fields(told, words);
+    match Header::try_from(told.alloc(), fields) {
+        Ok(header) => header,
+        Err(_) => {
+            told.unreadable();
+            Header::trailer(HeaderMap::new(told.alloc()))
+        }
     }
 }
