@@ -157,36 +157,20 @@ fn of_piece(told: &mut Told, piece: Bytes) {
 }
 
 fn decoded(told: &mut Told, buf: &mut BufList<Bytes>) {
+    let alloc = told.alloc();
     let mut decoder = FrameDecoder::default();
     let mut refused = 0;
-    let mut found = decode(told.alloc(), &mut decoder, buf);
-    if matches!(found, Found::NoMemory) {
+    let mut answer = decoder.decode(alloc, buf);
+    if matches!(&answer, Err(FrameStreamError::OutOfMemory)) {
         refused = decoder.tries();
-        found = decode(told.alloc(), &mut decoder, buf);
+        answer = decoder.decode(alloc, buf);
     }
+    let is_section = matches!(&answer, Ok(Some(Frame::Headers(_))));
+    drop(answer);
     told.say("section");
-    told.then_show(matches!(found, Found::Section));
+    told.then_show(is_section);
     told.say(", tries");
     told.then_show(refused);
     told.say(" then");
     told.then_show(decoder.tries());
-}
-
-/// What was decoded.
-#[derive(Clone, Copy)]
-enum Found {
-    Section,
-    NoMemory,
-    Other,
-}
-
-fn decode(alloc: Global, decoder: &mut FrameDecoder, buf: &mut BufList<Bytes>) -> Found {
-    let decoded = decoder.decode(alloc, buf);
-    let found = match &decoded {
-        Ok(Some(Frame::Headers(_))) => Found::Section,
-        Err(FrameStreamError::OutOfMemory) => Found::NoMemory,
-        _ => Found::Other,
-    };
-    drop(decoded);
-    found
 }

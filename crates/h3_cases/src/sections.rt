@@ -74,15 +74,14 @@ fn of_section(told: &mut Told, decoded: &Decoded, left: usize) {
 /// The section of the fields of words `name=value`, and its size.
 fn write(told: &mut Told, words: &[&str]) {
     let fields = fields(told, words);
-    let sum = section_size(&fields);
-    if sum > 1000 {
-        told.unreadable();
-    } else {
-        written(told, sum, &fields);
-    }
+    written(told, &fields);
 }
 
-fn written(told: &mut Told, sum: u64, fields: &[HeaderField]) {
+fn written(told: &mut Told, fields: &[HeaderField]) {
+    let sum = section_size(fields);
+    if sum > 1000 {
+        return told.unreadable();
+    }
     let mut section = Vec::new(told.alloc());
     let size = encode_stateless(&mut section, fields);
     told.with_rest((sum, size), &section);
