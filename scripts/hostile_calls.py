@@ -1,6 +1,6 @@
 #!/usr/bin/env python3
-"""Hostile lists of calls of an endpoint, as the lines that the program h3_calls reads, and the lines that both models of an endpoint
-(scripts/connection_model.py and scripts/independent_model.py) answer to them.
+"""Hostile lists of calls of an endpoint, as the lines `call ..` that the program h3_cases reads, and the lines that both models of an
+endpoint (scripts/connection_model.py and scripts/independent_model.py) answer to them.
 
     python3 scripts/hostile_calls.py PROGRAM [LISTS A SIDE] [FIRST SEED]
 
@@ -122,9 +122,9 @@ def hostile(seed, side):
     found = None if taken else difference(side, limits, done, collections.Counter())
     if found:
         sys.exit(f"the models differ in list {seed} of a {side} at call {found[0]}: {found[1]}")
-    asked, told = ["new %s %d %d %d" % (("c" if side == CLIENT else "s",) + limits)], ["ok"]
+    asked, told = ["call new %s %d %d %d" % (("c" if side == CLIENT else "s",) + limits)], ["ok"]
     for call, answer in done:
-        asked.append(CALLS[call[0]](*call[1:]))
+        asked.append("call " + CALLS[call[0]](*call[1:]))
         told.append(line(call, answer))
     return asked, told
 

@@ -1,5 +1,5 @@
 #!/usr/bin/env bash
-# C programs over build/c (scripts/lib.sh), by the machine's C compiler alone: the rows of crates/h3_calls and hostile lists of calls through the header,
+# C programs over build/c (scripts/lib.sh), by the machine's C compiler alone: the calls of crates/h3_cases and hostile lists of calls through the header,
 # each allocation refused in turn, two endpoints under random schedules, and wrong arguments. Once as they are, and once with the sanitizers of
 # addresses, leaks and undefined behaviour where the compiler has them. One line 'ok NAME' or 'failed NAME' for each; the last is the sum.
 set -uo pipefail
@@ -27,13 +27,13 @@ compile() { # NAME OUT FLAGS..
   fi
 }
 
-# the rows of h3_calls, without the lines that ask for what the header does not show
+# the calls of h3_cases, without the lines that ask for what the header does not show
 rows() { # PROGRAM
-  paste -d $'\001' crates/h3_calls/stdin crates/h3_calls/stdout | grep -avE '^(lends |goaways)' > "$out/rows"
+  paste -d $'\001' crates/h3_cases/stdin crates/h3_cases/stdout | grep -aE '^(call|#) ' | grep -avE '^call (lends |goaways)' > "$out/rows"
   cut -d$'\001' -f1 "$out/rows" > "$out/rows.in"
   cut -d$'\001' -f2- "$out/rows" > "$out/rows.out"
   if "$1" < "$out/rows.in" | cmp -s - "$out/rows.out"; then
-    echo "ok $2: $(grep -vc '^#' "$out/rows.in") calls answer as the rows of h3_calls say"
+    echo "ok $2: $(grep -vc '^#' "$out/rows.in") calls answer as the rows of h3_cases say"
   else
     echo "failed $2: $("$1" < "$out/rows.in" | diff - "$out/rows.out" | head -n 6 | tr '\n' ' ')"
     bad=1

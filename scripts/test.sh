@@ -84,7 +84,7 @@ if [ "$failed" -eq 0 ]; then
   count python3 scripts/exchange.py crates/h3_talk/out/h3_talk
   count python3 scripts/refused_memory.py crates/h3_talk/out/h3_talk
   count python3 scripts/failing_streams.py crates/h3_talk/out/h3_talk
-  count python3 scripts/hostile_calls.py crates/h3_calls/out/h3_calls
+  count python3 scripts/hostile_calls.py crates/h3_cases/out/h3_cases
 fi
 
 if [ -s "$times" ]; then

@@ -1,5 +1,5 @@
-/* Makes calls of an endpoint through h3.h, a line each, and prints what they answer: the language of crates/h3_calls, whose rows have their
- * answers beside them. Lines that ask for what the header does not show (`lends`, `goaways`) are left out of the answers. */
+/* Makes calls of an endpoint through h3.h, a line each, and prints what they answer: the lines `call ..` of crates/h3_cases, whose rows have
+ * their answers beside them. Lines that ask for what the header does not show (`lends`, `goaways`) are left out of the answers. */
 #include "h3.h"
 #include <stdio.h>
 #include <stdlib.h>
@@ -269,7 +269,11 @@ static void call(char *line) {
     puts(line);
     return;
   }
-  for (char *word = strtok(line, " "); word && count < 600; word = strtok(NULL, " ")) words[count++] = word;
+  if (strncmp(line, "call ", 5)) {
+    puts("no such case");
+    return;
+  }
+  for (char *word = strtok(line + 5, " "); word && count < 600; word = strtok(NULL, " ")) words[count++] = word;
   uint64_t id, detail;
   if (!strcmp(words[0], "new") && count == 5) begin(words);
   else if (!strcmp(words[0], "open")) {

@@ -1,142 +1,158 @@
 //! Answers of events, and their lines.
-use crate::case::{CaseError, bytes, number};
-use bytes::Bytes;
+use crate::case::Told;
+use crate::ids::stream_id;
 use h3_connection::event::{
     Fault, Item, Malformation, PeerLimits, Pull, Refusal, StreamFault, TableSizes,
 };
 use h3_header::Header;
 use h3_proto::error::Code;
-use h3_proto::stream::StreamId;
 use h3_proto::webtransport::SessionId;
 use h3_script::text::answer_text;
 use h3_world::event::Answer;
 use http::StatusCode;
 use http_header::{HeaderMap, HeaderName, HeaderValue};
-use std::alloc::Global;
 
-pub fn answer(alloc: Global, command: &str, words: &[&str]) -> Result<String, CaseError> {
+pub fn answer(told: &mut Told, command: &str, words: &[&str]) {
     match words {
-        [] => plain(alloc, command),
-        [word] => {
-            match command {
-                "body" => {
-                    let bytes = Bytes::from_vec(bytes(alloc, *word)?)?;
-                    item(alloc, Item::Body(bytes))
-                }
-                "raw" => {
-                    let bytes = Bytes::from_vec(bytes(alloc, *word)?)?;
-                    item(alloc, Item::Raw(bytes))
-                }
-                _ => of_number(alloc, command, number(*word)?),
-            }
+        [] => plain(told, command),
+        [word] => of_word(told, command, *word),
+        [table, blocked] => {
+            let (table, blocked) = (told.number(*table), told.number(*blocked));
+            shown(told, command, table, blocked);
         }
-        [table, blocked] => shown(alloc, command, number(*table)?, number(*blocked)?),
-        _ => Err(CaseError::Unreadable),
+        _ => told.unreadable(),
     }
 }
 
-fn item(alloc: Global, item: Item) -> Result<String, CaseError> {
-    line(alloc, Answer::Pulled(Pull::Item(item)))
+fn of_word(told: &mut Told, command: &str, word: &str) {
+    match command {
+        "body" => {
+            let bytes = told.payload(word);
+            item(told, Item::Body(bytes));
+        }
+        "raw" => {
+            let bytes = told.payload(word);
+            item(told, Item::Raw(bytes));
+        }
+        _ => {
+            let number = told.number(word);
+            of_number(told, command, number);
+        }
+    }
 }
 
-fn line(alloc: Global, answer: Answer) -> Result<String, CaseError> {
-    let told = answer_text(alloc, &answer);
+fn item(told: &mut Told, item: Item) {
+    line(told, Answer::Pulled(Pull::Item(item)));
+}
+
+/// The line of an answer, which is let go by one call: at the end of a scope its parts would be dropped one by one.
+pub fn line(told: &mut Told, answer: Answer) {
+    let text = answer_text(told.alloc(), &answer);
     drop(answer);
-    Ok(told?)
+    told.put(text);
 }
 
 /// An answer that carries nothing.
-fn plain(alloc: Global, command: &str) -> Result<String, CaseError> {
+fn plain(told: &mut Told, command: &str) {
     match command {
-        "done" => line(alloc, Answer::Done),
-        "no_stream" => line(alloc, Answer::NoStream),
-        "early" => line(alloc, Answer::Early),
-        "pseudo_in_trailer" => line(alloc, Answer::Refused(Refusal::PseudoInTrailer)),
-        "no_memory" => line(alloc, Answer::Refused(Refusal::OutOfMemory)),
-        _ => pause(alloc, command),
+        "done" => line(told, Answer::Done),
+        "no_stream" => line(told, Answer::NoStream),
+        "early" => line(told, Answer::Early),
+        "pseudo_in_trailer" => line(told, Answer::Refused(Refusal::PseudoInTrailer)),
+        "no_memory" => line(told, Answer::Refused(Refusal::OutOfMemory)),
+        _ => pause(told, command),
     }
 }
 
 /// A pull that hands out nothing, or the end.
-fn pause(alloc: Global, command: &str) -> Result<String, CaseError> {
+fn pause(told: &mut Told, command: &str) {
     match command {
-        "pending" => line(alloc, Answer::Pulled(Pull::Pending)),
-        "no_messages" => line(alloc, Answer::Pulled(Pull::NoMessages)),
-        "end" => item(alloc, Item::End),
-        "canceled" => fault(alloc, Fault::Stream(StreamFault::Canceled)),
-        "malformed" => fault(
-            alloc,
-            Fault::Stream(StreamFault::Malformed(Malformation::NoHead)),
-        ),
-        "memory" => fault(alloc, Fault::Memory),
-        _ => section(alloc, command),
+        "pending" => line(told, Answer::Pulled(Pull::Pending)),
+        "no_messages" => line(told, Answer::Pulled(Pull::NoMessages)),
+        "end" => item(told, Item::End),
+        "canceled" => fault(told, Fault::Stream(StreamFault::Canceled)),
+        "malformed" => {
+            let malformed = StreamFault::Malformed(Malformation::NoHead);
+            fault(told, Fault::Stream(malformed));
+        }
+        "memory" => fault(told, Fault::Memory),
+        _ => section(told, command),
     }
 }
 
-fn fault(alloc: Global, fault: Fault) -> Result<String, CaseError> {
-    line(alloc, Answer::Pulled(Pull::Fault(fault)))
+fn fault(told: &mut Told, fault: Fault) {
+    line(told, Answer::Pulled(Pull::Fault(fault)));
 }
 
 /// A head with the field x-b, an interim head, and a trailer.
-fn section(alloc: Global, command: &str) -> Result<String, CaseError> {
-    let mut fields = HeaderMap::new(alloc);
+fn section(told: &mut Told, command: &str) {
+    let fields = HeaderMap::new(told.alloc());
     match command {
-        "trailer" => item(alloc, Item::Trailer(Header::trailer(fields))),
-        "interim" => item(
-            alloc,
-            Item::Interim(Header::response(StatusCode::EARLY_HINTS, fields)),
-        ),
-        "head" => {
-            let (name, value) = (
-                HeaderName::from_static("x-b"),
-                HeaderValue::from_static("2"),
-            );
-            let Ok(_) = fields.append(name, value) else {
-                return Err(CaseError::Refused);
-            };
-            item(alloc, Item::Head(Header::response(StatusCode::OK, fields)))
+        "trailer" => item(told, Item::Trailer(Header::trailer(fields))),
+        "interim" => {
+            let interim = Header::response(StatusCode::EARLY_HINTS, fields);
+            item(told, Item::Interim(interim));
         }
-        _ => Err(CaseError::Unreadable),
+        "head" => head(told, fields),
+        _ => {
+            drop(fields);
+            told.unreadable();
+        }
     }
 }
 
+fn head(told: &mut Told, mut fields: HeaderMap) {
+    let (name, value) = (
+        HeaderName::from_static("x-b"),
+        HeaderValue::from_static("2"),
+    );
+    told.done(fields.append(name, value));
+    item(told, Item::Head(Header::response(StatusCode::OK, fields)));
+}
+
 /// An answer that carries a number.
-fn of_number(alloc: Global, command: &str, number: u64) -> Result<String, CaseError> {
+fn of_number(told: &mut Told, command: &str, number: u64) {
     match command {
-        "opened" => line(alloc, Answer::Opened(StreamId::try_from(number)?)),
-        "delivered" => line(alloc, Answer::Delivered(number as usize)),
-        "short" => line(alloc, Answer::Short(number as usize)),
-        "waiting" => line(alloc, Answer::Pulled(Pull::Waiting(number as usize))),
-        "too_large_item" => item(alloc, Item::TooLarge(number)),
-        "session" => item(alloc, Item::Session(SessionId::try_from(number)?)),
-        _ => of_refusal(alloc, command, number),
+        "opened" => {
+            let id = stream_id(told, number);
+            line(told, Answer::Opened(id));
+        }
+        "delivered" => line(told, Answer::Delivered(number as usize)),
+        "short" => line(told, Answer::Short(number as usize)),
+        "waiting" => line(told, Answer::Pulled(Pull::Waiting(number as usize))),
+        "too_large_item" => item(told, Item::TooLarge(number)),
+        "session" => {
+            let id = stream_id(told, number);
+            item(told, Item::Session(SessionId::from(id)));
+        }
+        _ => of_refusal(told, command, number),
     }
 }
 
 /// A refusal or a fault that carries a number.
-fn of_refusal(alloc: Global, command: &str, number: u64) -> Result<String, CaseError> {
+fn of_refusal(told: &mut Told, command: &str, number: u64) {
     match command {
-        "closed" => line(alloc, Answer::Refused(Refusal::Closed(Code::from(number)))),
-        "connection" => line(
-            alloc,
-            Answer::Refused(Refusal::Connection(Code::from(number))),
-        ),
-        "going_away" => line(
-            alloc,
-            Answer::Refused(Refusal::GoingAway(StreamId::try_from(number)?)),
-        ),
-        "too_large" => line(alloc, Answer::Refused(Refusal::TooLarge(number))),
-        "raised" => line(alloc, Answer::Refused(Refusal::Raised(number))),
-        "fault" => fault(alloc, Fault::Connection(Code::from(number))),
-        "reset" => fault(alloc, Fault::Stream(StreamFault::Reset(number))),
-        _ => Err(CaseError::Unreadable),
+        "closed" => line(told, Answer::Refused(Refusal::Closed(Code::from(number)))),
+        "connection" => {
+            let refusal = Refusal::Connection(Code::from(number));
+            line(told, Answer::Refused(refusal));
+        }
+        "going_away" => {
+            let id = stream_id(told, number);
+            line(told, Answer::Refused(Refusal::GoingAway(id)));
+        }
+        "too_large" => line(told, Answer::Refused(Refusal::TooLarge(number))),
+        "raised" => line(told, Answer::Refused(Refusal::Raised(number))),
+        "fault" => fault(told, Fault::Connection(Code::from(number))),
+        "reset" => fault(told, Fault::Stream(StreamFault::Reset(number))),
+        _ => told.unreadable(),
     }
 }
 
 /// The tables of 38 and of no bytes, without a peer's limits where these are 0.
-fn shown(alloc: Global, command: &str, capacity: u64, waiting: u64) -> Result<String, CaseError> {
+fn shown(told: &mut Told, command: &str, capacity: u64, waiting: u64) {
     if command != "shown" {
-        return Err(CaseError::Unreadable);
+        return told.unreadable();
     }
     let known = PeerLimits {
         capacity,
@@ -148,5 +164,5 @@ fn shown(alloc: Global, command: &str, capacity: u64, waiting: u64) -> Result<St
         sending: 38,
         receiving: 0,
     };
-    line(alloc, Answer::Shown(limits, tables, waiting as usize))
+    line(told, Answer::Shown(limits, tables, waiting as usize));
 }

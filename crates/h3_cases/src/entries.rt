@@ -1,72 +1,63 @@
 //! Entries of the static table (RFC 9204, appendix A), and the numbers of dynamic ones (section 3.2).
-use crate::case::{CaseError, number, small, text};
-use crate::sections::push_field;
+use crate::case::Told;
 use h3_field::static_::StaticTable;
 use h3_field::vas::VirtualAddressSpace;
 use h3_field::{HeaderField, SliceCursor};
-use std::alloc::Global;
 
-pub fn answer(alloc: Global, command: &str, words: &[&str]) -> Result<String, CaseError> {
+pub fn answer(told: &mut Told, command: &str, words: &[&str]) {
     match words {
-        [] => place(alloc, command),
-        [word] => {
-            match command {
-                "static" => entry(alloc, small(*word)?),
-                _ => named(alloc, command, *word),
-            }
-        }
+        [] => place(told, command),
+        [word] => of_word(told, command, *word),
         [added, gone, more @ ..] => {
-            let table = after(small(*added)?, small(*gone)?);
-            of_table(alloc, command, &table, more)
+            let (added, gone) = (told.small(*added), told.small(*gone));
+            of_table(told, command, &after(added, gone), more);
         }
+    }
+}
+
+/// A static entry, where a name is found, or the name of an entry with the value `a`.
+fn of_word(told: &mut Told, command: &str, word: &str) {
+    match command {
+        "static" => {
+            let index = told.small(word);
+            entry(told, index);
+        }
+        "name" => {
+            let name = told.text(word);
+            told.debug(StaticTable::find_name(&name));
+        }
+        "named" => {
+            let index = told.small(word);
+            with_value(told, index);
+        }
+        _ => told.unreadable(),
     }
 }
 
 /// A static entry, and where it is found.
-fn entry(alloc: Global, index: usize) -> Result<String, CaseError> {
+fn entry(told: &mut Told, index: usize) {
     match StaticTable::get(index) {
-        Ok(entry) => found(alloc, &entry),
-        Err(e) => Ok(format!(in alloc; "{e:?}")?),
+        Ok(entry) => {
+            told.debug(StaticTable::find(&entry));
+            word_of(told, entry);
+        }
+        Err(e) => told.debug(e),
     }
 }
 
-fn found(alloc: Global, entry: &HeaderField) -> Result<String, CaseError> {
-    let index = StaticTable::find(entry);
-    let mut text = format!(in alloc; "{index:?}")?;
-    push_field(&mut text, entry)?;
-    Ok(text)
-}
-
-/// Where a name is found, or the name of an entry with the value `a`.
-fn named(alloc: Global, command: &str, word: &str) -> Result<String, CaseError> {
-    match command {
-        "name" => found_name(alloc, &text(alloc, word)?),
-        "named" => with_value(alloc, small(word)?),
-        _ => Err(CaseError::Unreadable),
-    }
-}
-
-fn found_name(alloc: Global, name: &[u8]) -> Result<String, CaseError> {
-    let index = StaticTable::find_name(name);
-    Ok(format!(in alloc; "{index:?}")?)
-}
-
-fn with_value(alloc: Global, index: usize) -> Result<String, CaseError> {
+fn with_value(told: &mut Told, index: usize) {
     match StaticTable::get_name(index) {
-        Ok(name) => word_of(
-            alloc,
-            HeaderField::with_static_name(name, text(alloc, "a")?),
-        ),
-        Err(_) => Err(CaseError::Unreadable),
+        Ok(name) => {
+            let value = told.text("a");
+            word_of(told, HeaderField::with_static_name(name, value));
+        }
+        Err(_) => told.unreadable(),
     }
 }
 
-fn word_of(alloc: Global, field: HeaderField) -> Result<String, CaseError> {
-    let mut text = String::new(alloc);
-    let pushed = push_field(&mut text, &field);
+fn word_of(told: &mut Told, field: HeaderField) {
+    told.field(&field);
     drop(field);
-    pushed?;
-    Ok(text)
 }
 
 /// The numbers after so many insertions and evictions.
@@ -85,73 +76,49 @@ fn after(added: usize, gone: usize) -> VirtualAddressSpace {
     table
 }
 
-fn of_table(
-    alloc: Global,
-    command: &str,
-    table: &VirtualAddressSpace,
-    words: &[&str],
-) -> Result<String, CaseError> {
+fn of_table(told: &mut Told, command: &str, table: &VirtualAddressSpace, words: &[&str]) {
     match words {
         [] => {
-            let (present, added) = (table.largest_ref(), table.total_inserted());
-            Ok(format!(in alloc; "{present} of {added}")?)
+            told.show(table.largest_ref());
+            told.say(" of");
+            told.then_show(table.total_inserted());
         }
-        [word] => of_index(alloc, command, table, number(*word)? as usize),
-        [base, index] => of_base(
-            alloc,
-            command,
-            table,
-            (number(*base)? as usize, number(*index)? as usize),
-        ),
-        _ => Err(CaseError::Unreadable),
+        [word] => {
+            let index = told.number(*word) as usize;
+            of_index(told, command, table, index);
+        }
+        [base, index] => {
+            let (base, index) = (told.number(*base) as usize, told.number(*index) as usize);
+            of_base(told, command, table, (base, index));
+        }
+        _ => told.unreadable(),
     }
 }
 
-fn of_index(
-    alloc: Global,
-    command: &str,
-    table: &VirtualAddressSpace,
-    index: usize,
-) -> Result<String, CaseError> {
+fn of_index(told: &mut Told, command: &str, table: &VirtualAddressSpace, index: usize) {
     match command {
-        "relative" => {
-            let place = table.relative(index);
-            Ok(format!(in alloc; "{place:?}")?)
-        }
-        "index" => {
-            let number = table.index(index);
-            Ok(format!(in alloc; "{number:?}")?)
-        }
-        "evicted" => {
-            let gone = table.evicted(index);
-            Ok(format!(in alloc; "{gone}")?)
-        }
-        _ => Err(CaseError::Unreadable),
+        "relative" => told.debug(table.relative(index)),
+        "index" => told.debug(table.index(index)),
+        "evicted" => told.show(table.evicted(index)),
+        _ => told.unreadable(),
     }
 }
 
-fn of_base(
-    alloc: Global,
-    command: &str,
-    table: &VirtualAddressSpace,
-    place: (usize, usize),
-) -> Result<String, CaseError> {
+fn of_base(told: &mut Told, command: &str, table: &VirtualAddressSpace, place: (usize, usize)) {
     let (base, index) = place;
-    let found = match command {
-        "post_base" => table.post_base(base, index),
-        "relative_base" => table.relative_base(base, index),
-        _ => return Err(CaseError::Unreadable),
-    };
-    Ok(format!(in alloc; "{found:?}")?)
+    match command {
+        "post_base" => told.debug(table.post_base(base, index)),
+        "relative_base" => told.debug(table.relative_base(base, index)),
+        _ => told.unreadable(),
+    }
 }
 
 /// A cursor past two of three bytes.
-fn place(alloc: Global, command: &str) -> Result<String, CaseError> {
+fn place(told: &mut Told, command: &str) {
     if command != "cursor" {
-        return Err(CaseError::Unreadable);
+        return told.unreadable();
     }
     let mut buf = SliceCursor::new(&[1, 2, 3]);
     buf.advance(2);
-    let rest = buf.chunk();
-    Ok(format!(in alloc; "{rest:?}")?)
+    told.debug(buf.chunk());
 }

@@ -1,7 +1,7 @@
 //! Frames as they are read and written (RFC 9114, section 7).
 ghost use Rattle.std.specs.Prelude.{◌<◌};
 
-use crate::case::{CaseError, bytes, digits, said, small};
+use crate::case::Told;
 use bytes::{Buf, Bytes, BytesMut};
 use h3_coding::varint::VarInt;
 use h3_wire::proto::config::Config;
@@ -9,125 +9,132 @@ use h3_wire::proto::frame::{Frame, FrameError, FrameType, PayloadLen, Settings, 
 use h3_wire::proto::push::PushId;
 use h3_wire::proto::webtransport::SessionId;
 use h3_wire::stream::WriteBuf;
-use std::alloc::Global;
 
-pub fn answer(alloc: Global, command: &str, words: &[&str]) -> Result<String, CaseError> {
+pub fn answer(told: &mut Told, command: &str, words: &[&str]) {
     match words {
-        [] => texts(alloc, command),
+        [] => texts(told, command),
         [word] => {
-            let bytes = bytes(alloc, *word)?;
-            read(alloc, command, &bytes)
+            let bytes = told.bytes(*word);
+            read(told, command, &bytes);
         }
-        [kind, number] => write(alloc, command, made(*kind, small(*number)?)?),
-        _ => Err(CaseError::Unreadable),
+        [kind, number] => {
+            let number = told.small(*number);
+            let frame = made(told, *kind, number);
+            write(told, command, frame);
+        }
+        _ => told.unreadable(),
     }
 }
 
 /// The frame at the front, or the first two and the bytes behind them.
-fn read(alloc: Global, command: &str, bytes: &[u8]) -> Result<String, CaseError> {
+fn read(told: &mut Told, command: &str, bytes: &[u8]) {
     let mut from = bytes;
     match command {
-        "read" => next(alloc, &mut from),
+        "read" => next(told, &mut from),
         "two" => {
-            let first = next(alloc, &mut from)?;
-            let second = next(alloc, &mut from)?;
-            let rest = digits(alloc, from)?;
-            Ok(format!(in alloc; "{first}; {second}; rest {rest}")?)
+            next(told, &mut from);
+            told.say("; ");
+            next(told, &mut from);
+            told.say("; rest ");
+            told.digits(from);
         }
-        _ => Err(CaseError::Unreadable),
+        _ => told.unreadable(),
     }
 }
 
 /// The text of the frame at the front, or of why it is none.
-fn next(alloc: Global, from: &mut &[u8]) -> Result<String, CaseError> {
-    match Frame::<PayloadLen>::decode(alloc, from) {
-        Ok(frame) => Ok(format!(in alloc; "{frame:?}")?),
-        Err(e) => Ok(format!(in alloc; "{e}")?),
+fn next(told: &mut Told, from: &mut &[u8]) {
+    match Frame::<PayloadLen>::decode(told.alloc(), from) {
+        Ok(frame) => told.debug(frame),
+        Err(e) => told.show(e),
     }
 }
 
 /// A frame of this kind, with this number.
-fn made(kind: &str, number: usize) -> Result<Frame<Bytes>, CaseError>
+fn made(told: &mut Told, kind: &str, number: usize) -> Frame<Bytes>
     requires { number < 65536 }
 {
-    let id = VarInt::try_from(number);
-    let Ok(id) = id else {
-        return Err(CaseError::Unreadable);
-    };
+    let id = VarInt::from_u32(number as u32);
     match kind {
-        "cancel_push" => Ok(Frame::CancelPush(PushId::from(id))),
-        "max_push_id" => Ok(Frame::MaxPushId(PushId::from(id))),
-        "goaway" => Ok(Frame::Goaway(id)),
-        "webtransport" => Ok(Frame::WebTransportStream(SessionId::from_varint(id))),
-        "reserved" => Ok(Frame::Grease(FrameType::grease(number as u64))),
-        _ => of_settings(kind),
+        "cancel_push" => Frame::CancelPush(PushId::from(id)),
+        "max_push_id" => Frame::MaxPushId(PushId::from(id)),
+        "goaway" => Frame::Goaway(id),
+        "webtransport" => Frame::WebTransportStream(SessionId::from_varint(id)),
+        "reserved" => Frame::Grease(FrameType::grease(number as u64)),
+        _ => of_settings(told, kind),
     }
 }
 
 /// The frame of no settings, or of those that an end announces which names none of its own.
-fn of_settings(kind: &str) -> Result<Frame<Bytes>, CaseError> {
+fn of_settings(told: &mut Told, kind: &str) -> Frame<Bytes> {
     match kind {
-        "no_settings" => Ok(Frame::Settings(Settings::default())),
-        "settings" => match Config::default().with_grease(false).into_settings(0) {
-            Ok(settings) => Ok(Frame::Settings(settings)),
-            Err(_) => Err(CaseError::Refused),
-        },
-        _ => Err(CaseError::Unreadable),
+        "no_settings" => Frame::Settings(Settings::default()),
+        "settings" => announced(told),
+        _ => {
+            told.unreadable();
+            Frame::Settings(Settings::default())
+        }
+    }
+}
+
+fn announced(told: &mut Told) -> Frame<Bytes> {
+    match Config::default().with_grease(false).into_settings(0) {
+        Ok(settings) => Frame::Settings(settings),
+        Err(_) => {
+            told.refused();
+            Frame::Settings(Settings::default())
+        }
     }
 }
 
 /// What is written of a frame, what is sent of it, or its text.
-fn write(alloc: Global, command: &str, frame: Frame<Bytes>) -> Result<String, CaseError> {
+fn write(told: &mut Told, command: &str, frame: Frame<Bytes>) {
     match command {
-        "send" => sent(alloc, WriteBuf::from(frame)),
+        "send" => sent(told, WriteBuf::from(frame)),
+        "write" => written(told, frame),
+        "print" => told.debug(frame),
         _ => {
-            let told = told(alloc, command, &frame);
             drop(frame);
-            told
+            told.unreadable();
         }
     }
 }
 
-fn told(alloc: Global, command: &str, frame: &Frame<Bytes>) -> Result<String, CaseError> {
-    match command {
-        "write" => written(alloc, frame),
-        "print" => Ok(format!(in alloc; "{frame:?}")?),
-        _ => Err(CaseError::Unreadable),
+fn written(told: &mut Told, frame: Frame<Bytes>) {
+    if frame.has_length() {
+        let mut out = BytesMut::new(told.alloc());
+        told.done(frame.encode(&mut out));
+        told.digits(out.as_slice());
+    } else {
+        told.say("no length");
     }
-}
-
-fn written(alloc: Global, frame: &Frame<Bytes>) -> Result<String, CaseError> {
-    if !frame.has_length() {
-        return said(alloc, "no length");
-    }
-    let mut out = BytesMut::new(alloc);
-    frame.encode(&mut out)?;
-    digits(alloc, out.as_slice())
+    drop(frame);
 }
 
 /// The first bytes that are sent, and how many there are in all.
-fn sent(alloc: Global, sent: WriteBuf<Bytes>) -> Result<String, CaseError> {
-    let (first, len) = (digits(alloc, sent.chunk()), sent.remaining());
+fn sent(told: &mut Told, sent: WriteBuf<Bytes>) {
+    told.digits(sent.chunk());
+    told.say(" of");
+    told.then_show(sent.remaining());
     drop(sent);
-    let first = first?;
-    Ok(format!(in alloc; "{first} of {len}")?)
 }
 
 /// Texts of errors that no frame gives, of settings that are refused, and of a DATA frame of three bytes.
-fn texts(alloc: Global, command: &str) -> Result<String, CaseError> {
+fn texts(told: &mut Told, command: &str) {
     match command {
         "errors" => {
-            let (value, memory) = (FrameError::InvalidFrameValue, FrameError::OutOfMemory);
-            Ok(format!(in alloc; "{value}; {memory}")?)
+            told.show(FrameError::InvalidFrameValue);
+            told.say("; ");
+            told.show(FrameError::OutOfMemory);
         }
         "setting" => {
-            let e = SettingsError::InvalidSettingValue(h3_proto::frame::SettingId(6), 7);
-            Ok(format!(in alloc; "{e}")?)
+            let id = h3_proto::frame::SettingId(6);
+            told.show(SettingsError::InvalidSettingValue(id, 7));
         }
-        "data" => {
-            let data = Frame::Data(Bytes::copy_from_slice(alloc, b"hey")?);
-            Ok(format!(in alloc; "{data:?}")?)
-        }
-        _ => Err(CaseError::Unreadable),
+        "data" => match Bytes::copy_from_slice(told.alloc(), b"hey") {
+            Ok(bytes) => told.debug(Frame::Data(bytes)),
+            Err(_) => told.refused(),
+        },
+        _ => told.unreadable(),
     }
 }

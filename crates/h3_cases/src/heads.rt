@@ -1,182 +1,197 @@
 //! Headers of messages (RFC 9114, section 4.3): field lists and the headers that they make, refusals and texts.
-use crate::case::{CaseError, number, said, small, text};
-use crate::sections::{field, fields, push_field};
+use crate::case::Told;
+use crate::sections::{field, fields};
 use h3_field::HeaderField;
 use h3_header::ext::Protocol;
 use h3_header::headers::{Header, HeaderError, HeaderIter};
 use http::{Method, StatusCode};
 use http_header::{HeaderMap, HeaderName, HeaderValue};
 use http_uri::Uri;
-use std::alloc::{AllocError, Global};
+use std::alloc::AllocError;
 use std::str::FromStr;
 
-pub fn answer(alloc: Global, command: &str, words: &[&str]) -> Result<String, CaseError> {
+pub fn answer(told: &mut Told, command: &str, words: &[&str]) {
     match command {
-        "request" => request(alloc, words),
-        "many_names" => many_names(alloc),
-        "many_values" => many_values(alloc),
-        "protocol" => protocol(alloc, words),
-        "response" => response(alloc, words),
-        _ => match Header::try_from(alloc, fields(alloc, words)?) {
-            Ok(header) => of_header(alloc, command, header),
-            Err(e) => refused(alloc, &e),
-        },
+        "request" => request(told, words),
+        "many_names" => many_names(told),
+        "many_values" => many_values(told),
+        "protocol" => protocol(told, words),
+        "response" => response(told, words),
+        _ => of_fields(told, command, words),
     }
 }
 
-fn refused(alloc: Global, e: &HeaderError) -> Result<String, CaseError> {
-    Ok(format!(in alloc; "{e}")?)
+fn of_fields(told: &mut Told, command: &str, words: &[&str]) {
+    let fields = fields(told, words);
+    match Header::try_from(told.alloc(), fields) {
+        Ok(header) => of_header(told, command, header),
+        Err(e) => told.show(e),
+    }
 }
 
 /// What a header that was read is asked for.
-fn of_header(alloc: Global, command: &str, header: Header) -> Result<String, CaseError> {
+fn of_header(told: &mut Told, command: &str, header: Header) {
     match command {
-        "fields" => listed(alloc, &header),
-        "iterate" => iterated(alloc, header),
-        "kind" => kind(alloc, &header),
-        "target" => target(alloc, header),
-        "status" => status(alloc, header),
-        _ => Err(CaseError::Unreadable),
+        "fields" => listed(told, header),
+        "iterate" => iterated(told, header),
+        "kind" => kind(told, header),
+        "target" => target(told, header),
+        "status" => status(told, header),
+        _ => {
+            drop(header);
+            told.unreadable();
+        }
     }
 }
 
 /// How many fields there are, and the fields in their order.
-fn listed(alloc: Global, header: &Header) -> Result<String, CaseError> {
-    let (len, size) = (header.len(), header.size());
-    let mut text = format!(in alloc; "{len} {size}:")?;
-    for field in &header.fields(alloc)? {
-        push_field(&mut text, field)?;
+fn listed(told: &mut Told, header: Header) {
+    told.show(header.len());
+    told.then_show(header.size());
+    told.say(":");
+    let fields = header.fields(told.alloc());
+    drop(header);
+    match fields {
+        Ok(fields) => each(told, &fields),
+        Err(_) => told.refused(),
     }
-    Ok(text)
+}
+
+fn each(told: &mut Told, fields: &[HeaderField]) {
+    for field in fields {
+        told.field(field);
+    }
 }
 
 /// The fields as the iterator gives them.
-fn iterated(alloc: Global, header: Header) -> Result<String, CaseError> {
-    let mut text = String::new(alloc);
-    for item in header.into_iter(alloc) {
-        push_item(&mut text, item)?;
+fn iterated(told: &mut Told, header: Header) {
+    for item in header.into_iter(told.alloc()) {
+        given(told, item);
     }
-    Ok(text)
 }
 
-fn push_item(text: &mut String, item: Result<HeaderField, AllocError>) -> Result<(), CaseError> {
-    let field = item?;
-    let pushed = push_field(text, &field);
-    drop(field);
-    pushed
+fn given(told: &mut Told, item: Result<HeaderField, AllocError>) {
+    match item {
+        Ok(field) => {
+            told.field(&field);
+            drop(field);
+        }
+        Err(_) => told.refused(),
+    }
 }
 
-fn kind(alloc: Global, header: &Header) -> Result<String, CaseError> {
-    let (request, response) = (header.is_request(), header.is_response());
-    let (pseudo, status) = (header.has_pseudo(), header.status());
-    Ok(format!(in alloc;
-        "request {request} response {response} pseudo {pseudo} status {status:?}"
-    )?)
+fn kind(told: &mut Told, header: Header) {
+    told.say("request");
+    told.then_show(header.is_request());
+    told.say(" response");
+    told.then_show(header.is_response());
+    told.say(" pseudo");
+    told.then_show(header.has_pseudo());
+    told.say(" status");
+    told.then_debug(header.status());
+    drop(header);
 }
 
 /// The URI of a request, or why there is none.
-fn target(alloc: Global, header: Header) -> Result<String, CaseError> {
-    match header.into_request_parts(alloc) {
+fn target(told: &mut Told, header: Header) {
+    match header.into_request_parts(told.alloc()) {
         Ok(parts) => {
-            let text = parts.1.to_string(alloc);
+            let text = parts.1.to_string(told.alloc());
             drop(parts);
-            Ok(text?)
+            told.put(text);
         }
-        Err(e) => refused(alloc, &e),
+        Err(e) => told.show(e),
     }
 }
 
 /// The status of a response and the number of its fields, or why there is none.
-fn status(alloc: Global, header: Header) -> Result<String, CaseError> {
+fn status(told: &mut Told, header: Header) {
     match header.into_response_parts() {
         Ok((status, fields)) => {
-            let len = fields.len();
-            Ok(format!(in alloc; "{status:?}, fields {len}")?)
+            told.debug(status);
+            told.say(", fields");
+            told.then_show(fields.len());
+            drop(fields);
         }
-        Err(e) => refused(alloc, &e),
+        Err(e) => told.show(e),
     }
 }
 
 /// A request of a method, a URI, a protocol or `-`, and a host where there is one more word.
-fn request(alloc: Global, words: &[&str]) -> Result<String, CaseError> {
-    let [method, uri, protocol, hosts @ ..] = words else {
-        return Err(CaseError::Unreadable);
-    };
-    let Ok(method) = Method::from_bytes(alloc, method.as_bytes()) else {
-        return Err(CaseError::Unreadable);
-    };
-    let Ok(uri) = Uri::from_str(alloc, *uri) else {
-        return Err(CaseError::Unreadable);
-    };
-    let protocol = Protocol::from_str(*protocol).ok();
-    made(
-        alloc,
-        Header::request(method, uri, hosts_of(alloc, hosts)?, protocol),
-    )
+fn request(told: &mut Told, words: &[&str]) {
+    match words {
+        [method, uri, protocol, hosts @ ..] => {
+            match Method::from_bytes(told.alloc(), method.as_bytes()) {
+                Ok(method) => to(told, method, (*uri, *protocol), hosts),
+                Err(_) => told.unreadable(),
+            }
+        }
+        _ => told.unreadable(),
+    }
+}
+
+fn to(told: &mut Told, method: Method, place: (&str, &str), hosts: &[&str]) {
+    let (uri, protocol) = place;
+    match Uri::from_str(told.alloc(), uri) {
+        Ok(uri) => {
+            let fields = hosts_of(told, hosts);
+            let protocol = Protocol::from_str(protocol).ok();
+            made(told, Header::request(method, uri, fields, protocol));
+        }
+        Err(_) => {
+            drop(method);
+            told.unreadable();
+        }
+    }
 }
 
 /// The field `host` for each word.
-fn hosts_of(alloc: Global, hosts: &[&str]) -> Result<HeaderMap, CaseError> {
-    let mut fields = HeaderMap::new(alloc);
+fn hosts_of(told: &mut Told, hosts: &[&str]) -> HeaderMap {
+    let mut fields = HeaderMap::new(told.alloc());
     for host in hosts {
-        append_host(alloc, &mut fields, *host)?;
+        append_host(told, &mut fields, *host);
     }
-    Ok(fields)
+    fields
 }
 
-fn append_host(alloc: Global, fields: &mut HeaderMap, host: &str) -> Result<(), CaseError> {
-    let Ok(value) = HeaderValue::from_str(alloc, host) else {
-        return Err(CaseError::Unreadable);
-    };
-    let Ok(_) = fields.append(HeaderName::from_static("host"), value) else {
-        return Err(CaseError::Refused);
-    };
-    Ok(())
+fn append_host(told: &mut Told, fields: &mut HeaderMap, host: &str) {
+    match HeaderValue::from_str(told.alloc(), host) {
+        Ok(value) => told.done(fields.append(HeaderName::from_static("host"), value)),
+        Err(_) => told.unreadable(),
+    }
 }
 
-fn made(alloc: Global, header: Result<Header, HeaderError>) -> Result<String, CaseError> {
+fn made(told: &mut Told, header: Result<Header, HeaderError>) {
     match header {
         Ok(header) => {
-            let told = told_of(alloc, &header);
-            drop(header);
-            told
+            told.say("request");
+            told.then_show(header.is_request());
+            told.say(": ");
+            listed(told, header);
         }
-        Err(e) => refused(alloc, &e),
+        Err(e) => told.show(e),
     }
-}
-
-fn told_of(alloc: Global, header: &Header) -> Result<String, CaseError> {
-    let (is, text) = (header.is_request(), listed(alloc, header)?);
-    Ok(format!(in alloc; "request {is}: {text}")?)
 }
 
 /// A response without fields: its text, or whether its iterator gives one field and then no more.
-fn response(alloc: Global, words: &[&str]) -> Result<String, CaseError> {
+fn response(told: &mut Told, words: &[&str]) {
     let [word] = words else {
-        return Err(CaseError::Unreadable);
+        return told.unreadable();
     };
-    let header = Header::response(StatusCode::OK, HeaderMap::new(alloc));
+    let header = Header::response(StatusCode::OK, HeaderMap::new(told.alloc()));
     match *word {
-        "print" => printed(alloc, header),
-        _ => {
-            let [first, second, third] = thrice(alloc, header);
-            Ok(format!(in alloc; "{first} {second} {third}")?)
-        }
+        "print" => told.debug(header),
+        _ => thrice(told, header),
     }
 }
 
-fn printed(alloc: Global, header: Header) -> Result<String, CaseError> {
-    let text = format!(in alloc; "{header:?}");
-    drop(header);
-    Ok(text?)
-}
-
 /// Whether its iterator gives a field, asked three times.
-fn thrice(alloc: Global, header: Header) -> [bool; 3] {
-    let mut iter = header.into_iter(alloc);
-    let given = [gives(&mut iter), gives(&mut iter), gives(&mut iter)];
+fn thrice(told: &mut Told, header: Header) {
+    let mut iter = header.into_iter(told.alloc());
+    told.show(gives(&mut iter));
+    told.then_show(gives(&mut iter));
+    told.then_show(gives(&mut iter));
     drop(iter);
-    given
 }
 
 fn gives(iter: &mut HeaderIter) -> bool {
@@ -187,48 +202,55 @@ fn gives(iter: &mut HeaderIter) -> bool {
 }
 
 /// A list of one name more than a map holds.
-fn many_names(alloc: Global) -> Result<String, CaseError> {
-    let mut names = Vec::new(alloc);
+fn many_names(told: &mut Told) {
+    let mut names = Vec::new(told.alloc());
     for i in 0..24577u32 {
-        let name = format!(in alloc; "x-{i}")?;
-        names.push(field(name.into_bytes(), Vec::new(alloc)))?;
+        let field = field(name(told, i), Vec::new(told.alloc()));
+        told.done(names.push(field));
     }
-    made(alloc, Header::try_from(alloc, names))
+    made(told, Header::try_from(told.alloc(), names));
+}
+
+fn name(told: &mut Told, i: u32) -> Vec<u8> {
+    match format!(in told.alloc(); "x-{i}") {
+        Ok(name) => name.into_bytes(),
+        Err(_) => {
+            told.refused();
+            Vec::new(told.alloc())
+        }
+    }
 }
 
 /// As many values of one name.
-fn many_values(alloc: Global) -> Result<String, CaseError> {
-    let mut values = Vec::new(alloc);
+fn many_values(told: &mut Told) {
+    let mut values = Vec::new(told.alloc());
     for _ in 0..24577u32 {
-        values.push(field(text(alloc, "x-a")?, Vec::new(alloc)))?;
+        let field = field(told.text("x-a"), Vec::new(told.alloc()));
+        told.done(values.push(field));
     }
-    match Header::try_from(alloc, values) {
-        Ok(header) => counted(alloc, header),
-        Err(e) => refused(alloc, &e),
+    match Header::try_from(told.alloc(), values) {
+        Ok(header) => counted(told, header),
+        Err(e) => told.show(e),
     }
 }
 
-fn counted(alloc: Global, header: Header) -> Result<String, CaseError> {
-    let len = header.len();
-    let fields = header.into_fields().len();
-    Ok(format!(in alloc; "{len} {fields}")?)
+fn counted(told: &mut Told, header: Header) {
+    told.show(header.len());
+    told.then_show(header.into_fields().len());
 }
 
 /// The text of a protocol, and which of the two it is.
-fn protocol(alloc: Global, words: &[&str]) -> Result<String, CaseError> {
+fn protocol(told: &mut Told, words: &[&str]) {
     let word = match words {
         [] => "",
         [word, ..] => *word,
     };
     match Protocol::from_str(word) {
         Ok(protocol) => {
-            let text = protocol.as_str();
-            let (first, second) = (
-                protocol == Protocol::WEB_TRANSPORT,
-                protocol == Protocol::CONNECT_UDP,
-            );
-            Ok(format!(in alloc; "{text} {first} {second}")?)
+            told.say(protocol.as_str());
+            told.then_show(protocol == Protocol::WEB_TRANSPORT);
+            told.then_show(protocol == Protocol::CONNECT_UDP);
         }
-        Err(_) => said(alloc, "refused"),
+        Err(_) => told.say("refused"),
     }
 }

@@ -1,168 +1,185 @@
 //! Ids of streams, sessions and pushes, types of streams, and error codes.
-use crate::case::{CaseError, bytes, digits, number, with_rest};
+use crate::case::Told;
 use bytes::BytesMut;
 use h3_coding::coding::{BufExt, BufMutExt};
 use h3_coding::varint::VarInt;
 use h3_proto::error::Code;
 use h3_proto::frame::SettingId;
-use h3_proto::push::{InvalidPushId, PushId};
-use h3_proto::stream::{InvalidStreamId, Side, StreamId, StreamType};
+use h3_proto::push::PushId;
+use h3_proto::stream::{Side, StreamId, StreamType};
 use h3_proto::webtransport::SessionId;
-use std::alloc::Global;
+use std::fmt;
 
-impl From<InvalidStreamId> for CaseError {
-    fn from(_e: InvalidStreamId) -> CaseError {
-        CaseError::Unreadable
-    }
-}
-
-impl From<InvalidPushId> for CaseError {
-    fn from(_e: InvalidPushId) -> CaseError {
-        CaseError::Unreadable
-    }
-}
-
-pub fn answer(alloc: Global, command: &str, words: &[&str]) -> Result<String, CaseError> {
+pub fn answer(told: &mut Told, command: &str, words: &[&str]) {
     match words {
-        [] => alone(alloc, command),
-        [word] => {
-            match command {
-                "read" => {
-                    let bytes = bytes(alloc, *word)?;
-                    read(alloc, &bytes)
-                }
-                _ => of_number(alloc, command, number(*word)?),
-            }
+        [] => alone(told, command),
+        [word] => of_word(told, command, *word),
+        [first, second] => {
+            let (first, second) = (told.number(*first), told.number(*second));
+            of_two(told, command, first, second);
         }
-        [first, second] => of_two(alloc, command, number(*first)?, number(*second)?),
-        _ => Err(CaseError::Unreadable),
+        _ => told.unreadable(),
     }
 }
 
-fn alone(alloc: Global, command: &str) -> Result<String, CaseError> {
+fn of_word(told: &mut Told, command: &str, word: &str) {
+    if command == "read" {
+        let bytes = told.bytes(word);
+        return read(told, &bytes);
+    }
+    let number = told.number(word);
+    of_number(told, command, number);
+}
+
+fn alone(told: &mut Told, command: &str) {
     match command {
         "sides" => {
-            let (client, server) = (Side::Client as u8, Side::Server as u8);
-            Ok(format!(in alloc; "{client} {server}")?)
+            told.show(Side::Client as u8);
+            told.then_show(Side::Server as u8);
         }
-        "types" => types(alloc),
+        "types" => types(told),
         "reserved" => {
-            let (kind, setting) = (StreamType::grease(1).value(), SettingId::grease(0));
-            Ok(format!(in alloc; "{kind} {setting:?}")?)
+            told.show(StreamType::grease(1).value());
+            told.then_debug(SettingId::grease(0));
         }
-        "codes" => codes(alloc),
-        _ => Err(CaseError::Unreadable),
+        "codes" => codes(told),
+        _ => told.unreadable(),
     }
 }
 
-fn of_number(alloc: Global, command: &str, number: u64) -> Result<String, CaseError> {
+fn of_number(told: &mut Told, command: &str, number: u64) {
     match command {
-        "stream" => stream(alloc, number),
-        "session" => session(alloc, number),
-        "push" => push(alloc, number),
+        "stream" => stream(told, number),
+        "session" => session(told, number),
+        "push" => push(told, number),
         "code" => {
             let code = Code::from(number);
-            let value = u64::from(code);
-            Ok(format!(in alloc; "{code} {code:?} {value}")?)
+            told.show(code);
+            told.then_debug(code);
+            told.then_show(u64::from(code));
         }
-        _ => Err(CaseError::Unreadable),
+        _ => told.unreadable(),
     }
+}
+
+/// An error in both forms.
+fn refused<E: fmt::Debug + fmt::Display + Drop>(told: &mut Told, e: E) {
+    told.debug(&e);
+    told.say(": ");
+    told.show(e);
 }
 
 /// What a stream's id tells.
-fn stream(alloc: Global, number: u64) -> Result<String, CaseError> {
+fn stream(told: &mut Told, number: u64) {
     match StreamId::try_from(number) {
-        Ok(id) => {
-            let (request, push) = (id.is_request(), id.is_push());
-            let (by, index) = (id.initiator(), id.index());
-            let same = VarInt::from(id);
-            Ok(format!(in alloc;
-                "{same} {id}, request {request}, push {push}, by {by:?}, index {index}"
-            )?)
-        }
-        Err(e) => Ok(format!(in alloc; "{e:?}: {e}")?),
+        Ok(id) => of_id(told, id),
+        Err(e) => refused(told, e),
     }
+}
+
+fn of_id(told: &mut Told, id: StreamId) {
+    told.show(VarInt::from(id));
+    told.then_show(id);
+    told.say(", request");
+    told.then_show(id.is_request());
+    told.say(", push");
+    told.then_show(id.is_push());
+    told.say(", by");
+    told.then_debug(id.initiator());
+    told.say(", index");
+    told.then_show(id.index());
 }
 
 /// A session's id, as that of its stream, and back.
-fn session(alloc: Global, number: u64) -> Result<String, CaseError> {
+fn session(told: &mut Told, number: u64) {
     match SessionId::try_from(number) {
         Ok(session) => {
             let stream = StreamId::from(session);
-            let (number, again) = (stream.into_inner(), SessionId::from(stream).into_inner());
-            Ok(format!(in alloc; "{session:?} {number} {again}")?)
+            told.debug(session);
+            told.then_show(stream.into_inner());
+            told.then_show(SessionId::from(stream).into_inner());
         }
-        Err(e) => Ok(format!(in alloc; "{e:?}: {e}")?),
+        Err(e) => refused(told, e),
     }
 }
 
-fn push(alloc: Global, number: u64) -> Result<String, CaseError> {
+fn push(told: &mut Told, number: u64) {
     match PushId::try_from(number) {
         Ok(id) => {
-            let number = VarInt::from(id);
-            Ok(format!(in alloc; "{id}, {number}")?)
+            told.show(id);
+            told.say(",");
+            told.then_show(VarInt::from(id));
         }
-        Err(e) => Ok(format!(in alloc; "{e:?}: {e}")?),
+        Err(e) => refused(told, e),
     }
 }
 
-fn of_two(alloc: Global, command: &str, first: u64, second: u64) -> Result<String, CaseError> {
+fn of_two(told: &mut Told, command: &str, first: u64, second: u64) {
     match command {
         "sum" => {
-            let id = StreamId::try_from(first)? + second as usize;
-            let number = id.into_inner();
-            Ok(format!(in alloc; "{number}")?)
+            let id = stream_id(told, first) + second as usize;
+            told.show(id.into_inner());
         }
-        "write" => write(
-            alloc,
-            SessionId::try_from(first)?,
-            StreamId::try_from(second)?,
-        ),
-        _ => Err(CaseError::Unreadable),
+        "write" => {
+            let session = SessionId::from(stream_id(told, first));
+            let stream = stream_id(told, second);
+            write(told, session, stream);
+        }
+        _ => told.unreadable(),
+    }
+}
+
+/// The id of a number below 2^62.
+pub fn stream_id(told: &mut Told, number: u64) -> StreamId {
+    match StreamId::try_from(number) {
+        Ok(id) => id,
+        Err(_) => {
+            told.unreadable();
+            StreamId::FIRST_REQUEST
+        }
     }
 }
 
 /// The head of a WebTransport stream of a session, and a stream's id behind it.
-fn write(alloc: Global, session: SessionId, stream: StreamId) -> Result<String, CaseError> {
-    let mut out = BytesMut::new(alloc);
-    out.write(StreamType::WEBTRANSPORT_UNI)?;
-    out.write(session)?;
-    out.write(stream)?;
-    digits(alloc, out.as_slice())
+fn write(told: &mut Told, session: SessionId, stream: StreamId) {
+    let mut out = BytesMut::new(told.alloc());
+    told.done(out.write(StreamType::WEBTRANSPORT_UNI));
+    told.done(out.write(session));
+    told.done(out.write(stream));
+    told.digits(out.as_slice());
 }
 
 /// A type and a session's id.
-fn read(alloc: Global, bytes: &[u8]) -> Result<String, CaseError> {
+fn read(told: &mut Told, bytes: &[u8]) {
     let mut from = bytes;
     let kind = BufExt::get::<StreamType>(&mut from);
     let session = BufExt::get::<SessionId>(&mut from);
-    with_rest(alloc, &(kind, session), from)
+    told.with_rest((kind, session), from);
 }
 
 /// The types that have a name here.
-fn types(alloc: Global) -> Result<String, CaseError> {
-    let mut text = String::new(alloc);
-    for kind in [
-        StreamType::CONTROL,
-        StreamType::PUSH,
-        StreamType::ENCODER,
-        StreamType::DECODER,
-        StreamType::WEBTRANSPORT_UNI,
-        StreamType::WEBTRANSPORT_BIDI,
-    ] {
-        let value = kind.value();
-        let word = format!(in alloc; "{kind} {value};")?;
-        text.push_str(word.as_str())?;
-    }
-    Ok(text)
+fn types(told: &mut Told) {
+    kind(told, StreamType::CONTROL);
+    kind(told, StreamType::PUSH);
+    kind(told, StreamType::ENCODER);
+    kind(told, StreamType::DECODER);
+    kind(told, StreamType::WEBTRANSPORT_UNI);
+    kind(told, StreamType::WEBTRANSPORT_BIDI);
+}
+
+fn kind(told: &mut Told, kind: StreamType) {
+    told.show(kind);
+    told.then_show(kind.value());
+    told.say(";");
 }
 
 /// Codes by their names, and whether one is a number.
-fn codes(alloc: Global) -> Result<String, CaseError> {
+fn codes(told: &mut Told) {
     let message = Code::H3_MESSAGE_ERROR;
-    let (is, other) = (message.is(0x10e), message.is(0x10f));
-    let (none, failed) = (Code::H3_NO_ERROR, Code::QPACK_DECOMPRESSION_FAILED);
-    let datagram = Code::H3_DATAGRAM_ERROR.value();
-    let same = Code::from(0x202) == Code::QPACK_DECODER_STREAM_ERROR;
-    Ok(format!(in alloc; "{none} {failed:?} {is} {other} {datagram} {same}")?)
+    told.show(Code::H3_NO_ERROR);
+    told.then_debug(Code::QPACK_DECOMPRESSION_FAILED);
+    told.then_show(message.is(0x10e));
+    told.then_show(message.is(0x10f));
+    told.then_show(Code::H3_DATAGRAM_ERROR.value());
+    told.then_show(Code::from(0x202) == Code::QPACK_DECODER_STREAM_ERROR);
 }

@@ -1,142 +1,138 @@
 //! Encoder and decoder instructions (RFC 9204, sections 4.3 and 4.4).
 ghost use Rattle.std.specs.Prelude.{◌<◌, ◌≤◌, length};
 
-use crate::case::{CaseError, bytes, digits, small, text, with_rest};
+use crate::case::Told;
 use h3_field::SliceCursor;
 use h3_field::stream::{
     DecoderInstruction, Duplicate, DynamicTableSizeUpdate, EncoderInstruction, HeaderAck,
     InsertCountIncrement, InsertWithNameRef, InsertWithoutNameRef, StreamCancel,
 };
-use std::alloc::Global;
 
-pub fn answer(alloc: Global, command: &str, words: &[&str]) -> Result<String, CaseError> {
+pub fn answer(told: &mut Told, command: &str, words: &[&str]) {
     match words {
         [digits] => {
-            let bytes = bytes(alloc, *digits)?;
-            read(alloc, command, &bytes)
+            let bytes = told.bytes(*digits);
+            read(told, command, &bytes);
         }
         [kind, number] => {
-            let mut out = Vec::new(alloc);
-            put(alloc, *kind, small(*number)?, &mut out)?;
-            digits(alloc, &out)
+            let number = told.small(*number);
+            put(told, *kind, number);
         }
         [kind, first, last] => {
-            let value = text(alloc, *last)?;
-            write(alloc, *kind, *first, &value)
+            let value = told.text(*last);
+            write(told, *kind, *first, &value);
         }
-        _ => Err(CaseError::Unreadable),
+        _ => told.unreadable(),
     }
 }
 
 /// The encoder's instruction at the front, or the kinds that a first byte tells.
-fn read(alloc: Global, command: &str, bytes: &[u8]) -> Result<String, CaseError> {
+fn read(told: &mut Told, command: &str, bytes: &[u8]) {
     let mut buf = SliceCursor::new(bytes);
     match command {
         "capacity" => {
             let read = DynamicTableSizeUpdate::decode(&mut buf);
-            with_rest(alloc, &read, buf.chunk())
+            told.with_rest(read, buf.chunk());
         }
         "named" => {
-            let read = InsertWithNameRef::decode(alloc, &mut buf);
-            with_rest(alloc, &read, buf.chunk())
+            let read = InsertWithNameRef::decode(told.alloc(), &mut buf);
+            told.with_rest(read, buf.chunk());
         }
         "literal" => {
-            let read = InsertWithoutNameRef::decode(alloc, &mut buf);
-            with_rest(alloc, &read, buf.chunk())
+            let read = InsertWithoutNameRef::decode(told.alloc(), &mut buf);
+            told.with_rest(read, buf.chunk());
         }
         "duplicate" => {
             let read = Duplicate::decode(&mut buf);
-            with_rest(alloc, &read, buf.chunk())
+            told.with_rest(read, buf.chunk());
         }
-        "kind" => kind(alloc, bytes),
-        _ => read_reply(alloc, command, bytes),
+        "kind" => kind(told, bytes),
+        _ => read_reply(told, command, bytes),
     }
 }
 
 /// The decoder's instruction at the front.
-fn read_reply(alloc: Global, command: &str, bytes: &[u8]) -> Result<String, CaseError> {
+fn read_reply(told: &mut Told, command: &str, bytes: &[u8]) {
     let mut buf = SliceCursor::new(bytes);
     match command {
         "acknowledgment" => {
             let read = HeaderAck::decode(&mut buf);
-            with_rest(alloc, &read, buf.chunk())
+            told.with_rest(read, buf.chunk());
         }
         "cancellation" => {
             let read = StreamCancel::decode(&mut buf);
-            with_rest(alloc, &read, buf.chunk())
+            told.with_rest(read, buf.chunk());
         }
         "increment" => {
             let read = InsertCountIncrement::decode(&mut buf);
-            with_rest(alloc, &read, buf.chunk())
+            told.with_rest(read, buf.chunk());
         }
-        _ => Err(CaseError::Unreadable),
+        _ => told.unreadable(),
     }
 }
 
-fn kind(alloc: Global, bytes: &[u8]) -> Result<String, CaseError> {
-    let [first] = bytes else {
-        return Err(CaseError::Unreadable);
-    };
-    let (encoder, decoder) = (
-        EncoderInstruction::decode(*first),
-        DecoderInstruction::decode(*first),
-    );
-    Ok(format!(in alloc; "{encoder:?} {decoder:?}")?)
+fn kind(told: &mut Told, bytes: &[u8]) {
+    match bytes {
+        [first] => {
+            told.debug(EncoderInstruction::decode(*first));
+            told.then_debug(DecoderInstruction::decode(*first));
+        }
+        _ => told.unreadable(),
+    }
 }
 
 /// An instruction of a number, or an insertion of an empty value.
-fn put(alloc: Global, kind: &str, number: usize, out: &mut Vec<u8>) -> Result<(), CaseError>
+fn put(told: &mut Told, kind: &str, number: usize)
     requires { number < 65536 }
 {
+    let mut out = Vec::new(told.alloc());
     match kind {
-        "capacity" => Ok(DynamicTableSizeUpdate(number).encode(out)?),
-        "duplicate" => Ok(Duplicate(number).encode(out)?),
-        "acknowledgment" => Ok(HeaderAck(number as u64).encode(out)?),
-        "cancellation" => Ok(StreamCancel(number as u64).encode(out)?),
-        "increment" => Ok(InsertCountIncrement(number as u64).encode(out)?),
-        _ => put_empty(alloc, kind, number, out),
+        "capacity" => told.done(DynamicTableSizeUpdate(number).encode(&mut out)),
+        "duplicate" => told.done(Duplicate(number).encode(&mut out)),
+        "acknowledgment" => told.done(HeaderAck(number as u64).encode(&mut out)),
+        "cancellation" => told.done(StreamCancel(number as u64).encode(&mut out)),
+        "increment" => told.done(InsertCountIncrement(number as u64).encode(&mut out)),
+        _ => put_empty(told, kind, number, &mut out),
     }
+    told.digits(&out);
 }
 
-fn put_empty(alloc: Global, kind: &str, index: usize, out: &mut Vec<u8>) -> Result<(), CaseError>
+fn put_empty(told: &mut Told, kind: &str, index: usize, out: &mut Vec<u8>)
     requires { index < 65536 }
 {
-    let value = Vec::new(alloc);
+    let value = Vec::new(told.alloc());
     match kind {
-        "dynamic" => Ok(InsertWithNameRef::Dynamic { index, value }.encode(out)?),
+        "dynamic" => told.done(InsertWithNameRef::Dynamic { index, value }.encode(out)),
         "literal" => {
-            let name = Vec::new(alloc);
-            Ok(InsertWithoutNameRef { name, value }.encode(out)?)
+            let name = Vec::new(told.alloc());
+            told.done(InsertWithoutNameRef { name, value }.encode(out));
         }
-        _ => Err(CaseError::Unreadable),
+        _ => told.unreadable(),
     }
 }
 
 /// An insertion of a value, behind an index or a name.
-fn write(alloc: Global, kind: &str, first: &str, value: &[u8]) -> Result<String, CaseError>
+fn write(told: &mut Told, kind: &str, first: &str, value: &[u8])
     requires { length value.now ≤ 1000 }
 {
-    let mut out = Vec::new(alloc);
-    match kind {
-        "literal" => {
-            let name = text(alloc, first)?;
-            InsertWithoutNameRef::write(&name, value, &mut out)?;
-            digits(alloc, &out)
-        }
-        _ => {
-            write_named(kind, small(first)?, value, &mut out)?;
-            digits(alloc, &out)
-        }
+    let mut out = Vec::new(told.alloc());
+    if kind == "literal" {
+        let name = told.text(first);
+        told.done(InsertWithoutNameRef::write(&name, value, &mut out));
+    } else {
+        let index = told.small(first);
+        write_named(told, kind, index, value, &mut out);
     }
+    told.digits(&out);
 }
 
-fn write_named(kind: &str, index: usize, value: &[u8], out: &mut Vec<u8>) -> Result<(), CaseError>
+fn write_named(told: &mut Told, kind: &str, index: usize, value: &[u8], out: &mut Vec<u8>)
     requires index { index < 65536 }
     requires value { length value.now ≤ 1000 }
 {
     match kind {
-        "static" => Ok(InsertWithNameRef::write_static(index, value, out)?),
-        "dynamic" => Ok(InsertWithNameRef::write_dynamic(index, value, out)?),
-        _ => Err(CaseError::Unreadable),
+        "static" => told.done(InsertWithNameRef::write_static(index, value, out)),
+        "dynamic" => told.done(InsertWithNameRef::write_dynamic(index, value, out)),
+        _ => told.unreadable(),
     }
 }

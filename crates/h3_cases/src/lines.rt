@@ -1,170 +1,155 @@
 //! Field lines and the prefix of a section (RFC 9204, section 4.5).
 ghost use Rattle.std.specs.Prelude.{◌<◌, ◌≤◌, length};
 
-use crate::case::{CaseError, bytes, digits, small, text, with_rest};
+use crate::case::Told;
 use h3_field::SliceCursor;
 use h3_field::block::{
     HeaderBlockField, HeaderPrefix, Indexed, IndexedWithPostBase, Literal, LiteralWithNameRef,
     LiteralWithPostBaseNameRef,
 };
-use std::alloc::Global;
 
-pub fn answer(alloc: Global, command: &str, words: &[&str]) -> Result<String, CaseError> {
+pub fn answer(told: &mut Told, command: &str, words: &[&str]) {
     match words {
         [digits] => {
-            let bytes = bytes(alloc, *digits)?;
-            read(alloc, command, &bytes)
+            let bytes = told.bytes(*digits);
+            read(told, command, &bytes);
         }
         [kind, index] => {
-            let mut out = Vec::new(alloc);
-            put(alloc, *kind, small(*index)?, &mut out)?;
-            digits(alloc, &out)
+            let index = told.small(*index);
+            put(told, *kind, index);
         }
-        [first, second, last] => {
-            match command {
-                "prefix" => {
-                    let bytes = bytes(alloc, *last)?;
-                    prefix(alloc, small(*first)?, small(*second)?, &bytes)
-                }
-                _ => {
-                    let value = text(alloc, *last)?;
-                    write(alloc, *first, *second, &value)
-                }
-            }
+        [first, second, last] => of_three(told, command, (*first, *second), *last),
+        [required, base, inserted, capacity] => {
+            let (required, base) = (told.small(*required), told.small(*base));
+            let (inserted, capacity) = (told.small(*inserted), told.small(*capacity));
+            put_prefix(told, required, base, (inserted, capacity));
         }
-        [required, base, inserted, capacity] => put_prefix(
-            alloc,
-            small(*required)?,
-            small(*base)?,
-            (small(*inserted)?, small(*capacity)?),
-        ),
-        _ => Err(CaseError::Unreadable),
+        _ => told.unreadable(),
     }
 }
 
+fn of_three(told: &mut Told, command: &str, front: (&str, &str), last: &str) {
+    let (first, second) = front;
+    if command == "prefix" {
+        let (inserted, capacity) = (told.small(first), told.small(second));
+        let bytes = told.bytes(last);
+        return prefix(told, inserted, capacity, &bytes);
+    }
+    let value = told.text(last);
+    write(told, first, second, &value);
+}
+
 /// The line at the front, or the kind that its first byte tells.
-fn read(alloc: Global, command: &str, bytes: &[u8]) -> Result<String, CaseError> {
+fn read(told: &mut Told, command: &str, bytes: &[u8]) {
     let mut buf = SliceCursor::new(bytes);
     match command {
         "indexed" => {
             let read = Indexed::decode(&mut buf);
-            with_rest(alloc, &read, buf.chunk())
+            told.with_rest(read, buf.chunk());
         }
         "post_base" => {
             let read = IndexedWithPostBase::decode(&mut buf);
-            with_rest(alloc, &read, buf.chunk())
+            told.with_rest(read, buf.chunk());
         }
         "named" => {
-            let read = LiteralWithNameRef::decode(alloc, &mut buf);
-            with_rest(alloc, &read, buf.chunk())
+            let read = LiteralWithNameRef::decode(told.alloc(), &mut buf);
+            told.with_rest(read, buf.chunk());
         }
         "post_base_named" => {
-            let read = LiteralWithPostBaseNameRef::decode(alloc, &mut buf);
-            with_rest(alloc, &read, buf.chunk())
+            let read = LiteralWithPostBaseNameRef::decode(told.alloc(), &mut buf);
+            told.with_rest(read, buf.chunk());
         }
         "literal" => {
-            let read = Literal::decode(alloc, &mut buf);
-            with_rest(alloc, &read, buf.chunk())
+            let read = Literal::decode(told.alloc(), &mut buf);
+            told.with_rest(read, buf.chunk());
         }
-        _ => kind(alloc, bytes),
+        _ => kind(told, bytes),
     }
 }
 
-fn kind(alloc: Global, bytes: &[u8]) -> Result<String, CaseError> {
-    let [first] = bytes else {
-        return Err(CaseError::Unreadable);
-    };
-    let kind = HeaderBlockField::decode(*first);
-    Ok(format!(in alloc; "{kind:?}")?)
+fn kind(told: &mut Told, bytes: &[u8]) {
+    match bytes {
+        [first] => told.debug(HeaderBlockField::decode(*first)),
+        _ => told.unreadable(),
+    }
 }
 
 /// A prefix, and what it says after so many insertions at this capacity.
-fn prefix(
-    alloc: Global,
-    inserted: usize,
-    capacity: usize,
-    bytes: &[u8],
-) -> Result<String, CaseError>
+fn prefix(told: &mut Told, inserted: usize, capacity: usize, bytes: &[u8])
     requires { inserted < 65536 }
 {
     let mut buf = SliceCursor::new(bytes);
     match HeaderPrefix::decode(&mut buf) {
-        Ok(prefix) => with_rest(alloc, &prefix.get(inserted, capacity), buf.chunk()),
-        Err(e) => with_rest(alloc, &e, buf.chunk()),
+        Ok(prefix) => told.with_rest(prefix.get(inserted, capacity), buf.chunk()),
+        Err(e) => told.with_rest(e, buf.chunk()),
     }
 }
 
 /// A line without a value, or of an empty one.
-fn put(alloc: Global, kind: &str, index: usize, out: &mut Vec<u8>) -> Result<(), CaseError>
+fn put(told: &mut Told, kind: &str, index: usize)
     requires { index < 65536 }
 {
+    let mut out = Vec::new(told.alloc());
     match kind {
-        "static" => Ok(Indexed::Static(index).encode(out)?),
-        "dynamic" => Ok(Indexed::Dynamic(index).encode(out)?),
-        "post_base" => Ok(IndexedWithPostBase(index).encode(out)?),
-        _ => put_empty(alloc, kind, index, out),
+        "static" => told.done(Indexed::Static(index).encode(&mut out)),
+        "dynamic" => told.done(Indexed::Dynamic(index).encode(&mut out)),
+        "post_base" => told.done(IndexedWithPostBase(index).encode(&mut out)),
+        _ => put_empty(told, kind, index, &mut out),
     }
+    told.digits(&out);
 }
 
-fn put_empty(alloc: Global, kind: &str, index: usize, out: &mut Vec<u8>) -> Result<(), CaseError>
+fn put_empty(told: &mut Told, kind: &str, index: usize, out: &mut Vec<u8>)
     requires { index < 65536 }
 {
-    let value = Vec::new(alloc);
+    let value = Vec::new(told.alloc());
     match kind {
-        "static_named" => Ok(LiteralWithNameRef::Static { index, value }.encode(out)?),
-        "post_base_named" => Ok(LiteralWithPostBaseNameRef { index, value }.encode(out)?),
+        "static_named" => told.done(LiteralWithNameRef::Static { index, value }.encode(out)),
+        "post_base_named" => told.done(LiteralWithPostBaseNameRef { index, value }.encode(out)),
         "literal" => {
-            let name = Vec::new(alloc);
-            Ok(Literal { name, value }.encode(out)?)
+            let name = Vec::new(told.alloc());
+            told.done(Literal { name, value }.encode(out));
         }
-        _ => Err(CaseError::Unreadable),
+        _ => told.unreadable(),
     }
 }
 
 /// A line with a value, behind an index or a name.
-fn write(alloc: Global, kind: &str, first: &str, value: &[u8]) -> Result<String, CaseError>
+fn write(told: &mut Told, kind: &str, first: &str, value: &[u8])
     requires { length value.now ≤ 1000 }
 {
-    let mut out = Vec::new(alloc);
-    match kind {
-        "literal" => {
-            let name = text(alloc, first)?;
-            Literal::write(&name, value, &mut out)?;
-            digits(alloc, &out)
-        }
-        _ => {
-            write_named(kind, small(first)?, value, &mut out)?;
-            digits(alloc, &out)
-        }
+    let mut out = Vec::new(told.alloc());
+    if kind == "literal" {
+        let name = told.text(first);
+        told.done(Literal::write(&name, value, &mut out));
+    } else {
+        let index = told.small(first);
+        write_named(told, kind, index, value, &mut out);
     }
+    told.digits(&out);
 }
 
-fn write_named(kind: &str, index: usize, value: &[u8], out: &mut Vec<u8>) -> Result<(), CaseError>
+fn write_named(told: &mut Told, kind: &str, index: usize, value: &[u8], out: &mut Vec<u8>)
     requires index { index < 65536 }
     requires value { length value.now ≤ 1000 }
 {
     match kind {
-        "static" => Ok(LiteralWithNameRef::write_static(index, value, out)?),
-        "dynamic" => Ok(LiteralWithNameRef::write_dynamic(index, value, out)?),
-        "post_base" => Ok(LiteralWithPostBaseNameRef::write(index, value, out)?),
-        _ => Err(CaseError::Unreadable),
+        "static" => told.done(LiteralWithNameRef::write_static(index, value, out)),
+        "dynamic" => told.done(LiteralWithNameRef::write_dynamic(index, value, out)),
+        "post_base" => told.done(LiteralWithPostBaseNameRef::write(index, value, out)),
+        _ => told.unreadable(),
     }
 }
 
 /// The prefix of a required insert count and a base, after so many insertions at a capacity.
-fn put_prefix(
-    alloc: Global,
-    required: usize,
-    base: usize,
-    table: (usize, usize),
-) -> Result<String, CaseError>
+fn put_prefix(told: &mut Told, required: usize, base: usize, table: (usize, usize))
     requires { base < 65536 }
 {
     let (inserted, capacity) = table;
     if required > inserted || capacity < 32 || inserted > 65535 {
-        return Err(CaseError::Unreadable);
+        return told.unreadable();
     }
-    let mut out = Vec::new(alloc);
-    HeaderPrefix::new(required, base, inserted, capacity).encode(&mut out)?;
-    digits(alloc, &out)
+    let mut out = Vec::new(told.alloc());
+    told.done(HeaderPrefix::new(required, base, inserted, capacity).encode(&mut out));
+    told.digits(&out);
 }

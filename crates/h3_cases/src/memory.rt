@@ -3,7 +3,7 @@
 ghost use Rattle.std.specs.Prelude.{◌≡◌, ◌<◌, ◌≤◌, ◌^◌, length, false};
 ghost use Rattle.h3_wire.specs.Streams.{left, is_open};
 
-use crate::case::{CaseError, digits};
+use crate::case::Told;
 use crate::feed::Feed;
 use bytes::Bytes;
 use h3_wire::buf::BufList;
@@ -11,7 +11,7 @@ use h3_wire::frame::{FrameDecoder, FrameStream, FrameStreamError};
 use h3_wire::proto::frame::{Frame, PayloadLen};
 use h3_wire::quic::{Poll, RecvStream};
 use h3_wire::stream::BufRecvStream;
-use std::alloc::Global;
+use std::alloc::{AllocError, Global};
 
 /// The first bytes that were seen, with no memory of their own.
 #[derive(Drop)]
@@ -32,22 +32,26 @@ impl Seen {
 }
 
 /// The payloads of HEADERS and DATA, at most 16 bytes, and how the stream ended. It asks for memory at the end alone.
-pub fn again(alloc: Global, feed: Feed<'_>) -> Result<String, CaseError>
+pub fn again(told: &mut Told, feed: Feed<'_>)
     requires { length feed.bytes.now < 2 ^ 62 }
 {
     let mut seen = Seen {
         bytes: [0; 16],
         len: 0,
     };
-    let mut stream = FrameStream::new(alloc, BufRecvStream::new(alloc, feed));
+    let source = BufRecvStream::new(told.alloc(), feed);
+    let mut stream = FrameStream::new(told.alloc(), source);
     let how = read_all(&mut stream, &mut seen);
-    shown(alloc, &seen, how)
+    drop(stream);
+    shown(told, &seen, how);
 }
 
-fn shown(alloc: Global, seen: &Seen, how: &str) -> Result<String, CaseError> {
-    let len = seen.len;
-    let bytes = digits(alloc, &seen.bytes)?;
-    Ok(format!(in alloc; "{how}, {len}: {bytes}")?)
+fn shown(told: &mut Told, seen: &Seen, how: &str) {
+    told.say(how);
+    told.say(",");
+    told.then_show(seen.len);
+    told.say(": ");
+    told.digits(&seen.bytes);
 }
 
 fn read_all(stream: &mut FrameStream<Feed<'_>>, seen: &mut Seen) -> &'static str
@@ -71,7 +75,9 @@ fn see_data<S: RecvStream>(stream: &mut FrameStream<S>, seen: &mut Seen) -> Opti
     ensures fewer { length (left S.rest stream.new) ≤ length (left S.rest stream.old) }
 {
     let polled = stream.poll_data();
-    add_data(&polled, seen)
+    let stop = add_data(&polled, seen);
+    drop(polled);
+    stop
 }
 
 fn add_data(
@@ -95,7 +101,9 @@ fn see_frame<S: RecvStream>(stream: &mut FrameStream<S>, seen: &mut Seen) -> Opt
     ensures fewer { length (left S.rest stream.new) ≤ length (left S.rest stream.old) }
 {
     let polled = stream.poll_next();
-    add_frame(&polled, seen)
+    let stop = add_frame(&polled, seen);
+    drop(polled);
+    stop
 }
 
 fn add_frame(
@@ -121,28 +129,35 @@ fn unless_memory(e: &FrameStreamError, how: &'static str) -> Option<&'static str
     }
 }
 
-// A copy, which is tried twice.
-fn copied(alloc: Global, bytes: &[u8]) -> Result<Bytes, CaseError> {
-    if let Ok(copy) = Bytes::copy_from_slice(alloc, bytes) {
-        return Ok(copy);
+/// A copy, which is tried twice.
+fn copied(alloc: Global, bytes: &[u8]) -> Result<Bytes, AllocError> {
+    match Bytes::copy_from_slice(alloc, bytes) {
+        Ok(copy) => Ok(copy),
+        Err(_) => Bytes::copy_from_slice(alloc, bytes),
     }
-    Ok(Bytes::copy_from_slice(alloc, bytes)?)
 }
 
 /// A frame in one piece: whether it was read, and how often it was tried. Where memory is refused no try is counted.
-pub fn tries(alloc: Global, bytes: &[u8]) -> Result<String, CaseError>
-    requires { length bytes.now < 2 ^ 62 }
-{
-    let mut buf = BufList::new(alloc);
-    let piece = copied(alloc, bytes)?;
-    if buf.reserve().is_err() {
-        buf.reserve()?;
+pub fn tries(told: &mut Told, bytes: &[u8]) {
+    match copied(told.alloc(), bytes) {
+        Ok(piece) => of_piece(told, piece),
+        Err(_) => told.refused(),
     }
-    buf.push_reserved(piece);
-    decoded(alloc, &mut buf)
 }
 
-fn decoded(alloc: Global, buf: &mut BufList<Bytes>) -> Result<String, CaseError> {
+fn of_piece(told: &mut Told, piece: Bytes) {
+    let mut buf = BufList::new(told.alloc());
+    if buf.reserve().is_err() && buf.reserve().is_err() {
+        drop(piece);
+        told.refused();
+    } else {
+        buf.push_reserved(piece);
+        decoded(told, &mut buf);
+    }
+}
+
+fn decoded(told: &mut Told, buf: &mut BufList<Bytes>) {
+    let alloc = told.alloc();
     let mut decoder = FrameDecoder::default();
     let mut refused = 0;
     let mut answer = decoder.decode(alloc, buf);
@@ -151,6 +166,11 @@ fn decoded(alloc: Global, buf: &mut BufList<Bytes>) -> Result<String, CaseError>
         answer = decoder.decode(alloc, buf);
     }
     let is_section = matches!(&answer, Ok(Some(Frame::Headers(_))));
-    let tries = decoder.tries();
-    Ok(format!(in alloc; "section {is_section}, tries {refused} then {tries}")?)
+    drop(answer);
+    told.say("section");
+    told.then_show(is_section);
+    told.say(", tries");
+    told.then_show(refused);
+    told.say(" then");
+    told.then_show(decoder.tries());
 }

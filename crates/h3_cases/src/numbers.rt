@@ -1,91 +1,86 @@
 //! Variable-length integers (RFC 9000, section 16).
-use crate::case::{CaseError, bytes, digits, number, with_rest};
+use crate::case::Told;
 use bytes::BytesMut;
 use h3_coding::coding::{BufExt, BufMutExt};
 use h3_coding::varint::VarInt;
-use std::alloc::Global;
 use std::io::Cursor;
 
-pub fn answer(alloc: Global, command: &str, words: &[&str]) -> Result<String, CaseError> {
+pub fn answer(told: &mut Told, command: &str, words: &[&str]) {
     match words {
-        [] => alone(alloc, command),
-        [word] => {
-            match command {
-                "write" => write(alloc, number(*word)?),
-                _ => {
-                    let bytes = bytes(alloc, *word)?;
-                    read(alloc, command, &bytes)
-                }
-            }
-        }
-        _ => Err(CaseError::Unreadable),
+        [] => alone(told, command),
+        [word] => of_word(told, command, *word),
+        _ => told.unreadable(),
     }
 }
 
-fn alone(alloc: Global, command: &str) -> Result<String, CaseError> {
+fn alone(told: &mut Told, command: &str) {
     match command {
-        "fill" => fill(alloc),
-        "texts" => texts(alloc),
-        _ => Err(CaseError::Unreadable),
+        "fill" => fill(told),
+        "texts" => texts(told),
+        _ => told.unreadable(),
     }
+}
+
+fn of_word(told: &mut Told, command: &str, word: &str) {
+    if command == "write" {
+        let number = told.number(word);
+        return write(told, number);
+    }
+    let bytes = told.bytes(word);
+    read(told, command, &bytes);
 }
 
 /// A value and its encoding, or why there is none.
-fn write(alloc: Global, number: u64) -> Result<String, CaseError> {
+fn write(told: &mut Told, number: u64) {
     match VarInt::from_u64(number) {
-        Ok(value) => encoded(alloc, value),
-        Err(e) => Ok(format!(in alloc; "{e:?}")?),
+        Ok(value) => encoded(told, value),
+        Err(e) => told.debug(e),
     }
 }
 
-fn encoded(alloc: Global, value: VarInt) -> Result<String, CaseError> {
-    let mut out = BytesMut::new(alloc);
-    value.encode(&mut out)?;
-    sized(alloc, out.as_slice(), value.size())
-}
-
-fn sized(alloc: Global, bytes: &[u8], size: usize) -> Result<String, CaseError> {
-    let digits = digits(alloc, bytes)?;
-    Ok(format!(in alloc; "{digits} size {size}")?)
+fn encoded(told: &mut Told, value: VarInt) {
+    let mut out = BytesMut::new(told.alloc());
+    told.done(value.encode(&mut out));
+    told.digits(out.as_slice());
+    told.say(" size");
+    told.then_show(value.size());
 }
 
 /// A number, a value, or a byte at the front.
-fn read(alloc: Global, command: &str, bytes: &[u8]) -> Result<String, CaseError> {
+fn read(told: &mut Told, command: &str, bytes: &[u8]) {
     let mut from = bytes;
     match command {
         "read" => match from.get_var() {
-            Ok(number) => with_rest(alloc, &number, from),
-            Err(e) => Ok(format!(in alloc; "{e:?}")?),
+            Ok(number) => told.with_rest(number, from),
+            Err(e) => told.debug(e),
         },
         "value" => {
             let read = BufExt::get::<VarInt>(&mut from);
-            with_rest(alloc, &read, from)
+            told.with_rest(read, from);
         }
         "byte" => {
             let read = BufExt::get::<u8>(&mut from);
-            with_rest(alloc, &read, from)
+            told.with_rest(read, from);
         }
-        _ => Err(CaseError::Unreadable),
+        _ => told.unreadable(),
     }
 }
 
 /// Into a room of three bytes: a number of four bytes, one of two, a byte, and one more.
-fn fill(alloc: Global) -> Result<String, CaseError> {
+fn fill(told: &mut Told) {
     let mut room = [0; 3];
     let mut out = Cursor::new(&mut room[..]);
-    let four = out.write_var(16384);
-    let two = out.write_var(64);
-    let last = out.write(7u8);
-    let more = out.write(7u8);
-    Ok(format!(in alloc; "{four:?} {two:?} {last:?} {more:?}")?)
+    told.debug(out.write_var(16384));
+    told.then_debug(out.write_var(64));
+    told.then_debug(out.write(7u8));
+    told.then_debug(out.write(7u8));
 }
 
 /// Half of 7, the default, and values of other types.
-fn texts(alloc: Global) -> Result<String, CaseError> {
-    let half = VarInt::from_u32(7) / 2;
-    let none = VarInt::default();
-    let byte = u64::from(VarInt::from(200u8));
-    let size = VarInt::try_from(5usize);
-    let short = VarInt::from(5u16);
-    Ok(format!(in alloc; "{half} {none:?} {byte} {size:?} {short:?}")?)
+fn texts(told: &mut Told) {
+    told.show(VarInt::from_u32(7) / 2);
+    told.then_debug(VarInt::default());
+    told.then_show(u64::from(VarInt::from(200u8)));
+    told.then_debug(VarInt::try_from(5usize));
+    told.then_debug(VarInt::from(5u16));
 }

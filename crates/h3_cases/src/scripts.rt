@@ -1,119 +1,122 @@
 //! Lines of scripts, and the events that they are.
 ghost use Rattle.std.specs.Prelude.{◌<◌, ◌^◌};
 
-use crate::case::{CaseError, number, said, text};
+use crate::case::Told;
 use h3_header::Header;
 use h3_proto::stream::{Side, StreamId};
 use h3_script::error::ScriptError;
 use h3_script::script::{Script, parse};
 use h3_world::event::Event;
-use percent_encoding::percent_decode;
-use std::alloc::{AllocError, Global};
 
 const MOST: u64 = 1 << 48;
 
 /// A line behind a setup, a line between a setup and an event, or a script of at most so many bytes. Any byte may be an escape,
 /// as `%20`.
-pub fn answer(alloc: Global, command: &str, rest: &str) -> Result<String, CaseError> {
+pub fn answer(told: &mut Told, command: &str, rest: &str) {
     match command {
-        "line" => framed(
-            alloc,
-            "config 1000 0 0 1000 0 0%0A%0A# a comment%0A",
-            rest,
-            "%0A",
-        ),
-        "refused" => framed(alloc, "config 0 0 0 0 0 0%0A", rest, "%0Aopen c%0A"),
-        "read" => framed(alloc, "", rest, ""),
+        "line" => {
+            let setup = "config 1000 0 0 1000 0 0%0A%0A# a comment%0A";
+            framed(told, setup, rest, "%0A");
+        }
+        "refused" => framed(told, "config 0 0 0 0 0 0%0A", rest, "%0Aopen c%0A"),
+        "read" => framed(told, "", rest, ""),
         _ => {
-            let most = number(command)?;
-            if most > MOST {
-                return Err(CaseError::Unreadable);
-            }
-            let text = text(alloc, rest)?;
-            read(alloc, &text, most)
+            let most = told.number(command);
+            at_most(told, most, rest);
         }
     }
 }
 
-fn framed(alloc: Global, front: &str, line: &str, end: &str) -> Result<String, CaseError> {
-    let mut text = Vec::new(alloc);
-    percent_decode(front.as_bytes()).append_to(&mut text)?;
-    percent_decode(line.as_bytes()).append_to(&mut text)?;
-    percent_decode(end.as_bytes()).append_to(&mut text)?;
-    read(alloc, &text, MOST)
+fn at_most(told: &mut Told, most: u64, rest: &str) {
+    if most > MOST {
+        return told.unreadable();
+    }
+    let text = told.text(rest);
+    read(told, &text, most);
+}
+
+fn framed(told: &mut Told, front: &str, line: &str, end: &str) {
+    let mut text = told.decoded(front);
+    told.append(&mut text, line);
+    told.append(&mut text, end);
+    read(told, &text, MOST);
 }
 
 /// The script, or the line that is refused.
-fn read(alloc: Global, text: &[u8], most: u64) -> Result<String, CaseError>
+fn read(told: &mut Told, text: &[u8], most: u64)
     requires { most < 2 ^ 62 }
 {
-    match parse(alloc, text, most) {
-        Ok(script) => told(alloc, &script),
-        Err(ScriptError::Line(number)) => Ok(format!(in alloc; "refused at {number}")?),
-        Err(ScriptError::OutOfMemory) => Err(CaseError::Refused),
+    match parse(told.alloc(), text, most) {
+        Ok(script) => {
+            of_script(told, &script);
+            drop(script);
+        }
+        Err(ScriptError::Line(number)) => {
+            told.say("refused at");
+            told.then_show(number);
+        }
+        Err(ScriptError::OutOfMemory) => told.refused(),
     }
 }
 
 /// The tables and how many streams may wait, of the client and of the server; and the events.
-fn told(alloc: Global, script: &Script) -> Result<String, CaseError> {
+fn of_script(told: &mut Told, script: &Script) {
     let (client, server) = (script.setup.client.limits, script.setup.server.limits);
-    let (table, blocked) = (client.table, client.blocked);
-    let (other_table, other_blocked) = (server.table, server.blocked);
-    let mut text = format!(in alloc; "{table} {blocked} {other_table} {other_blocked}:")?;
+    told.show(client.table);
+    told.then_show(client.blocked);
+    told.then_show(server.table);
+    told.then_show(server.blocked);
+    told.say(":");
     for event in &script.events {
-        push(&mut text, words(alloc, event)?.as_str())?;
+        told.say(" ");
+        of_event(told, event);
+        told.say(";");
     }
-    Ok(text)
-}
-
-fn push(text: &mut String, word: &str) -> Result<(), AllocError> {
-    text.push(' ')?;
-    text.push_str(word)?;
-    text.push(';')
 }
 
 /// The event in words: its name, its side, and what it carries. A field section is counted in fields.
-fn words(alloc: Global, event: &Event) -> Result<String, AllocError> {
+fn of_event(told: &mut Told, event: &Event) {
     match event {
-        Event::OpenRequest(side) => format!(in alloc; "OpenRequest {side:?}"),
-        Event::Head(side, id, head) => sized(alloc, "Head", (*side, *id), head),
+        Event::OpenRequest(side) => sided(told, "OpenRequest", *side),
+        Event::Head(side, id, head) => sized(told, "Head", (*side, *id), head),
         Event::Body(side, id, bytes) => {
-            let number = id.into_inner();
-            let bytes = bytes.as_slice();
-            format!(in alloc; "Body {side:?} {number} {bytes:?}")
+            named(told, "Body", *side, *id);
+            told.then_debug(bytes.as_slice());
         }
-        Event::Trailer(side, id, trailer) => sized(alloc, "Trailer", (*side, *id), trailer),
-        Event::Finish(side, id) => named(alloc, "Finish", *side, *id),
-        Event::Reset(side, id) => named(alloc, "Reset", *side, *id),
-        Event::Cancel(side, id) => named(alloc, "Cancel", *side, *id),
+        Event::Trailer(side, id, trailer) => sized(told, "Trailer", (*side, *id), trailer),
+        Event::Finish(side, id) => named(told, "Finish", *side, *id),
+        Event::Reset(side, id) => named(told, "Reset", *side, *id),
+        Event::Cancel(side, id) => named(told, "Cancel", *side, *id),
         Event::Goaway(side, number) => {
-            let number = number.into_inner();
-            format!(in alloc; "Goaway {side:?} {number}")
+            sided(told, "Goaway", *side);
+            told.then_show(number.into_inner());
         }
         Event::Deliver(side, id, count) => {
-            let number = id.into_inner();
-            format!(in alloc; "Deliver {side:?} {number} {count}")
+            named(told, "Deliver", *side, *id);
+            told.then_show(*count);
         }
-        Event::DeliverEnd(side, id) => named(alloc, "DeliverEnd", *side, *id),
-        Event::DeliverReset(side, id) => named(alloc, "DeliverReset", *side, *id),
-        Event::Pull(side, id) => named(alloc, "Pull", *side, *id),
-        Event::Show(side) => format!(in alloc; "Show {side:?}"),
+        Event::DeliverEnd(side, id) => named(told, "DeliverEnd", *side, *id),
+        Event::DeliverReset(side, id) => named(told, "DeliverReset", *side, *id),
+        Event::Pull(side, id) => named(told, "Pull", *side, *id),
+        Event::Show(side) => sided(told, "Show", *side),
     }
 }
 
-fn named(alloc: Global, name: &str, side: Side, id: StreamId) -> Result<String, AllocError> {
-    let number = id.into_inner();
-    format!(in alloc; "{name} {side:?} {number}")
+fn sided(told: &mut Told, name: &str, side: Side) {
+    told.say(name);
+    told.then_debug(side);
 }
 
-fn sized(
-    alloc: Global,
-    name: &str,
-    stream: (Side, StreamId),
-    section: &Header,
-) -> Result<String, AllocError> {
+fn named(told: &mut Told, name: &str, side: Side, id: StreamId) {
+    sided(told, name, side);
+    told.then_show(id.into_inner());
+}
+
+fn sized(told: &mut Told, name: &str, stream: (Side, StreamId), section: &Header) {
     let (side, id) = stream;
-    let number = id.into_inner();
-    let count = section.fields(alloc)?.len();
-    format!(in alloc; "{name} {side:?} {number} {count}")
+    named(told, name, side, id);
+    match section.fields(told.alloc()) {
+        Ok(fields) => told.then_show(fields.len()),
+        Err(_) => told.refused(),
+    }
 }

@@ -1,32 +1,31 @@
 //! Whole field sections without a dynamic table, and the fields that they are of.
-use crate::case::{CaseError, bytes, number, text};
+use crate::case::Told;
 use h3_field::{
     Decoded, DecoderError, EncoderError, HeaderField, SliceCursor, decode_stateless, dynamic,
     encode_stateless, prefix_int, section_size, vas,
 };
-use std::alloc::Global;
 use std::borrow::CowSlice;
 
-pub fn answer(alloc: Global, command: &str, words: &[&str]) -> Result<String, CaseError> {
-    match command {
-        "write" => write(alloc, &fields(alloc, words)?),
-        _ => match words {
-            [] => errors(alloc, command),
-            [first, second] => {
-                match command {
-                    "read" => {
-                        let section = bytes(alloc, *second)?;
-                        read(alloc, number(*first)?, &section)
-                    }
-                    _ => {
-                        let name = text(alloc, *first)?;
-                        of_field(alloc, command, field(name, text(alloc, *second)?))
-                    }
-                }
-            }
-            _ => Err(CaseError::Unreadable),
-        },
+pub fn answer(told: &mut Told, command: &str, words: &[&str]) {
+    if command == "write" {
+        return write(told, words);
     }
+    match words {
+        [] => errors(told, command),
+        [first, second] => of_two(told, command, *first, *second),
+        _ => told.unreadable(),
+    }
+}
+
+fn of_two(told: &mut Told, command: &str, first: &str, second: &str) {
+    if command == "read" {
+        let limit = told.number(first);
+        let section = told.bytes(second);
+        return read(told, limit, &section);
+    }
+    let name = told.text(first);
+    let value = told.text(second);
+    of_field(told, command, field(name, value));
 }
 
 /// A field of bytes of its own.
@@ -35,96 +34,119 @@ pub fn field(name: Vec<u8>, value: Vec<u8>) -> HeaderField {
 }
 
 /// The fields of words `name=value`.
-pub fn fields(alloc: Global, words: &[&str]) -> Result<Vec<HeaderField>, CaseError> {
-    let mut fields = Vec::new(alloc);
+pub fn fields(told: &mut Told, words: &[&str]) -> Vec<HeaderField> {
+    let mut fields = Vec::new(told.alloc());
     for word in words {
-        let Some((name, value)) = word.split_once('=') else {
-            return Err(CaseError::Unreadable);
-        };
-        let name = text(alloc, name)?;
-        fields.push(field(name, text(alloc, value)?))?;
+        push(told, &mut fields, *word);
     }
-    Ok(fields)
+    fields
 }
 
-/// A word `name=value` of a field.
-pub fn push_field(text: &mut String, field: &HeaderField) -> Result<(), CaseError> {
-    text.push(' ')?;
-    text.push_str(str::from_utf8(field.name()).unwrap_or("?"))?;
-    text.push('=')?;
-    text.push_str(str::from_utf8(field.value()).unwrap_or("?"))?;
-    Ok(())
+fn push(told: &mut Told, fields: &mut Vec<HeaderField>, word: &str) {
+    let (name, value) = told.pair(word);
+    let name = told.decoded(name);
+    let value = told.decoded(value);
+    told.done(fields.push(field(name, value)));
 }
 
 /// The size of a section, whether a dynamic entry is named, its fields, and how many bytes are left; or why it is refused.
-fn read(alloc: Global, limit: u64, section: &[u8]) -> Result<String, CaseError> {
+fn read(told: &mut Told, limit: u64, section: &[u8]) {
     let mut buf = SliceCursor::new(section);
-    match decode_stateless(alloc, &mut buf, limit) {
-        Ok(decoded) => told(alloc, &decoded, buf.remaining()),
-        Err(e) => crate::case::with_rest(alloc, &e, buf.chunk()),
+    match decode_stateless(told.alloc(), &mut buf, limit) {
+        Ok(decoded) => of_section(told, &decoded, buf.remaining()),
+        Err(e) => told.with_rest(e, buf.chunk()),
     }
 }
 
-fn told(alloc: Global, decoded: &Decoded, left: usize) -> Result<String, CaseError> {
-    let (size, named) = (decoded.mem_size, decoded.dyn_ref);
-    let mut text = format!(in alloc; "size {size} dynamic {named} left {left}:")?;
+fn of_section(told: &mut Told, decoded: &Decoded, left: usize) {
+    told.say("size");
+    told.then_show(decoded.mem_size);
+    told.say(" dynamic");
+    told.then_show(decoded.dyn_ref);
+    told.say(" left");
+    told.then_show(left);
+    told.say(":");
     for field in &decoded.fields {
-        push_field(&mut text, field)?;
+        told.field(field);
     }
-    Ok(text)
 }
 
-/// The section of fields, and its size.
-fn write(alloc: Global, fields: &[HeaderField]) -> Result<String, CaseError> {
+/// The section of the fields of words `name=value`, and its size.
+fn write(told: &mut Told, words: &[&str]) {
+    let fields = fields(told, words);
+    written(told, &fields);
+}
+
+fn written(told: &mut Told, fields: &[HeaderField]) {
     let sum = section_size(fields);
     if sum > 1000 {
-        return Err(CaseError::Unreadable);
+        return told.unreadable();
     }
-    let mut section = Vec::new(alloc);
+    let mut section = Vec::new(told.alloc());
     let size = encode_stateless(&mut section, fields);
-    crate::case::with_rest(alloc, &(sum, size), &section)
+    told.with_rest((sum, size), &section);
 }
 
 /// The texts of a field, or the parts that it is taken into.
-fn of_field(alloc: Global, command: &str, field: HeaderField) -> Result<String, CaseError> {
+fn of_field(told: &mut Told, command: &str, field: HeaderField) {
     match command {
-        "print" => Ok(format!(in alloc; "{field}")?),
-        "other_value" => {
-            let other = field.with_value(alloc, CowSlice::Borrowed(b"2"))?;
-            Ok(other.into_string(alloc)?)
-        }
-        "parts" => taken(alloc, field),
-        "copied" => {
-            let copy = HeaderField::copied(alloc, field.name(), field.value());
+        "print" => told.show(field),
+        "other_value" => other_value(told, field),
+        "parts" => taken(told, field),
+        "copied" => copied(told, field),
+        _ => {
             drop(field);
-            taken(alloc, copy?)
+            told.unreadable();
         }
-        _ => Err(CaseError::Unreadable),
+    }
+}
+
+fn other_value(told: &mut Told, field: HeaderField) {
+    let made = field.with_value(told.alloc(), CowSlice::Borrowed(b"2"));
+    drop(field);
+    match made {
+        Ok(other) => {
+            let text = other.into_string(told.alloc());
+            told.put(text);
+        }
+        Err(_) => told.refused(),
+    }
+}
+
+fn copied(told: &mut Told, field: HeaderField) {
+    let made = HeaderField::copied(told.alloc(), field.name(), field.value());
+    drop(field);
+    match made {
+        Ok(copy) => taken(told, copy),
+        Err(_) => told.refused(),
     }
 }
 
 /// A field put together from the parts of one, and whether it is the one of borrowed bytes.
-fn taken(alloc: Global, field: HeaderField) -> Result<String, CaseError> {
-    let (name, value) = field.into_inner(alloc)?;
-    parts(alloc, &HeaderField::from((name, value)))
+fn taken(told: &mut Told, field: HeaderField) {
+    match field.into_inner(told.alloc()) {
+        Ok(parts) => of_parts(told, HeaderField::from(parts)),
+        Err(_) => told.refused(),
+    }
 }
 
 /// The parts of a field, and whether it is the one of borrowed bytes.
-fn parts(alloc: Global, field: &HeaderField) -> Result<String, CaseError> {
-    let borrowed = HeaderField::from_static(b":path", b"a");
-    let same = *field == borrowed;
+fn of_parts(told: &mut Told, field: HeaderField) {
     field.are_bytes();
-    let (name, value) = (field.as_ref().name(), field.value());
-    Ok(format!(in alloc; "{name:?} {value:?} same {same}")?)
+    let same = field == HeaderField::from_static(b":path", b"a");
+    told.debug(field.as_ref().name());
+    told.then_debug(field.value());
+    told.say(" same");
+    told.then_show(same);
+    drop(field);
 }
 
 /// The texts of errors that are made of others.
-fn errors(alloc: Global, command: &str) -> Result<String, CaseError> {
+fn errors(told: &mut Told, command: &str) {
     if command != "errors" {
-        return Err(CaseError::Unreadable);
+        return told.unreadable();
     }
-    let end = DecoderError::from(prefix_int::Error::UnexpectedEnd);
-    let gone = EncoderError::from(dynamic::Error::from(vas::Error::Index(3)));
-    let memory = DecoderError::from(dynamic::Error::OutOfMemory);
-    Ok(format!(in alloc; "{end} {gone} {memory:?}")?)
+    told.show(DecoderError::from(prefix_int::Error::UnexpectedEnd));
+    told.then_show(EncoderError::from(dynamic::Error::from(vas::Error::Index(3))));
+    told.then_debug(DecoderError::from(dynamic::Error::OutOfMemory));
 }

@@ -2,173 +2,165 @@
 ghost use Rattle.std.specs.Prelude.{◌≡◌, ◌<◌, ◌≤◌, ◌^◌, length, false};
 ghost use Rattle.h3_wire.specs.Streams.{left, is_open};
 
-use crate::case::{CaseError, bytes, digits, said, small};
+use crate::case::Told;
 use crate::feed::{Feed, Last};
 use crate::memory;
 use bytes::{Buf, Bytes};
 use h3_wire::frame::{FrameStream, FrameStreamError};
 use h3_wire::proto::frame::{Frame, PayloadLen};
 use h3_wire::quic::{Poll, RecvStream};
-use h3_wire::stream::{AcceptRecvStream, AcceptedRecvStream, BufRecvStream, PollTypeError};
-use std::alloc::{AllocError, Global};
+use h3_wire::stream::{AcceptRecvStream, AcceptedRecvStream, BufRecvStream};
 
-pub fn answer(alloc: Global, command: &str, words: &[&str]) -> Result<String, CaseError> {
+pub fn answer(told: &mut Told, command: &str, words: &[&str]) {
     match words {
-        [] => fixed(alloc, command),
-        [first] => {
-            match command {
-                "section" => long_section(alloc, small(*first)?),
-                _ => {
-                    let bytes = bytes(alloc, *first)?;
-                    of_bytes(alloc, command, &bytes)
-                }
-            }
-        }
+        [] => fixed(told, command),
+        [first] => of_word(told, command, *first),
         [first, later, last, digits, calls @ ..] => {
-            let bytes = bytes(alloc, *digits)?;
+            let bytes = told.bytes(*digits);
             let feed = Feed {
                 bytes: &bytes,
-                first: small(*first)?,
-                later: small(*later)?,
-                last: ending(*last)?,
-                alloc,
+                first: told.small(*first),
+                later: told.small(*later),
+                last: ending(told, *last),
+                alloc: told.alloc(),
             };
-            of_feed(alloc, command, feed, calls)
+            of_feed(told, command, feed, calls);
         }
-        _ => Err(CaseError::Unreadable),
+        _ => told.unreadable(),
+    }
+}
+
+fn of_word(told: &mut Told, command: &str, word: &str) {
+    if command == "section" {
+        let first = told.small(word);
+        return long_section(told, first);
+    }
+    let bytes = told.bytes(word);
+    match command {
+        "cuts" => cuts(told, &bytes),
+        "tries" => memory::tries(told, &bytes),
+        _ => told.unreadable(),
     }
 }
 
 /// What comes behind the bytes.
-fn ending(word: &str) -> Result<Last, CaseError> {
+fn ending(told: &mut Told, word: &str) -> Last {
     match word {
-        "end" => Ok(Last::End),
-        "nothing" => Ok(Last::Nothing),
-        "reset" => Ok(Last::Reset),
-        _ => Err(CaseError::Unreadable),
+        "end" => Last::End,
+        "nothing" => Last::Nothing,
+        "reset" => Last::Reset,
+        _ => {
+            told.unreadable();
+            Last::End
+        }
     }
 }
 
-fn of_feed(
-    alloc: Global,
-    command: &str,
-    feed: Feed<'_>,
-    calls: &[&str],
-) -> Result<String, CaseError>
+fn of_feed(told: &mut Told, command: &str, feed: Feed<'_>, calls: &[&str])
     requires { length feed.bytes.now < 2 ^ 62 }
 {
     match command {
-        "read" => read(alloc, feed),
-        "poll" => polls(alloc, feed, calls),
-        "accept" => accept(alloc, feed),
-        "again" => memory::again(alloc, feed),
-        _ => Err(CaseError::Unreadable),
+        "read" => read(told, feed),
+        "poll" => polls(told, feed, calls),
+        "accept" => accept(told, feed),
+        "again" => memory::again(told, feed),
+        _ => told.unreadable(),
     }
 }
 
 /// The frames of a stream and how it ended, and the bytes of all payloads.
-fn read(alloc: Global, feed: Feed<'_>) -> Result<String, CaseError>
+fn read(told: &mut Told, feed: Feed<'_>)
     requires { length feed.bytes.now < 2 ^ 62 }
 {
-    let mut payload = Vec::new(alloc);
-    let log = read_all(alloc, feed, &mut payload)?;
-    let payload = digits(alloc, &payload)?;
-    Ok(format!(in alloc; "{log} payload {payload}")?)
+    let mut payload = Vec::new(told.alloc());
+    read_all(told, feed, &mut payload);
+    told.say(" payload ");
+    told.digits(&payload);
 }
 
-fn read_all(alloc: Global, feed: Feed<'_>, payload: &mut Vec<u8>) -> Result<String, AllocError>
+fn read_all(told: &mut Told, feed: Feed<'_>, payload: &mut Vec<u8>)
     requires { length feed.bytes.now < 2 ^ 62 }
 {
-    let mut log = String::new(alloc);
-    let mut stream = FrameStream::new(alloc, BufRecvStream::new(alloc, feed));
-    read_on(alloc, &mut stream, &mut log, payload)?;
-    Ok(log)
+    let source = BufRecvStream::new(told.alloc(), feed);
+    let mut stream = FrameStream::new(told.alloc(), source);
+    read_on(told, &mut stream, payload);
+    drop(stream);
 }
 
-fn read_on(
-    alloc: Global,
-    stream: &mut FrameStream<Feed<'_>>,
-    log: &mut String,
-    payload: &mut Vec<u8>,
-) -> Result<(), AllocError>
+fn read_on(told: &mut Told, stream: &mut FrameStream<Feed<'_>>, payload: &mut Vec<u8>)
     requires { length (left (λ f. f.bytes.now) stream.old) < 2 ^ 62 }
 {
     for _ in 0..400u32 {
         let goes_on = if stream.has_data() {
-            data(stream, log, payload)?
+            data(told, stream, payload)
         } else {
-            frame(alloc, stream, log)?
+            frame(told, stream)
         };
         if !goes_on {
-            return Ok(());
+            return;
         }
     }
-    log.push_str("no end")
+    told.say("no end");
 }
 
-/// Asks for the next frame, puts its text into the log, and answers whether there was one.
-fn frame<S: RecvStream>(
-    alloc: Global,
-    stream: &mut FrameStream<S>,
-    log: &mut String,
-) -> Result<bool, AllocError>
+/// Asks for the next frame, tells it, and answers whether there was one.
+fn frame<S: RecvStream>(told: &mut Told, stream: &mut FrameStream<S>) -> bool
     requires closed { is_open stream.old.payload ≡ false }
     requires few { length (left S.rest stream.old) < 2 ^ 62 }
     ensures fewer { length (left S.rest stream.new) ≤ length (left S.rest stream.old) }
 {
     let polled = stream.poll_next();
-    log_frame(alloc, &polled, log)
+    let goes_on = tell_frame(told, &polled);
+    drop(polled);
+    goes_on
 }
 
-fn log_frame(
-    alloc: Global,
+fn tell_frame(
+    told: &mut Told,
     polled: &Poll<Result<Option<Frame<PayloadLen>>, FrameStreamError>>,
-    log: &mut String,
-) -> Result<bool, AllocError> {
+) -> bool {
     match polled {
         Poll::Ready(Ok(Some(frame))) => {
-            let word = format!(in alloc; "{frame:?};")?;
-            log.push_str(word.as_str())?;
-            Ok(true)
+            told.debug(frame);
+            told.say(";");
+            true
         }
-        Poll::Ready(Ok(None)) => stops(log, "end"),
-        Poll::Ready(Err(e)) => stops(log, error_text(e)),
-        Poll::Pending => stops(log, "pending"),
+        Poll::Ready(Ok(None)) => stops(told, "end"),
+        Poll::Ready(Err(e)) => stops(told, error_text(e)),
+        Poll::Pending => stops(told, "pending"),
     }
 }
 
-/// Puts how a stream stopped into the log.
-fn stops(log: &mut String, how: &str) -> Result<bool, AllocError> {
-    log.push_str(how)?;
-    Ok(false)
+/// Tells how a stream stopped.
+fn stops(told: &mut Told, how: &str) -> bool {
+    told.say(how);
+    false
 }
 
 /// Asks for the next bytes of a payload, and answers whether there were some.
-fn data<S: RecvStream>(
-    stream: &mut FrameStream<S>,
-    log: &mut String,
-    payload: &mut Vec<u8>,
-) -> Result<bool, AllocError>
+fn data<S: RecvStream>(told: &mut Told, stream: &mut FrameStream<S>, payload: &mut Vec<u8>) -> bool
     requires few { length (left S.rest stream.old) < 2 ^ 62 }
     ensures fewer { length (left S.rest stream.new) ≤ length (left S.rest stream.old) }
 {
     let polled = stream.poll_data();
-    log_data(&polled, log, payload)
+    let goes_on = tell_data(told, &polled, payload);
+    drop(polled);
+    goes_on
 }
 
-fn log_data(
+fn tell_data(
+    told: &mut Told,
     polled: &Poll<Result<Option<Bytes>, FrameStreamError>>,
-    log: &mut String,
     payload: &mut Vec<u8>,
-) -> Result<bool, AllocError> {
+) -> bool {
     match polled {
         Poll::Ready(Ok(Some(bytes))) => {
-            payload.extend_from_slice(bytes.as_slice())?;
-            Ok(true)
+            told.done(payload.extend_from_slice(bytes.as_slice()));
+            true
         }
-        Poll::Ready(Ok(None)) => stops(log, "payload over"),
-        Poll::Ready(Err(e)) => stops(log, error_text(e)),
-        Poll::Pending => stops(log, "pending"),
+        Poll::Ready(Ok(None)) => stops(told, "payload over"),
+        Poll::Ready(Err(e)) => stops(told, error_text(e)),
+        Poll::Pending => stops(told, "pending"),
     }
 }
 
@@ -182,202 +174,203 @@ fn error_text(e: &FrameStreamError) -> &'static str {
 }
 
 /// What single calls answer.
-fn polls(alloc: Global, feed: Feed<'_>, calls: &[&str]) -> Result<String, CaseError>
+fn polls(told: &mut Told, feed: Feed<'_>, calls: &[&str])
     requires { length feed.bytes.now < 2 ^ 62 }
 {
-    let mut log = String::new(alloc);
-    let mut stream = FrameStream::new(alloc, BufRecvStream::new(alloc, feed));
-    poll_each(alloc, &mut stream, calls, &mut log)?;
-    Ok(log)
+    let source = BufRecvStream::new(told.alloc(), feed);
+    let mut stream = FrameStream::new(told.alloc(), source);
+    poll_each(told, &mut stream, calls);
+    drop(stream);
 }
 
-fn poll_each(
-    alloc: Global,
-    stream: &mut FrameStream<Feed<'_>>,
-    calls: &[&str],
-    log: &mut String,
-) -> Result<(), CaseError>
+fn poll_each(told: &mut Told, stream: &mut FrameStream<Feed<'_>>, calls: &[&str])
     requires { length (left (λ f. f.bytes.now) stream.old) < 2 ^ 62 }
 {
     for call in calls {
-        poll(alloc, stream, *call, log)?;
+        poll(told, stream, *call);
     }
-    Ok(())
 }
 
 /// Asks for a frame, or else for a piece of a payload.
-fn poll<S: RecvStream>(
-    alloc: Global,
-    stream: &mut FrameStream<S>,
-    call: &str,
-    log: &mut String,
-) -> Result<(), CaseError>
+fn poll<S: RecvStream>(told: &mut Told, stream: &mut FrameStream<S>, call: &str)
     requires few { length (left S.rest stream.old) < 2 ^ 62 }
     ensures fewer { length (left S.rest stream.new) ≤ length (left S.rest stream.old) }
 {
     if call == "frame" && !stream.has_data() {
-        let _goes_on = frame(alloc, stream, log)?;
-        return Ok(());
+        let _goes_on = frame(told, stream);
+        return;
     }
-    let mut piece = Vec::new(alloc);
-    let _goes_on = data(stream, log, &mut piece)?;
-    put_piece(alloc, &piece, log)
-}
-
-fn put_piece(alloc: Global, piece: &[u8], log: &mut String) -> Result<(), CaseError> {
-    let digits = digits(alloc, piece)?;
-    let word = format!(in alloc; "({digits})")?;
-    log.push_str(word.as_str())?;
-    Ok(())
+    let mut piece = Vec::new(told.alloc());
+    let _goes_on = data(told, stream, &mut piece);
+    told.say("(");
+    told.digits(&piece);
+    told.say(")");
 }
 
 /// The stream by its type, and how many bytes behind it were read, or why its type is not known.
-fn accept(alloc: Global, feed: Feed<'_>) -> Result<String, CaseError>
+fn accept(told: &mut Told, feed: Feed<'_>)
     requires { length feed.bytes.now < 2 ^ 62 }
 {
-    let mut stream = AcceptRecvStream::new(alloc, feed);
+    let mut stream = AcceptRecvStream::new(told.alloc(), feed);
     let polled = stream.poll_type();
-    if !stream.is_resolved() {
-        return unknown(alloc, &polled);
+    if stream.is_resolved() {
+        drop(polled);
+        accepted(told, stream.into_stream());
+    } else {
+        drop(stream);
+        told.debug(polled);
     }
-    match stream.into_stream() {
+}
+
+fn accepted(told: &mut Told, stream: AcceptedRecvStream<Feed<'_>>) {
+    tell_accepted(told, &stream);
+    drop(stream);
+}
+
+fn tell_accepted<S: RecvStream>(told: &mut Told, stream: &AcceptedRecvStream<S>) {
+    match stream {
         AcceptedRecvStream::WebTransportUni(session, rest) => {
-            let left = rest.remaining();
-            Ok(format!(in alloc; "{session:?}, {left} behind")?)
+            told.debug(session);
+            told.say(",");
+            told.then_show(rest.remaining());
+            told.say(" behind");
         }
-        _ => said(alloc, "another type"),
-    }
-}
-
-fn unknown(alloc: Global, polled: &Poll<Result<(), PollTypeError>>) -> Result<String, CaseError> {
-    Ok(format!(in alloc; "{polled:?}")?)
-}
-
-fn of_bytes(alloc: Global, command: &str, bytes: &[u8]) -> Result<String, CaseError>
-    requires { length bytes.now < 2 ^ 62 }
-{
-    match command {
-        "cuts" => cuts(alloc, bytes),
-        "tries" => memory::tries(alloc, bytes),
-        _ => Err(CaseError::Unreadable),
+        _ => told.say("another type"),
     }
 }
 
 /// What is read of the bytes that are cut in two, in every place: each answer that is not the one before.
-fn cuts(alloc: Global, bytes: &[u8]) -> Result<String, CaseError>
+fn cuts(told: &mut Told, bytes: &[u8])
     requires { length bytes.now < 2 ^ 62 }
 {
-    let mut text = String::new(alloc);
-    let mut before = String::new(alloc);
+    let mut before = String::new(told.alloc());
     for cut in 0..=bytes.len() {
-        let feed = Feed {
-            bytes,
-            first: cut,
-            later: 99,
-            last: Last::End,
-            alloc,
-        };
-        let now = read(alloc, feed)?;
-        if now.as_str() != before.as_str() {
-            text.push_str(now.as_str())?;
-            text.push_str("; ")?;
-        }
+        let now = cut_at(told, bytes, cut);
+        tell_change(told, before, now.as_str());
         before = now;
     }
-    Ok(text)
 }
 
-fn fixed(alloc: Global, command: &str) -> Result<String, CaseError> {
+fn tell_change(told: &mut Told, before: String, now: &str) {
+    if now != before.as_str() {
+        told.say(now);
+        told.say("; ");
+    }
+    drop(before);
+}
+
+fn cut_at(told: &mut Told, bytes: &[u8], cut: usize) -> String
+    requires { length bytes.now < 2 ^ 62 }
+{
+    let feed = Feed {
+        bytes,
+        first: cut,
+        later: 99,
+        last: Last::End,
+        alloc: told.alloc(),
+    };
+    let mut other = Told::new(told.alloc());
+    read(&mut other, feed);
+    told.taken(other)
+}
+
+fn fixed(told: &mut Told, command: &str) {
     match command {
-        "body" => long_body(alloc),
-        "print" => printed(alloc, three_bytes(alloc)),
-        "parts" => parts(alloc, three_bytes(alloc)),
-        _ => Err(CaseError::Unreadable),
+        "body" => long_body(told),
+        "print" => {
+            let stream = three_bytes(told);
+            told.debug(stream);
+        }
+        "parts" => {
+            let stream = three_bytes(told);
+            parts(told, stream);
+        }
+        _ => told.unreadable(),
     }
 }
 
-fn three_bytes(alloc: Global) -> BufRecvStream<Feed<'static>> {
+fn three_bytes(told: &Told) -> BufRecvStream<Feed<'static>> {
     let feed = Feed {
         bytes: b"abc",
         first: 9,
         later: 9,
         last: Last::End,
-        alloc,
+        alloc: told.alloc(),
     };
-    BufRecvStream::new(alloc, feed)
+    BufRecvStream::new(told.alloc(), feed)
 }
 
-fn printed(alloc: Global, stream: BufRecvStream<Feed<'_>>) -> Result<String, CaseError> {
-    let text = format!(in alloc; "{stream:?}");
-    drop(stream);
-    Ok(text?)
-}
-
-fn parts(alloc: Global, stream: BufRecvStream<Feed<'_>>) -> Result<String, CaseError> {
+fn parts(told: &mut Told, stream: BufRecvStream<Feed<'_>>) {
     let (list, feed) = stream.into_parts();
-    let (read, left) = (list.remaining(), feed.bytes.len());
+    told.show(list.remaining());
+    told.then_show(feed.bytes.len());
     drop(list);
-    Ok(format!(in alloc; "{read} {left}")?)
 }
 
 /// The head of a frame, and so many times the bytes 0 to 9 behind it.
-fn long_frame(alloc: Global, head: &[u8], tens: usize) -> Result<Vec<u8>, AllocError> {
-    let mut bytes = Vec::new(alloc);
-    bytes.extend_from_slice(head)?;
+fn long_frame(told: &mut Told, head: &[u8], tens: usize) -> Vec<u8> {
+    let mut bytes = Vec::new(told.alloc());
+    told.done(bytes.extend_from_slice(head));
     for _ in 0..tens {
-        bytes.extend_from_slice(b"0123456789")?;
+        told.done(bytes.extend_from_slice(b"0123456789"));
     }
-    Ok(bytes)
+    bytes
 }
 
 /// A field section of 2,000 bytes, of which so many come first and then 700 at a time.
-fn long_section(alloc: Global, first: usize) -> Result<String, CaseError> {
-    let bytes = long_frame(alloc, &[1, 0x47, 0xd0], 200)?;
+fn long_section(told: &mut Told, first: usize) {
+    let bytes = long_frame(told, &[1, 0x47, 0xd0], 200);
     let feed = Feed {
         bytes: &bytes,
         first,
         later: 700,
         last: Last::End,
-        alloc,
+        alloc: told.alloc(),
     };
-    section_of(alloc, feed)
+    section_of(told, feed);
 }
 
-fn section_of(alloc: Global, feed: Feed<'_>) -> Result<String, CaseError> {
+fn section_of(told: &mut Told, feed: Feed<'_>) {
     let bytes = feed.bytes;
     if bytes.len() != 2003 {
-        return said(alloc, "another length");
+        return told.say("another length");
     }
-    let mut stream = FrameStream::new(alloc, BufRecvStream::new(alloc, feed));
+    let source = BufRecvStream::new(told.alloc(), feed);
+    let mut stream = FrameStream::new(told.alloc(), source);
     let polled = stream.poll_next();
-    told_section(alloc, &polled, &bytes[3..], stream.tries())
+    let tries = stream.tries();
+    drop(stream);
+    tell_section(told, &polled, &bytes[3..], tries);
+    drop(polled);
 }
 
 /// Whether the section is this one, and whether it was tried twice at most.
-fn told_section(
-    alloc: Global,
+fn tell_section(
+    told: &mut Told,
     polled: &Poll<Result<Option<Frame<PayloadLen>>, FrameStreamError>>,
     wanted: &[u8],
     tries: u8,
-) -> Result<String, CaseError> {
+) {
     let Poll::Ready(Ok(Some(Frame::Headers(section)))) = polled else {
-        return said(alloc, "no field section");
+        return told.say("no field section");
     };
-    let (same, few) = (section.as_slice() == wanted, tries <= 2);
-    Ok(format!(in alloc; "same {same}, tries at most two {few}")?)
+    told.say("same");
+    told.then_show(section.as_slice() == wanted);
+    told.say(", tries at most two");
+    told.then_show(tries <= 2);
 }
 
 /// A body of 1,000,000 bytes in pieces of 16,384.
-fn long_body(alloc: Global) -> Result<String, CaseError> {
-    let bytes = long_frame(alloc, &[0, 0x80, 0x0f, 0x42, 0x40], 100_000)?;
+fn long_body(told: &mut Told) {
+    let bytes = long_frame(told, &[0, 0x80, 0x0f, 0x42, 0x40], 100_000);
     let feed = Feed {
         bytes: &bytes,
         first: 16_384,
         later: 16_384,
         last: Last::End,
-        alloc,
+        alloc: told.alloc(),
     };
-    body_of(alloc, feed)
+    body_of(told, feed);
 }
 
 /// What stands behind the frame's head of five bytes, where there are 1,000,000 of them.
@@ -389,15 +382,15 @@ fn body_behind_its_head(frame: &[u8]) -> Option<&[u8]> {
 }
 
 /// How the body is read, and whether it comes out as it stands in the frame. (Reading asks for fewer bytes than 2^62.)
-fn body_of(alloc: Global, feed: Feed<'_>) -> Result<String, CaseError> {
+fn body_of(told: &mut Told, feed: Feed<'_>) {
     if feed.bytes.len() >= 1 << 62 {
-        return said(alloc, "another length");
+        return told.say("another length");
     }
     let Some(body) = body_behind_its_head(feed.bytes) else {
-        return said(alloc, "another length");
+        return told.say("another length");
     };
-    let mut payload = Vec::new(alloc);
-    let log = read_all(alloc, feed, &mut payload)?;
-    let same = payload.as_slice() == body;
-    Ok(format!(in alloc; "{log} same {same}")?)
+    let mut payload = Vec::new(told.alloc());
+    read_all(told, feed, &mut payload);
+    told.say(" same");
+    told.then_show(payload.as_slice() == body);
 }
