@@ -13,7 +13,7 @@ use h3_proto::stream::StreamId;
 use std::alloc::{AllocError, Global};
 use std::collections::HashMap;
 
-// The streams in no order, and no id twice. A stream is found in a few instructions, whichever and however many there are.
+// The streams, in no order and no id twice. A look-up takes as long however many there are, unless ids collide.
 #[derive(Drop)]
 pub(crate) struct StreamMap {
     by_id: HashMap<u64, RequestStream>,

@@ -108,7 +108,6 @@ impl Endpoint {
     /// What comes next on a stream: the fault of the connection, the fault for which the stream was given up, its end again, or its
     /// next item. All that came before is read first. A fault of the connection closes it. `Fault::Memory` loses nothing: what came
     /// is read on by the next delivery or pull, and the stream goes on as if it had not been asked.
-    #[tactic(auto, using(crate::proofs::PullingKept::pull_closed, crate::proofs::PullingKept::pull_alone, crate::proofs::PullingKept::pull_settled, crate::proofs::PullingKept::pull_behind, crate::proofs::PullingKept::pull_faulty, crate::proofs::PullingKept::pull_lacked))]
     pub fn pull(&mut self, id: StreamId) -> Pull
         ensures { PullsNext self.old self.new id result }
     {

@@ -28,5 +28,5 @@ returns-in-Ok-Some c =
     let kept : c.args.self.now.kept ≡ c.self.inside.kept.items = sym (ap (λ v. v.kept) c.self.view_is) in
     let some : c.self.inside.kept.items ≡ [] → ⊥ = λ none. grind (arith, common_steps, c.if-is_empty.ensures) in
     let reads = rw c.in-Ok-Some.field-0-is at c.in-Ok-Some.ensures.reads in
-    pull_faulty c.args.self.now _ c.args.id c.in-Ok-Some.code open_still (λ none. some (sym kept ∙ none))
-    c.if-is_settled.ensures (subst (λ m. (e : EndpointHistory) → StandsFor c.args.self.now e → Finds (Some c.in-Ok-Some.code) m (read_all e.kept (unkept e))) (sym c.self-in-Ok-Some.view_is) reads)
+    rw c.fail-in-Ok-Some.ensures (pull_faulty c.args.self.now _ c.args.id c.in-Ok-Some.code open_still (λ none. some (sym kept ∙ none))
+    c.if-is_settled.ensures (subst (λ m. (e : EndpointHistory) → StandsFor c.args.self.now e → Finds (Some c.in-Ok-Some.code) m (read_all e.kept (unkept e))) (sym c.self-in-Ok-Some.view_is) reads))

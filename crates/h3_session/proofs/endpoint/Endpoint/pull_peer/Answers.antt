@@ -7,4 +7,4 @@ use Rattle.h3_session.proofs.endpoint.Endpoint.pull_peer.Goals as goal
 pub returns : goal.returns
 returns c =
     let kind : kind_of c.self.inside.side c.args.id ≡ PeerUnidirectional = subst (λ v. kind_of v.side c.args.id ≡ PeerUnidirectional) (sym c.self.view_is) c.requires in
-    rw (sym c.self.view_is) (pulls_peer _ _ c.pull.new.self c.args.id c.pull.result refl kind c.pull.ensures)
+    rw (sym c.self.view_is, c.put.ensures) (pulls_peer _ _ c.pull.new.self c.args.id c.pull.result refl kind c.pull.ensures)
