@@ -1,0 +1,9 @@
+-- The answers are those of the run, whose endpoints are let go.
+use Rattle.h3_session.specs.Headlines.{RunsInWorld}
+use Rattle.h3_talk.proofs.talk.answers_to.Goals as goal
+
+pub returns-in-Ok : goal.returns-in-Ok
+returns-in-Ok c =
+    rw c.answers_of.ensures (λ not_memory.
+    let runs : RunsInWorld c.args.setup c.args.events.now c.in-Ok.outcome.answers.items c.in-Ok.outcome.client c.in-Ok.outcome.server = c.in-Ok.ensures.headline not_memory c.requires.few in
+    record { world = runs.world; run = runs.run; of_ends = (c.in-Ok.ensures.runs not_memory).answered_so })
