@@ -88,7 +88,7 @@ if [ "$failed" -eq 0 ]; then
 fi
 
 if [ -s "$times" ]; then
-  echo "when each crate was proved, and its edits of must-fail/ begun (several at a time; each edit's answer comes at the end), and what took how long then:"
+  echo "when each crate was proved (several at a time), and what took how long behind that:"
   cat "$times"
 fi
 echo "$passed passed, $failed failed"
