@@ -1,15 +1,16 @@
 #!/usr/bin/env python3
-"""Does the prover refuse each wrong body in crates/CRATE/refused/? refused.py [--beside LOG] [CRATE..]
+"""Does the prover refuse each wrong body in crates/CRATE/refused/? refused.py [--beside LOG | --copies] [CRATE..]
 
 Such an edit is a must-fail edit (`file:`, `old:`, `new:`) that also names the function whose contract refuses it: `function: decode::is_padding`. Here
-many are tried by one check, where `rt ci` tries each by a check of its own: a check has edits of distinct bodies, and asks for these functions alone. A
-proof rests on the body of its own function and on what others state, which no edit of a body changes: so a goal of a function that is not proved then is
+many are tried by one check, where `rt ci` tries each by a check of its own: a check has edits of distinct bodies, and asks for these functions alone. Further
+edits of one body are made in copies of its function (scripts/copies.py). A proof rests on the body of its own function and on what others state, which no edit of a body changes: so a goal of a function that is not proved then is
 so for the function's own edit, and every function that no edit of the check touches must be proved, but for the proofs of those that it calls. A
 function of which the check says no more than that it calls one that is not proved is tried again by itself. An edit of anything but one body (a
 constant, a clause, a definition) has a check to itself.
 
 The libraries below a crate are those that `rt ci` left, or what `rt lib` makes. With --beside, `rt ci` is running and writes to the file LOG: a crate's edits
-are tried once it says that those below are proved. A line 'ok CRATE/EDIT' or 'failed CRATE/EDIT' for each edit."""
+are tried once it says that those below are proved. With --copies no edit is made: is each copy proved as it is? A line 'ok CRATE/EDIT' or
+'failed CRATE/EDIT' for each edit."""
 import collections
 import concurrent.futures
 import copy
@@ -22,6 +23,7 @@ import tempfile
 import threading
 import time
 
+import copies
 import kit
 import turns
 
@@ -43,6 +45,12 @@ class Edit:
     texts: dict  # the files that it changes, as it leaves them
     spans: list  # what it replaces: the file, the first byte, the end, and the bytes that stand there then
     body: object = None  # the function whose body holds all of it, if there is one
+    copy: int = 0  # in which copy of its function a check has it: in none but the function itself
+
+    @property
+    def checked(self):
+        """what a check calls the function that has the edit"""
+        return copies.name_of(self.function, self.copy)
 
     @property
     def label(self):
@@ -84,19 +92,29 @@ def body_of(functions, edit):
     return min(filter(holds, functions), key=lambda f: f.end - f.opens, default=None)
 
 
-def joined(crate, edits):
-    """the files that these edits change, as all of them leave them"""
+def bytes_of(crate, file):
+    with open(f"{crate.folder}/{file}", "rb") as it:
+        return it.read()
+
+
+def spans_of(crate, edits):
+    """what these edits replace in each file, the copies that some of them have put in behind their functions"""
     of_file = collections.defaultdict(list)
     for edit in edits:
-        for file, *rest in edit.spans:
-            of_file[file].append(rest)
-    texts = {}
-    for file, spans in of_file.items():
-        with open(f"{crate.folder}/{file}", "rb") as it:
-            text = it.read()
-        for first, end, new in sorted(spans, reverse=True):
-            text = text[:first] + new + text[end:]
-        texts[file] = text.decode()
+        if edit.copy:
+            f, own = edit.body, [rest for _, *rest in edit.spans]
+            of_file[f.file].append((f.end, f.end, copies.copy_of(bytes_of(crate, f.file), f, own, edit.copy)))
+        for file, *rest in edit.spans if not edit.copy else []:
+            of_file[file].append(tuple(rest))
+    return of_file
+
+
+def joined(crate, edits):
+    """the files that these edits change or that copies of functions need, as all of them leave them"""
+    texts = {file: copies.replaced(bytes_of(crate, file), spans).decode() for file, spans in spans_of(crate, edits).items()}
+    for edit in edits:
+        if edit.copy:
+            texts.update(copies.proof_files(crate, edit.function, edit.copy))
     return texts
 
 
@@ -114,57 +132,66 @@ class Checks:
             flags += ["--only", f"{self.crate.name}::{name}"]
         with self.turns.turn():
             began = time.monotonic()
-            ran = rt.checked(self.crate, texts, flags, self.kept)
+            ran = kit.checked(rt, self.crate, texts, flags, self.kept)
             self.count, self.seconds = self.count + 1, self.seconds + time.monotonic() - began
         if not re.search(r"(?m)^only=\d+ proved=\d+", ran.stdout) or ran.returncode not in (0, 1) or rt.rtlib.STALE.search(ran.stdout):
             last = " ".join(ran.stdout.split()[-60:])
             raise Broken(f"a check judged nothing (status {ran.returncode}): {last}")
-        unread = next((it for it in ran.stdout.split("\n") if rt.unread(it, texts)), None)
+        sources = [it for it in texts if not it.startswith("proofs/")]
+        unread = next((it for it in ran.stdout.split("\n") if rt.unread(it, sources)), None)
         if unread:
             raise Broken(f"the prover cannot read the edited text: {unread[:200]}")
         said = dict(re.findall(rf"(?m)^\w+ {self.crate.name}::(\S+): (.*)", ran.stdout))
         return said, ran.stdout
 
 
-def lines_of(edit, batch, texts):
+def lines_of(crate, edit, batch):
     """the file and the lines in which the edited function stands when all edits of the batch are made"""
-    f = edit.body
-    moved = lambda at: at + sum(len(new) - (end - first) for it in batch for file, first, end, new in it.spans if file == f.file and end <= at)
-    text = texts[f.file].encode()
-    return f.file, range(text[: moved(f.first)].count(b"\n") + 1, text[: moved(f.end)].count(b"\n") + 2)
+    f, spans = edit.body, spans_of(crate, batch)[edit.body.file]
+    text = copies.replaced(bytes_of(crate, f.file), spans)
+    moved = lambda at: at + sum(len(new) - (end - first) for first, end, new in spans if end <= at)
+    first, end = moved(f.first), moved(f.end - 1)
+    if edit.copy:
+        first = re.search(rb"\bfn %s\b" % copies.name_of(f.name, edit.copy).encode(), text).start()
+        end = first + f.end - f.named[0] + sum(len(new) - (end - first) for _, first, end, new in edit.spans)
+    return f.file, range(text[:first].count(b"\n") + 1, text[:end].count(b"\n") + 2)
 
 
-def has_open_goal(edit, batch, texts, line, printed):
+def has_open_goal(crate, edit, batch, line, printed):
     """Does the check tell of a goal of this very function that is not proved?"""
-    folder = re.escape(edit.function.replace("::", "/"))
+    folder = re.escape(edit.checked.replace("::", "/"))
     errors = re.findall(rf"(?m)^(?:\./)?proofs/{folder}/\w+\.antt:\d+:\d+: error: (.*)", printed)
     if UNSOLVED in line or not all(map(NAMES.search, errors)):
         return True
-    file, lines = lines_of(edit, batch, texts) if edit.body else (None, ())
+    file, lines = lines_of(crate, edit, batch) if edit.body else (None, ())
     notes = re.findall(r"(?m)^note: (?:\./)?(src/\S+?):(\d+):\d+: it is not proved", printed)
     return any(at == file and int(number) in lines for at, number in notes)
 
 
-def answer(edit, batch, texts, said, printed):
+def answer(crate, edit, batch, said, printed):
     """whether the edit is refused (None: in doubt, since a function that it calls is refused too), and why"""
-    line = said.get(edit.function)
+    line = said.get(edit.checked)
     if line is None:
-        return False, f"no check speaks of {edit.function}"
+        return False, f"no check speaks of {edit.checked}"
     if not line.startswith(("not proved", "no proof")):
         return False, f"{edit.function}: {line}"
-    if has_open_goal(edit, batch, texts, line, printed):
+    if has_open_goal(crate, edit, batch, line, printed):
         return True, f"refused at {edit.function}"
     if len(batch) > 1:
         return None, line
     return True, f"refused at {edit.function} ({line})"
 
 
-def batches(edits):
-    """Edits of distinct bodies, in as few lists as there are edits of one."""
+def batches(crate, edits):
+    """Edits of distinct bodies, in as few lists as can be: of a body that may be copied the first list has all."""
     made = []
     for edit in edits:
         apart = lambda it: it.function != edit.function and it.body is not edit.body
-        batch = next((batch for batch in made if edit.body and batch[0].body and all(map(apart, batch))), None)
+        with_bodies = [batch for batch in made if edit.body and batch[0].body]
+        batch = next((batch for batch in with_bodies if all(map(apart, batch))), None)
+        if with_bodies and batch is not with_bodies[0] and copies.may_be_made(crate, edit.function, edit.body):
+            batch = with_bodies[0]
+            edit.copy = sum(it.body is edit.body for it in batch)
         if batch is None:
             made.append(batch := [])
         batch.append(edit)
@@ -173,36 +200,49 @@ def batches(edits):
 
 def stray(batch, said):
     """The functions that are not proved though no edit of the batch touches them. Closures of an edited function have its name in theirs."""
-    edited = [it.function for it in batch]
+    edited = [it.checked for it in batch]
     inside = ["::".join([*it.split("::")[-2:], ""]) for it in edited]
     is_well = lambda line: line.startswith(("proved", "no proof: it calls"))
     return [f"{name}: {line}" for name, line in said.items() if not is_well(line) and name not in edited and not any(it in name for it in inside)]
 
 
+def alone(edit):
+    return [dataclasses.replace(edit, copy=0)]
+
+
 def in_turn(checks, edits):
     """each edit with its answer"""
-    left = batches(edits)
+    left = batches(checks.crate, edits)
     while left:
         batch = left.pop(0)
         texts = joined(checks.crate, batch)
         try:
-            said, printed = checks.check(texts, [it.function for it in batch])
+            said, printed = checks.check(texts, [it.checked for it in batch])
         except Broken as why:
             # (whose edit it is shows when each is tried by itself)
             if len(batch) > 1:
-                left += [[it] for it in batch]
+                left += map(alone, batch)
             else:
-                yield batch[0], False, str(why)
+                yield batch[0], False, f"NOT REFUSED: {why}"
             continue
         others = stray(batch, said) if batch[0].body else []
         if others:
             raise Broken(f"with edits of other bodies: {'; '.join(others)[:900]}")
         for edit in batch:
-            refused, why = answer(edit, batch, texts, said, printed)
+            refused, why = answer(checks.crate, edit, batch, said, printed)
             if refused is None:
-                left.append([edit])
+                left.append(alone(edit))
             else:
-                yield edit, refused, why
+                yield edit, refused, why if refused else f"NOT REFUSED: {why}"
+
+
+def as_they_are(checks, edits):
+    """each edit that is made in a copy, and whether the copy is proved without it"""
+    batches(checks.crate, edits)
+    copied = [dataclasses.replace(it, spans=[]) for it in edits if it.copy]
+    if copied:
+        said, _ = checks.check(joined(checks.crate, copied), [it.checked for it in copied])
+        yield from ((it, said.get(it.checked) == "proved", f"{it.checked} without it: {said.get(it.checked)}") for it in copied)
 
 
 def build_below(rt, crate):
@@ -211,7 +251,7 @@ def build_below(rt, crate):
             raise Broken(f"the library {it.name} is not proved")
 
 
-def tried(rt, bodies, crate, turns):
+def tried(rt, bodies, crate, turns, answers):
     """the lines for a crate's edits"""
     lines, paths = [], edits_of(crate)
     try:
@@ -221,8 +261,8 @@ def tried(rt, bodies, crate, turns):
             it.body = body_of(functions, it)
         with tempfile.TemporaryDirectory(prefix="refused-") as kept:
             checks = Checks(rt, as_library(crate), kept, turns)
-            for edit, refused, why in in_turn(checks, edits):
-                lines.append(f"ok {edit.label}: {why}" if refused else f"failed {edit.label}: NOT REFUSED: {why}")
+            for edit, is_well, why in answers(checks, edits):
+                lines.append(f"ok {edit.label}: {why}" if is_well else f"failed {edit.label}: {why}")
         lines.append(f"{crate.name}: {len(edits)} edits in {checks.count} checks, which took {checks.seconds:.0f} seconds")
     except Broken as why:
         lines.append(f"failed {crate.name}/refused: {why}")
@@ -241,7 +281,7 @@ def edits_of(crate):
     return sorted(f"{folder}/{it}" for it in os.listdir(folder)) if os.path.isdir(folder) else []
 
 
-def try_all(rt, crates, room):
+def try_all(rt, crates, room, answers):
     """Prints the lines for the crates' edits, several crates side by side, and says how many lines tell of a failure."""
     bodies, printing, in_turns = kit.load("rt-plant-bodies"), threading.Lock(), turns.Turns(room)
     left = sorted(crates, key=lambda it: -it.count(rb"\n") - 100 * len(edits_of(it)))
@@ -249,7 +289,7 @@ def try_all(rt, crates, room):
     def work(lane):
         failed = 0
         while crate := in_turns.take_ready(left):
-            lines = tried(rt, bodies, crate, in_turns)
+            lines = tried(rt, bodies, crate, in_turns, answers)
             failed += sum(it.startswith("failed") for it in lines)
             with printing:
                 print("\n".join(lines), flush=True)
@@ -266,7 +306,8 @@ def main():
     rt.rtlib.guarded()
     named = sys.argv[1:]
     log = named[1] if named[:1] == ["--beside"] else None
-    named = named[2:] if log else named
+    answers = as_they_are if named[:1] == ["--copies"] else in_turn
+    named = named[2 if log else answers is as_they_are :]
     crates = {it.name: it for it in kit.crates_of(rt, ROOT) if edits_of(it)}
     unknown = [it for it in named if it not in crates]
     if unknown:
@@ -275,7 +316,7 @@ def main():
     try:
         for it in crates if not log else []:
             build_below(rt, it)
-        failed = try_all(rt, crates, turns.Beside(rt, log) if log else turns.Alone(rt))
+        failed = try_all(rt, crates, turns.Beside(rt, log) if log else turns.Alone(rt), answers)
     except Broken as why:
         print(f"failed refused.py: {why}")
         failed = 1

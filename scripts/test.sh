@@ -1,5 +1,5 @@
 #!/usr/bin/env bash
-# The gate: the checks of this repository (scripts/check-*.sh), which take about a minute and each print one line 'ok NAME' or
+# The gate: the checks of this repository (scripts/check-*.sh), which take a minute and a half and each print one line 'ok NAME' or
 # 'failed NAME' for each thing that they check; then `rt ci` and beside it, with what it leaves of the processors, the wrong bodies of
 # crates/*/refused, each crate's once the libraries below it are proved (scripts/refused.py); and then the programs that rt ci built: a large exchange, scripts
 # with memory refused, input and output that fail, and hostile calls of an endpoint. Where one of these fails the gate ends there. The last line is the
@@ -11,7 +11,8 @@ log=$(mktemp)
 times=$(mktemp)
 ci=$(mktemp)
 tried=$(mktemp)
-trap 'rm -f "$log" "$times" "$ci" "$tried"' EXIT
+said=$(mktemp -d)
+trap 'rm -rf "$log" "$times" "$ci" "$tried" "$said"' EXIT
 passed=0
 failed=0
 
@@ -28,6 +29,12 @@ count() {
   failed=$((failed + bad))
 }
 
+# what a check has said, and its status
+repeated() {
+  cat "$1"
+  return "$(cat "$1.status")"
+}
+
 # Passes the lines of rt ci on, and keeps those that say what has ended or begun, with the seconds so far.
 clock() {
   local line began=$SECONDS
@@ -40,14 +47,23 @@ clock() {
   done
 }
 
+# side by side: two of them take a minute of one processor
 for script in scripts/check-*.sh; do
-  count bash "$script"
+  (
+    bash "$script" > "$said/${script##*/}" 2>&1
+    echo $? > "$said/${script##*/}.status"
+  ) &
+done
+wait
+for script in scripts/check-*.sh; do
+  count repeated "$said/${script##*/}"
 done
 
-# On four processors and more, as many proofs of one job at a time as there are processors, where there are 5 GB for each (4.4 GB were seen at most): left to
-# itself rt ci runs fewer, since it reckons with twice the memory. On fewer the choice is left to it: it gives both to a proof that all others wait for.
+# As many proofs of one job at a time as there are processors, where there are 5 GB for each (4.6 GB were seen at most). Left to itself rt ci runs fewer, since it
+# reckons with twice the memory, and gives further jobs to a proof that all others wait for: it is over sooner so, and takes more of the processors in all. What one
+# job leaves of them goes to the edits.
 free_kib=$(awk '/^MemAvailable:/ { print $2 }' /proc/meminfo)
-if [ "$(nproc)" -ge 4 ] && [ "$free_kib" -ge $(($(nproc) * 5000000)) ]; then
+if [ "$free_kib" -ge $(($(nproc) * 5000000)) ]; then
   export RT_JOBS=${RT_JOBS:-$(nproc)}
 fi
 
