@@ -82,7 +82,7 @@ impl Exchanges<'_> {
         match endpoint(self.alloc, Side::Client, self.shape.limits) {
             Ok(mut client) => {
                 let done = self.with_server(&mut client, report);
-                drop(client);
+                client.free();
                 done
             }
             Err(e) => Err(e),
@@ -93,7 +93,7 @@ impl Exchanges<'_> {
         match endpoint(self.alloc, Side::Server, self.shape.limits) {
             Ok(mut server) => {
                 let done = self.talk(client, &mut server, report);
-                drop(server);
+                server.free();
                 done
             }
             Err(e) => Err(e),

@@ -66,7 +66,7 @@ fn answers_to(alloc: Global, setup: Setup, events: &[Event]) -> Result<Vec<Answe
     }
 }
 
-/// Lets both endpoints go, each by one call: at the end of a scope they would be dropped field by field.
+/// Lets both endpoints go.
 fn answers_of(outcome: Outcome) -> Vec<Answer>
     ensures { result.items ≡ outcome.answers.items }
 {
@@ -75,7 +75,7 @@ fn answers_of(outcome: Outcome) -> Vec<Answer>
         client,
         server,
     } = outcome;
-    drop(client);
-    drop(server);
+    client.free();
+    server.free();
     answers
 }
