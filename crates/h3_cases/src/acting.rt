@@ -47,7 +47,9 @@ fn begin(told: &mut Told, endpoint: &mut Option<Endpoint>, asked: (Side, u64), l
         .with_max_field_section_size(section);
     match Endpoint::new(told.alloc(), side, config, limits, 0) {
         Ok(made) => {
-            drop(endpoint.replace(made));
+            if let Some(before) = endpoint.replace(made) {
+                before.free();
+            }
             told.say("ok");
         }
         Err(NewError::TableLimit) => told.say("refused TableLimit"),

@@ -6,6 +6,7 @@ mod answers;
 mod call;
 mod case;
 mod entries;
+mod examples;
 mod feed;
 mod frames;
 mod heads;
@@ -31,7 +32,9 @@ use std::io;
 fn main(rt: HostRuntime) -> io::Result<()> {
     let mut endpoint = None;
     let done = answer_lines(&rt, &mut endpoint);
-    drop(endpoint);
+    if let Some(endpoint) = endpoint {
+        endpoint.free();
+    }
     done
 }
 
@@ -120,6 +123,7 @@ fn of_fields(told: &mut Told, group: &str, command: &str, words: &[&str]) {
         "entry" => entries::answer(told, command, words),
         "head" => heads::answer(told, command, words),
         "answer" => answers::answer(told, command, words),
+        "example" => examples::answer(told, command),
         _ => told.unreadable(),
     }
 }

@@ -66,7 +66,7 @@ fn with_client(alloc: Global, text: &mut String) -> Result<(), Stop> {
     match endpoint(alloc, Side::Client) {
         Ok(mut client) => {
             let done = with_server(alloc, text, &mut client);
-            drop(client);
+            client.free();
             done
         }
         Err(stop) => Err(stop),
@@ -77,7 +77,7 @@ fn with_server(alloc: Global, text: &mut String, client: &mut Endpoint) -> Resul
     match endpoint(alloc, Side::Server) {
         Ok(mut server) => {
             let done = talk(alloc, text, client, &mut server);
-            drop(server);
+            server.free();
             done
         }
         Err(stop) => Err(stop),

@@ -1,4 +1,4 @@
-//! Short callers of the crates, which the gate proves and runs: what they print is the file `stdout`.
+//! Short callers of the crates, which the gate proves, and runs in `h3_cases`: what they print stands at the end of its file `stdout`.
 #![tactic(auto)]
 
 mod endpoints;
@@ -12,17 +12,9 @@ mod stateless;
 mod table;
 
 use std::alloc::{AllocError, Global};
-use std::io;
 
-fn main(rt: HostRuntime) -> io::Result<()> {
-    let mut text = String::new(rt.alloc());
-    all(rt.alloc(), &mut text)?;
-    print!(rt; "{text}")?;
-    Ok(())
-}
-
-/// Every example in turn.
-fn all(alloc: Global, text: &mut String) -> Result<(), AllocError> {
+/// Every example in turn, and what each prints.
+pub fn all(alloc: Global, text: &mut String) -> Result<(), AllocError> {
     frames::decode_in_pieces(alloc, text)?;
     frames::count_tries(alloc, text)?;
     stateless::response(alloc, text)?;

@@ -22,9 +22,10 @@ fn insert(
     alloc: Global,
     text: &mut String,
     view: &mut DynamicTableEncoder<'_>,
-    field: &HeaderField,
+    name: &'static [u8],
+    value: &'static [u8],
 ) -> Result<(), AllocError> {
-    let Ok(answer) = view.insert(field) else {
+    let Ok(answer) = view.insert(&field(name, value)) else {
         return Err(AllocError);
     };
     let line = format!(in alloc; "{answer:?}")?;
@@ -45,36 +46,35 @@ fn insert_all(
 ) -> Result<(), AllocError> {
     set_limits(table)?;
     let mut view = table.encoder(4);
-    insert(
-        alloc,
-        text,
-        &mut view,
-        &field(b":authority", b"www.example.com"),
-    )?;
-    insert(alloc, text, &mut view, &field(b":path", b"/sample/path"))?;
-    insert(
-        alloc,
-        text,
-        &mut view,
-        &field(b"custom-key", b"custom-value"),
-    )?;
-    insert(
-        alloc,
-        text,
-        &mut view,
-        &field(b":authority", b"www.example.com"),
-    )?;
-    insert(
-        alloc,
-        text,
-        &mut view,
-        &field(b"custom-key", b"custom-value2"),
-    )?;
-    let Ok(count) = view.commit() else {
-        return Err(AllocError);
-    };
-    number(alloc, text, "required insert count", count)?;
+    let done = insert_each(alloc, text, &mut view);
+    let committed = view.commit();
+    done?;
+    ended(alloc, text, committed)?;
     number(alloc, text, "sections that may wait", table.blocks_out())
+}
+
+fn insert_each(
+    alloc: Global,
+    text: &mut String,
+    view: &mut DynamicTableEncoder<'_>,
+) -> Result<(), AllocError> {
+    insert(alloc, text, view, b":authority", b"www.example.com")?;
+    insert(alloc, text, view, b":path", b"/sample/path")?;
+    insert(alloc, text, view, b"custom-key", b"custom-value")?;
+    insert(alloc, text, view, b":authority", b"www.example.com")?;
+    insert(alloc, text, view, b"custom-key", b"custom-value2")
+}
+
+/// Tells the insert count that a section requires.
+fn ended<E: Drop>(
+    alloc: Global,
+    text: &mut String,
+    committed: Result<usize, E>,
+) -> Result<(), AllocError> {
+    match committed {
+        Ok(count) => number(alloc, text, "required insert count", count),
+        Err(_) => Err(AllocError),
+    }
 }
 
 /// Begins a section and releases it, which leaves the table as it was.
@@ -105,15 +105,18 @@ fn first_section(
     table: &mut DynamicTable,
 ) -> Result<(), AllocError> {
     let mut view = table.encoder(4);
-    insert(
-        alloc,
-        text,
-        &mut view,
-        &field(b"custom-key", b"custom-value"),
-    )?;
-    let answer = view.lookup(&field(b"custom-key", b"custom-value"));
+    let done = insert_and_find(alloc, text, &mut view);
     view.release();
-    found(alloc, text, answer)
+    done
+}
+
+fn insert_and_find(
+    alloc: Global,
+    text: &mut String,
+    view: &mut DynamicTableEncoder<'_>,
+) -> Result<(), AllocError> {
+    insert(alloc, text, view, b"custom-key", b"custom-value")?;
+    find(alloc, text, view, b"custom-key", b"custom-value")
 }
 
 fn second_section(
@@ -122,22 +125,32 @@ fn second_section(
     table: &mut DynamicTable,
 ) -> Result<(), AllocError> {
     let mut view = table.encoder(8);
-    found(
-        alloc,
-        text,
-        view.lookup(&field(b"custom-key", b"custom-value")),
-    )?;
-    insert(
-        alloc,
-        text,
-        &mut view,
-        &field(b"custom-key", b"custom-value2"),
-    )?;
-    found(alloc, text, view.lookup_name(&field(b"custom-key", b"")))?;
-    let Ok(count) = view.commit() else {
-        return Err(AllocError);
-    };
-    number(alloc, text, "required insert count", count)
+    let done = find_and_insert(alloc, text, &mut view);
+    let committed = view.commit();
+    done?;
+    ended(alloc, text, committed)
+}
+
+fn find_and_insert(
+    alloc: Global,
+    text: &mut String,
+    view: &mut DynamicTableEncoder<'_>,
+) -> Result<(), AllocError> {
+    find(alloc, text, view, b"custom-key", b"custom-value")?;
+    insert(alloc, text, view, b"custom-key", b"custom-value2")?;
+    let answer = view.lookup_name(&field(b"custom-key", b""));
+    found(alloc, text, answer)
+}
+
+fn find(
+    alloc: Global,
+    text: &mut String,
+    view: &mut DynamicTableEncoder<'_>,
+    name: &'static [u8],
+    value: &'static [u8],
+) -> Result<(), AllocError> {
+    let answer = view.lookup(&field(name, value));
+    found(alloc, text, answer)
 }
 
 fn found(alloc: Global, text: &mut String, found: DynamicLookupResult) -> Result<(), AllocError> {
