@@ -19,6 +19,8 @@ use Rattle.h3_connection.specs.declared.event.Refusal.{Refusal}
 use Rattle.h3_connection.specs.declared.event.Refusal.TheVariants as refusal
 use Rattle.h3_connection.specs.declared.event.PeerLimits.{PeerLimits}
 use Rattle.h3_connection.specs.declared.event.TableSizes.{TableSizes}
+use Rattle.h3_script.specs.declared.text.Behind.{Behind}
+use Rattle.h3_script.specs.declared.text.Behind.TheVariants as behind
 use Rattle.h3_world.specs.declared.event.Answer.{Answer}
 use Rattle.h3_world.specs.declared.event.Answer.TheVariants as answer
 
@@ -42,6 +44,12 @@ refusal_text refusal.Ended = codes "Ended"
 refusal_text refusal.NotRequestId = codes "NotRequestId"
 refusal_text (refusal.Raised id) = codes "Raised " ++ decimal id
 refusal_text refusal.OutOfMemory = codes "OutOfMemory"
+
+-- a name, and what stands behind it
+abbrev pub with_behind : List ℕ → Behind → List ℕ
+with_behind name behind.Nothing = name
+with_behind name (behind.Code code) = name ++ (codes " " ++ code_text code)
+with_behind name (behind.Number number) = name ++ (codes " " ++ decimal number)
 
 abbrev pub malformation_name : Malformation → List ℕ
 malformation_name malformation.Name = codes "Name"

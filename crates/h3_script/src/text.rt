@@ -1,6 +1,7 @@
 //! The lines that answers are printed as.
-ghost use Rattle.std.specs.Prelude.{◌≡◌, ◌++◌, string_bytes, IfOk};
-ghost use Rattle.h3_script.specs.Lines.{answer_line, pull_line, item_line, section_line, field_word, limits_words, lossy, malformation_name, shown_line, tables_words};
+ghost use Rattle.std.specs.Prelude.{◌≡◌, ◌++◌, string_bytes, IfOk, OnOk};
+ghost use Rattle.std.specs.Fmt.{decimal};
+ghost use Rattle.h3_script.specs.Lines.{answer_line, pull_line, item_line, section_line, field_word, limits_words, lossy, malformation_name, refusal_text, shown_line, tables_words, with_behind};
 ghost use Rattle.h3_header.specs.Head.{head_fields};
 
 use bstr::BStr;
@@ -9,10 +10,19 @@ use h3_connection::event::{
 };
 use h3_field::HeaderField;
 use h3_header::Header;
+use h3_proto::error::Code;
 use h3_world::event::Answer;
 use std::alloc::{AllocError, Global};
 use std::fmt;
 use std::fmt::Write;
+
+/// What stands behind the name of a refusal.
+#[derive(Clone, Copy)]
+enum Behind {
+    Nothing,
+    Code(Code),
+    Number(u64),
+}
 
 /// A refusal as text: its name, and the code, the id or the size that it carries.
 #[derive(Clone, Copy)]
@@ -25,29 +35,38 @@ impl fmt::Display for RefusalText {
     ghost output = { λ r. Some (refusal_text r.0) };
 
     fn fmt<W: fmt::Write>(&self, f: &mut fmt::Formatter<W>) -> fmt::Result {
-        match self.0 {
-            Refusal::Closed(code) => write!(f, "Closed {code}"),
-            Refusal::Connection(code) => write!(f, "Connection {code}"),
-            Refusal::NotReceiving => write!(f, "NotReceiving"),
-            Refusal::AfterEnd => write!(f, "AfterEnd"),
-            Refusal::Kept => write!(f, "Kept"),
-            Refusal::NotClient => write!(f, "NotClient"),
-            Refusal::GoingAway(id) => {
-                let number = id.into_inner();
-                write!(f, "GoingAway {number}")
-            }
-            Refusal::IdsUsedUp => write!(f, "IdsUsedUp"),
-            Refusal::NotOpen => write!(f, "NotOpen"),
-            Refusal::OutOfOrder => write!(f, "OutOfOrder"),
-            Refusal::WrongSide => write!(f, "WrongSide"),
-            Refusal::PseudoInTrailer => write!(f, "PseudoInTrailer"),
-            Refusal::TooLarge(size) => write!(f, "TooLarge {size}"),
-            Refusal::Critical => write!(f, "Critical"),
-            Refusal::Ended => write!(f, "Ended"),
-            Refusal::NotRequestId => write!(f, "NotRequestId"),
-            Refusal::Raised(id) => write!(f, "Raised {id}"),
-            Refusal::OutOfMemory => write!(f, "OutOfMemory"),
+        let (name, behind) = refusal_parts(self.0);
+        match behind {
+            Behind::Nothing => write!(f, "{name}"),
+            Behind::Code(code) => write!(f, "{name} {code}"),
+            Behind::Number(number) => write!(f, "{name} {number}"),
         }
+    }
+}
+
+/// The name of a refusal, and what stands behind it.
+fn refusal_parts(refusal: Refusal) -> (&'static str, Behind)
+    ensures { with_behind result.0.now result.1 ≡ refusal_text refusal }
+{
+    match refusal {
+        Refusal::Closed(code) => ("Closed", Behind::Code(code)),
+        Refusal::Connection(code) => ("Connection", Behind::Code(code)),
+        Refusal::NotReceiving => ("NotReceiving", Behind::Nothing),
+        Refusal::AfterEnd => ("AfterEnd", Behind::Nothing),
+        Refusal::Kept => ("Kept", Behind::Nothing),
+        Refusal::NotClient => ("NotClient", Behind::Nothing),
+        Refusal::GoingAway(id) => ("GoingAway", Behind::Number(id.into_inner())),
+        Refusal::IdsUsedUp => ("IdsUsedUp", Behind::Nothing),
+        Refusal::NotOpen => ("NotOpen", Behind::Nothing),
+        Refusal::OutOfOrder => ("OutOfOrder", Behind::Nothing),
+        Refusal::WrongSide => ("WrongSide", Behind::Nothing),
+        Refusal::PseudoInTrailer => ("PseudoInTrailer", Behind::Nothing),
+        Refusal::TooLarge(size) => ("TooLarge", Behind::Number(size)),
+        Refusal::Critical => ("Critical", Behind::Nothing),
+        Refusal::Ended => ("Ended", Behind::Nothing),
+        Refusal::NotRequestId => ("NotRequestId", Behind::Nothing),
+        Refusal::Raised(id) => ("Raised", Behind::Number(id)),
+        Refusal::OutOfMemory => ("OutOfMemory", Behind::Nothing),
     }
 }
 
@@ -94,13 +113,10 @@ pub fn answer_text(alloc: Global, answer: &Answer) -> Result<String, AllocError>
     ensures { IfOk result (λ text. string_bytes text ≡ answer_line answer.now) }
 {
     match answer {
-        Answer::Opened(id) => {
-            let number = id.into_inner();
-            format!(in alloc; "stream {number}")
-        }
+        Answer::Opened(id) => numbered(alloc, "stream ", id.into_inner()),
         Answer::Done => String::from_str(alloc, "ok"),
-        Answer::Delivered(count) => format!(in alloc; "delivered {count}"),
-        Answer::Short(waits) => format!(in alloc; "short {waits}"),
+        Answer::Delivered(count) => numbered(alloc, "delivered ", *count as u64),
+        Answer::Short(waits) => numbered(alloc, "short ", *waits as u64),
         Answer::NoStream => String::from_str(alloc, "no stream"),
         Answer::Early => String::from_str(alloc, "early"),
         Answer::Pulled(pull) => pull_text(alloc, pull),
@@ -110,6 +126,13 @@ pub fn answer_text(alloc: Global, answer: &Answer) -> Result<String, AllocError>
             format!(in alloc; "refused {refusal}")
         }
     }
+}
+
+/// The text, and the digits of the number behind it.
+fn numbered(alloc: Global, text: &str, number: u64) -> Result<String, AllocError>
+    ensures { IfOk result (λ line. string_bytes line ≡ text.now ++ decimal number) }
+{
+    format!(in alloc; "{text}{number}")
 }
 
 /// The limits of the peer, the sizes of both tables, and how many streams wait.
@@ -157,7 +180,7 @@ fn pull_text(alloc: Global, pull: &Pull) -> Result<String, AllocError>
     match pull {
         Pull::Item(item) => item_text(alloc, item),
         Pull::Pending => String::from_str(alloc, "pending"),
-        Pull::Waiting(count) => format!(in alloc; "waiting {count}"),
+        Pull::Waiting(count) => numbered(alloc, "waiting ", *count as u64),
         Pull::Fault(fault) => {
             let fault = FaultText(*fault);
             format!(in alloc; "fault {fault}")
@@ -174,11 +197,8 @@ fn item_text(alloc: Global, item: &Item) -> Result<String, AllocError>
         Item::Head(head) => section_text(alloc, "head", head),
         Item::Body(bytes) => bytes_text(alloc, "body ", bytes.as_slice()),
         Item::Trailer(trailer) => section_text(alloc, "trailer", trailer),
-        Item::TooLarge(size) => format!(in alloc; "too large {size}"),
-        Item::Session(id) => {
-            let number = id.into_inner();
-            format!(in alloc; "session {number}")
-        }
+        Item::TooLarge(size) => numbered(alloc, "too large ", *size),
+        Item::Session(id) => numbered(alloc, "session ", id.into_inner()),
         Item::Raw(bytes) => bytes_text(alloc, "raw ", bytes.as_slice()),
         Item::End => String::from_str(alloc, "end"),
     }
@@ -189,27 +209,32 @@ fn section_text(alloc: Global, name: &str, section: &Header) -> Result<String, A
     ensures { IfOk result (λ text. string_bytes text ≡ section_line name.now (head_fields section.now)) }
 {
     let fields = section.fields(alloc)?;
+    fields_text(alloc, name, fields.as_slice())
+}
+
+/// The name, and these fields behind it.
+fn fields_text(alloc: Global, name: &str, fields: &[HeaderField]) -> Result<String, AllocError>
+    ensures { IfOk result (λ text. string_bytes text ≡ section_line name.now fields.now) }
+{
     let mut text = String::from_str(alloc, name)?;
     if fields.is_empty() {
         text.push(' ')?;
         return Ok(text);
     }
-    for field in &fields {
-        let word = field_text(alloc, field)?;
-        text.push_str(word.as_str())?;
+    for field in fields {
+        push_field(&mut text, field)?;
     }
     Ok(text)
 }
 
-/// A blank, the name and the value of a field, with U+FFFD for what is no character.
-fn field_text(alloc: Global, field: &HeaderField) -> Result<String, AllocError>
-    ensures { IfOk result (λ text. string_bytes text ≡ field_word field.now) }
+/// Adds a blank, the name and the value of a field, with U+FFFD for what is no character.
+fn push_field(text: &mut String, field: &HeaderField) -> Result<(), AllocError>
+    ensures { OnOk result (string_bytes text.new ≡ string_bytes text.old ++ field_word field.now) }
 {
     let name = BStr::new(field.name());
     let value = BStr::new(field.value());
-    let mut text = String::from_str(alloc, " ")?;
-    write!(text, "{name}={value}")?;
-    Ok(text)
+    write!(text, " {name}={value}")?;
+    Ok(())
 }
 
 /// The name, and the bytes behind it, with U+FFFD for what is no character.
