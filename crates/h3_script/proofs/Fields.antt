@@ -1,5 +1,5 @@
 -- The fields of a head's words.
-use Rattle.std.proofs.Common.{◌≡◌, ℕ, ◌+◌, ◌<◌, ◌≤◌, List, [], ◌∷◌, ◌++◌, length, take, drop, get_or, Option, Some, refl, sym, ◌∙◌, ap, subst, arith}
+use Rattle.std.proofs.Common.{◌≡◌, ℕ, ◌+◌, ◌<◌, ◌≤◌, List, [], ◌∷◌, ◌++◌, length, take, drop, get_or, Option, Some, None, refl, sym, ◌∙◌, ap, subst, arith}
 use Rattle.std.specs.Borrow.{Bor}
 use Rattle.std.proofs.lemmas.List.{take_more, drop_more, get_or-map, length-map, take_all}
 use Rattle.http_header.specs.Token.{lowercase}
@@ -33,6 +33,10 @@ pair_one found a b x y e f =
 -- a word has one name and one value
 one_field : (old a : Entries FieldValue) (word name value : List ℕ) (f : AddsField old word a) → cut 61 word ≡ Some (name, value) → (f.name ≡ name) × (f.value ≡ value)
 one_field old a word name value f c = pair_one (cut 61 word) f.name f.value name value f.parts c
+
+-- a word that is not cut has none
+pub no_parts : (old : Entries FieldValue) (word : List ℕ) → None ≡ cut 61 word → ((new : Entries FieldValue) × AddsField old word new) → ⊥
+no_parts old word none (new, f) = let both : ◌≡◌ {A = Option (List ℕ × List ℕ)} None (Some (f.name, f.value)) = none ∙ f.parts in cc
 
 -- a field that finds no room
 pub no_room : (old : Entries FieldValue) (word name value held : List ℕ) → Some (name, value) ≡ cut 61 word → held ≡ lowercase name → RefusesAppend old held

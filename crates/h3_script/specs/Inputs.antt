@@ -1,5 +1,5 @@
 -- What was read of an input, and what it is.
-use Rattle.std.specs.Prelude.{◌≡◌, ℕ, ◌^◌, ◌≤◌, List, length, Option}
+use Rattle.std.specs.Prelude.{ℕ, ◌^◌, ◌≤◌, List, length, Option}
 use Rattle.std.specs.Io.KnownBytes.{Consumes, IsAtEnd, Appends}
 use Rattle.h3_script.specs.Lines.{refused_line}
 use Rattle.h3_script.specs.Script.{IsScript, RefusesLine}
