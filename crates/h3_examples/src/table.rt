@@ -47,9 +47,11 @@ fn insert_all(
     set_limits(table)?;
     let mut view = table.encoder(4);
     let done = insert_each(alloc, text, &mut view);
-    let committed = view.commit();
-    done?;
-    ended(alloc, text, committed)?;
+    if done.is_err() {
+        view.release();
+        return done;
+    }
+    ended(alloc, text, view.commit())?;
     number(alloc, text, "sections that may wait", table.blocks_out())
 }
 
@@ -126,9 +128,11 @@ fn second_section(
 ) -> Result<(), AllocError> {
     let mut view = table.encoder(8);
     let done = find_and_insert(alloc, text, &mut view);
-    let committed = view.commit();
-    done?;
-    ended(alloc, text, committed)
+    if done.is_err() {
+        view.release();
+        return done;
+    }
+    ended(alloc, text, view.commit())
 }
 
 fn find_and_insert(
