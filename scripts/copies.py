@@ -1,5 +1,6 @@
 """Copies of a function, in which one check tries further wrong bodies of it. A copy stands behind its function, with the same attributes and the same contract
 under a name of its own, and has the function's proof files under that name. So it is proved if and only if the function would be with its body."""
+import functools
 import os
 
 
@@ -17,28 +18,34 @@ def antt_of(function):
     return f"proofs.{function.replace('::', '.')}."
 
 
-def proofs_of(folder):
-    for at, _, files in os.walk(f"{folder}/proofs"):
-        for name in files:
-            yield os.path.relpath(f"{at}/{name}", folder)
-
-
-def text_of(folder, path):
-    with open(f"{folder}/{path}", encoding="utf-8") as it:
+def text_of(path):
+    with open(path, encoding="utf-8") as it:
         return it.read()
 
 
-def may_be_made(crate, function, body):
-    """Does nothing but the calls of the function depend on its name? The method of a trait, a symbol and a part of a cycle of calls have a name that counts; so has a
-    function whose goals another proof names, or with a closure that has proof files of its own."""
+@functools.cache
+def proofs_of(folder):
+    """the proof files of a crate, by their paths"""
+    paths = [f"{at}/{name}" for at, _, names in os.walk(f"{folder}/proofs") for name in names]
+    return {os.path.relpath(it, folder): text_of(it) for it in paths}
+
+
+def own_proofs(crate, function):
+    own = folder_of(function)
+    return {path: text for path, text in proofs_of(crate.folder).items() if os.path.dirname(path) == own}
+
+
+def stands_alone(crate, function, body):
+    """Does nothing but its calls depend on the function, as its contract states it? The method of a trait, a symbol and a part of a cycle of calls are named otherwise too;
+    so is a function whose goals another proof names, or with a closure that has proof files of its own."""
     if body.name != function.split("::")[-1] or body.in_trait or body.in_cycle:
         return False
     with open(f"{crate.folder}/{body.file}", "rb") as it:
         head = it.read()[body.first : body.opens]
-    own = folder_of(function)
-    of_closures = [it for it in proofs_of(crate.folder) if it.startswith(f"{own}+") or os.path.dirname(it).startswith(f"{own}/")]
-    others = [it for it in proofs_of(crate.folder) if os.path.dirname(it) != own]
-    return b"no_mangle" not in head and not of_closures and not any(antt_of(function) in text_of(crate.folder, it) for it in others)
+    own, proofs = folder_of(function), proofs_of(crate.folder)
+    of_closures = [it for it in proofs if it.startswith(f"{own}+") or os.path.dirname(it).startswith(f"{own}/")]
+    is_named = any(antt_of(function) in text for it, text in proofs.items() if os.path.dirname(it) != own)
+    return b"no_mangle" not in head and not of_closures and not is_named
 
 
 def replaced(text, spans):
@@ -56,6 +63,6 @@ def copy_of(text, body, spans, number):
 
 def proof_files(crate, function, number):
     """the copy's proof files, by their paths"""
-    own, copied = folder_of(function), name_of(function, number)
-    found = [it for it in proofs_of(crate.folder) if os.path.dirname(it) == own]
-    return {f"{folder_of(copied)}/{os.path.basename(it)}": text_of(crate.folder, it).replace(antt_of(function), antt_of(copied)) for it in found}
+    copied = name_of(function, number)
+    moved = lambda path: f"{folder_of(copied)}/{os.path.basename(path)}"
+    return {moved(path): text.replace(antt_of(function), antt_of(copied)) for path, text in own_proofs(crate, function).items()}

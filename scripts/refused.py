@@ -1,15 +1,17 @@
 #!/usr/bin/env python3
-"""Does the prover refuse each wrong body in crates/CRATE/refused/? refused.py [--beside LOG | --copies] [CRATE..]
+"""Does the prover refuse each wrong body in crates/CRATE/refused/? refused.py [--beside LOG | --unedited] [CRATE..]
 
 Such an edit is a must-fail edit (`file:`, `old:`, `new:`) that also names the function whose contract refuses it: `function: decode::is_padding`. Here
 many are tried by one check, where `rt ci` tries each by a check of its own: a check has edits of distinct bodies, and asks for these functions alone. Further
-edits of one body are made in copies of its function (scripts/copies.py). A proof rests on the body of its own function and on what others state, which no edit of a body changes: so a goal of a function that is not proved then is
-so for the function's own edit, and every function that no edit of the check touches must be proved, but for the proofs of those that it calls. A
+edits of one body are made in copies of its function (scripts/copies.py), and functions that no edit of the check touches are stubs, since `rt ci` proves them
+(scripts/stubs.py). A proof rests on the body of its own function and on what others state, which no edit of a body changes: so a goal of a function that is not
+proved then is so for the function's own edit, and every function that no edit touches must be proved or a stub, but for the proofs of those that it calls. A
 function of which the check says no more than that it calls one that is not proved is tried again by itself. An edit of anything but one body (a
 constant, a clause, a definition) has a check to itself.
 
 The libraries below a crate are those that `rt ci` left, or what `rt lib` makes. With --beside, `rt ci` is running and writes to the file LOG: a crate's edits
-are tried once it says that those below are proved. With --copies no edit is made: is each copy proved as it is? A line 'ok CRATE/EDIT' or
+are tried once it says that those below are proved. With --unedited no edit is made: is each function
+that has one, and each copy, proved as it is over the stubs? A line 'ok CRATE/EDIT' or
 'failed CRATE/EDIT' for each edit."""
 import collections
 import concurrent.futures
@@ -25,12 +27,15 @@ import time
 
 import copies
 import kit
+import stubs
 import turns
 
 ROOT = os.path.dirname(os.path.dirname(os.path.realpath(__file__)))
 # An error of a proof file that names what the edit took away, which says little of the contract.
 NAMES = re.compile(r"has no field|is not in scope|has no `|was not admitted")
 UNSOLVED = "`search` did not prove"
+# What a check says of a function that is proved, by itself or but for stubs.
+PROVED = ("no holes", "depends on a hole in")
 
 
 class Broken(Exception):
@@ -80,10 +85,10 @@ def read_edit(rt, crate, path):
     return Edit(path, crate.name, named[0], texts, spans)
 
 
-def functions_of(bodies, crate):
+def source_of(bodies, crate):
     source = bodies.Source(crate.folder)
     source.read("src/main.rt" if crate.is_program else "src/lib.rt")
-    return source.functions
+    return source
 
 
 def body_of(functions, edit):
@@ -97,9 +102,11 @@ def bytes_of(crate, file):
         return it.read()
 
 
-def spans_of(crate, edits):
-    """what these edits replace in each file, the copies that some of them have put in behind their functions"""
+def spans_of(crate, edits, stubbed):
+    """what these edits replace in each file, the copies that some of them have put in behind their functions, and the stubs' bodies"""
     of_file = collections.defaultdict(list)
+    for f in stubbed.values():
+        of_file[f.file].append((f.opens, f.end, stubs.BODY))
     for edit in edits:
         if edit.copy:
             f, own = edit.body, [rest for _, *rest in edit.spans]
@@ -109,9 +116,9 @@ def spans_of(crate, edits):
     return of_file
 
 
-def joined(crate, edits):
-    """the files that these edits change or that copies of functions need, as all of them leave them"""
-    texts = {file: copies.replaced(bytes_of(crate, file), spans).decode() for file, spans in spans_of(crate, edits).items()}
+def joined(crate, edits, stubbed):
+    """the source files that these edits, their copies and the stubs change, as all of them leave them, and the proof files of the copies"""
+    texts = {file: copies.replaced(bytes_of(crate, file), spans).decode() for file, spans in spans_of(crate, edits, stubbed).items()}
     for edit in edits:
         if edit.copy:
             texts.update(copies.proof_files(crate, edit.function, edit.copy))
@@ -121,20 +128,25 @@ def joined(crate, edits):
 class Checks:
     """The checks of one crate, each over what those before it proved, and each in its turn. How many there were, and the seconds that they took."""
 
-    def __init__(self, rt, crate, kept, turns):
-        self.rt, self.crate, self.kept, self.turns = rt, crate, kept, turns
+    def __init__(self, rt, crate, kept, turns, stubs):
+        self.rt, self.crate, self.kept, self.turns, self.stubs = rt, crate, kept, turns, stubs
         self.count, self.seconds = 0, 0
 
+    def check_of(self, edits):
+        """what a check of the functions that have these edits says of each, and all that it printed"""
+        stubbed = self.stubs.beside(edits)
+        texts = {**joined(self.crate, edits, stubbed), **self.stubs.proof_files(stubbed)}
+        return self.check(texts, [it.checked for it in edits])
+
     def check(self, texts, functions):
-        """what a check of these functions says of each, and all that it printed"""
-        rt, flags = self.rt, ["--jobs", "1"]
+        rt, flags = self.rt, ["--jobs", "1", "--allow-holes"]
         for name in dict.fromkeys(functions):
             flags += ["--only", f"{self.crate.name}::{name}"]
         with self.turns.turn():
             began = time.monotonic()
             ran = kit.checked(rt, self.crate, texts, flags, self.kept)
             self.count, self.seconds = self.count + 1, self.seconds + time.monotonic() - began
-        if not re.search(r"(?m)^only=\d+ proved=\d+", ran.stdout) or ran.returncode not in (0, 1) or rt.rtlib.STALE.search(ran.stdout):
+        if not re.search(r"(?m)^only=\d+ holes=\d+", ran.stdout) or ran.returncode not in (0, 1) or rt.rtlib.STALE.search(ran.stdout):
             last = " ".join(ran.stdout.split()[-60:])
             raise Broken(f"a check judged nothing (status {ran.returncode}): {last}")
         sources = [it for it in texts if not it.startswith("proofs/")]
@@ -145,9 +157,9 @@ class Checks:
         return said, ran.stdout
 
 
-def lines_of(crate, edit, batch):
+def lines_of(crate, edit, batch, stubbed):
     """the file and the lines in which the edited function stands when all edits of the batch are made"""
-    f, spans = edit.body, spans_of(crate, batch)[edit.body.file]
+    f, spans = edit.body, spans_of(crate, batch, stubbed)[edit.body.file]
     text = copies.replaced(bytes_of(crate, f.file), spans)
     moved = lambda at: at + sum(len(new) - (end - first) for first, end, new in spans if end <= at)
     first, end = moved(f.first), moved(f.end - 1)
@@ -157,25 +169,25 @@ def lines_of(crate, edit, batch):
     return f.file, range(text[:first].count(b"\n") + 1, text[:end].count(b"\n") + 2)
 
 
-def has_open_goal(crate, edit, batch, line, printed):
+def has_open_goal(checks, edit, batch, line, printed):
     """Does the check tell of a goal of this very function that is not proved?"""
     folder = re.escape(edit.checked.replace("::", "/"))
     errors = re.findall(rf"(?m)^(?:\./)?proofs/{folder}/\w+\.antt:\d+:\d+: error: (.*)", printed)
     if UNSOLVED in line or not all(map(NAMES.search, errors)):
         return True
-    file, lines = lines_of(crate, edit, batch) if edit.body else (None, ())
+    file, lines = lines_of(checks.crate, edit, batch, checks.stubs.beside(batch)) if edit.body else (None, ())
     notes = re.findall(r"(?m)^note: (?:\./)?(src/\S+?):(\d+):\d+: it is not proved", printed)
     return any(at == file and int(number) in lines for at, number in notes)
 
 
-def answer(crate, edit, batch, said, printed):
+def answer(checks, edit, batch, said, printed):
     """whether the edit is refused (None: in doubt, since a function that it calls is refused too), and why"""
     line = said.get(edit.checked)
     if line is None:
         return False, f"no check speaks of {edit.checked}"
     if not line.startswith(("not proved", "no proof")):
         return False, f"{edit.function}: {line}"
-    if has_open_goal(crate, edit, batch, line, printed):
+    if has_open_goal(checks, edit, batch, line, printed):
         return True, f"refused at {edit.function}"
     if len(batch) > 1:
         return None, line
@@ -189,7 +201,7 @@ def batches(crate, edits):
         apart = lambda it: it.function != edit.function and it.body is not edit.body
         with_bodies = [batch for batch in made if edit.body and batch[0].body]
         batch = next((batch for batch in with_bodies if all(map(apart, batch))), None)
-        if with_bodies and batch is not with_bodies[0] and copies.may_be_made(crate, edit.function, edit.body):
+        if with_bodies and batch is not with_bodies[0] and copies.stands_alone(crate, edit.function, edit.body):
             batch = with_bodies[0]
             edit.copy = sum(it.body is edit.body for it in batch)
         if batch is None:
@@ -202,7 +214,7 @@ def stray(batch, said):
     """The functions that are not proved though no edit of the batch touches them. Closures of an edited function have its name in theirs."""
     edited = [it.checked for it in batch]
     inside = ["::".join([*it.split("::")[-2:], ""]) for it in edited]
-    is_well = lambda line: line.startswith(("proved", "no proof: it calls"))
+    is_well = lambda line: line.startswith((*PROVED, "no proof: it calls"))
     return [f"{name}: {line}" for name, line in said.items() if not is_well(line) and name not in edited and not any(it in name for it in inside)]
 
 
@@ -215,9 +227,8 @@ def in_turn(checks, edits):
     left = batches(checks.crate, edits)
     while left:
         batch = left.pop(0)
-        texts = joined(checks.crate, batch)
         try:
-            said, printed = checks.check(texts, [it.checked for it in batch])
+            said, printed = checks.check_of(batch)
         except Broken as why:
             # (whose edit it is shows when each is tried by itself)
             if len(batch) > 1:
@@ -229,7 +240,7 @@ def in_turn(checks, edits):
         if others:
             raise Broken(f"with edits of other bodies: {'; '.join(others)[:900]}")
         for edit in batch:
-            refused, why = answer(checks.crate, edit, batch, said, printed)
+            refused, why = answer(checks, edit, batch, said, printed)
             if refused is None:
                 left.append(alone(edit))
             else:
@@ -237,12 +248,14 @@ def in_turn(checks, edits):
 
 
 def as_they_are(checks, edits):
-    """each edit that is made in a copy, and whether the copy is proved without it"""
-    batches(checks.crate, edits)
-    copied = [dataclasses.replace(it, spans=[]) for it in edits if it.copy]
-    if copied:
-        said, _ = checks.check(joined(checks.crate, copied), [it.checked for it in copied])
-        yield from ((it, said.get(it.checked) == "proved", f"{it.checked} without it: {said.get(it.checked)}") for it in copied)
+    """each edit of one body, and whether the function or its copy is proved without it, over the stubs"""
+    for batch in batches(checks.crate, edits):
+        unedited = [dataclasses.replace(it, spans=[]) for it in batch if it.body]
+        if unedited:
+            said, _ = checks.check_of(unedited)
+            for it in unedited:
+                line = said.get(it.checked, "no check speaks of it")
+                yield it, line.startswith(PROVED), f"{it.checked} without it: {line.split(' `')[0]}"
 
 
 def build_below(rt, crate):
@@ -256,11 +269,11 @@ def tried(rt, bodies, crate, turns, answers):
     lines, paths = [], edits_of(crate)
     try:
         edits = [read_edit(rt, crate, it) for it in paths]
-        functions = functions_of(bodies, crate)
+        source = source_of(bodies, crate)
         for it in edits:
-            it.body = body_of(functions, it)
+            it.body = body_of(source.functions, it)
         with tempfile.TemporaryDirectory(prefix="refused-") as kept:
-            checks = Checks(rt, as_library(crate), kept, turns)
+            checks = Checks(rt, as_library(crate), kept, turns, stubs.Stubs(crate, source))
             for edit, is_well, why in answers(checks, edits):
                 lines.append(f"ok {edit.label}: {why}" if is_well else f"failed {edit.label}: {why}")
         lines.append(f"{crate.name}: {len(edits)} edits in {checks.count} checks, which took {checks.seconds:.0f} seconds")
@@ -306,7 +319,7 @@ def main():
     rt.rtlib.guarded()
     named = sys.argv[1:]
     log = named[1] if named[:1] == ["--beside"] else None
-    answers = as_they_are if named[:1] == ["--copies"] else in_turn
+    answers = as_they_are if named[:1] == ["--unedited"] else in_turn
     named = named[2 if log else answers is as_they_are :]
     crates = {it.name: it for it in kit.crates_of(rt, ROOT) if edits_of(it)}
     unknown = [it for it in named if it not in crates]
