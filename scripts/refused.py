@@ -248,14 +248,13 @@ def in_turn(checks, edits):
 
 
 def as_they_are(checks, edits):
-    """each edit of one body, and whether the function or its copy is proved without it, over the stubs"""
+    """each edit, and whether its function or the copy of it is proved without it, over the stubs"""
     for batch in batches(checks.crate, edits):
-        unedited = [dataclasses.replace(it, spans=[]) for it in batch if it.body]
-        if unedited:
-            said, _ = checks.check_of(unedited)
-            for it in unedited:
-                line = said.get(it.checked, "no check speaks of it")
-                yield it, line.startswith(PROVED), f"{it.checked} without it: {line.split(' `')[0]}"
+        unedited = [dataclasses.replace(it, spans=[]) for it in batch]
+        said, _ = checks.check_of(unedited)
+        for it in unedited:
+            line = said.get(it.checked, "no check speaks of it")
+            yield it, line.startswith(PROVED), f"{it.checked} without it: {line.split(' `')[0]}"
 
 
 def build_below(rt, crate):
