@@ -10,9 +10,8 @@ function of which the check says no more than that it calls one that is not prov
 constant, a clause, a definition) has a check to itself.
 
 The libraries below a crate are those that `rt ci` left, or what `rt lib` makes. With --beside, `rt ci` is running and writes to the file LOG: a crate's edits
-are tried once it says that those below are proved. With --unedited no edit is made: is each function
-that has one, and each copy, proved as it is over the stubs? A line 'ok CRATE/EDIT' or
-'failed CRATE/EDIT' for each edit."""
+are tried once it says that those below are proved. With --unedited no edit is made: is each function that an edit names, and each copy, proved as it is over the
+stubs? A line 'ok CRATE/EDIT' or 'failed CRATE/EDIT' for each edit."""
 import collections
 import concurrent.futures
 import copy
@@ -139,6 +138,7 @@ class Checks:
         return self.check(texts, [it.checked for it in edits])
 
     def check(self, texts, functions):
+        """the same of these functions, in a copy of the crate with these texts"""
         rt, flags = self.rt, ["--jobs", "1", "--allow-holes"]
         for name in dict.fromkeys(functions):
             flags += ["--only", f"{self.crate.name}::{name}"]
