@@ -1,8 +1,12 @@
 """edits.py CRATE: does each edit in the crate's refused/ and must-fail/ apply, so that each of its `old:` texts stands in its file exactly once, and does each
-in refused/ name one function? Says how many do, and ends with an error, after a line for each that does not, where there is one."""
+in refused/ name one function? Where the search cannot tell that one is refused (scripts/refused.py), a line `judged: WHY` says in a sentence why no proof of that
+body can exist. Says how many edits are well, and ends with an error, after a line for each that is not, where there is one."""
 import pathlib
 import re
 import sys
+
+
+WORDS = 6  # that a judgement has at least
 
 
 class NotApplied(Exception):
@@ -39,9 +43,12 @@ def edits_of(crate):
 
 
 def problem(edit, crate):
-    named = len(re.findall(r"(?m)^function: \S+$", edit.read_text()))
-    if edit.parent.name == "refused" and named != 1:
+    text = edit.read_text()
+    if edit.parent.name == "refused" and len(re.findall(r"(?m)^function: \S+$", text)) != 1:
         return f"{edit}: one line 'function: NAME' says whose contract refuses it"
+    judged = re.findall(r"(?m)^judged:(.*)$", text)
+    if len(judged) > 1 or any(not it.startswith(" ") or len(it.split()) < WORDS for it in judged):
+        return f"{edit}: a line 'judged: WHY' has one sentence, and stands once at most"
     try:
         edited(edit, crate)
     except NotApplied as why:

@@ -1,17 +1,35 @@
 #!/usr/bin/env python3
-"""Does the prover refuse each wrong body in crates/CRATE/refused/? refused.py [--beside LOG | --unedited] [CRATE..]
+"""Does the prover refuse each wrong body in crates/CRATE/refused/? refused.py [--beside LOG | --unedited | --judged] [CRATE..]
 
-Such an edit is a must-fail edit (`file:`, `old:`, `new:`) that also names the function whose contract refuses it: `function: decode::is_padding`. Here
-many are tried by one check, where `rt ci` tries each by a check of its own: a check has edits of distinct bodies, and asks for these functions alone. Further
+Such an edit is a must-fail edit (`file:`, `old:`, `new:`) that also names the function whose contract refuses it: `function: decode::is_padding`. A line
+'ok CRATE/EDIT: KIND' or 'failed CRATE/EDIT: KIND' says of each edit what refuses it:
+
+  open goal          a goal of the contract (or of an invariant) stays open: the search came to its end, or the check gives values at which the goal is false
+  by the body        the same of what a step of the body asks: an index, an overflow, what a call requires
+  search gave up     at each goal that is open the search met one of its limits, which says nothing
+  needs a proof by hand   what the search says shows nothing, since it does not prove the function as it is either
+  judged             one of these two, and the edit has a line 'judged: WHY': why no proof can exist, as by the smallest input at which the body breaks a clause
+  NOT REFUSED        the function is proved with the edit, or no check could judge it
+
+Only an open goal, a refusal by the body and a judgement count. That an answer of the function's proof file does not fit the edited body (a misfit: it names what
+the edit took away, or proves something else now) is no evidence, since another answer may fit. So such answers, and what stands on them, are taken away, and the
+body is tried once more. Beside it the function is tried as it is, without the same answers. Where the search proves it so, a goal that it then leaves open for
+the edit is the edit's doing. Where it does not, goals count that it proves in the function as it is and leaves open for the edit, and those that are false.
+Where a goal that had an answer has another name now, or the edit adds a way, no goal of that sort counts by its name (Told.gone). Invariants stay. Answers that say
+what the check tries by itself are left out from the start, since a search tells more of why a goal is open. One that is a search with a list of lemmas
+by name, and nothing of the body, is no misfit where it fails, but a search that failed. Misfits of edits that are judged are tried again with --judged alone:
+use it where such a line is written.
+
+Here many edits are tried by one check, where `rt ci` tries each by a check of its own: a check has edits of distinct bodies, and asks for these functions alone. Further
 edits of one body are made in copies of its function (scripts/copies.py), and functions that no edit of the check touches are stubs, since `rt ci` proves them
 (scripts/stubs.py). A proof rests on the body of its own function and on what others state, which no edit of a body changes: so a goal of a function that is not
 proved then is so for the function's own edit, and every function that no edit touches must be proved or a stub, but for the proofs of those that it calls. A
-function of which the check says no more than that it calls one that is not proved is tried again by itself. An edit of anything but one body (a
-constant, a clause, a definition) has a check to itself.
+function of which the check says no more than that it calls one that is not proved is tried again by itself. The misfits of a crate have one further check, and
+the functions as they are stand in it as copies. An edit of anything but one body (a constant, a clause, a definition) has a check to itself.
 
 The libraries below a crate are those that `rt ci` left, or what `rt lib` makes. With --beside, `rt ci` is running and writes to the file LOG: a crate's edits
 are tried once it says that those below are proved. With --unedited no edit is made: is each function that an edit names, and each copy, proved as it is over the
-stubs? A line 'ok CRATE/EDIT' or 'failed CRATE/EDIT' for each edit."""
+stubs?"""
 import collections
 import concurrent.futures
 import copy
@@ -25,14 +43,17 @@ import threading
 import time
 
 import copies
+import kinds
 import kit
 import stubs
 import turns
+import without
 
 ROOT = os.path.dirname(os.path.dirname(os.path.realpath(__file__)))
-# An error of a proof file that names what the edit took away, which says little of the contract.
-NAMES = re.compile(r"has no field|is not in scope|has no `|was not admitted")
-UNSOLVED = "`search` did not prove"
+# Kinds of refusal beside those that scripts/kinds.py reads off what a check prints.
+BY_HAND, MISFIT, JUDGED, NOT_REFUSED = "needs a proof by hand", "misfit", "judged", "NOT REFUSED"
+# So often answers are taken away: those that are left may not fit either.
+ROUNDS = 3
 # What a check says of a function that is proved, by itself or but for stubs.
 PROVED = ("no holes", "depends on a hole in")
 
@@ -50,11 +71,18 @@ class Edit:
     spans: list  # what it replaces: the file, the first byte, the end, and the bytes that stand there then
     body: object = None  # the function whose body holds all of it, if there is one
     copy: int = 0  # in which copy of its function a check has it: in none but the function itself
+    judged: str = ""  # why no proof of it can exist, as a reader found
+    taken: frozenset = frozenset()  # what a check takes away of its function's answers
 
     @property
     def checked(self):
         """what a check calls the function that has the edit"""
         return copies.name_of(self.function, self.copy)
+
+    @property
+    def key(self):
+        """what tells its tries apart: the edit, or the function as it is without these answers"""
+        return (self.path,) if self.spans else (self.function, self.taken)
 
     @property
     def label(self):
@@ -74,14 +102,15 @@ def read_edit(rt, crate, path):
     if why:
         raise Broken(f"{path}: {why}")
     with open(path, encoding="utf-8") as it:
-        named = re.findall(r"(?m)^function: (\S+)$", it.read())
-    if len(named) != 1:
-        raise Broken(f"{path}: one line 'function: NAME' says whose contract refuses it")
+        written = it.read()
+    named, judged = re.findall(r"(?m)^function: (\S+)$", written), re.findall(r"(?m)^judged: (.+)$", written)
+    if len(named) != 1 or len(judged) > 1:
+        raise Broken(f"{path}: one line 'function: NAME' says whose contract refuses it, and one line 'judged: WHY' at most why no proof can exist")
     spans = []
     for file, text in texts.items():
         with open(f"{crate.folder}/{file}", "rb") as it:
             spans.append((file, *span(it.read(), text.encode())))
-    return Edit(path, crate.name, named[0], texts, spans)
+    return Edit(path, crate.name, named[0], texts, spans, judged="".join(judged))
 
 
 def source_of(bodies, crate):
@@ -115,12 +144,28 @@ def spans_of(crate, edits, stubbed):
     return of_file
 
 
+def answers_of(crate, edit):
+    """The answers that the function of this edit has in a check, but for those that are taken away."""
+    return copies.own_proofs(crate, edit.function).get(f"{copies.folder_of(edit.function)}/Answers.antt", "")
+
+
+def proof_files(crate, edit):
+    """the proof files that the edit's own check has in place of the crate's, by their paths: None for one that goes"""
+    texts = copies.proof_files(crate, edit.function, edit.copy) if edit.copy else {}
+    path = f"{copies.folder_of(edit.checked)}/Answers.antt"
+    if edit.taken:
+        text = texts.get(path) or answers_of(crate, edit)
+        texts[path] = without.without(text, edit.taken)
+    if edit.copy and texts.get(path, "") is None:
+        del texts[path]
+    return texts
+
+
 def joined(crate, edits, stubbed):
-    """the source files that these edits, their copies and the stubs change, as all of them leave them, and the proof files of the copies"""
+    """the source files that these edits, their copies and the stubs change, as all of them leave them, and the proof files of the edited functions and copies"""
     texts = {file: copies.replaced(bytes_of(crate, file), spans).decode() for file, spans in spans_of(crate, edits, stubbed).items()}
     for edit in edits:
-        if edit.copy:
-            texts.update(copies.proof_files(crate, edit.function, edit.copy))
+        texts.update(proof_files(crate, edit))
     return texts
 
 
@@ -157,43 +202,6 @@ class Checks:
         return said, ran.stdout
 
 
-def lines_of(crate, edit, batch, stubbed):
-    """the file and the lines in which the edited function stands when all edits of the batch are made"""
-    f, spans = edit.body, spans_of(crate, batch, stubbed)[edit.body.file]
-    text = copies.replaced(bytes_of(crate, f.file), spans)
-    moved = lambda at: at + sum(len(new) - (end - first) for first, end, new in spans if end <= at)
-    first, end = moved(f.first), moved(f.end - 1)
-    if edit.copy:
-        first = re.search(rb"\bfn %s\b" % copies.name_of(f.name, edit.copy).encode(), text).start()
-        end = first + f.end - f.named[0] + sum(len(new) - (end - first) for _, first, end, new in edit.spans)
-    return f.file, range(text[:first].count(b"\n") + 1, text[:end].count(b"\n") + 2)
-
-
-def has_open_goal(checks, edit, batch, line, printed):
-    """Does the check tell of a goal of this very function that is not proved?"""
-    folder = re.escape(edit.checked.replace("::", "/"))
-    errors = re.findall(rf"(?m)^(?:\./)?proofs/{folder}/\w+\.antt:\d+:\d+: error: (.*)", printed)
-    if UNSOLVED in line or not all(map(NAMES.search, errors)):
-        return True
-    file, lines = lines_of(checks.crate, edit, batch, checks.stubs.beside(batch)) if edit.body else (None, ())
-    notes = re.findall(r"(?m)^note: (?:\./)?(src/\S+?):(\d+):\d+: it is not proved", printed)
-    return any(at == file and int(number) in lines for at, number in notes)
-
-
-def answer(checks, edit, batch, said, printed):
-    """whether the edit is refused (None: in doubt, since a function that it calls is refused too), and why"""
-    line = said.get(edit.checked)
-    if line is None:
-        return False, f"no check speaks of {edit.checked}"
-    if not line.startswith(("not proved", "no proof")):
-        return False, f"{edit.function}: {line}"
-    if has_open_goal(checks, edit, batch, line, printed):
-        return True, f"refused at {edit.function}"
-    if len(batch) > 1:
-        return None, line
-    return True, f"refused at {edit.function} ({line})"
-
-
 def batches(crate, edits):
     """Edits of distinct bodies, in as few lists as can be: of a body that may be copied the first list has all."""
     made = []
@@ -222,8 +230,12 @@ def alone(edit):
     return [dataclasses.replace(edit, copy=0)]
 
 
-def in_turn(checks, edits):
-    """each edit with its answer"""
+def adds_ways(crate, edit):
+    return any(kinds.adds_ways(bytes_of(crate, file)[first:end].decode(), new.decode()) for file, first, end, new in edit.spans)
+
+
+def told_in_turn(checks, edits):
+    """each edit with what a check tells of its function, or with why none could"""
     left = batches(checks.crate, edits)
     while left:
         batch = left.pop(0)
@@ -234,17 +246,102 @@ def in_turn(checks, edits):
             if len(batch) > 1:
                 left += map(alone, batch)
             else:
-                yield batch[0], False, f"NOT REFUSED: {why}"
+                yield batch[0], why
             continue
         others = stray(batch, said) if batch[0].body else []
         if others:
             raise Broken(f"with edits of other bodies: {'; '.join(others)[:900]}")
         for edit in batch:
-            refused, why = answer(checks, edit, batch, said, printed)
-            if refused is None:
+            answered = without.without(answers_of(checks.crate, edit), edit.taken) or ""
+            told = kinds.told(printed, checks.crate.name, edit.checked, answered)
+            if adds_ways(checks.crate, edit):
+                told.gone |= kinds.proved_sorts(answered)
+            if told.is_in_doubt and len(batch) > 1:
                 left.append(alone(edit))
             else:
-                yield edit, refused, why if refused else f"NOT REFUSED: {why}"
+                yield edit, told
+
+
+def first_kind(edit, told):
+    """of what kind the refusal is by what the first check of the edit tells; None where answers do not fit, and nothing else is sure"""
+    if isinstance(told, Broken) or told.is_not_judged:
+        return NOT_REFUSED
+    sure = kinds.kind({goal: why for goal, why in told.goals.items() if why == kinds.FALSE or kinds.sort(goal) not in told.gone})
+    if sure in (kinds.OPEN, kinds.BODY):
+        return sure
+    if told.unfit and edit.body:
+        return None
+    return sure if sure and not told.unfit and not told.elsewhere else BY_HAND
+
+
+def kind_without(told, plain, gone):
+    """Of what kind the refusal is by what a check tells where answers that do not fit are taken away, and of the function as it is without them. `gone` are the sorts of
+    the goals that were answered and that the edit turns into others; None where further answers do not fit."""
+    if isinstance(told, Broken) or told.is_not_judged:
+        return NOT_REFUSED
+    if told.unfit:
+        return None
+    if plain.is_proved:
+        return kinds.kind(told.goals) or BY_HAND
+    if not plain.goals:
+        return BY_HAND
+    is_sure = lambda goal, why: goal not in plain.goals and (why == kinds.FALSE or kinds.sort(goal) not in gone)
+    sure = kinds.kind({goal: why for goal, why in told.goals.items() if is_sure(goal, why)})
+    return sure if sure in (kinds.OPEN, kinds.BODY) else BY_HAND
+
+
+def without_unfit(checks, misfits):
+    """each edit whose function has answers that do not fit, its kind without them, and what the last check tells of it; `misfits` are edits and what was told of them"""
+    gone = {edit.path: told.gone for edit, told in misfits}
+    for _ in range(ROUNDS):
+        trials = [dataclasses.replace(it, copy=0, taken=it.taken | told.unfit) for it, told in misfits]
+        as_it_is = {it.key: it for it in (dataclasses.replace(it, spans=[]) for it in trials)}
+        told = {it.key: said for it, said in told_in_turn(checks, [*trials, *as_it_is.values()])}
+        misfits = []
+        for it in trials:
+            its, plain = told[it.key], told[(it.function, it.taken)]
+            if isinstance(plain, Broken):
+                raise plain
+            kind = kind_without(its, plain, gone[it.path])
+            if kind is None:
+                gone[it.path] = gone[it.path] | its.gone
+                misfits.append((it, its))
+            else:
+                yield it, kind, its
+    for it, its in misfits:
+        yield it, BY_HAND, its
+
+
+def answer(edit, kind, told, how=""):
+    """whether that counts as a refusal, and what to print"""
+    if isinstance(told, Broken):
+        return False, f"{NOT_REFUSED}: {told}"
+    goals = ", ".join(f"`{goal}`" for goal in sorted(told.goals)[:4])
+    where = f"{kind} at {edit.function}" + (f", {goals}" if goals else "") + how
+    if kind == NOT_REFUSED:
+        return False, f"{where}: {told.line or 'no check speaks of it'}"
+    if kind in (kinds.OPEN, kinds.BODY):
+        return True, where
+    if edit.judged:
+        return True, f"{JUDGED} ({where}): {edit.judged}"
+    return False, f"{where}: say in a line 'judged: WHY' why no proof can exist, or strengthen the contract"
+
+
+def in_turn(checks, edits, again=False):
+    """each edit with its answer; those that are judged are tried without answers that do not fit only where `again` says so"""
+    misfits = []
+    for edit, told in told_in_turn(checks, edits):
+        kind = first_kind(edit, told)
+        if kind is None and (again or not edit.judged):
+            misfits.append((edit, told))
+        else:
+            yield edit, *answer(edit, kind or MISFIT, told)
+    for edit, kind, told in without_unfit(checks, misfits):
+        yield edit, *answer(edit, kind, told, ", answers taken away")
+
+
+def judged_too(checks, edits):
+    return in_turn(checks, edits, again=True)
 
 
 def as_they_are(checks, edits):
@@ -271,6 +368,7 @@ def tried(rt, bodies, crate, turns, answers):
         source = source_of(bodies, crate)
         for it in edits:
             it.body = body_of(source.functions, it)
+            it.taken = without.needless(answers_of(crate, it))
         with tempfile.TemporaryDirectory(prefix="refused-") as kept:
             checks = Checks(rt, as_library(crate), kept, turns, stubs.Stubs(crate, source))
             for edit, is_well, why in answers(checks, edits):
@@ -318,8 +416,8 @@ def main():
     rt.rtlib.guarded()
     named = sys.argv[1:]
     log = named[1] if named[:1] == ["--beside"] else None
-    answers = as_they_are if named[:1] == ["--unedited"] else in_turn
-    named = named[2 if log else answers is as_they_are :]
+    answers = {"--unedited": as_they_are, "--judged": judged_too}.get("".join(named[:1]), in_turn)
+    named = named[2 if log else answers is not in_turn :]
     crates = {it.name: it for it in kit.crates_of(rt, ROOT) if edits_of(it)}
     unknown = [it for it in named if it not in crates]
     if unknown:
