@@ -351,7 +351,7 @@ def as_they_are(checks, edits):
         said, _ = checks.check_of(unedited)
         for it in unedited:
             line = said.get(it.checked, "no check speaks of it")
-            yield it, line.startswith(PROVED), f"{it.checked} without it: {line.split(' `')[0]}"
+            yield it, line.startswith(PROVED), f"as it is: {it.checked}: {line.split(' `')[0]}"
 
 
 def build_below(rt, crate):
@@ -362,9 +362,9 @@ def build_below(rt, crate):
 
 def tried(rt, bodies, crate, turns, answers):
     """the lines for a crate's edits"""
-    lines, paths = [], edits_of(crate)
+    lines, found = [], collections.Counter()
     try:
-        edits = [read_edit(rt, crate, it) for it in paths]
+        edits = [read_edit(rt, crate, it) for it in edits_of(crate)]
         source = source_of(bodies, crate)
         for it in edits:
             it.body = body_of(source.functions, it)
@@ -373,7 +373,9 @@ def tried(rt, bodies, crate, turns, answers):
             checks = Checks(rt, as_library(crate), kept, turns, stubs.Stubs(crate, source))
             for edit, is_well, why in answers(checks, edits):
                 lines.append(f"ok {edit.label}: {why}" if is_well else f"failed {edit.label}: {why}")
-        lines.append(f"{crate.name}: {len(edits)} edits in {checks.count} checks, which took {checks.seconds:.0f} seconds")
+                found[re.split(r" at | \(|: ", why)[0]] += 1
+        kinds_found = ", ".join(f"{count} {kind}" for kind, count in found.most_common())
+        lines.append(f"{crate.name}: {len(edits)} edits in {checks.count} checks, which took {checks.seconds:.0f} seconds: {kinds_found}")
     except Broken as why:
         lines.append(f"failed {crate.name}/refused: {why}")
     return lines
