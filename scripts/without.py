@@ -2,7 +2,7 @@
 prover's own search decides."""
 import re
 
-DECLARED = re.compile(r"(?:abbrev |unfoldable )?(?:pub )?([^\s:]+) : ")
+DECLARED = re.compile(r"(?:abbrev |unfoldable )?(?:pub )?(?:(?:record|data) (\S+)|([^\s:]+) : )")
 # A search that is as good as the check's own: it lists names alone, so nothing of what the body is, and one of the sets by which arithmetic is tried too. (`omega`
 # reads numbers alone.)
 SEARCH = re.compile(r"(?:λ [^.]+\. )?(?:search|grind) (?:(rules|arith)|\((?:[^\s().,]+, )*(?:rules|arith)(?:, [^\s().,]+)*\))")
@@ -17,7 +17,7 @@ def declarations(text):
     for number, line in enumerate(lines, 1):
         declared = DECLARED.match(line)
         if declared:
-            begun.append((declared[1], number))
+            begun.append((declared[1] or declared[2], number))
     ends = [number for _, number in begun[1:]] + [len(lines) + 1]
     return [(name, first, end) for (name, first), end in zip(begun, ends)]
 
