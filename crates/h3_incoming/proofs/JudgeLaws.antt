@@ -1,12 +1,16 @@
 -- What a field section is at its place.
-use Rattle.std.proofs.Common.{◌≡◌, ℕ, ◌<◌, ◌≤◌, false, nat_lt, if◌then◌else◌, List, ap, sym, ◌∙◌, subst}
+use Rattle.std.proofs.Common.{◌≡◌, ℕ, ◌<◌, ◌≤◌, false, nat_lt, if◌then◌else◌, List, [], ◌∷◌, inl, inr, ap, sym, ◌∙◌, subst}
 use Rattle.std.proofs.lemmas.Bool.{lt-ltb, le-ltb}
 use Rattle.std.specs.Prelude.{Option, Some, None, IfSome, Result, Ok, Err, IfOk, codes, Bool}
 use Rattle.h3_field.specs.Field.{Field}
 use Rattle.h3_field.specs.Instruction.{DecoderInstruction}
 use Rattle.h3_qpack.specs.DecoderState.{DecoderState}
 use Rattle.h3_header.specs.Head.{Head}
-use Rattle.h3_header.specs.HeadRead.{HeadRefusal, IsHead, IsNone, head_of}
+use Rattle.h3_header.specs.HeadRead.{HeadRefusal, IsHead, IsNone, head_of, told}
+use Rattle.h3_header.specs.Reads.{kind_of, with_field, RefusesAt, RefusesOne}
+use Rattle.h3_header.specs.declared.headers.error.HeaderError.{HeaderError}
+use Rattle.h3_header.specs.declared.headers.error.HeaderError.TheVariants as error
+use Rattle.h3_header.specs.declared.headers.kind.FieldKind.{FieldKind}
 use Rattle.h3_proto.specs.declared.stream.Side.{Side}
 use Rattle.h3_connection.specs.declared.event.Item.TheVariants as item
 use Rattle.h3_connection.specs.declared.event.Pull.{Pull}
@@ -24,6 +28,24 @@ use Rattle.h3_field.specs.declared.decoder.Decoded.{Decoded}
 use Rattle.h3_incoming.specs.declared.judge.Judged.{Judged}
 use Rattle.h3_incoming.specs.Judging.{judged_as}
 use Rattle.h3_connection.specs.Pulling.{Pulled, is_memory, malformed, malformation_of, next_place, head_or_trailer, judged, read_section, decoded, at_section}
+
+-- a refusal that tells no malformation is for want of memory
+memory_at : (at : FieldKind) (h : Head) (f : Field) (e : HeaderError) → RefusesAt at h f e → told e ≡ None → RefusesAt at h f error.OutOfMemory
+memory_at at h f (error.InvalidHeaderName _) why none = absurd (cc)
+memory_at at h f (error.InvalidHeaderValue _) why none = absurd (cc)
+memory_at at h f error.TooManyFields why none = absurd (cc)
+memory_at at h f error.InvalidRequest why none = absurd why
+memory_at at h f error.MissingMethod why none = absurd why
+memory_at at h f error.MissingStatus why none = absurd why
+memory_at at h f error.MissingAuthority why none = absurd why
+memory_at at h f error.ContradictedAuthority why none = absurd why
+memory_at at h f error.OutOfMemory why none = why
+
+pub wants_memory : (h : Head) (fields : List Field) (e : HeaderError) → RefusesOne h fields e → told e ≡ None → RefusesOne h fields error.OutOfMemory
+unfolding RefusesOne
+wants_memory h [] e why none = absurd why
+wants_memory h (f ∷ fields) e (inl here) none = inl (memory_at (kind_of f.name) h f e here none)
+wants_memory h (f ∷ fields) e (inr later) none = inr (later.0, wants_memory (with_field h f) fields e later.1 none)
 
 -- what is said of the fields that are kept is said of the section
 pub judged_within : {E : Type 0} (result : Result Judged E) (side : Side) (place : Place) (d : Decoded) (w : DecodedWithin) → w ≡ within.Fields d

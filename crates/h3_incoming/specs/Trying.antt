@@ -6,10 +6,11 @@ use Rattle.h3_qpack.specs.Sizes.{IsWithin}
 use Rattle.h3_incoming.specs.declared.section.Tried.{Tried}
 use Rattle.h3_incoming.specs.declared.section.Tried.TheVariants as tried
 
--- The answer is of this value; memory may be refused. Past the limit the fields are counted, and the last status is told.
-abbrev pub IsTry : ℕ → DecodedSection → Tried → Type 0
-IsTry limit section (tried.Decoded d) =
+-- The answer is of this value; memory may be refused where that may be asked for. Past the limit the fields are counted, and the last
+-- status is told.
+abbrev pub IsTry : Type 0 → ℕ → DecodedSection → Tried → Type 0
+IsTry asks limit section (tried.Decoded d) =
     (fields : List Field) × (count : ℕ) × (section ≡ Fields fields count) × IsWithin limit (codes ":status") (nat_lt 0 count) fields d
-IsTry limit section (tried.Missing count) = section ≡ Missing count
-IsTry limit section tried.Bad = section ≡ BadSection
-IsTry limit section tried.OutOfMemory = Unit {0}
+IsTry asks limit section (tried.Missing count) = section ≡ Missing count
+IsTry asks limit section tried.Bad = section ≡ BadSection
+IsTry asks limit section tried.OutOfMemory = asks

@@ -1,8 +1,10 @@
 //! What a decoded field section is at its place of a message (RFC 9114, sections 4.1 to 4.3).
-ghost use Rattle.std.specs.Prelude.{◌≡◌, ◌<◌, ◌≤◌, ℕ, Bool, List, Some, IfOk, option_map, codes};
+ghost use Rattle.std.specs.Prelude.{◌≡◌, ◌<◌, ◌≤◌, ℕ, Bool, List, [], Some, None, IfOk, OnErr, option_map, codes};
 ghost use Rattle.h3_field.specs.Instruction.{DecoderInstruction};
 ghost use Rattle.h3_qpack.specs.DecoderState.{DecoderState};
-ghost use Rattle.h3_header.specs.HeadRead.{told};
+ghost use Rattle.h3_header.specs.Head.{trailer_head};
+ghost use Rattle.h3_header.specs.HeadRead.{HeadRefusal, told};
+ghost use Rattle.h3_header.specs.Reads.{RefusesOne};
 ghost use Rattle.h3_connection.specs.Incoming.{Incoming};
 ghost use Rattle.h3_qpack.specs.Sizes.{IsLarge, IsWithin, last_value, told_size};
 ghost use Rattle.h3_connection.specs.declared.setup.Announced.{Announced};
@@ -62,23 +64,32 @@ fn judge_large(side: Side, place: Place, large: LargeSection) -> Judged
     Judged::HandsOut(Item::TooLarge(large.mem_size), behind)
 }
 
-// A section that is not.
+// A section that is not. Want of memory is told only of a list of which a front is good, and whose next field may ask for memory.
 fn judge_fields(
     alloc: Global,
     side: Side,
     place: Place,
     fields: Vec<HeaderField>,
 ) -> Result<Judged, AllocError>
-    ensures { IfOk result (λ j. (own : Announced) (id : ℕ) (r : DecoderState) (i : Incoming) (replies : List DecoderInstruction)
+    ensures ok { IfOk result (λ j. (own : Announced) (id : ℕ) (r : DecoderState) (i : Incoming) (replies : List DecoderInstruction)
         → told_size fields.items ≤ section_of own → i.place ≡ place → read_section side own id r i replies fields.items ≡ judged_as id i replies j) }
+    ensures memory { OnErr result (RefusesOne (trailer_head []) fields.items HeaderError.OutOfMemory) }
 {
     h3_header::laws::lists_are_their_value();
     match Header::try_from(alloc, fields) {
         Ok(header) => Ok(judge_header(side, place, header)),
-        Err(e) => match malformation(e) {
-            Some(why) => Ok(Judged::Malformed(why)),
-            None => Err(AllocError),
-        },
+        Err(e) => judge_refusal(e),
+    }
+}
+
+// A list that is no head is malformed. Want of memory is told where it was told, and of no list that was told to be malformed.
+fn judge_refusal(error: HeaderError) -> Result<Judged, AllocError>
+    ensures ok { IfOk result (λ j. (why : HeadRefusal) × (told error ≡ Some why) × (j ≡ Judged.Malformed (malformation_of why))) }
+    ensures memory { OnErr result (told error ≡ None) }
+{
+    match malformation(error) {
+        Some(why) => Ok(Judged::Malformed(why)),
+        None => Err(AllocError),
     }
 }
 

@@ -1,6 +1,9 @@
 //! An encoded field section (RFC 9204, section 4.5), as a decoder reads it now.
 ghost use Rattle.std.specs.Prelude.{◌≡◌, ℕ, List};
-ghost use Rattle.h3_qpack.specs.DecodedSection.{DecodedSection, IsRefusalOf, decode_section};
+ghost use Rattle.h3_field.specs.declared.decoder_error.DecoderError.TheVariants.{OutOfMemory};
+ghost use Rattle.h3_qpack.specs.DecodedSection.{IsRefusalOf, decode_section};
+ghost use Rattle.h3_qpack.specs.DecoderState.{DecoderState};
+ghost use Rattle.h3_qpack.specs.SectionAnswers.{MayAskMemory};
 ghost use Rattle.h3_incoming.specs.Trying.{IsTry};
 
 use h3_qpack::{DecodedWithin, Decoder, DecoderError, SliceCursor};
@@ -16,9 +19,10 @@ pub(crate) enum Tried {
     OutOfMemory,
 }
 
-/// Decodes a field section. Where its fields sum to more than the limit none is kept.
+/// Decodes a field section. Where its fields sum to more than the limit none is kept. Want of memory is told only of a section whose
+/// prefix is good, whose insertions were read, and whose first line has a string or is of a field.
 pub(crate) fn try_section(decoder: &Decoder, bytes: &[u8], limit: u64) -> Tried
-    ensures { IsTry limit (decode_section decoder.now bytes.now) result }
+    ensures { IsTry (MayAskMemory decoder.now bytes.now) limit (decode_section decoder.now bytes.now) result }
 {
     let mut cursor = SliceCursor::new(bytes);
     match decoder.decode_header_within(&mut cursor, limit, b":status".as_slice()) {
@@ -29,7 +33,8 @@ pub(crate) fn try_section(decoder: &Decoder, bytes: &[u8], limit: u64) -> Tried
 
 // What a refusal is.
 fn refused(error: DecoderError) -> Tried
-    ensures { (limit : ℕ) (section : DecodedSection) → IsRefusalOf section error → IsTry limit section result }
+    ensures { (limit : ℕ) (r : DecoderState) (bytes : List ℕ) → IsRefusalOf (decode_section r bytes) error → (error ≡ OutOfMemory → MayAskMemory r bytes)
+        → IsTry (MayAskMemory r bytes) limit (decode_section r bytes) result }
 {
     match error {
         DecoderError::MissingRefs(count) => Tried::Missing(count),

@@ -1,5 +1,6 @@
 //! What is sent on a request stream: where its message is, and the frames that wait.
-ghost use Rattle.std.specs.Prelude.{◌≡◌, ◌≢◌, ◌+◌, ◌-◌, ◌<◌, ◌≤◌, ◌^◌, ◌++◌, [], length, take, drop, min, true, false, OnOk, OnErr, IfErr, IsTrue};
+ghost use Rattle.std.specs.Prelude.{◌≡◌, ◌≢◌, ◌+◌, ◌-◌, ◌*◌, ◌<◌, ◌≤◌, ◌^◌, ◌++◌, [], length, take, drop, min, max, true, false, OnOk, OnErr, IfErr, IsTrue};
+ghost use Rattle.std.specs.VecDeque.{deque_len, deque_capacity};
 ghost use Rattle.h3_wire.specs.Outgoing.{all_of};
 ghost use Rattle.h3_connection.specs.WaitingPieces.{bytes_of, lent, without_front};
 ghost use Rattle.h3_connection.specs.State.{nothing_waits};
@@ -12,6 +13,9 @@ use h3_wire::stream::MessageBuf;
 use std::alloc::{AllocError, Global};
 use std::collections::VecDeque;
 use std::marker::Model;
+
+/// How many frames a queue has memory for at first.
+const FIRST_PLACES: usize = 4;
 
 /// A request stream at its sender. Its frames wait in a queue: a body that was handed over is the payload itself, and is not
 /// copied. A contract sees the pieces that wait.
@@ -77,16 +81,17 @@ impl OutgoingStream {
         !self.is_finished && !self.is_reset && !matches!(self.place, SendPlace::NothingSent)
     }
 
-    /// Room for one more frame, so that sending it needs no memory.
+    /// Room for one more frame, so that sending it needs no memory (`take_place`).
     pub fn reserve(&mut self) -> Result<(), AllocError>
         ensures { self.new ≡ self.old }
     {
-        self.pieces.reserve(1)
+        take_place(&mut self.pieces)
     }
 
-    // No queue of 2^62 bytes fits into memory: a longer one is refused as such.
+    // No queue of 2^62 bytes fits into memory: a longer one is refused as such, and no other.
     fn has_room_for(&self, payload: usize) -> bool
-        ensures { IsTrue result → (payload < 2 ^ 61) × (length (bytes_of self.now.pieces) < 2 ^ 61) }
+        ensures room { IsTrue result → (payload < 2 ^ 61) × (length (bytes_of self.now.pieces) < 2 ^ 61) }
+        ensures none { result ≡ false → 2 ^ 61 ≤ length (bytes_of self.now.pieces) + payload }
     {
         payload < 1 << 61 && self.waiting < 1 << 61
     }
@@ -101,7 +106,7 @@ impl OutgoingStream {
         if !self.has_room_for(section.len()) {
             return Err(section);
         }
-        let Ok(()) = self.pieces.reserve(1) else {
+        let Ok(()) = take_place(&mut self.pieces) else {
             return Err(section);
         };
         self.place = place;
@@ -122,7 +127,7 @@ impl OutgoingStream {
         if !self.has_room_for(body.len()) {
             return Err(body);
         }
-        let Ok(()) = self.pieces.reserve(1) else {
+        let Ok(()) = take_place(&mut self.pieces) else {
             return Err(body);
         };
         let piece = MessageBuf::data(body);
@@ -267,6 +272,22 @@ impl OutgoingStream {
     {
         self.is_reset || (self.is_finished && self.waiting == 0)
     }
+}
+
+/// Takes memory for one more frame in a queue, where it has none: for as many more as there are, or for four. A place that is taken stays
+/// until a frame is put in, so that this needs no memory then.
+fn take_place(pieces: &mut VecDeque<MessageBuf<Bytes>>) -> Result<(), AllocError>
+    ensures same { pieces.new.items ≡ pieces.old.items }
+    ensures len { deque_len pieces.new ≡ deque_len pieces.old }
+    ensures room { OnOk result (deque_len pieces.new < deque_capacity pieces.new) }
+    ensures full { OnErr result (deque_capacity pieces.old ≤ deque_len pieces.old) }
+    ensures few { deque_capacity pieces.new ≤ max (deque_capacity pieces.old) (2 * deque_len pieces.old + 4) }
+{
+    let len = pieces.len();
+    if len < pieces.capacity() {
+        return Ok(());
+    }
+    pieces.reserve_exact(len.max(FIRST_PLACES))
 }
 
 /// The first `count` bytes, at most all.

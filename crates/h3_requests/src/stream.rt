@@ -1,5 +1,6 @@
 //! A request stream, both ways.
-ghost use Rattle.std.specs.Prelude.{◌≡◌, ◌||◌, is_some, IfErr, OnErr, OnOk};
+ghost use Rattle.std.specs.Prelude.{◌≡◌, ◌||◌, ◌+◌, ◌<◌, ◌≤◌, ◌^◌, true, false, length, is_some, IfErr, OnErr, OnOk};
+ghost use Rattle.std.specs.List.{concat};
 ghost use Rattle.h3_connection.specs.Calls.{fresh_request};
 ghost use Rattle.h3_connection.specs.Delivering.{kept};
 
@@ -8,6 +9,9 @@ use h3_incoming::IncomingStream;
 use h3_outgoing::OutgoingStream;
 use std::alloc::Global;
 use std::marker::Model;
+
+// The bytes of a stream that were not read stay below twice this, which no memory has room for.
+const MOST_HELD: usize = 1 << 61;
 
 /// A request stream: what came on it, and what is sent on it. A contract sees it as the definitions' `RequestState`.
 #[derive(Drop)]
@@ -63,15 +67,22 @@ impl RequestStream {
         self.incoming.is_over() || self.incoming.fault().is_some()
     }
 
-    // More bytes came. No queue of 2^62 bytes fits into memory: a longer one is refused as such. An `Err` changes nothing, and
-    // hands the bytes back.
+    // Whether so many bytes more have room: no queue of 2^62 bytes fits into memory, and what is refused is 2^61 bytes or more.
+    fn has_room_for(&self, len: usize) -> bool
+        ensures room { result ≡ true → length (concat self.now.incoming.unread) + len < 2 ^ 64 }
+        ensures none { result ≡ false → 2 ^ 61 ≤ length (concat self.now.incoming.unread) + len }
+    {
+        self.incoming.unread() < MOST_HELD && len < MOST_HELD
+    }
+
+    // More bytes came. More than memory can hold is refused as want of it. An `Err` changes nothing, and hands the bytes back.
     pub(crate) fn deliver(&mut self, bytes: Bytes) -> Result<(), Bytes>
         ensures ok { OnOk result (self.new ≡ record self.old { incoming = kept self.old.incoming bytes }) }
         ensures back { IfErr result (λ b. b ≡ bytes) }
         ensures same { OnErr result (self.new ≡ self.old) }
         ensures waits { self.new.incoming.waits_for ≡ self.old.incoming.waits_for }
     {
-        if self.incoming.unread() >= 1 << 61 || bytes.len() >= 1 << 61 {
+        if !self.has_room_for(bytes.len()) {
             return Err(bytes);
         }
         self.incoming.deliver(bytes)

@@ -1,5 +1,5 @@
 //! What comes on the peer's unidirectional streams (RFC 9114, section 6.2).
-ghost use Rattle.std.specs.Prelude.{◌≡◌, true, [], ◌∷◌, length, IfOk, IfErr, OnErr};
+ghost use Rattle.std.specs.Prelude.{◌≡◌, ◌≤◌, ◌+◌, ◌^◌, true, false, [], ◌∷◌, length, IfOk, IfErr, OnErr};
 ghost use Rattle.std.specs.List.{concat};
 ghost use Rattle.h3_connection.specs.declared.arrival.Arrival.TheVariants.{BytesCame};
 ghost use Rattle.h3_connection.specs.Delivering.{bytes_at, end_at, reset_at, push_code};
@@ -50,9 +50,10 @@ impl ConnectionStreams {
         }
     }
 
-    /// Whether bytes have room here: no more is held than any memory has room for.
+    /// Whether bytes have room here: no more is held than any memory has room for, and no less is refused.
     fn has_room(&self, id: StreamId, len: usize) -> bool
-        ensures { result ≡ true → HasRoom self.now id len }
+        ensures room { result ≡ true → HasRoom self.now id len }
+        ensures none { result ≡ false → 2 ^ 61 ≤ length (concat (stream_of_peer self.now id).unread) + len }
     {
         self.session_len(id) < MOST_HELD && len < MOST_HELD
     }

@@ -1,5 +1,5 @@
 //! What the readers of the peer's control, encoder and decoder streams make of further bytes, each by itself.
-ghost use Rattle.std.specs.Prelude.{◌≡◌, ◌+◌, ◌<◌, ◌^◌, ◌++◌, [], length, IfOk, IfErr, OnOk, OnErr};
+ghost use Rattle.std.specs.Prelude.{◌≡◌, ◌+◌, ◌<◌, ◌≤◌, ◌^◌, ◌++◌, true, false, [], length, IfOk, IfErr, OnOk, OnErr};
 ghost use Rattle.h3_connection.specs.Listeners.{Hears};
 ghost use Rattle.h3_connection.specs.PeerReading.{with_unread};
 ghost use Rattle.h3_streams.specs.Stopping.{HeardPart, ListensIf, ListenedPart, left_by};
@@ -37,12 +37,20 @@ impl Stop {
     }
 }
 
+/// Whether so many bytes more have room on the peer's control stream: what is refused is what no memory has room for.
+fn has_room(peer: &PeerControl, len: usize) -> bool
+    ensures room { result ≡ true → length peer.now.unread + len < 2 ^ 64 }
+    ensures none { result ≡ false → 2 ^ 61 ≤ length peer.now.unread + len }
+{
+    peer.unread_len() < MOST_HELD && len < MOST_HELD
+}
+
 /// The peer's control stream holds these bytes as well. An `Err` changes nothing, and hands the bytes back.
 pub(crate) fn hold(peer: &mut PeerControl, bytes: Bytes) -> Result<(), Bytes>
     ensures ok { OnOk result (peer.new ≡ with_unread peer.old (peer.old.unread ++ bytes)) }
     ensures err { IfErr result (λ back. (back ≡ bytes) × (peer.new ≡ peer.old)) }
 {
-    if peer.unread_len() >= MOST_HELD || bytes.len() >= MOST_HELD {
+    if !has_room(peer, bytes.len()) {
         return Err(bytes);
     }
     match peer.push(bytes) {

@@ -1,9 +1,10 @@
 -- Streams by their bits.
-use Rattle.std.proofs.Common.{◌≡◌, ◌≢◌, ◌<◌, ◌≤◌, ℕ, zero, suc, ◌+◌, ◌*◌, ◌/◌, ◌%◌, ◌^◌, Bool, true, false, ◌||◌, ◌&&◌, List, [], ◌∷◌, filter, cond, refl, sym, ◌∙◌, ap, subst, arith, nat_lt, bit_and, bit_or, w64}
+use Rattle.std.proofs.Common.{◌≡◌, ◌≢◌, ◌<◌, ◌≤◌, ℕ, zero, suc, ◌+◌, ◌*◌, ◌/◌, ◌%◌, ◌^◌, Bool, true, false, ◌||◌, ◌&&◌, List, [], ◌∷◌, length, filter, cond, refl, sym, ◌∙◌, ap, subst, arith, nat_lt, bit_and, bit_or, w64}
 use Rattle.std.specs.Prelude.{◌==◌}
 use Rattle.std.specs.List.{list_any, range_with_len}
 use Rattle.std.specs.Int.{bit_at}
-use Rattle.std.specs.Ordering.{nat_cmp}
+use Rattle.std.specs.Ordering.{nat_cmp, match_ordering}
+use Rattle.std.specs.declared.cmp.Ordering.{Ordering}
 use Rattle.std.specs.declared.cmp.Ordering.TheVariants.{Less, Equal, Greater}
 use Rattle.std.specs.BTreeSet.{insert_key}
 use Rattle.std.proofs.lemmas.Grind.{common_steps}
@@ -107,6 +108,39 @@ one_more p r q a (suc n) le lt more = by_test (a == q) refl (λ less. one_more p
         let less : a < q = omega (arith, le, ne) in
         rw (more.1 a ne) (by_pass (p a) less (later less))
 
+level : (a b : ℕ) → nat_cmp a b ≡ Equal → a ≡ b
+level a b e = by_tests (nat_lt a b) (a == b) refl e
+  where
+    by_tests : (less is : Bool) → (a == b) ≡ is → cond less Less (cond is Equal Greater) ≡ Equal → a ≡ b
+    by_tests true is f h = absurd (cc)
+    by_tests false true f h = same a b f
+    by_tests false false f h = absurd (cc)
+
+-- a number that is put in is one more, and none is lost
+one_longer : (xs : List ℕ) (k : ℕ) → list_any (λ other. other == k) xs ≡ false → length (insert_key nat_cmp xs k) ≡ suc (length xs)
+one_longer [] k lacks = refl
+one_longer (x ∷ xs) k lacks = by_order (nat_cmp k x) refl (by_test (x == k) refl lacks) (one_longer xs k)
+  where
+    by_test : (b : Bool) → (x == k) ≡ b → (b || list_any (λ other. other == k) xs) ≡ false → (x ≢ k) × (list_any (λ other. other == k) xs ≡ false)
+    by_test true e never = absurd (cc)
+    by_test false e none = (apart x k e, none)
+
+    by_order : (r : Ordering) → nat_cmp k x ≡ r → (x ≢ k) × (list_any (λ other. other == k) xs ≡ false)
+        → (list_any (λ other. other == k) xs ≡ false → length (insert_key nat_cmp xs k) ≡ suc (length xs))
+        → length (match_ordering r (k ∷ x ∷ xs) (x ∷ xs) (x ∷ insert_key nat_cmp xs k)) ≡ suc (suc (length xs))
+    by_order Less e h later = refl
+    by_order Equal e h later = absurd (h.0 (sym (level k x e)))
+    by_order Greater e h later = ap (λ n. suc n) (later h.1)
+
+no_shorter : (xs : List ℕ) (k : ℕ) → length xs ≤ length (insert_key nat_cmp xs k)
+no_shorter [] k = omega arith
+no_shorter (x ∷ xs) k = by_order (nat_cmp k x) (no_shorter xs k)
+  where
+    by_order : (r : Ordering) → length xs ≤ length (insert_key nat_cmp xs k) → suc (length xs) ≤ length (match_ordering r (k ∷ x ∷ xs) (x ∷ xs) (x ∷ insert_key nat_cmp xs k))
+    by_order Less h = omega arith
+    by_order Equal h = omega arith
+    by_order Greater h = omega (arith, h)
+
 none_pass : (a n : ℕ) → [] ≡ filter (λ q. false) (range_with_len a n)
 none_pass a zero = refl
 none_pass a (suc n) = none_pass (a + 1) n
@@ -191,3 +225,11 @@ pub put_first : (words between later : ℕ → ℕ) (stream number bit : ℕ) �
 put_first words between later stream number bit few of_word bit_is same none is =
     let alone : bit_or (between number) bit ≡ bit = ap (λ w. bit_or w bit) (same number ∙ none) in
     added between later stream number bit few of_word bit_is (subst (λ w. IsOneWord number w between later) (sym alone) is) ∙ ap (λ (ss : List ℕ). insert_key nat_cmp ss stream) (same_streams words between same)
+
+-- What is at most as many as the streams is so with one stream more, and with a stream that was not there it may be one more.
+pub still_few : (before after : List ℕ) (stream count now : ℕ) → after ≡ insert_key nat_cmp before stream → count ≤ length before → now ≤ count → now ≤ length after
+still_few before after stream count now is few same = omega (arith, few, same, no_shorter before stream, ap length is)
+
+pub one_more_few : (before after : List ℕ) (stream count more : ℕ) → after ≡ insert_key nat_cmp before stream → list_any (λ other. other == stream) before ≡ false → count ≤ length before → more ≤ count + 1
+    → more ≤ length after
+one_more_few before after stream count more is lacks few adds = omega (arith, few, adds, one_longer before stream lacks, ap length is)

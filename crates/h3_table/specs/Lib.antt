@@ -12,10 +12,13 @@ pub mod SectionsInside
 pub mod ByStream
 pub mod PlacedSectionInside
 pub mod Places
+pub mod PlaceRow
 pub mod Blocking
 pub mod Alone
 pub mod Words
+pub mod ShortWords
 pub mod StreamSet
+pub mod StreamSetInside
 pub mod ByteRow
 pub mod ByteQueueInside
 pub mod FieldRow

@@ -5,7 +5,7 @@ use Rattle.h3_table.specs.declared.tracking.TrackedSection.{TrackedSection}
 use Rattle.h3_table.specs.declared.sections.Sections.TheInside.{Inside}
 
 abbrev pub sections_inside : Inside → List TrackedSection
-sections_inside s = in_order (λ t. t.stream) (s.places ++ s.further)
+sections_inside s = in_order (λ t. t.stream) (s.places.sections ++ s.further)
 
 -- The count is that of the sections.
 abbrev pub IsCounted : Inside → Type 0

@@ -55,6 +55,7 @@ impl ByteQueue {
         ensures none { IfOk result (λ block. IfNone block (count ≤ self.now.room)) }
         ensures empty { IfOk result (λ block. IfSome block (λ b. b.items ≡ [])) }
         ensures len { IfOk result (λ block. IfSome block (λ b. vec_capacity b ≡ kept + kept / 4 + count + 128)) }
+        ensures needed { IfOk result (λ block. IfSome block (λ b. self.now.room < count)) }
     {
         if count <= self.bytes.capacity() - self.bytes.len() {
             return Ok(None);

@@ -273,6 +273,7 @@ impl Entries {
     fn kept_within(&self, room: usize) -> usize
         ensures most { section_size (table room self.now.entries) ≤ result + 32 * length (table room self.now.entries) }
         ensures within { result ≤ room }
+        ensures there { result ≤ section_size self.now.entries }
     {
         if self.size > room {
             room
@@ -282,7 +283,7 @@ impl Entries {
     }
 
     /// Inserts an entry of a name, which may be static, and a value. Room is taken before the first entry is evicted, for what is
-    /// left then and for this one: a block has at most a quarter more than the capacity, and 128 bytes.
+    /// left then and for this one: a new block has at most a quarter more than the sizes of the entries that are there, this one's bytes, and 128.
     fn put(
         &mut self,
         name: &[u8],

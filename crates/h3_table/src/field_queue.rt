@@ -1,6 +1,7 @@
 //! Fields in the order of their insertion, whose bytes lie end to end.
-ghost use Rattle.std.specs.Prelude.{◌≡◌, ℕ, ◌+◌, ◌-◌, ◌*◌, ◌/◌, ◌^◌, ◌<◌, ◌≤◌, ◌++◌, ◌∷◌, [], List, length, take, drop, slice_get, slice_index_or, min, Some, None, IfSome, IfNone, IfOk, OnOk, OnErr};
+ghost use Rattle.std.specs.Prelude.{◌≡◌, ℕ, ◌+◌, ◌-◌, ◌*◌, ◌/◌, ◌^◌, ◌<◌, ◌≤◌, ◌++◌, ◌∷◌, [], List, length, take, drop, slice_get, slice_index_or, min, max, Some, None, IfSome, IfNone, IfOk, OnOk, OnErr};
 ghost use Rattle.std.specs.Vec.{vec_len, vec_capacity};
+ghost use Rattle.std.specs.VecDeque.{deque_len, deque_capacity};
 ghost use Rattle.h3_field.specs.Field.{Field, field_size, section_size};
 ghost use Rattle.h3_table.specs.Records.{byte_count, first_field};
 
@@ -172,6 +173,20 @@ impl Model for FieldQueue {
     ghost invariant = { IsFieldQueue };
 }
 
+/// Takes memory for a record more, where there is none: for twice as many then, or for four.
+fn reserve_record(records: &mut VecDeque<Record>) -> Result<(), AllocError>
+    ensures items { records.new.items ≡ records.old.items }
+    ensures len { deque_len records.new ≡ deque_len records.old }
+    ensures ok { OnOk result (deque_len records.new < deque_capacity records.new) }
+    ensures few { deque_capacity records.new ≤ max (deque_capacity records.old) (2 * deque_len records.old + 4) }
+{
+    let len = records.len();
+    if len < records.capacity() {
+        return Ok(());
+    }
+    records.reserve_exact(len.max(4))
+}
+
 impl FieldQueue {
     pub(crate) fn new(alloc: Global) -> FieldQueue
         ensures fields { result.fields ≡ [] }
@@ -231,6 +246,9 @@ impl FieldQueue {
     ) -> Result<Option<Vec<u8>>, AllocError>
         requires kept { kept < 2 ^ 32 }
         requires more { count < 2 ^ 32 }
+        requires there { kept ≤ section_size self.old.fields }
+        ensures needed { IfOk result (λ block. IfSome block (λ b. self.old.room < count)) }
+        ensures records { self.new.places ≤ max self.old.places (2 * length self.old.fields + 4) }
         ensures fields { self.new.fields ≡ self.old.fields }
         ensures written { self.new.written ≡ self.old.written }
         ensures places { OnOk result (length self.new.fields < self.new.places) }
@@ -238,7 +256,7 @@ impl FieldQueue {
         ensures empty { IfOk result (λ block. IfSome block (λ b. b.items ≡ [])) }
         ensures len { IfOk result (λ block. IfSome block (λ b. vec_capacity b ≡ kept + kept / 4 + count + 128)) }
     {
-        self.records.reserve(1)?;
+        reserve_record(&mut self.records)?;
         self.bytes.block_for(kept, count)
     }
 

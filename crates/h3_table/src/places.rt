@@ -1,5 +1,5 @@
 //! Sections that are sent and neither acknowledged nor canceled, each at the place of its stream: it is found with no search.
-ghost use Rattle.std.specs.Prelude.{◌≡◌, ◌<◌, [], true, false, IfSome, IfOk, OnErr};
+ghost use Rattle.std.specs.Prelude.{◌≡◌, ◌<◌, ◌≤◌, ◌+◌, ◌*◌, [], true, false, max, IfSome, IfOk, OnErr};
 ghost use Rattle.h3_table.specs.Places.{place_of};
 ghost use Rattle.h3_table.specs.ByStream.{of_stream, HaveSame, HasOneMore, IsFirstTaken};
 
@@ -83,13 +83,13 @@ pub(crate) struct Places {
 }
 
 impl Model for Places {
-    ghost use Rattle.std.specs.Prelude.{List};
-    ghost use Rattle.h3_table.specs.declared.tracking.TrackedSection.{TrackedSection};
+    ghost use Rattle.std.specs.Prelude.{length};
+    ghost use Rattle.h3_table.specs.PlaceRow.{PlaceRow};
     ghost use Rattle.h3_table.specs.Places.{placed};
 
-    ghost Value = { List TrackedSection };
+    ghost Value = { PlaceRow };
 
-    ghost view = { λ p. placed p.slots.items };
+    ghost view = { λ p. record { sections = placed p.slots.items; places = length p.slots.items } };
 }
 
 /// The place of a stream, of so many.
@@ -104,7 +104,7 @@ fn place_of(count: usize, stream: u64) -> usize
 impl Places {
     /// No section. It takes no memory.
     pub(crate) fn new(alloc: Global) -> Places
-        ensures { result ≡ [] }
+        ensures { result ≡ record { sections = []; places = 0 } }
     {
         Places {
             alloc,
@@ -115,7 +115,8 @@ impl Places {
     /// Makes the places twice as many, where so many sections would take more than half of them. What then stands at two places counts
     /// at one of them.
     fn make_room(&mut self, count: usize) -> Result<(), AllocError>
-        ensures { HaveSame self.old self.new }
+        ensures same { HaveSame self.old.sections self.new.sections }
+        ensures few { self.new.places ≤ max self.old.places (4 * count + 16) }
     {
         let len = self.slots.len();
         if count <= len / 2 {
@@ -129,8 +130,10 @@ impl Places {
 
     /// Gives the memory of many places back, where there is no section.
     pub(crate) fn give_back(&mut self)
-        requires { self.old ≡ [] }
-        ensures { self.new ≡ [] }
+        requires { self.old.sections ≡ [] }
+        ensures none { self.new.sections ≡ [] }
+        ensures few { self.new.places ≤ 1024 }
+        ensures fewer { self.new.places ≤ self.old.places }
     {
         if self.slots.len() > KEPT_PLACES {
             self.slots = Vec::new(self.alloc);
@@ -139,8 +142,9 @@ impl Places {
 
     /// Puts a section at the place of its stream, and tells whether that was free.
     fn put_at_once(&mut self, section: PlacedSection) -> bool
-        ensures put { result ≡ true → HasOneMore section self.old self.new }
+        ensures put { result ≡ true → HasOneMore section self.old.sections self.new.sections }
         ensures taken { result ≡ false → self.new ≡ self.old }
+        ensures places { self.new.places ≡ self.old.places }
     {
         let len = self.slots.len();
         if len == 0 || section.oldest() == 0 {
@@ -157,9 +161,10 @@ impl Places {
 
     /// Puts a section at the place of its stream, and tells whether that was free or could be made so. There are so many sections then.
     pub(crate) fn put(&mut self, count: usize, section: TrackedSection) -> Result<bool, AllocError>
-        ensures put { IfOk result (λ done. done ≡ true → HasOneMore section self.old self.new) }
-        ensures taken { IfOk result (λ done. done ≡ false → HaveSame self.old self.new) }
-        ensures err { OnErr result (HaveSame self.old self.new) }
+        ensures put { IfOk result (λ done. done ≡ true → HasOneMore section self.old.sections self.new.sections) }
+        ensures taken { IfOk result (λ done. done ≡ false → HaveSame self.old.sections self.new.sections) }
+        ensures err { OnErr result (HaveSame self.old.sections self.new.sections) }
+        ensures few { self.new.places ≤ max self.old.places (4 * count + 16) }
     {
         let Some(slot) = PlacedSection::of(section) else {
             return Ok(false);
@@ -173,8 +178,9 @@ impl Places {
 
     /// Takes the section of a stream away, and answers the oldest entry that it names.
     pub(crate) fn take(&mut self, stream: u64) -> Option<usize>
-        ensures taken { IsFirstTaken stream self.old self.new result }
-        ensures alone { IfSome result (λ n. of_stream stream self.new ≡ []) }
+        ensures taken { IsFirstTaken stream self.old.sections self.new.sections result }
+        ensures alone { IfSome result (λ n. of_stream stream self.new.sections ≡ []) }
+        ensures places { self.new.places ≡ self.old.places }
     {
         let len = self.slots.len();
         if len == 0 {

@@ -1,6 +1,6 @@
 //! Sections that are sent and neither acknowledged nor canceled, by their streams: each stream has its own in the order of sending.
-ghost use Rattle.std.specs.Prelude.{◌≡◌, ◌<◌, ◌^◌, ◌++◌, [], length, OnErr, OnOk};
-ghost use Rattle.h3_table.specs.InOrder.{put_last};
+ghost use Rattle.std.specs.Prelude.{◌≡◌, ◌<◌, ◌≤◌, ◌+◌, ◌*◌, ◌^◌, ◌++◌, [], length, max, OnErr, OnOk};
+ghost use Rattle.h3_table.specs.InOrder.{in_order, put_last};
 ghost use Rattle.h3_table.specs.Sections.{IsOldestTaken, IsNewestTaken};
 ghost use Rattle.h3_table.specs.ByStream.{HaveSame, HasOneMore, IsFirstTaken, IsLastTaken};
 
@@ -33,15 +33,17 @@ impl Model for Sections {
     ghost invariant = { IsCounted };
 }
 
-/// Adds a section behind those of its stream. There are so many sections then.
+/// Adds a section behind those of its stream. There are so many sections then, and at most so many times four places, and 16.
 fn add(
     places: &mut Places,
     further: &mut FurtherSections,
     count: usize,
     section: TrackedSection,
 ) -> Result<(), AllocError>
-    ensures ok { OnOk result (HasOneMore section (places.old ++ further.old) (places.new ++ further.new)) }
-    ensures err { OnErr result (HaveSame (places.old ++ further.old) (places.new ++ further.new)) }
+    requires { count ≡ length (in_order (λ t. t.stream) (places.old.sections ++ further.old)) + 1 }
+    ensures few { places.new.places ≤ max places.old.places (4 * count + 16) }
+    ensures ok { OnOk result (HasOneMore section (places.old.sections ++ further.old) (places.new.sections ++ further.new)) }
+    ensures err { OnErr result (HaveSame (places.old.sections ++ further.old) (places.new.sections ++ further.new)) }
 {
     if further.has(section.stream) {
         return further.add(section);
@@ -57,8 +59,10 @@ fn add(
 
 /// Gives memory back, where so many sections are none.
 fn give_back(places: &mut Places, count: usize)
-    requires { count ≡ 0 → places.old ≡ [] }
-    ensures { places.new ≡ places.old }
+    requires { count ≡ 0 → places.old.sections ≡ [] }
+    ensures same { places.new.sections ≡ places.old.sections }
+    ensures none { count ≡ 0 → places.new.places ≤ 1024 }
+    ensures fewer { places.new.places ≤ places.old.places }
 {
     if count == 0 {
         places.give_back();
@@ -67,7 +71,8 @@ fn give_back(places: &mut Places, count: usize)
 
 /// Takes the oldest section of a stream away, and answers what it names.
 fn take_oldest(places: &mut Places, further: &mut FurtherSections, stream: u64) -> Option<usize>
-    ensures { IsFirstTaken stream (places.old ++ further.old) (places.new ++ further.new) result }
+    ensures places { places.new.places ≡ places.old.places }
+    ensures taken { IsFirstTaken stream (places.old.sections ++ further.old) (places.new.sections ++ further.new) result }
 {
     if let Some(oldest) = places.take(stream) {
         return Some(oldest);
@@ -77,7 +82,8 @@ fn take_oldest(places: &mut Places, further: &mut FurtherSections, stream: u64) 
 
 /// Takes the newest section of a stream away, and answers what it names.
 fn take_newest(places: &mut Places, further: &mut FurtherSections, stream: u64) -> Option<usize>
-    ensures { IsLastTaken stream (places.old ++ further.old) (places.new ++ further.new) result }
+    ensures places { places.new.places ≡ places.old.places }
+    ensures taken { IsLastTaken stream (places.old.sections ++ further.old) (places.new.sections ++ further.new) result }
 {
     if let Some(oldest) = further.take_newest(stream) {
         return Some(oldest);

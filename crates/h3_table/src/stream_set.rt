@@ -23,6 +23,10 @@ impl Model for StreamSet {
     ghost Value = { List ℕ };
 
     ghost view = { λ s. streams_in (word_at s.words) };
+
+    ghost use Rattle.h3_table.specs.StreamSetInside.{IsSmall};
+
+    ghost invariant = { IsSmall };
 }
 
 /// The number of the word in which a stream has its bit: a number of its kind (request, push and so on, by the last two bits) for each

@@ -1,6 +1,8 @@
 //! Words of 64 bits by their numbers. Where many numbers are small their words lie in a row, and are found with no search.
-ghost use Rattle.std.specs.Prelude.{◌≡◌, ◌<◌, ℕ, true, false, bit_or, OnErr, OnOk};
+ghost use Rattle.std.specs.Prelude.{◌≡◌, ◌<◌, ◌≤◌, ◌+◌, ◌*◌, ℕ, true, false, length, max, bit_or, OnErr, OnOk};
+ghost use Rattle.std.specs.Vec.{vec_len, vec_capacity};
 ghost use Rattle.h3_table.specs.Words.{row_word, further_word, word_at, HaveSameWords, IsOneWord};
+ghost use Rattle.h3_table.specs.ShortWords.{IsShort, IsOneMore, AreNoMore};
 
 use std::alloc::{AllocError, Global};
 use std::collections::BTreeMap;
@@ -42,6 +44,7 @@ fn row_word(row: &Vec<u64>, number: u64) -> u64
 fn take_further(further: &mut BTreeMap<u64, u64>, number: u64) -> u64
     ensures own { result ≡ further_word further.old.entries number }
     ensures others { IsOneWord number 0 (further_word further.old.entries) (further_word further.new.entries) }
+    ensures fewer { length further.new.entries ≤ length further.old.entries }
 {
     match further.remove(&number) {
         Some(word) => word,
@@ -49,10 +52,25 @@ fn take_further(further: &mut BTreeMap<u64, u64>, number: u64) -> u64
     }
 }
 
+/// Takes memory for a place more in the row, where it has none: twice as many then, or `ROW_GROWTH`.
+fn reserve(row: &mut Vec<u64>) -> Result<(), AllocError>
+    ensures same { row.new.items ≡ row.old.items }
+    ensures ok { OnOk result (vec_len row.new < vec_capacity row.new) }
+    ensures block { vec_capacity row.new ≤ max (vec_capacity row.old) (2 * vec_len row.old + 8) }
+{
+    let len = row.len();
+    if len < row.capacity() {
+        return Ok(());
+    }
+    row.reserve_exact(len.max(ROW_GROWTH))
+}
+
 impl Words {
     /// No word. It takes no memory.
     pub(crate) fn new(alloc: Global) -> Words
-        ensures { (number : ℕ) → word_at result number ≡ 0 }
+        ensures words { (number : ℕ) → word_at result number ≡ 0 }
+        ensures short { IsShort result }
+        ensures none { (result.count ≡ 0) × (length result.further.entries ≡ 0) }
     {
         Words {
             row: Vec::new(alloc),
@@ -80,6 +98,9 @@ impl Words {
         ensures added { result ≡ true → IsOneWord number (bit_or (word_at self.old number) bits) (word_at self.old) (word_at self.new) }
         ensures not_there { result ≡ false → word_at self.old number ≡ 0 }
         ensures unchanged { result ≡ false → HaveSameWords (word_at self.old) (word_at self.new) }
+        ensures short { IsShort self.old → IsShort self.new }
+        ensures count { self.new.count ≡ self.old.count }
+        ensures further { length self.new.further.entries ≡ length self.old.further.entries }
     {
         let word = row_word(&self.row, number);
         if word != 0 {
@@ -95,7 +116,10 @@ impl Words {
 
     /// Makes the row longer by one word, where it has less than so many. The word is taken from the further ones.
     fn lengthen(&mut self, most: usize)
-        ensures { HaveSameWords (word_at self.old) (word_at self.new) }
+        ensures words { HaveSameWords (word_at self.old) (word_at self.new) }
+        ensures short { most ≤ 4 * self.old.count + 16 → IsShort self.old → IsShort self.new }
+        ensures count { self.new.count ≡ self.old.count }
+        ensures further { length self.new.further.entries ≤ length self.old.further.entries }
     {
         let len = self.row.len();
         if len >= most {
@@ -104,7 +128,7 @@ impl Words {
         let Some(number) = (len as u64).checked_mul(STEP) else {
             return;
         };
-        let Ok(()) = self.row.reserve(1) else {
+        let Ok(()) = reserve(&mut self.row) else {
             return;
         };
         let word = take_further(&mut self.further, number);
@@ -113,7 +137,10 @@ impl Words {
 
     /// Makes the row longer, where that may give the number's word a place in it, or one that stands among the further ones.
     fn make_room(&mut self, number: u64)
-        ensures { HaveSameWords (word_at self.old) (word_at self.new) }
+        ensures words { HaveSameWords (word_at self.old) (word_at self.new) }
+        ensures short { IsShort self.old → IsShort self.new }
+        ensures count { self.new.count ≡ self.old.count }
+        ensures further { length self.new.further.entries ≤ length self.old.further.entries }
     {
         let most = self
             .count
@@ -137,6 +164,10 @@ impl Words {
         requires some { 0 < word }
         ensures ok { OnOk result (IsOneWord number word (word_at self.old) (word_at self.new)) }
         ensures err { OnErr result (HaveSameWords (word_at self.old) (word_at self.new)) }
+        ensures short { IsShort self.old → IsShort self.new }
+        ensures count { self.new.count ≡ self.old.count }
+        ensures further { OnOk result (length self.new.further.entries ≤ length self.old.further.entries + 1) }
+        ensures no_further { OnErr result (length self.new.further.entries ≡ length self.old.further.entries) }
     {
         let place = (number / STEP) as usize;
         if number % STEP == 0 && place < self.row.len() {
@@ -155,6 +186,9 @@ impl Words {
         requires some { 0 < word }
         ensures ok { OnOk result (IsOneWord number word (word_at self.old) (word_at self.new)) }
         ensures err { OnErr result (HaveSameWords (word_at self.old) (word_at self.new)) }
+        ensures short { IsShort self.old → IsShort self.new }
+        ensures more { OnOk result (IsOneMore self.old self.new) }
+        ensures no_more { OnErr result (AreNoMore self.old self.new) }
     {
         self.make_room(number);
         self.put(number, word)?;

@@ -6,7 +6,7 @@ use Rattle.h3_incoming.proofs.JudgeLaws.{judged_within}
 use Rattle.h3_incoming.proofs.judge.judge.Goals as goal
 
 pub returns-in-Fields : goal.returns-in-Fields
-returns-in-Fields c = judged_within _ c.args.side c.args.place c.in-Fields.decoded c.args.decoded c.in-Fields.is c.judge_fields.ensures
+returns-in-Fields c = judged_within _ c.args.side c.args.place c.in-Fields.decoded c.args.decoded c.in-Fields.is c.judge_fields.ensures.ok
 
 pub returns-in-TooLarge : goal.returns-in-TooLarge
 returns-in-TooLarge c = λ own id r i replies dyn_ref fields within at.

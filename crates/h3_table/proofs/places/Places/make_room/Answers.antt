@@ -14,8 +14,8 @@ either true ts us n len above is =
     rw twice (doubled ts above)
 either false ts us n len above is = rw is (λ k. refl)
 
-pub returns : goal.returns
-returns c =
+pub returns-clause-same : goal.returns-clause-same
+returns-clause-same c =
     let ts = c.self.inside.slots.items in
     let len : c.len-len.result ≡ length ts = c.len-len.ensures ∙ c.self.inside.slots.ok.0 in
     let some = c.if-len-eq0.false in
