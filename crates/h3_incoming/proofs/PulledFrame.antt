@@ -23,10 +23,11 @@ pub pulled_unfinished : (side : Side) (own : Announced) (id : ℕ) (r : DecoderS
 pulled_unfinished side own id r old stored left in_body reads h =
     between_unfinished side own id r old (with_left stored left) (passes old stored left in_body reads) (finds old stored left in_body found.Unfinished reads h).0
 
-pub pulled_refused : (side : Side) (own : Announced) (id : ℕ) (r : DecoderState) (old stored : Incoming) (left : List (List ℕ)) (in_body : Bool) (e : FrameProtocolError) → Reads old stored left in_body
-    → Finds in_body (found.Refused e) (concat stored.unread) (concat left) → between_frames side own id r old ≡ connection_fault (refusal_code (refusal e)) (with_left stored left)
-pulled_refused side own id r old stored left in_body e reads h =
+pub pulled_refused : (side : Side) (own : Announced) (id : ℕ) (r : DecoderState) (old stored : Incoming) (left : List (List ℕ)) (in_body : Bool) (e : FrameProtocolError) (code : ℕ) → Reads old stored left in_body
+    → Finds in_body (found.Refused e) (concat stored.unread) (concat left) → code ≡ refusal_code (refusal e) → between_frames side own id r old ≡ connection_fault code (with_left stored left)
+pulled_refused side own id r old stored left in_body e code reads h is =
     between_refused side own id r old (with_left stored left) e (passes old stored left in_body reads) (finds old stored left in_body (found.Refused e) reads h)
+    ∙ ap (λ n. connection_fault n (with_left stored left)) (sym is)
 
 -- a frame is what it is at the place that was stored
 pub pulled_frame : (side : Side) (own : Announced) (id : ℕ) (r : DecoderState) (old stored : Incoming) (left : List (List ℕ)) (in_body : Bool) (f : Frame PayloadLen) (p : Pulled) → Reads old stored left in_body

@@ -63,6 +63,7 @@ impl Model for IncomingStream {
     ghost use Rattle.std.specs.Option.{is_some};
 
     ghost invariant = { λ s. (0 < s.body_left → s.unread.decoder.expected ≡ None)
+        × (is_some s.section ≡ true → s.unread.decoder.expected ≡ None)
         × (is_session s.place ≡ true → s.unread.decoder.expected ≡ None)
         × (is_some s.fault ≡ true → s.unread.pieces ≡ [])
         × (s.tries ≤ 2)

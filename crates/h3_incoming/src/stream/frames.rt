@@ -56,7 +56,7 @@ impl IncomingStream {
             Err(_) => fail(out, Fault::Memory),
             Ok(Found::Unfinished) => self.pull_end(alloc, id, replies, out),
             Ok(Found::Refused(e)) => fail(out, Fault::Connection(refused_code(e))),
-            Ok(Found::Frame(frame)) => match begun(side, self.place, frame) {
+            Ok(Found::Frame(frame)) => match begun_by(side, self.place, frame) {
                 Begun::Section(section) => {
                     self.section = Some(section);
                     self.waits_for = 0;
@@ -122,7 +122,7 @@ enum Begun {
 }
 
 // What a frame begins at its place (RFC 9114, sections 4.1 and 7.2).
-fn begun(side: Side, place: Place, frame: Frame<PayloadLen>) -> Begun
+fn begun_by(side: Side, place: Place, frame: Frame<PayloadLen>) -> Begun
     ensures is { (own : Announced) (id : ℕ) (r : DecoderState) (i : Incoming) → at_frame side own id r side i place frame ≡ begun_as side own id r i result }
     ensures begins { IsBegunBy place frame result }
 {
@@ -137,7 +137,7 @@ fn begun(side: Side, place: Place, frame: Frame<PayloadLen>) -> Begun
                 Begun::Fault(Code::H3_FRAME_UNEXPECTED)
             }
         },
-        Frame::WebTransportStream(session) => begun_session(side, place, session),
+        Frame::WebTransportStream(session) => begun_by_session(side, place, session),
         // a client permits none, since it sends no MAX_PUSH_ID (RFC 9114, section 7.2.5), and a server gets none
         Frame::PushPromise(_) => Begun::Fault(promise_code(side)),
         Frame::CancelPush(_)
@@ -149,7 +149,7 @@ fn begun(side: Side, place: Place, frame: Frame<PayloadLen>) -> Begun
 }
 
 // At a server a session may stand in the place of a message.
-fn begun_session(side: Side, place: Place, session: SessionId) -> Begun
+fn begun_by_session(side: Side, place: Place, session: SessionId) -> Begun
     ensures is { (own : Announced) (id : ℕ) (r : DecoderState) (i : Incoming) → at_frame side own id r side i place (Frame.WebTransportStream session) ≡ begun_as side own id r i result }
     ensures begins { IsBegunBy place (Frame.WebTransportStream session) result }
 {

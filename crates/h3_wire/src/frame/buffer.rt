@@ -46,6 +46,7 @@ impl FrameBuffer {
     }
 
     /// More bytes came. They are kept as they are, with no copy. An `Err` changes nothing, and hands them back: memory was refused.
+    #[tactic(auto, using(crate::proofs::Pushing::expects_pushed))]
     pub fn push(&mut self, bytes: Bytes) -> Result<(), Bytes>
         requires fits { length (concat self.old.pieces) + length bytes < 2 ^ 64 }
         ensures ok { OnOk result (self.new ≡ record self.old { pieces = with_piece self.old.pieces bytes }) }
