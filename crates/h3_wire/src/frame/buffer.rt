@@ -1,5 +1,5 @@
 //! The bytes of a stream of frames that came and were not read.
-ghost use Rattle.std.specs.Prelude.{◌≡◌, ◌+◌, ◌^◌, ◌<◌, ◌≤◌, None, length, IfOk, IfErr, IfSome, OnOk, OnErr};
+ghost use Rattle.std.specs.Prelude.{◌≡◌, ◌+◌, ◌^◌, ◌<◌, ◌≤◌, ◌++◌, None, length, IfOk, IfErr, IfSome, OnOk, OnErr};
 ghost use Rattle.std.specs.List.{concat};
 ghost use Rattle.h3_wire.specs.Known.{Gives};
 ghost use Rattle.h3_wire.specs.Pieces.{chunk_of, ending, first_of, with_piece};
@@ -50,6 +50,7 @@ impl FrameBuffer {
     pub fn push(&mut self, bytes: Bytes) -> Result<(), Bytes>
         requires fits { length (concat self.old.pieces) + length bytes < 2 ^ 64 }
         ensures ok { OnOk result (self.new ≡ record self.old { pieces = with_piece self.old.pieces bytes }) }
+        ensures bytes { OnOk result (concat self.new.pieces ≡ concat self.old.pieces ++ bytes) }
         ensures same { OnErr result (self.new ≡ self.old) }
         ensures back { IfErr result (λ b. b ≡ bytes) }
     {
