@@ -1,5 +1,5 @@
 -- What a frame begins at its place of a message.
-use Rattle.std.specs.Prelude.{◌≡◌, ℕ, ◌<◌, Bool, false, ◌&&◌}
+use Rattle.std.specs.Prelude.{◌≡◌, ℕ, ◌<◌, false, ◌&&◌}
 use Rattle.h3_proto.specs.declared.stream.Side.{Side}
 use Rattle.h3_qpack.specs.DecoderState.{DecoderState}
 use Rattle.h3_wire.specs.declared.proto.frame.PayloadLen.{PayloadLen}
