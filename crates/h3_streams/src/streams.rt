@@ -117,7 +117,7 @@ impl ConnectionStreams {
 
     /// The bytes of the peer's control stream that were not read, with the count of tries of the frame at their front. None where this
     /// is not that stream.
-    pub fn frames(&self, id: StreamId) -> Option<&FrameBuffer>
+    pub fn control_frames(&self, id: StreamId) -> Option<&FrameBuffer>
         ensures stream { is_some result ≡ Rattle.h3_connection.specs.Endpoint.is_read_as self.now.control_on id }
         ensures bytes { IfSome result (λ frames. concat frames.now.pieces ≡ self.now.peer.unread) }
     {

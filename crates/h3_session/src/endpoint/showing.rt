@@ -112,7 +112,7 @@ impl Endpoint {
     pub fn frame_tries(&self, id: StreamId) -> u8
         ensures bound { result ≤ 17 }
     {
-        if let Some(frames) = self.streams.frames(id) {
+        if let Some(frames) = self.streams.control_frames(id) {
             return frames.tries();
         }
         match self.requests.get(id) {
