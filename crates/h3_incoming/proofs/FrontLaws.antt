@@ -1,13 +1,12 @@
 -- The frames of a message stream that give something, one after another.
-use Rattle.std.proofs.Common.{◌≡◌, ℕ, Bool, true, false, ◌&&◌, if◌then◌else◌, List, [], ◌++◌, length, refl, ap, sym, ◌∙◌, subst, append-nil}
-use Rattle.std.specs.Prelude.{None, Err}
+use Rattle.std.proofs.Common.{◌≡◌, ℕ, Bool, true, false, ◌&&◌, if◌then◌else◌, List, [], ◌++◌, refl, ap, sym, ◌∙◌, subst, append-nil}
+use Rattle.std.specs.Prelude.{Err}
 use Rattle.std.specs.List.{concat}
 use Rattle.h3_wire.specs.Frames.{Front, Whole, Unknown, Refused, Unfinished, frame_at}
 use Rattle.h3_wire.specs.FrameLaws.{IsFinished, with_more, frame_at-more}
 use Rattle.h3_wire.specs.Known.{known, refusal, IsWaiting, Gives}
 use Rattle.h3_wire.specs.KnownLaws.{IsKnown, known-other, known-more}
-use Rattle.h3_wire.specs.Pieces.{ending}
-use Rattle.h3_wire.specs.PieceLaws.{ending_rest, rest_same, rest_then}
+use Rattle.h3_wire.specs.Pieces.{IsRest}
 use Rattle.h3_wire.specs.declared.frame.errors.FrameProtocolError.{FrameProtocolError}
 use Rattle.h3_wire.specs.declared.frame.errors.FrameStreamError.{FrameStreamError}
 use Rattle.h3_wire.specs.declared.frame.errors.FrameStreamError.TheVariants as stream
@@ -77,53 +76,32 @@ passed_now in_body old new p = ap (skipped in_body) (sym (append-nil new)) ∙ p
 pub found_now : (in_body : Bool) (f : Frame PayloadLen) (old new : List ℕ) → Finds in_body (found.Frame f) old new → frame_at (skipped in_body old) ≡ Whole f new
 found_now in_body f old new h = ap (λ l. frame_at (skipped in_body l)) (sym (append-nil old)) ∙ h [] ∙ ap (λ l. Whole f l) (append-nil new)
 
-finds_on : (in_body : Bool) (f : Found) (old mid new : List ℕ) → PassesFrames in_body old mid → Finds in_body f mid new → Finds in_body f old new
+pub finds_on : (in_body : Bool) (f : Found) (old mid new : List ℕ) → PassesFrames in_body old mid → Finds in_body f mid new → Finds in_body f old new
 finds_on in_body (found.Frame f) old mid new p h = λ more. ap frame_at (sym (p more)) ∙ h more
 finds_on in_body found.Unfinished old mid new p h = (h.0 ∙ passed_now in_body old mid p, h.1, λ more. h.2 more ∙ p more)
 finds_on in_body (found.Refused why) old mid new p h = (h.0 ∙ passed_now in_body old mid p, h.1)
 
-pub passes : (old new : Incoming) → new ≡ record old { unread = new.unread } → new.unread ≡ ending (length (concat new.unread)) old.unread → Passes old new
-passes old new same e = record { same = same; rest = ending_rest (length (concat new.unread)) old.unread new.unread e }
+pub passed_then : (in_body : Bool) (old mid new : List ℕ) → PassesFrames in_body old mid → PassesFrames in_body mid new → PassesFrames in_body old new
+passed_then in_body old mid new p q more = q more ∙ p more
 
-abbrev with_unread : List (List ℕ) → Incoming → Incoming
-with_unread l i = record i { unread = l }
+-- A receiver that reads its frames: this was stored of it, and these pieces are left.
+pub record Reads (old stored : Incoming) (left : List (List ℕ)) (in_body : Bool) : Type 0 where
+  pub is : stored ≡ old
+  pub body : in_body ≡ is_body old.place
+  pub rest : IsRest stored.unread left
 
-pub passes_on : (old mid new : Incoming) → Passes old mid → Passes mid new → Passes old new
-passes_on old mid new p q = record {
-  same = q.same ∙ ap (with_unread new.unread) p.same;
-  rest = rest_then old.unread mid.unread new.unread p.rest q.rest;
-}
+abbrev pub with_left : Incoming → List (List ℕ) → Incoming
+with_left i left = record i { unread = left }
 
--- what was passed gives nothing
-pub record Skips (old new : Incoming) : Type 0 where
-  pub passed : Passes old new
-  pub place : new.place ≡ old.place
-  pub closed : new.body_left ≡ 0
-  pub no_fault : new.fault ≡ None
-  pub skips : PassesFrames (is_body old.place) (concat old.unread) (concat new.unread)
+pub passes : (old stored : Incoming) (left : List (List ℕ)) (in_body : Bool) → Reads old stored left in_body → Passes old (with_left stored left)
+passes old stored left in_body r = subst (λ (o : Incoming). Passes o (with_left stored left)) r.is (record { same = refl; rest = r.rest })
 
-pub kept_first : (i : Incoming) → i.body_left ≡ 0 → i.fault ≡ None → Skips i i
-kept_first i closed no_fault = record {
-  passed = record { same = refl; rest = rest_same i.unread i.unread refl };
-  place = refl;
-  closed = closed;
-  no_fault = no_fault;
-  skips = λ more. refl;
-}
+pub passes_frames : (old stored : Incoming) (left : List (List ℕ)) (in_body : Bool) → Reads old stored left in_body → PassesFrames in_body (concat stored.unread) (concat left)
+    → PassesFrames (is_body old.place) (concat old.unread) (concat left)
+passes_frames old stored left in_body r h =
+    subst (λ (o : Incoming). PassesFrames (is_body old.place) (concat o.unread) (concat left)) r.is (subst (λ b. PassesFrames b (concat stored.unread) (concat left)) r.body h)
 
-pub kept_on : (old mid new : Incoming) → Skips old mid → Passes mid new → PassesFrames (is_body mid.place) (concat mid.unread) (concat new.unread) → Skips old new
-kept_on old mid new k p e = record {
-  passed = passes_on old mid new k.passed p;
-  place = ap {A = Incoming} (λ i. i.place) p.same ∙ k.place;
-  closed = ap {A = Incoming} (λ i. i.body_left) p.same ∙ k.closed;
-  no_fault = ap {A = Incoming} (λ i. i.fault) p.same ∙ k.no_fault;
-  skips = λ more. subst (λ x. skipped (is_body x) (concat new.unread ++ more) ≡ skipped (is_body x) (concat mid.unread ++ more)) k.place (e more) ∙ k.skips more;
-}
-
-pub front_kept : (old mid new : Incoming) (f : Found) → Skips old mid → Finds (is_body mid.place) f (concat mid.unread) (concat new.unread) → Finds (is_body old.place) f (concat old.unread) (concat new.unread)
-front_kept old mid new f k h =
-    finds_on (is_body old.place) f (concat old.unread) (concat mid.unread) (concat new.unread) k.skips
-    (subst (λ x. Finds (is_body x) f (concat mid.unread) (concat new.unread)) k.place h)
-
-pub passed_on : (old mid new : Incoming) → Skips old mid → PassesFrames (is_body mid.place) (concat mid.unread) (concat new.unread) → PassesFrames (is_body old.place) (concat old.unread) (concat new.unread)
-passed_on old mid new k e more = subst (λ x. skipped (is_body x) (concat new.unread ++ more) ≡ skipped (is_body x) (concat mid.unread ++ more)) k.place (e more) ∙ k.skips more
+pub finds : (old stored : Incoming) (left : List (List ℕ)) (in_body : Bool) (f : Found) → Reads old stored left in_body → Finds in_body f (concat stored.unread) (concat left)
+    → Finds (is_body old.place) f (concat old.unread) (concat left)
+finds old stored left in_body f r h =
+    subst (λ (o : Incoming). Finds (is_body old.place) f (concat o.unread) (concat left)) r.is (subst (λ b. Finds b f (concat stored.unread) (concat left)) r.body h)

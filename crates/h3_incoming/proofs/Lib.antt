@@ -1,4 +1,5 @@
 pub mod FrontLaws
+pub mod PulledFrame
 pub mod PullLaws
 pub mod ResumeLaws
 pub mod JudgeLaws

@@ -5,3 +5,4 @@ pub mod Trying
 pub mod Placing
 pub mod Gives
 pub mod Resuming
+pub mod Beginning

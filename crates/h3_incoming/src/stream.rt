@@ -7,12 +7,11 @@ ghost use Rattle.h3_connection.specs.Delivering.{kept, with_end, given_up_once, 
 ghost use Rattle.h3_incoming.specs.Replying.{encodings};
 
 use crate::replies::reply;
-use bytes::{Buf, Bytes};
+use bytes::Bytes;
 use h3_connection::event::StreamFault;
 use h3_connection::place::Place;
 use h3_proto::stream::StreamId;
-use h3_wire::buf::BufList;
-use h3_wire::frame::FrameDecoder;
+use h3_wire::frame::FrameBuffer;
 use std::alloc::{AllocError, Global};
 use std::marker::Model;
 
@@ -25,8 +24,7 @@ mod sections;
 /// What came on a request stream, and how far its message was handed out. A contract sees it as the definitions' `Incoming`.
 #[derive(Drop)]
 pub struct IncomingStream {
-    unread: BufList<Bytes>,
-    decoder: FrameDecoder,
+    unread: FrameBuffer,
     // the field section that is next: its frame was read, and it was not decoded
     section: Option<Bytes>,
     // how much of a begun payload of DATA is still to come out
@@ -43,9 +41,8 @@ pub struct IncomingStream {
 }
 
 impl Model for IncomingStream {
-    ghost use Rattle.std.specs.List.{concat};
-    ghost use Rattle.h3_wire.specs.Tries.{Expects};
     ghost use Rattle.h3_connection.specs.Incoming.{Incoming};
+    ghost use Rattle.h3_incoming.specs.Placing.{is_session};
 
     ghost Value = { Incoming };
 
@@ -65,8 +62,9 @@ impl Model for IncomingStream {
     ghost use Rattle.std.specs.Prelude.{◌≡◌, ◌<◌, ◌≤◌, true, [], None};
     ghost use Rattle.std.specs.Option.{is_some};
 
-    ghost invariant = { λ s. Expects s.decoder (concat s.unread.pieces)
-        × (0 < s.body_left → s.decoder.expected ≡ None)
+    ghost invariant = { λ s. (0 < s.body_left → s.unread.decoder.expected ≡ None)
+        × (is_some s.section ≡ true → s.unread.decoder.expected ≡ None)
+        × (is_session s.place ≡ true → s.unread.decoder.expected ≡ None)
         × (is_some s.fault ≡ true → s.unread.pieces ≡ [])
         × (s.tries ≤ 2)
         × (0 < s.waits_for → s.tries ≡ 1)
@@ -79,8 +77,7 @@ impl IncomingStream {
         ensures { result ≡ nothing_came }
     {
         IncomingStream {
-            unread: BufList::new(alloc),
-            decoder: FrameDecoder::default(),
+            unread: FrameBuffer::new(alloc),
             section: None,
             body_left: 0,
             place: Place::BeforeHead,
@@ -104,10 +101,7 @@ impl IncomingStream {
         if self.fault.is_some() {
             return Ok(());
         }
-        match self.unread.push(bytes) {
-            Ok(()) => Ok(()),
-            Err(e) => Err(e.value),
-        }
+        self.unread.push(bytes)
     }
 
     /// Its end came.
@@ -161,8 +155,7 @@ impl IncomingStream {
     fn give_up(&mut self, alloc: Global, fault: StreamFault)
         ensures { self.new ≡ given_up self.old fault }
     {
-        self.unread = BufList::new(alloc);
-        self.decoder = FrameDecoder::default();
+        self.unread = FrameBuffer::new(alloc);
         self.section = None;
         self.body_left = 0;
         self.waits_for = 0;
@@ -180,7 +173,7 @@ impl IncomingStream {
     pub fn unread(&self) -> usize
         ensures { result ≡ length (concat self.now.unread) }
     {
-        self.unread.remaining()
+        self.unread.len()
     }
 
     /// The required insert count that the next field section waited for at its try (RFC 9204, section 2.2.1), or 0. It waits where
@@ -198,6 +191,14 @@ impl IncomingStream {
         ensures bound { result ≤ 2 }
     {
         self.tries
+    }
+
+    /// The bytes that came and were not read. Its `tries` say how often the head of the frame under way was tried, or else that of the
+    /// last frame that was read: at most 17 times.
+    pub fn frames(&self) -> &FrameBuffer
+        ensures { result.now.pieces ≡ self.now.unread }
+    {
+        &self.unread
     }
 
     /// Its end came.

@@ -1,5 +1,6 @@
 //! The unidirectional streams of an endpoint.
-ghost use Rattle.std.specs.Prelude.{◌≡◌, ◌<◌, ◌^◌, IfOk, unwrap_or};
+ghost use Rattle.std.specs.Prelude.{◌≡◌, ◌<◌, ◌^◌, IfOk, IfSome, is_some, unwrap_or};
+ghost use Rattle.std.specs.List.{concat};
 ghost use Rattle.h3_connection.specs.Endpoint.{EndpointHistory, is_critical_id};
 ghost use Rattle.h3_connection.specs.Sending.{pull_peer};
 ghost use Rattle.h3_connection.specs.State.{EndpointState, StandsFor, kept_at};
@@ -17,6 +18,7 @@ use h3_unidirectional::decoding::Decoding;
 use h3_unidirectional::encoding::Encoding;
 use h3_unidirectional::own::OwnStreams;
 use h3_unidirectional::stream::UnidirectionalStream;
+use h3_wire::frame::FrameBuffer;
 use std::alloc::{AllocError, Global};
 use std::collections::BTreeMap;
 use std::marker::Model;
@@ -111,6 +113,18 @@ impl ConnectionStreams {
             Some(stream) => stream.is_closed(),
             None => false,
         }
+    }
+
+    /// The bytes of the peer's control stream that were not read, with the count of tries of the frame at their front. None where this
+    /// is not that stream.
+    pub fn control_frames(&self, id: StreamId) -> Option<&FrameBuffer>
+        ensures stream { is_some result ≡ Rattle.h3_connection.specs.Endpoint.is_read_as self.now.control_on id }
+        ensures bytes { IfSome result (λ frames. concat frames.now.pieces ≡ self.now.peer.unread) }
+    {
+        if is_read_as(self.control_on, id) {
+            return Some(self.peer.frames());
+        }
+        None
     }
 
     /// What this stream of the peer gives next. Before anything of it came that is pending. It takes no memory.

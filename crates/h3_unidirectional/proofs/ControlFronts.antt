@@ -1,5 +1,6 @@
 -- What is read of a control stream by its front.
-use Rattle.std.proofs.Common.{◌≡◌, ℕ, ◌<◌, Bool, true, false, if◌then◌else◌, List, [], ◌∷◌, ◌++◌, append-nil, append_assoc, length, Option, Some, None, Err, refl, ap, sym, ◌∙◌, subst}
+use Rattle.std.proofs.Common.{◌≡◌, ℕ, ◌<◌, Bool, true, false, if◌then◌else◌, List, [], ◌∷◌, ◌++◌, append-nil, append_assoc, length, Option, Some, None, Result, Ok, Err, refl, ap, sym, ◌∙◌, subst}
+use Rattle.std.specs.Prelude.{OnOk}
 use Rattle.h3_proto.specs.declared.stream.Side.{Side}
 use Rattle.h3_proto.specs.declared.stream.Side.TheVariants.{Client, Server}
 use Rattle.h3_wire.specs.Frames.{Front, Whole, Unknown, Refused, Unfinished, frame_at}
@@ -152,3 +153,8 @@ stops_reading side old new h =
 
 pub stops_later : (side : Side) (old mid new : Peer) → ReadsFront side old mid → ReadsFront side mid new → StopsReading side old new
 stops_later side old mid new a b = stops_reading side old new (then_front side old mid new a b)
+
+-- more bytes are kept behind what is unread
+pub kept_more : {A E : Type 0} (r : Result A E) (stored p : Peer) (unread bytes : List ℕ) → stored ≡ p → OnOk r (unread ≡ stored.unread ++ bytes) → OnOk r (with_unread stored unread ≡ with_unread p (p.unread ++ bytes))
+kept_more (Ok value) stored p unread bytes is h = ap (with_unread stored) h ∙ ap (λ (x : Peer). with_unread x (x.unread ++ bytes)) is
+kept_more (Err e) stored p unread bytes is h = tt

@@ -1,5 +1,6 @@
 //! The peer's control stream (RFC 9114, section 6.2.1).
 ghost use Rattle.std.specs.Prelude.{◌≡◌, ◌+◌, ◌^◌, ◌<◌, ◌≤◌, ◌++◌, ℕ, List, [], length, Some, is_some, IfOk, IfErr, OnOk, OnErr, option_copied};
+ghost use Rattle.std.specs.List.{concat};
 ghost use Rattle.h3_proto.specs.declared.stream.Side.{Side};
 ghost use Rattle.h3_wire.specs.Known.{refusal};
 ghost use Rattle.h3_connection.specs.Codes.{settings_code, refusal_code};
@@ -8,14 +9,13 @@ ghost use Rattle.h3_connection.specs.PeerReading.{Peer, nothing_read, with_unrea
 ghost use Rattle.h3_unidirectional.specs.Fronts.{ReadsFront, StopsReading};
 ghost use Rattle.h3_unidirectional.specs.Judged.{done, ReadsOne};
 
-use bytes::{Buf, Bytes};
+use bytes::Bytes;
 use h3_coding::varint::VarInt;
 use h3_proto::error::Code;
 use h3_proto::frame::{Settings, SettingsError};
 use h3_proto::push::PushId;
 use h3_proto::stream::Side;
-use h3_wire::buf::BufList;
-use h3_wire::frame::{FrameDecoder, FrameProtocolError, FrameStreamError};
+use h3_wire::frame::{FrameBuffer, FrameProtocolError, FrameStreamError};
 use h3_wire::proto::frame::{Frame, PayloadLen};
 use std::alloc::{AllocError, Global};
 use std::marker::Model;
@@ -23,8 +23,7 @@ use std::marker::Model;
 /// What was read of the peer's control stream, and the bytes of it that were not.
 #[derive(Drop)]
 pub struct PeerControl {
-    unread: BufList<Bytes>,
-    decoder: FrameDecoder,
+    unread: FrameBuffer,
     settings: Option<Settings>,
     goaways: Vec<VarInt>,
     most_pushes: Option<PushId>,
@@ -32,14 +31,11 @@ pub struct PeerControl {
 
 impl Model for PeerControl {
     ghost use Rattle.std.specs.List.{concat};
-    ghost use Rattle.h3_wire.specs.Tries.{Expects};
     ghost use Rattle.h3_connection.specs.PeerReading.{Peer};
 
     ghost Value = { Peer };
 
     ghost view = { λ p. record { unread = concat p.unread.pieces; settings = p.settings; goaways = p.goaways.items; most_pushes = p.most_pushes } };
-
-    ghost invariant = { λ p. Expects p.decoder (concat p.unread.pieces) };
 }
 
 /// What a frame does.
@@ -107,8 +103,7 @@ impl PeerControl {
         ensures { result ≡ nothing_read }
     {
         PeerControl {
-            unread: BufList::new(alloc),
-            decoder: FrameDecoder::default(),
+            unread: FrameBuffer::new(alloc),
             settings: None,
             goaways: Vec::new(alloc),
             most_pushes: None,
@@ -147,7 +142,15 @@ impl PeerControl {
     pub fn unread_len(&self) -> usize
         ensures { result ≡ length self.now.unread }
     {
-        self.unread.remaining()
+        self.unread.len()
+    }
+
+    /// The bytes that are not read. Its `tries` say how often the head of the frame under way was tried, or else that of the last frame
+    /// that was read, an unknown one too: at most 17 times.
+    pub fn frames(&self) -> &FrameBuffer
+        ensures { concat result.now.pieces ≡ self.now.unread }
+    {
+        &self.unread
     }
 
     /// More of the stream, which is kept until it is read. An `Err` changes nothing, and hands the bytes back.
@@ -157,10 +160,7 @@ impl PeerControl {
         ensures err { OnErr result (self.new ≡ self.old) }
         ensures back { IfErr result (λ back. back ≡ bytes) }
     {
-        match self.unread.push(bytes) {
-            Ok(()) => Ok(()),
-            Err(e) => Err(e.value),
-        }
+        self.unread.push(bytes)
     }
 
     fn judge_goaway(&self, side: Side, id: VarInt) -> Judged
@@ -234,7 +234,7 @@ impl PeerControl {
         ensures refused { OnErr result (ReadsFront side self.old self.new) }
     {
         self.goaways.reserve(1)?;
-        match self.decoder.decode(alloc, &mut self.unread) {
+        match self.unread.next_frame(alloc) {
             Ok(None) => Ok(Progress::Ends(None)),
             Ok(Some(frame)) => match self.judge(side, frame) {
                 Judged::Settings(settings) => {

@@ -20,6 +20,7 @@ pub mod Accepted
 pub mod AcceptingLaws
 pub mod Buffering
 pub mod Tries
+pub mod UnreadFrames
 pub mod TryLaws
 pub mod PieceLaws
 pub mod Given

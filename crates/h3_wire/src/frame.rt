@@ -21,10 +21,12 @@ use bytes::Bytes;
 use std::alloc::Global;
 use std::marker::Model;
 
+mod buffer;
 mod decoder;
 mod errors;
 mod payload_left;
 
+pub use buffer::FrameBuffer;
 pub use decoder::FrameDecoder;
 pub use errors::{FrameProtocolError, FrameStreamError};
 pub use payload_left::PayloadLeft;

@@ -1,25 +1,25 @@
 //! The payload of DATA that is under way, and the bytes of a session.
-ghost use Rattle.std.specs.Prelude.{◌≡◌, true, false, [], None};
+ghost use Rattle.std.specs.Prelude.{◌≡◌, ◌<◌, true, false, [], None};
 ghost use Rattle.h3_connection.specs.declared.event.Item.TheVariants.{End};
 ghost use Rattle.h3_connection.specs.Pulling.{just, in_payload, raw, is_memory};
+ghost use Rattle.h3_incoming.specs.Placing.{is_session};
 
 use super::IncomingStream;
 use crate::answer::{end, fail, pause, put};
-use bytes::Buf;
 use h3_connection::event::{Fault, Item, Pull};
 use h3_proto::error::Code;
-use h3_wire::buf::BufList;
-use h3_wire::frame::FrameDecoder;
+use h3_wire::frame::FrameBuffer;
 use std::alloc::Global;
 use std::mem;
 
 impl IncomingStream {
     /// The next bytes of the payload under way. One that the end cuts short is a fault of the connection (RFC 9114, section 7.1).
     pub(super) fn pull_payload(&mut self, out: &mut Pull)
+        requires { 0 < self.old.body_left }
         ensures answer { is_memory out.new ≡ false → in_payload self.old ≡ just out.new self.new }
         ensures memory { is_memory out.new ≡ true → self.new ≡ self.old }
     {
-        if self.ended && self.unread.remaining() < self.body_left {
+        if self.ended && self.unread.len() < self.body_left {
             fail(out, Fault::Connection(Code::H3_FRAME_ERROR));
             return;
         }
@@ -35,12 +35,11 @@ impl IncomingStream {
 
     /// The next bytes of a session. At its end no buffer is kept.
     pub(super) fn pull_raw(&mut self, alloc: Global, out: &mut Pull)
-        requires { self.old.fault ≡ None }
+        requires open { self.old.fault ≡ None }
+        requires session { is_session self.old.place ≡ true }
         ensures answer { raw self.old ≡ just out.new self.new }
         ensures memory { is_memory out.new ≡ false }
     {
-        // no frame is under way in a session
-        self.decoder = FrameDecoder::default();
         match self.unread.take_first_chunk() {
             Some(bytes) => put(out, Pull::Item(Item::Raw(bytes))),
             None if !self.ended => pause(out),
@@ -53,8 +52,7 @@ impl IncomingStream {
         ensures stream { self.new ≡ record self.old { unread = []; is_over = true } }
         ensures answer { out.new ≡ Pull.Item End }
     {
-        self.decoder = FrameDecoder::default();
-        drop(mem::replace(&mut self.unread, BufList::new(alloc)));
+        drop(mem::replace(&mut self.unread, FrameBuffer::new(alloc)));
         self.is_over = true;
         end(out);
     }

@@ -4,18 +4,19 @@ ghost use Rattle.std.specs.List.{concat};
 ghost use Rattle.h3_wire.specs.Frames.{frame_at};
 ghost use Rattle.h3_wire.specs.Known.{IsWaiting, refusal};
 ghost use Rattle.h3_qpack.specs.DecoderState.{DecoderState};
-ghost use Rattle.h3_connection.specs.Codes.{refusal_code, frame_unexpected};
-ghost use Rattle.h3_connection.specs.declared.event.Fault.TheVariants.{Connection};
-ghost use Rattle.h3_connection.specs.Pulling.{is_memory, just, at_frame, next_frame, between_frames};
+ghost use Rattle.h3_connection.specs.Codes.{refusal_code};
+ghost use Rattle.h3_connection.specs.Incoming.{Incoming, is_body};
+ghost use Rattle.h3_connection.specs.Pulling.{is_memory, at_frame, next_frame, between_frames};
+ghost use Rattle.h3_incoming.specs.Beginning.{IsBegunBy, begun_as};
 ghost use Rattle.h3_incoming.specs.Gives.{Gives};
-ghost use Rattle.h3_incoming.specs.Resuming.{Resumes, Begins};
+ghost use Rattle.h3_incoming.specs.Resuming.{Resumes};
 ghost use Rattle.h3_incoming.specs.Placing.{is_session, promise_code};
 
 use super::IncomingStream;
-use super::front::Found;
+use super::front::{Found, front};
 use crate::answer::{fail, pause, put};
 use crate::replies::reply;
-use bytes::{Buf, Bytes};
+use bytes::Bytes;
 use h3_connection::event::{Fault, Item, Malformation, Pull};
 use h3_connection::place::Place;
 use h3_connection::setup::Announced;
@@ -24,7 +25,7 @@ use h3_proto::frame::SettingsError;
 use h3_proto::stream::{Side, StreamId};
 use h3_proto::webtransport::SessionId;
 use h3_qpack::Decoder;
-use h3_wire::frame::{FrameDecoder, FrameProtocolError};
+use h3_wire::frame::FrameProtocolError;
 use h3_wire::proto::frame::{Frame, PayloadLen};
 use std::alloc::Global;
 
@@ -50,13 +51,36 @@ impl IncomingStream {
             → Gives (between_frames side announced.now id decoder.now self.old) out.new self.new replies.old.items replies.new.items }
         ensures memory { is_memory out.new ≡ true → Resumes self.old self.new × (replies.new.items ≡ replies.old.items) }
     {
-        match self.front(alloc) {
+        let in_body = self.is_in_body();
+        match front(&mut self.unread, alloc, in_body) {
             Err(_) => fail(out, Fault::Memory),
             Ok(Found::Unfinished) => self.pull_end(alloc, id, replies, out),
             Ok(Found::Refused(e)) => fail(out, Fault::Connection(refused_code(e))),
-            Ok(Found::Frame(frame)) => {
-                self.take_frame(alloc, side, announced, id, decoder, frame, replies, out)
-            }
+            Ok(Found::Frame(frame)) => match begun_by(side, self.place, frame) {
+                Begun::Section(section) => {
+                    self.section = Some(section);
+                    self.waits_for = 0;
+                    self.pull_section(alloc, side, announced, id, decoder, replies, out)
+                }
+                Begun::Payload(size) => {
+                    self.body_left = size;
+                    self.pull_payload(out)
+                }
+                Begun::Session(session) => {
+                    self.place = Place::InSession;
+                    put(out, Pull::Item(Item::Session(session)))
+                }
+                Begun::Fault(code) => fail(out, Fault::Connection(code)),
+            },
+        }
+    }
+
+    fn is_in_body(&self) -> bool
+        ensures { result ≡ is_body self.now.place }
+    {
+        match self.place {
+            Place::InBody => true,
+            Place::BeforeHead | Place::AfterTrailer | Place::InSession => false,
         }
     }
 
@@ -71,7 +95,7 @@ impl IncomingStream {
             pause(out);
             return;
         }
-        if self.unread.remaining() > 0 {
+        if self.unread.len() > 0 {
             fail(out, Fault::Connection(Code::H3_FRAME_ERROR));
             return;
         }
@@ -84,80 +108,58 @@ impl IncomingStream {
         }
         self.finish(alloc, out)
     }
+}
 
-    // A frame was read. It may not stand at any place.
-    fn take_frame(
-        &mut self,
-        alloc: Global,
-        side: Side,
-        announced: &Announced,
-        id: StreamId,
-        decoder: &Decoder,
-        frame: Frame<PayloadLen>,
-        replies: &mut Vec<u8>,
-        out: &mut Pull,
-    )
-        requires { self.old.body_left ≡ 0 }
-        ensures answer { is_memory out.new ≡ false
-            → Gives (at_frame side announced.now id decoder.now side self.old self.old.place frame) out.new self.new replies.old.items replies.new.items }
-        ensures memory { is_memory out.new ≡ true → Begins self.old.place frame self.old self.new × (replies.new.items ≡ replies.old.items) }
-    {
-        match frame {
-            Frame::Headers(section) => match self.place {
-                Place::BeforeHead | Place::InBody => {
-                    self.section = Some(section);
-                    self.waits_for = 0;
-                    self.pull_section(alloc, side, announced, id, decoder, replies, out)
-                }
-                Place::AfterTrailer | Place::InSession => unexpected(out),
-            },
-            Frame::Data(len) => match self.place {
-                Place::InBody => {
-                    self.decoder = FrameDecoder::default();
-                    self.body_left = len.0;
-                    self.pull_payload(out)
-                }
-                Place::BeforeHead | Place::AfterTrailer | Place::InSession => unexpected(out),
-            },
-            Frame::WebTransportStream(session) => self.begin_session(side, session, out),
-            Frame::PushPromise(_) => refuse_promise(side, out),
-            Frame::CancelPush(_)
-            | Frame::Settings(_)
-            | Frame::Goaway(_)
-            | Frame::MaxPushId(_)
-            | Frame::Grease(_) => unexpected(out),
-        }
-    }
+/// What a frame begins at its place.
+#[derive(Drop)]
+enum Begun {
+    Section(Bytes),
+    /// The payload of a DATA frame, of so many bytes.
+    Payload(usize),
+    Session(SessionId),
+    /// It may not stand there.
+    Fault(Code),
+}
 
-    // At a server a session may stand in the place of a message.
-    fn begin_session(&mut self, side: Side, session: SessionId, out: &mut Pull)
-        ensures answer { (own : Announced) (id : ℕ) (r : DecoderState) → at_frame side own id r side self.old self.old.place (Frame.WebTransportStream session) ≡ just out.new self.new }
-        ensures memory { is_memory out.new ≡ false }
-    {
-        if let Side::Client = side {
-            return unexpected(out);
-        }
-        if let Place::BeforeHead = self.place {
-            self.place = Place::InSession;
-            put(out, Pull::Item(Item::Session(session)));
-            return;
-        }
-        unexpected(out)
+// What a frame begins at its place (RFC 9114, sections 4.1 and 7.2).
+fn begun_by(side: Side, place: Place, frame: Frame<PayloadLen>) -> Begun
+    ensures is { (own : Announced) (id : ℕ) (r : DecoderState) (i : Incoming) → at_frame side own id r side i place frame ≡ begun_as side own id r i result }
+    ensures begins { IsBegunBy place frame result }
+{
+    match frame {
+        Frame::Headers(section) => match place {
+            Place::BeforeHead | Place::InBody => Begun::Section(section),
+            Place::AfterTrailer | Place::InSession => Begun::Fault(Code::H3_FRAME_UNEXPECTED),
+        },
+        Frame::Data(len) => match place {
+            Place::InBody => Begun::Payload(len.0),
+            Place::BeforeHead | Place::AfterTrailer | Place::InSession => {
+                Begun::Fault(Code::H3_FRAME_UNEXPECTED)
+            }
+        },
+        Frame::WebTransportStream(session) => begun_by_session(side, place, session),
+        // a client permits none, since it sends no MAX_PUSH_ID (RFC 9114, section 7.2.5), and a server gets none
+        Frame::PushPromise(_) => Begun::Fault(promise_code(side)),
+        Frame::CancelPush(_)
+        | Frame::Settings(_)
+        | Frame::Goaway(_)
+        | Frame::MaxPushId(_)
+        | Frame::Grease(_) => Begun::Fault(Code::H3_FRAME_UNEXPECTED),
     }
 }
 
-// The frame may not stand there.
-fn unexpected(out: &mut Pull)
-    ensures { out.new ≡ Pull.Fault (Connection frame_unexpected) }
+// At a server a session may stand in the place of a message.
+fn begun_by_session(side: Side, place: Place, session: SessionId) -> Begun
+    ensures is { (own : Announced) (id : ℕ) (r : DecoderState) (i : Incoming) → at_frame side own id r side i place (Frame.WebTransportStream session) ≡ begun_as side own id r i result }
+    ensures begins { IsBegunBy place (Frame.WebTransportStream session) result }
 {
-    fail(out, Fault::Connection(Code::H3_FRAME_UNEXPECTED));
-}
-
-// A promise: a client permits none, since it sends no MAX_PUSH_ID (RFC 9114, section 7.2.5), and a server gets none.
-fn refuse_promise(side: Side, out: &mut Pull)
-    ensures { out.new ≡ Pull.Fault (Connection (promise_code side)) }
-{
-    fail(out, Fault::Connection(promise_code(side)));
+    if let Side::Client = side {
+        return Begun::Fault(Code::H3_FRAME_UNEXPECTED);
+    }
+    if let Place::BeforeHead = place {
+        return Begun::Session(session);
+    }
+    Begun::Fault(Code::H3_FRAME_UNEXPECTED)
 }
 
 fn promise_code(side: Side) -> Code

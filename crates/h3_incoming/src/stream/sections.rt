@@ -70,6 +70,7 @@ impl IncomingStream {
         replies: &mut Vec<u8>,
         out: &mut Pull,
     )
+        requires { is_some self.old.section ≡ true }
         ensures answer { (own : Announced) (r : DecoderState) (count : ℕ) (fields : List Field) → IsWithin (section_of own) (codes ":status") (nat_lt 0 count) fields decoded
             → is_memory out.new ≡ false
             → Gives (read_section side own id r (past_section self.old) (acknowledgment id count) fields) out.new self.new replies.old.items replies.new.items }
@@ -92,6 +93,7 @@ impl IncomingStream {
         replies: &mut Vec<u8>,
         out: &mut Pull,
     )
+        requires { is_some self.old.section ≡ true }
         ensures answer { (count : ℕ) → acknowledges ≡ nat_lt 0 count → is_memory out.new ≡ false
             → Gives (judged_as id (past_section self.old) (acknowledgment id count) judged) out.new self.new replies.old.items replies.new.items }
         ensures memory { is_memory out.new ≡ true → (self.new ≡ self.old) × (replies.new.items ≡ replies.old.items) }
@@ -103,8 +105,8 @@ impl IncomingStream {
                     fail(out, Fault::Memory);
                     return;
                 }
-                self.pass_section();
                 self.place = place;
+                self.pass_section();
                 put(out, Pull::Item(item));
             }
             Judged::Malformed(why) => {

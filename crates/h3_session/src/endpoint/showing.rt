@@ -1,5 +1,5 @@
 //! What can be read of an endpoint.
-ghost use Rattle.std.specs.Prelude.{◌≡◌, option_copied};
+ghost use Rattle.std.specs.Prelude.{◌≡◌, ◌≤◌, option_copied};
 ghost use Rattle.h3_connection.specs.OwnIds.{is_own};
 ghost use Rattle.h3_connection.specs.ReadingContracts.{ShowsOutgoing, ShowsFinished, ShowsReset, ShowsSettings, ShowsGoaways, ShowsSizes, ShowsHeads, ShowsSent, ShowsTries, ShowsLimits};
 
@@ -102,6 +102,21 @@ impl Endpoint {
     {
         match self.requests.get(id) {
             Some(stream) => stream.incoming().tries(),
+            None => 0,
+        }
+    }
+
+    /// How often the head of the frame under way on a request stream or on the peer's control stream was tried, or else that of the
+    /// last frame that was read there: at most 17 times. 0 on any other stream, and before the first. A try does not count that ends
+    /// for want of memory or at a frame that is refused.
+    pub fn frame_tries(&self, id: StreamId) -> u8
+        ensures bound { result ≤ 17 }
+    {
+        if let Some(frames) = self.streams.control_frames(id) {
+            return frames.tries();
+        }
+        match self.requests.get(id) {
+            Some(stream) => stream.incoming().frames().tries(),
             None => 0,
         }
     }

@@ -1,0 +1,56 @@
+-- What a pull makes of the frame that it has read.
+use Rattle.std.proofs.Common.{◌≡◌, ℕ, Bool, false, ◌&&◌, List, ap, sym, ◌∙◌, subst}
+use Rattle.std.specs.List.{concat}
+use Rattle.h3_wire.specs.Known.{refusal}
+use Rattle.h3_wire.specs.declared.frame.errors.FrameProtocolError.{FrameProtocolError}
+use Rattle.h3_wire.specs.declared.proto.frame.PayloadLen.{PayloadLen}
+use Rattle.h3_wire.specs.declared.proto.frame.Frame.{Frame}
+use Rattle.h3_proto.specs.declared.stream.Side.{Side}
+use Rattle.h3_qpack.specs.DecoderState.{DecoderState}
+use Rattle.h3_connection.specs.declared.setup.Announced.{Announced}
+use Rattle.h3_connection.specs.Codes.{refusal_code}
+use Rattle.h3_connection.specs.Incoming.{Incoming, is_body}
+use Rattle.h3_connection.specs.Pulling.{Pulled, connection_fault, at_frame, next_frame, between_frames}
+use Rattle.h3_incoming.specs.Finding.{Finds, PassesFrames}
+use Rattle.h3_incoming.specs.Resuming.{Begins, Resumes}
+use Rattle.h3_incoming.specs.declared.stream.front.Found.TheVariants as found
+use Rattle.h3_incoming.proofs.FrontLaws.{Reads, with_left, passes, passes_frames, finds, found_now}
+use Rattle.h3_incoming.proofs.PullLaws.{between_unfinished, between_refused, between_frame, place_passed}
+use Rattle.h3_incoming.proofs.ResumeLaws.{IsBetween, resumes_passed, resumes_begun}
+
+pub pulled_unfinished : (side : Side) (own : Announced) (id : ℕ) (r : DecoderState) (old stored : Incoming) (left : List (List ℕ)) (in_body : Bool) → Reads old stored left in_body
+    → Finds in_body found.Unfinished (concat stored.unread) (concat left) → between_frames side own id r old ≡ next_frame side own id r (with_left stored left) (concat left)
+pulled_unfinished side own id r old stored left in_body reads h =
+    between_unfinished side own id r old (with_left stored left) (passes old stored left in_body reads) (finds old stored left in_body found.Unfinished reads h).0
+
+pub pulled_refused : (side : Side) (own : Announced) (id : ℕ) (r : DecoderState) (old stored : Incoming) (left : List (List ℕ)) (in_body : Bool) (e : FrameProtocolError) (code : ℕ) → Reads old stored left in_body
+    → Finds in_body (found.Refused e) (concat stored.unread) (concat left) → code ≡ refusal_code (refusal e) → between_frames side own id r old ≡ connection_fault code (with_left stored left)
+pulled_refused side own id r old stored left in_body e code reads h is =
+    between_refused side own id r old (with_left stored left) e (passes old stored left in_body reads) (finds old stored left in_body (found.Refused e) reads h)
+    ∙ ap (λ n. connection_fault n (with_left stored left)) (sym is)
+
+-- a frame is what it is at the place that was stored
+pub pulled_frame : (side : Side) (own : Announced) (id : ℕ) (r : DecoderState) (old stored : Incoming) (left : List (List ℕ)) (in_body : Bool) (f : Frame PayloadLen) (p : Pulled) → Reads old stored left in_body
+    → Finds in_body (found.Frame f) (concat stored.unread) (concat left) → at_frame side own id r side (with_left stored left) stored.place f ≡ p → between_frames side own id r old ≡ p
+pulled_frame side own id r old stored left in_body f p reads h is =
+    let mid = with_left stored left in
+    let passed = passes old stored left in_body reads in
+    between_frame side own id r old mid f passed (found_now (is_body old.place) f (concat old.unread) (concat left) (finds old stored left in_body (found.Frame f) reads h))
+    ∙ ap (λ q. at_frame side own id r side mid q f) (sym (place_passed old mid passed)) ∙ is
+
+-- its payload is not empty in a body
+pub filled : (old stored : Incoming) (left : List (List ℕ)) (in_body is_empty : Bool) → Reads old stored left in_body → (in_body && is_empty) ≡ false → (is_body stored.place && is_empty) ≡ false
+filled old stored left in_body is_empty reads h =
+    subst (λ b. (b && is_empty) ≡ false) (reads.body ∙ ap {A = Incoming} (λ i. is_body i.place) (sym reads.is)) h
+
+-- want of memory before the frame, and behind it
+pub resumes_before : (old stored : Incoming) (left : List (List ℕ)) (in_body : Bool) → Reads old stored left in_body → IsBetween old
+    → PassesFrames in_body (concat stored.unread) (concat left) → Resumes old (with_left stored left)
+resumes_before old stored left in_body reads between h =
+    resumes_passed old (with_left stored left) between (passes old stored left in_body reads) (passes_frames old stored left in_body reads h)
+
+pub resumes_behind : (old stored new begun : Incoming) (left : List (List ℕ)) (in_body : Bool) (f : Frame PayloadLen) → Reads old stored left in_body → IsBetween old
+    → Finds in_body (found.Frame f) (concat stored.unread) (concat left) → Begins stored.place f (with_left stored left) begun → new ≡ begun → Resumes old new
+resumes_behind old stored new begun left in_body f reads between h begins same =
+    subst (λ (x : Incoming). Resumes old x) (sym same)
+    (resumes_begun old (with_left stored left) begun f between (passes old stored left in_body reads) (finds old stored left in_body (found.Frame f) reads h) begins)
