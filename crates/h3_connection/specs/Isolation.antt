@@ -201,7 +201,7 @@ view_of side own id calls = view (encoders_in side calls) id (new_endpoint side 
 abbrev pub answers_to_view : Side → Announced → ℕ → List Call → List Result
 answers_to_view side own id calls = answers_seen (encoders_in side calls) id (new_endpoint side own) calls
 
--- Two lists of calls of new endpoints whose views of a stream are equal are answered alike on it, up to the first connection fault.
+-- Two lists of calls of new endpoints that find no connection fault, and whose views of a stream are equal, are answered alike on it.
 abbrev pub IsIsolated : Side → Announced → ℕ → Type 0
 IsIsolated side own id =
     (calls more : List Call) → kind_of side id ≡ Request
@@ -218,7 +218,7 @@ before_first_fault e (c ∷ cs) = if is_some (called e c).1.closed then [] else 
 abbrev pub front : Side → Announced → List Call → List Call
 front side own calls = before_first_fault (new_endpoint side own) calls
 
--- those of them that the stream sees, which tells its peer's encoder stream by the bytes of all calls, and the answers to them
+-- those of them that the stream sees (the peer's encoder stream is told by the bytes of all calls), and the answers to them
 abbrev pub view_before_fault : Side → Announced → ℕ → List Call → List Call
 view_before_fault side own id calls = view (encoders_in side calls) id (new_endpoint side own) (front side own calls)
 
