@@ -1,6 +1,6 @@
 -- By the bytes that a list of calls brings on each stream it is told which streams may become the peer's encoder stream.
 use Rattle.std.proofs.Common.{◌≡◌, ℕ, Bool, true, false, List, [], ◌∷◌, ◌++◌, refl, sym, ◌∙◌, ap, subst, append_assoc}
-use Rattle.std.specs.Prelude.{Option, Some, None, is_some, if◌then◌else◌, ◌==◌, ◌&&◌}
+use Rattle.std.specs.Prelude.{Option, Some, None, if◌then◌else◌, ◌==◌, ◌&&◌}
 use Rattle.h3_coding.specs.Varint.{varint_at}
 use Rattle.h3_coding.specs.VarintLaws.{reads_more}
 use Rattle.h3_proto.specs.declared.stream.Side.{Side}
@@ -14,7 +14,7 @@ use Rattle.h3_connection.specs.Endpoint.Kind.{Request, ServerOpened, OwnUnidirec
 use Rattle.h3_connection.specs.Delivering.{closed_refusal}
 use Rattle.h3_connection.specs.CallLists.{Call, called}
 use Rattle.h3_connection.specs.CallLists.Call.{OpenRequest, SendHead, SendBody, SendTrailer, Finish, Reset, Goaway, Advance, Outgoing, Deliver, DeliverEnd, DeliverReset, PullStream, Cancel, Show}
-use Rattle.h3_connection.specs.Isolation.{Front, Sight, IsSight, AreEncoders, Before, GoesOn, FindsNoFault, StepIsSeen, sees, seen, unless_refused, with_front, hears, brought_on, is_encoder_type, encoders_in, is_peer, first_sight, seen_pull, before_first_fault, front}
+use Rattle.h3_connection.specs.Isolation.{Front, Sight, IsSight, AreEncoders, Before, GoesOn, FindsNoFault, StepIsSeen, sees, seen, unless_refused, with_front, hears, brought_on, is_encoder_type, encoders_in, is_peer, first_sight, seen_pull, where_open, before_first_fault, front}
 use Rattle.h3_connection.proofs.SeenEncoder.{by_eq, to_eq}
 use Rattle.h3_connection.proofs.Isolated.{each_step, before_next, true_not_false}
 use Rattle.h3_connection.proofs.SameSetups.{same_setup}
@@ -204,7 +204,7 @@ peer_kind ServerOpened h = absurd (true_not_false (sym h))
 peer_kind OwnUnidirectional h = absurd (true_not_false (sym h))
 
 goes_more : (T : ℕ → Bool) (e : EndpointHistory) (c : Call) (front : List Call) (closed : Option ℕ) → (called e c).1.closed ≡ closed → ((called e c).1.closed ≡ None → GoesOn T e (c ∷ front))
-    → GoesOn T e (if is_some closed then [] else c ∷ front)
+    → GoesOn T e (where_open closed (c ∷ front))
 goes_more T e c front (Some code) is h = tt
 goes_more T e c front None is h = h is
 
@@ -226,7 +226,7 @@ goes T side id e s (c ∷ cs) is blind b only h = goes_more T e c (before_first_
     ))
 
 -- a list with no fault is all before the first one
-all_more : (c : Call) (front : List Call) (closed : Option ℕ) → closed ≡ None → (if is_some closed then [] else c ∷ front) ≡ c ∷ front
+all_more : (c : Call) (front : List Call) (closed : Option ℕ) → closed ≡ None → where_open closed (c ∷ front) ≡ c ∷ front
 all_more c front (Some code) h = cc
 all_more c front None h = refl
 

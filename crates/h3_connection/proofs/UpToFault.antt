@@ -1,18 +1,18 @@
 -- Two lists of calls are answered alike up to the first connection fault in either.
 use Rattle.std.proofs.Common.{◌≡◌, ℕ, Bool, true, false, List, [], ◌∷◌, ◌++◌, refl, sym, ◌∙◌, ap, subst}
-use Rattle.std.specs.Prelude.{Option, Some, None, is_some, if◌then◌else◌}
+use Rattle.std.specs.Prelude.{Option, Some, None, if◌then◌else◌}
 use Rattle.h3_proto.specs.declared.stream.Side.{Side}
 use Rattle.h3_connection.specs.declared.setup.Announced.{Announced}
 use Rattle.h3_connection.specs.CallLists.{Call, Result, called, endpoint_after}
 use Rattle.h3_connection.specs.Endpoint.{EndpointHistory, kind_of, new_endpoint}
 use Rattle.h3_connection.specs.Endpoint.Kind.{Request}
-use Rattle.h3_connection.specs.Isolation.{FindsNoFault, IsIsolatedUpToFault, IsIsolatedInFront, AgreeAsFar, Sight, before_first_fault, front, view_before_fault, answers_before_fault, IsSight, sight_after, sees, seen, view, view_of, answers_to_view, fold_seen, first_sight, encoders_in}
+use Rattle.h3_connection.specs.Isolation.{FindsNoFault, IsIsolatedUpToFault, IsIsolatedInFront, AgreeAsFar, Sight, where_open, before_first_fault, front, view_before_fault, answers_before_fault, IsSight, sight_after, sees, seen, view, view_of, answers_to_view, fold_seen, first_sight, encoders_in}
 use Rattle.h3_connection.proofs.Brought.{goes_from_new, goes_in_front, encoders_are_peers}
 use Rattle.h3_connection.proofs.Isolated.{from_new, sight_isolated}
 
 -- the calls before the first fault find none
 finds_none : (e : EndpointHistory) (c : Call) (front : List Call) (closed : Option ℕ) → (called e c).1.closed ≡ closed → FindsNoFault (called e c).1 front
-    → FindsNoFault e (if is_some closed then [] else c ∷ front)
+    → FindsNoFault e (where_open closed (c ∷ front))
 finds_none e c front (Some code) is h = tt
 finds_none e c front None is h = (is, h)
 
@@ -43,7 +43,7 @@ seen_more c true some all h = record { rest = h.rest; all_is = ap (λ cs. c ∷ 
 seen_more c false some all h = h
 
 view_more : (T : ℕ → Bool) (id : ℕ) (e : EndpointHistory) (c : Call) (some cs : List Call) (closed : Option ℕ) → IsFront (view T id (called e c).1 some) (view T id (called e c).1 cs)
-    → IsFront (view T id e (if is_some closed then [] else c ∷ some)) (view T id e (c ∷ cs))
+    → IsFront (view T id e (where_open closed (c ∷ some))) (view T id e (c ∷ cs))
 view_more T id e c some cs (Some code) h = record { rest = view T id e (c ∷ cs); all_is = refl }
 view_more T id e c some cs None h = seen_more c (sees T id e c) _ _ h
 

@@ -209,10 +209,15 @@ IsIsolated side own id =
     → view_of side own id calls ≡ view_of side own id more
     → answers_to_view side own id calls ≡ answers_to_view side own id more
 
+-- these calls where the connection is open, and none behind its fault
+abbrev pub where_open : Option ℕ → List Call → List Call
+where_open (Some code) calls = []
+where_open None calls = calls
+
 -- the calls before the first that finds a connection fault
 abbrev pub before_first_fault : EndpointHistory → List Call → List Call
 before_first_fault e [] = []
-before_first_fault e (c ∷ cs) = if is_some (called e c).1.closed then [] else c ∷ before_first_fault (called e c).1 cs
+before_first_fault e (c ∷ cs) = where_open (called e c).1.closed (c ∷ before_first_fault (called e c).1 cs)
 
 -- of the calls of a new endpoint
 abbrev pub front : Side → Announced → List Call → List Call
