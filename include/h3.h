@@ -90,8 +90,9 @@
  *
  *   H3_CONNECTION of a delivery, or an item of kind H3_FAULT_CONNECTION: close the QUIC connection with the application error code that
  *     stands in `detail` or in `number`. Every later call answers H3_CLOSED, H3_CONNECTION or H3_FAULT_CONNECTION with that code.
- *   H3_FAULT_MALFORMED: the message on this stream is none (RFC 9114, section 4.1.2). Send STOP_SENDING with 0x10e (H3_MESSAGE_ERROR), and
- *     reset the own half with it (h3_reset, RESET_STREAM), or send a response with status 400. The connection goes on.
+ *   H3_FAULT_MALFORMED: the message on this stream is none (RFC 9114, section 4.1.2). Send STOP_SENDING with 0x10e (H3_MESSAGE_ERROR), or
+ *     at a server where `number` is H3_NO_HEAD with 0x10d (H3_REQUEST_INCOMPLETE), and reset the own half with it (h3_reset, RESET_STREAM),
+ *     or send a response with status 400. The connection goes on.
  *   H3_FAULT_RESET: the peer cut the stream off with the code in `number`. The own half goes on, or is ended by h3_reset.
  *   H3_FAULT_CANCELED: the caller gave the stream up by h3_cancel.
  *   H3_FAULT_MEMORY: nothing is lost: pull again later.

@@ -1,19 +1,19 @@
 -- Every call keeps the bounds.
-use Rattle.std.proofs.Common.{arith, ◌≡◌, ◌<◌, ◌≤◌, ℕ, ◌+◌, ◌-◌, Bool, true, false, zero, suc, List, [], ◌∷◌, ◌++◌, length, refl, sym, ◌∙◌, ap, subst, inl, inr}
-use Rattle.std.specs.Prelude.{Option, Some, None, if◌then◌else◌, ◌==◌, nat_lt, nat_le, unwrap_or, ◌&&◌}
-use Rattle.std.proofs.lemmas.Bool.{cases_eq, cases_lt, lt-ltb, le-ltb}
+use Rattle.std.proofs.Common.{arith, ◌≡◌, ◌≤◌, ℕ, ◌+◌, Bool, true, false, zero, suc, List, [], ◌∷◌, ◌++◌, length, refl, sym, ◌∙◌, ap, subst, inl, inr}
+use Rattle.std.specs.Prelude.{Option, Some, None, if◌then◌else◌, nat_lt, nat_le, unwrap_or}
+use Rattle.std.proofs.lemmas.Bool.{cases_eq, cases_lt, lt-ltb}
 use Rattle.h3_field.specs.Field.{Field}
 use Rattle.h3_field.specs.Reading.{Reading, Whole, Unfinished, Bad}
 use Rattle.h3_field.specs.Instruction.{EncoderInstruction}
 use Rattle.h3_field.specs.Instruction.EncoderInstruction.{SetCapacity, InsertWithStaticName, InsertWithEntryName, InsertLiteral, Duplicate}
 use Rattle.h3_field.specs.InstructionReading.{InstructionForm, instruction}
-use Rattle.h3_qpack.specs.DecoderState.{DecoderState, decoder_after, inserting, insertion_of, greatest_capacity}
+use Rattle.h3_qpack.specs.DecoderState.{DecoderState, decoder_after, inserting, greatest_capacity}
 use Rattle.h3_table.specs.TableState.{has_room, with_entry}
 use Rattle.h3_connection.specs.Bounds.{TriesTwice, WaitsOnce, OfStream, IsBounded}
-use Rattle.h3_connection.specs.Arrivals.{Arrival, BytesCame, EndCame, ResetCame, stream_of}
+use Rattle.h3_connection.specs.Arrivals.{Arrival, BytesCame, EndCame, ResetCame}
 use Rattle.h3_connection.specs.StreamSets.{Streams, stream_at, set_stream}
 use Rattle.h3_connection.specs.StreamSetLaws.{other_id, set-here, set-other}
-use Rattle.h3_connection.specs.Incoming.{Incoming, nothing_came, given_up}
+use Rattle.h3_connection.specs.Incoming.{Incoming, nothing_came}
 use Rattle.h3_field.specs.Values.{instruction_of}
 use Rattle.h3_qpack.specs.Hearing.{Heard, hear, hear_within, hear_form, hear_next, decoder_after_form}
 use Rattle.h3_connection.specs.Endpoint.{EndpointHistory, Kind, kind_of, heads_waiting, new_endpoint, replied}
@@ -23,9 +23,9 @@ use Rattle.h3_connection.specs.Unidirectional.{Unidirectional, Role, with_bytes,
 use Rattle.h3_connection.specs.Unidirectional.Role.{Untold, Control, Encoder, Decoder, Session, Push, Ignored}
 use Rattle.h3_connection.specs.Outgoing.{Outgoing as Out}
 use Rattle.h3_connection.specs.Delivering.{deliver, deliver_end, deliver_reset, delivery_refusal, opened_at, opened, incoming_at, with_incoming, taken, closed_by, heard_as, unless_second, read_unidirectional, unidirectional_at, with_unidirectional, bytes_at, end_at, reset_at, kept, with_end, give_up, given_up_once, given_up_by}
-use Rattle.h3_connection.specs.Sending.{open_request, open_refusal, send_head, head_refusal, encoded, appended, head_part, fields_cost, body_refusal, send_trailer, trailer_refusal, finish, finish_refusal, reset, reset_refusal, with_outgoing, outgoing_at, goaway, goaway_refusal, cancel, cancel_refusal, pull, does, pull_at, pull_unless, pull_request, pull_peer, pulled, within_limit, if_too_many, after_answer, advance_at, sent_bytes, counted}
+use Rattle.h3_connection.specs.Sending.{open_request, open_refusal, send_head, head_refusal, encoded, appended, head_part, fields_cost, body_refusal, send_trailer, trailer_refusal, finish, finish_refusal, reset, reset_refusal, with_outgoing, outgoing_at, goaway, goaway_refusal, cancel, cancel_refusal, pull, does, pull_at, pull_unless, pull_request, pull_peer, pulled, if_too_many, after_answer, advance_at, sent_bytes, counted}
 use Rattle.h3_connection.specs.Pulling.{Pulled, pull_stream}
-use Rattle.h3_connection.specs.Keeping.{read_arrival, read_all, unless_faulty, unkept, arrives_behind, arrives, arrival_refusal, pulls_behind, pulls, pulled_after, settles}
+use Rattle.h3_connection.specs.Keeping.{read_arrival, read_all, unless_faulty, unkept, arrives_behind, arrives, pulls_behind, pulls, pulled_after, settles}
 use Rattle.h3_connection.specs.Shown.{block_tries}
 use Rattle.h3_connection.specs.CallLists.{Call, Result, called, done, was_pulled, endpoint_after}
 use Rattle.h3_connection.specs.CallLists.Result.{Done, Opened}
@@ -45,7 +45,7 @@ use Rattle.h3_connection.proofs.PullBounds.{Ready, Good, pull_good, is_connectio
 use Rattle.h3_connection.proofs.Quiet.{Quiet, quiet_control, quiet_decoder}
 use Rattle.h3_connection.proofs.ReadingStays.{all_stays}
 use Rattle.h3_connection.proofs.Seen.{opened_here}
-use Rattle.h3_connection.proofs.WaitingCounts.{waits_at, waiting_above, count_set, count_inserted}
+use Rattle.h3_connection.proofs.WaitingCounts.{waits_at, count_set, count_inserted}
 
 -- the bounds rest on these alone, and nothing is open that was closed
 pub record Rests (e f : EndpointHistory) : Type 0 where
@@ -196,7 +196,7 @@ hearing e id (Session n) bytes h = h
 hearing e id (Push n) bytes h = h
 hearing e id Ignored bytes h = h
 
-sets_peer : (e : EndpointHistory) (id : ℕ) (o : Unidirectional) → IsBounded e → IsBounded (with_unidirectional e id o)
+pub sets_peer : (e : EndpointHistory) (id : ℕ) (o : Unidirectional) → IsBounded e → IsBounded (with_unidirectional e id o)
 sets_peer e id o h = as_before e _ (record { incoming = refl; decoder = refl; announced = refl; closed = λ x. x }) h
 
 unidirectional : (e : EndpointHistory) (id : ℕ) (o : Unidirectional) (read_as : Role × List ℕ) → IsBounded e → IsBounded (read_unidirectional e id o read_as).0
@@ -226,7 +226,7 @@ reset_on e id code ServerOpened h = h
 reset_on e id code OwnUnidirectional h = h
 reset_on e id code PeerUnidirectional h = sets_peer e id _ h
 
-arrival_on : (e : EndpointHistory) (a : Arrival) → IsBounded e → IsBounded (read_arrival e a).0
+pub arrival_on : (e : EndpointHistory) (a : Arrival) → IsBounded e → IsBounded (read_arrival e a).0
 arrival_on e (BytesCame id bytes) h = bytes_on e id bytes (kind_of e.side id) h
 arrival_on e (EndCame id) h = end_on e id (kind_of e.side id) h
 arrival_on e (ResetCame id code) h = reset_on e id code (kind_of e.side id) h
@@ -248,7 +248,7 @@ takes (Some code) r e found h k = h
 takes None (Some r) e found h k = h
 takes None None e found h k = closing found k
 
-forgets : (e : EndpointHistory) → IsBounded e → IsBounded (unkept e)
+pub forgets : (e : EndpointHistory) → IsBounded e → IsBounded (unkept e)
 forgets e h = as_before e _ (record { incoming = refl; decoder = refl; announced = refl; closed = λ x. x }) h
 
 pub arrives_on : (e : EndpointHistory) (a : Arrival) → IsBounded e → IsBounded (arrives e a).1
@@ -343,7 +343,7 @@ pulls_on e id h = behind e.kept
         (after_kept (read_all (k ∷ arrivals) (unkept e)) id (all_on (k ∷ arrivals) (unkept e) (forgets e h)) ((all_stays (k ∷ arrivals) (unkept e)).closed ∙ open_still)))
 
 -- a stream changes, without being opened
-changes_at : (e : EndpointHistory) (id : ℕ) (j : Incoming) → IsBounded e → Calms (incoming_at e id) j → IsBounded (with_incoming e id j)
+pub changes_at : (e : EndpointHistory) (id : ℕ) (j : Incoming) → IsBounded e → Calms (incoming_at e id) j → IsBounded (with_incoming e id j)
 changes_at e id j h c =
     let at = stream_at e.incoming id in
     with_stream e id j h (rw c.tries (of_stream TriesTwice at (omega arith) (h.tries id)))
@@ -361,7 +361,7 @@ done_on : (success : Result) (p : Option Refusal × EndpointHistory) → IsBound
 done_on success (None, e) h = h
 done_on success (Some r, e) h = h
 
-rests : (e f : EndpointHistory) → f.incoming ≡ e.incoming → f.decoding ≡ e.decoding → f.announced ≡ e.announced → f.closed ≡ e.closed → IsBounded e → IsBounded f
+pub rests : (e f : EndpointHistory) → f.incoming ≡ e.incoming → f.decoding ≡ e.decoding → f.announced ≡ e.announced → f.closed ≡ e.closed → IsBounded e → IsBounded f
 rests e f a b c d h = as_before e f (record { incoming = a; decoder = ap (λ x. x.decoder) b; announced = c; closed = λ x. sym d ∙ x }) h
 
 body_on : (e : EndpointHistory) (id : ℕ) (bytes : List ℕ) → IsBounded e → IsBounded (counted (sent_bytes e id bytes) (length bytes))

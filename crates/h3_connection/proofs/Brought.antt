@@ -14,7 +14,7 @@ use Rattle.h3_connection.specs.Endpoint.Kind.{Request, ServerOpened, OwnUnidirec
 use Rattle.h3_connection.specs.Delivering.{closed_refusal}
 use Rattle.h3_connection.specs.CallLists.{Call, called}
 use Rattle.h3_connection.specs.CallLists.Call.{OpenRequest, SendHead, SendBody, SendTrailer, Finish, Reset, Goaway, Advance, Outgoing, Deliver, DeliverEnd, DeliverReset, PullStream, Cancel, Show}
-use Rattle.h3_connection.specs.Isolation.{Front, Sight, IsSight, AreEncoders, Before, GoesOn, FindsNoFault, StepIsSeen, sees, seen, unless_refused, with_front, hears, brought_on, is_encoder_type, encoders_in, is_peer, first_sight, seen_pull}
+use Rattle.h3_connection.specs.Isolation.{Front, Sight, IsSight, AreEncoders, Before, GoesOn, FindsNoFault, StepIsSeen, sees, seen, unless_refused, with_front, hears, brought_on, is_encoder_type, encoders_in, is_peer, first_sight, seen_pull, where_open, before_first_fault, front}
 use Rattle.h3_connection.proofs.SeenEncoder.{by_eq, to_eq}
 use Rattle.h3_connection.proofs.Isolated.{each_step, before_next, true_not_false}
 use Rattle.h3_connection.proofs.SameSetups.{same_setup}
@@ -203,21 +203,36 @@ peer_kind Request h = absurd (true_not_false (sym h))
 peer_kind ServerOpened h = absurd (true_not_false (sym h))
 peer_kind OwnUnidirectional h = absurd (true_not_false (sym h))
 
+goes_more : (T : ℕ → Bool) (e : EndpointHistory) (c : Call) (front : List Call) (closed : Option ℕ) → (called e c).1.closed ≡ closed → ((called e c).1.closed ≡ None → GoesOn T e (c ∷ front))
+    → GoesOn T e (where_open closed (c ∷ front))
+goes_more T e c front (Some code) is h = tt
+goes_more T e c front None is h = h is
+
+-- up to the first fault the test tells the encoder streams, whatever comes behind it
 goes : (T : ℕ → Bool) (side : Side) (id : ℕ) (e : EndpointHistory) (s : Sight) (cs : List Call) → e.side ≡ side → any_peer side id ≡ false → Before (any_peer side) id e s → OnlyPeers side e.unidirectional
-    → Agrees T side s.fronts cs → FindsNoFault e cs → GoesOn T e cs
-goes T side id e s [] is blind b only h p = tt
-goes T side id e s (c ∷ cs) is blind b only h p =
+    → Agrees T side s.fronts cs → GoesOn T e (before_first_fault e cs)
+goes T side id e s [] is blind b only h = tt
+goes T side id e s (c ∷ cs) is blind b only h = goes_more T e c (before_first_fault (called e c).1 cs) (called e c).1.closed refl (λ open_still.
     let new = (called e c).1 in
     let t = after_seen side id e s c in
-    let only' : OnlyPeers side new.unidirectional = subst (λ x. OnlyPeers x new.unidirectional) is (peers_step e c p.0 (subst (λ x. OnlyPeers x e.unidirectional) (sym is) only)) in
+    let only' : OnlyPeers side new.unidirectional = subst (λ x. OnlyPeers x new.unidirectional) is (peers_step e c open_still (subst (λ x. OnlyPeers x e.unidirectional) (sym is) only)) in
     let a : AreEncoders (any_peer side) new = are_peers side new only' in
-    let sight : IsSight (any_peer side) id new t = sight_after side id e new s c (sees (any_peer side) id e c) refl (each_step (any_peer side) id e s c b p.0 a) in
+    let sight : IsSight (any_peer side) id new t = sight_after side id e new s c (sees (any_peer side) id e c) refl (each_step (any_peer side) id e s c b open_still a) in
     let agrees : Agrees T side t.fronts cs = agrees_step T side id e s c cs blind h in
     let setup = same_setup e c in (
-      p.0,
+      open_still,
       λ q role. (agrees q (a q role)).encoder (ap (λ f. f.role) (sym (sight.fronts q (a q role))) ∙ role),
-      goes T side id new t cs (setup.side ∙ is) blind (before_next (any_peer side) id e new s t b setup.side p.0 sight) only' agrees p.1,
-    )
+      goes T side id new t cs (setup.side ∙ is) blind (before_next (any_peer side) id e new s t b setup.side open_still sight) only' agrees,
+    ))
+
+-- a list with no fault is all before the first one
+all_more : (c : Call) (front : List Call) (closed : Option ℕ) → closed ≡ None → where_open closed (c ∷ front) ≡ c ∷ front
+all_more c front (Some code) h = cc
+all_more c front None h = refl
+
+all_before : (e : EndpointHistory) (cs : List Call) → FindsNoFault e cs → before_first_fault e cs ≡ cs
+all_before e [] p = refl
+all_before e (c ∷ cs) p = all_more c (before_first_fault (called e c).1 cs) (called e c).1.closed p.0 ∙ ap (λ x. c ∷ x) (all_before (called e c).1 cs p.1)
 
 test_of : (side : Side) (calls : List Call) (q : ℕ) → any_peer side q ≡ true → encoders_in side calls q ≡ is_encoder_type (varint_at (brought_on q calls))
 test_of side calls q peer = ap (λ b. b && is_encoder_type (varint_at (brought_on q calls))) peer
@@ -229,14 +244,16 @@ first_and false b h = h
 pub encoders_are_peers : (side : Side) (calls : List Call) (q : ℕ) → encoders_in side calls q ≡ true → kind_of side q ≡ PeerUnidirectional
 encoders_are_peers side calls q h = peer_kind (kind_of side q) (first_and (any_peer side q) (is_encoder_type (varint_at (brought_on q calls))) h)
 
-pub goes_from_new : (side : Side) (own : Announced) (id : ℕ) (calls : List Call) → kind_of side id ≡ Request → FindsNoFault (new_endpoint side own) calls → GoesOn (encoders_in side calls) (new_endpoint side own) calls
+pub goes_in_front : (side : Side) (own : Announced) (id : ℕ) (calls : List Call) → kind_of side id ≡ Request → GoesOn (encoders_in side calls) (new_endpoint side own) (front side own calls)
 unfolding front_in is_role_encoder
-goes_from_new side own id calls request p =
+goes_in_front side own id calls request =
     goes (encoders_in side calls) side id (new_endpoint side own) (first_sight side own) calls refl (ap is_peer request)
     (record { request = request; open_still = refl; peers = λ q h. peer_kind (kind_of side q) h; sight = record { incoming = refl; decoding = refl; fronts = λ q t. refl } })
     (λ q blind. refl)
     (λ q peer. record {
       encoder = λ x. absurd (true_not_false (sym (ap is_role_encoder x)));
-      untold = λ fresh front x. test_of side calls q peer ∙ ap (λ w. is_encoder_type (varint_at (w ++ brought_on q calls))) (ap front_in x);
+      untold = λ fresh begun x. test_of side calls q peer ∙ ap (λ w. is_encoder_type (varint_at (w ++ brought_on q calls))) (ap front_in x);
     })
-    p
+
+pub goes_from_new : (side : Side) (own : Announced) (id : ℕ) (calls : List Call) → kind_of side id ≡ Request → FindsNoFault (new_endpoint side own) calls → GoesOn (encoders_in side calls) (new_endpoint side own) calls
+goes_from_new side own id calls request p = subst (GoesOn (encoders_in side calls) (new_endpoint side own)) (all_before (new_endpoint side own) calls p) (goes_in_front side own id calls request)

@@ -5,11 +5,14 @@ pub mod SameSetups
 pub mod Isolated
 pub mod Fronts
 pub mod Brought
+pub mod UpToFault
 pub mod Distinct
 pub mod PullBounds
 pub mod WaitingCounts
 pub mod ReadingStays
 pub mod Bounded
+pub mod StoppedBounds
+pub mod StandsBounds
 pub mod Closed
 pub mod PullEnds
 pub mod EndStays

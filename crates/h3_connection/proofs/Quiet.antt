@@ -44,7 +44,7 @@ shut e f a b c d g h k = record { side = a; announced = b; closed = c; next_id =
 quiet_learned : (e : EndpointHistory) (pairs : List (ℕ × ℕ)) → Quiet e (learned e pairs)
 quiet_learned e pairs = quiet_either _ e _ _ (shut e _ refl refl refl refl refl refl refl) (still e)
 
-quiet_if_learned : (before after : Option (List (ℕ × ℕ))) (e : EndpointHistory) → Quiet e (if_learned before after e)
+pub quiet_if_learned : (before after : Option (List (ℕ × ℕ))) (e : EndpointHistory) → Quiet e (if_learned before after e)
 quiet_if_learned None (Some pairs) e = quiet_learned e pairs
 quiet_if_learned None None e = still e
 quiet_if_learned (Some known) after e = still e

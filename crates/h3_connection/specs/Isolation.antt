@@ -201,10 +201,52 @@ view_of side own id calls = view (encoders_in side calls) id (new_endpoint side 
 abbrev pub answers_to_view : Side → Announced → ℕ → List Call → List Result
 answers_to_view side own id calls = answers_seen (encoders_in side calls) id (new_endpoint side own) calls
 
--- Two lists of calls of new endpoints whose views of a stream are equal are answered alike on it, up to the first connection fault.
+-- Two lists of calls of new endpoints that find no connection fault, and whose views of a stream are equal, are answered alike on it.
 abbrev pub IsIsolated : Side → Announced → ℕ → Type 0
 IsIsolated side own id =
     (calls more : List Call) → kind_of side id ≡ Request
     → FindsNoFault (new_endpoint side own) calls → FindsNoFault (new_endpoint side own) more
     → view_of side own id calls ≡ view_of side own id more
     → answers_to_view side own id calls ≡ answers_to_view side own id more
+
+-- these calls where the connection is open, and none behind its fault
+abbrev pub where_open : Option ℕ → List Call → List Call
+where_open (Some code) calls = []
+where_open None calls = calls
+
+-- the calls before the first that finds a connection fault
+abbrev pub before_first_fault : EndpointHistory → List Call → List Call
+before_first_fault e [] = []
+before_first_fault e (c ∷ cs) = where_open (called e c).1.closed (c ∷ before_first_fault (called e c).1 cs)
+
+-- of the calls of a new endpoint
+abbrev pub front : Side → Announced → List Call → List Call
+front side own calls = before_first_fault (new_endpoint side own) calls
+
+-- those of them that the stream sees (the peer's encoder stream is told by the bytes of all calls), and the answers to them
+abbrev pub view_before_fault : Side → Announced → ℕ → List Call → List Call
+view_before_fault side own id calls = view (encoders_in side calls) id (new_endpoint side own) (front side own calls)
+
+abbrev pub answers_before_fault : Side → Announced → ℕ → List Call → List Result
+answers_before_fault side own id calls = answers_seen (encoders_in side calls) id (new_endpoint side own) (front side own calls)
+
+-- the two lists are equal as far as both go: one is a front of the other
+abbrev pub AgreeAsFar : {X : Type 0} → List X → List X → Type 0
+AgreeAsFar [] ys = Unit {0}
+AgreeAsFar (x ∷ xs) [] = Unit {0}
+AgreeAsFar (x ∷ xs) (y ∷ ys) = (x ≡ y) × AgreeAsFar xs ys
+
+-- Two lists of calls of new endpoints whose views of a stream are equal are answered alike on it up to the first connection fault in
+-- either, whatever comes behind that.
+abbrev pub IsIsolatedUpToFault : Side → Announced → ℕ → Type 0
+IsIsolatedUpToFault side own id =
+    (calls more : List Call) → kind_of side id ≡ Request
+    → view_of side own id calls ≡ view_of side own id more
+    → AgreeAsFar (answers_before_fault side own id calls) (answers_before_fault side own id more)
+
+-- And so are two whose views are equal as far as the first fault in either: what comes behind it need not be the same.
+abbrev pub IsIsolatedInFront : Side → Announced → ℕ → Type 0
+IsIsolatedInFront side own id =
+    (calls more : List Call) → kind_of side id ≡ Request
+    → AgreeAsFar (view_of side own id (front side own calls)) (view_of side own id (front side own more))
+    → AgreeAsFar (answers_to_view side own id (front side own calls)) (answers_to_view side own id (front side own more))

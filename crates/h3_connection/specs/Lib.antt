@@ -2,6 +2,8 @@ pub mod Hearing
 pub mod DecodedSection
 pub mod Announcing
 pub mod Codes
+pub mod MalformationCodes
+pub mod FaultTexts
 pub mod OwnIds
 pub mod Lasts
 pub mod PeerReading

@@ -1,5 +1,6 @@
 -- What each call that only reads promises: it takes no memory, and answers by every history that is stored.
-use Rattle.std.specs.Prelude.{◌≡◌, ℕ, ◌++◌, Bool, List, [], length, Option}
+use Rattle.std.specs.Prelude.{◌≡◌, ◌≤◌, ℕ, ◌++◌, Bool, List, [], length, Option}
+use Rattle.h3_connection.specs.Bounds.{StandsBounded}
 use Rattle.h3_connection.specs.Endpoint.{EndpointHistory, bytes_waiting}
 use Rattle.h3_connection.specs.Shown.{has_outgoing, is_finished, is_reset, table_sizes, waiting_heads, block_tries, peer_limits}
 use Rattle.h3_connection.specs.State.{EndpointState, StandsFor}
@@ -49,11 +50,19 @@ ShowsSizes s result = Shows table_sizes s result
 abbrev pub ShowsHeads : EndpointState → ℕ → Type 0
 ShowsHeads s result = Shows waiting_heads s result
 
+-- and these are no more than was announced (RFC 9204, section 2.1.2), of each endpoint that calls made: they keep `StandsBounded`
+abbrev pub HeadsAreBounded : EndpointState → ℕ → Type 0
+HeadsAreBounded s result = StandsBounded s → result ≤ s.announced.limits.blocked
+
 abbrev pub ShowsSent : EndpointState → ℕ → Type 0
 ShowsSent s result = Shows (λ e. e.sent) s result
 
 abbrev pub ShowsTries : EndpointState → ℕ → ℕ → Type 0
 ShowsTries s id result = Shows (λ e. block_tries e id) s result
+
+-- at most two, of every endpoint
+abbrev pub TriesAreBounded : ℕ → Type 0
+TriesAreBounded result = result ≤ 2
 
 -- the limits that the peer's settings set
 abbrev pub ShowsLimits : EndpointState → Option PeerLimits → Type 0

@@ -1,9 +1,14 @@
 //! What calls of an endpoint answer.
+ghost use Rattle.std.specs.Prelude.{◌≡◌};
+ghost use Rattle.h3_connection.specs.MalformationCodes.{malformation_code};
+ghost use Rattle.h3_connection.specs.FaultTexts.{malformation_name};
+
 use bytes::Bytes;
 use h3_header::Header;
 use h3_proto::error::Code;
-use h3_proto::stream::StreamId;
+use h3_proto::stream::{Side, StreamId};
 use h3_proto::webtransport::SessionId;
+use std::fmt;
 
 /// Why a call was refused. It then changed nothing, but for `Connection` where the call found the fault, and `Kept`.
 #[derive(Clone, Copy, Debug, PartialEq, Eq)]
@@ -57,6 +62,40 @@ pub enum Malformation {
     NoHead,
 }
 
+impl Malformation {
+    /// The code to end its stream with, in both directions: H3_MESSAGE_ERROR (RFC 9114, section 4.1.2). At a server a request that ended
+    /// before its head is H3_REQUEST_INCOMPLETE (section 4.1). `side` is the side that reads the message.
+    pub fn code(self, side: Side) -> Code
+        ensures { result ≡ malformation_code self side }
+    {
+        match self {
+            Malformation::NoHead => match side {
+                Side::Client => Code::H3_MESSAGE_ERROR,
+                Side::Server => Code::H3_REQUEST_INCOMPLETE,
+            },
+            Malformation::Name
+            | Malformation::Value
+            | Malformation::TooMany
+            | Malformation::WrongSide
+            | Malformation::PseudoInTrailer => Code::H3_MESSAGE_ERROR,
+        }
+    }
+
+    /// The name of its variant.
+    pub fn name(self) -> &'static str
+        ensures { result.now ≡ malformation_name self }
+    {
+        match self {
+            Malformation::Name => "Name",
+            Malformation::Value => "Value",
+            Malformation::TooMany => "TooMany",
+            Malformation::WrongSide => "WrongSide",
+            Malformation::PseudoInTrailer => "PseudoInTrailer",
+            Malformation::NoHead => "NoHead",
+        }
+    }
+}
+
 /// What a pull hands out.
 #[derive(Debug, Drop)]
 pub enum Item {
@@ -88,6 +127,27 @@ pub enum Fault {
     Stream(StreamFault),
     /// Memory was refused. Nothing is lost.
     Memory,
+}
+
+/// The name of the code, `malformed Name`, `reset 268`, `canceled` or `out of memory`.
+impl fmt::Display for Fault {
+    ghost use Rattle.std.specs.Prelude.{Some};
+    ghost use Rattle.h3_connection.specs.FaultTexts.{fault_text};
+
+    ghost output = { λ f. Some (fault_text f) };
+
+    fn fmt<W: fmt::Write>(&self, f: &mut fmt::Formatter<W>) -> fmt::Result {
+        match *self {
+            Fault::Connection(code) => write!(f, "{code}"),
+            Fault::Stream(StreamFault::Malformed(why)) => {
+                let name = why.name();
+                write!(f, "malformed {name}")
+            }
+            Fault::Stream(StreamFault::Reset(code)) => write!(f, "reset {code}"),
+            Fault::Stream(StreamFault::Canceled) => write!(f, "canceled"),
+            Fault::Memory => write!(f, "out of memory"),
+        }
+    }
 }
 
 /// The answer of a pull.

@@ -5,10 +5,12 @@ ghost use Rattle.h3_connection.specs.declared.setup.Announced.{Announced};
 ghost use Rattle.h3_connection.specs.Endpoint.{EndpointHistory, kind_of, new_endpoint};
 ghost use Rattle.h3_connection.specs.Endpoint.Kind.{Request};
 ghost use Rattle.h3_connection.specs.CallLists.{Call, called, endpoint_after};
-ghost use Rattle.h3_connection.specs.Isolation.{IsIsolated, Before, GoesOn, FindsNoFault, Sight, IsSight, view, sight_after, answers_seen, fold_seen, first_sight, view_of, answers_to_view};
+ghost use Rattle.h3_connection.specs.Isolation.{IsIsolated, IsIsolatedUpToFault, IsIsolatedInFront, Before, GoesOn, FindsNoFault, Sight, IsSight, view, sight_after, answers_seen, fold_seen, first_sight, view_of, answers_to_view, before_first_fault, view_before_fault, answers_before_fault, encoders_in};
 
 /// What a request stream's calls are answered is a fold over its view: its own calls, and the deliveries to the peer's unidirectional
-/// streams whose bytes begin with the type of an encoder stream. No other stream counts, up to the first connection fault.
+/// streams whose bytes begin with the type of an encoder stream. No other stream counts, up to the first connection fault. Before that
+/// fault its answers, and what is left of it and of the decoder's table, are a fold over what it sees (`answers`, `left`), whatever comes
+/// behind. So two lists of calls with equal views of a stream are answered alike on it up to the first connection fault in either.
 pub fn each_stream_is_isolated()
     ensures fold { (encoders : ℕ → Bool) (id : ℕ) (e : EndpointHistory) (s : Sight) (calls : List Call) → Before encoders id e s → GoesOn encoders e calls →
         answers_seen encoders id e calls ≡ fold_seen e.side e.announced id s (view encoders id e calls) }
@@ -17,6 +19,13 @@ pub fn each_stream_is_isolated()
     ensures view { (side : Side) (own : Announced) (id : ℕ) (calls : List Call) → kind_of side id ≡ Request → FindsNoFault (new_endpoint side own) calls →
         answers_to_view side own id calls ≡ fold_seen side own id (first_sight side own) (view_of side own id calls) }
     ensures equal_views { (side : Side) (own : Announced) (id : ℕ) → IsIsolated side own id }
+    ensures front { (e : EndpointHistory) (calls : List Call) → FindsNoFault e (before_first_fault e calls) }
+    ensures answers { (side : Side) (own : Announced) (id : ℕ) (calls : List Call) → kind_of side id ≡ Request →
+        answers_before_fault side own id calls ≡ fold_seen side own id (first_sight side own) (view_before_fault side own id calls) }
+    ensures left { (side : Side) (own : Announced) (id : ℕ) (calls : List Call) → kind_of side id ≡ Request →
+        IsSight (encoders_in side calls) id (endpoint_after (new_endpoint side own) (before_first_fault (new_endpoint side own) calls)) (sight_after side own id (first_sight side own) (view_before_fault side own id calls)) }
+    ensures up_to_fault { (side : Side) (own : Announced) (id : ℕ) → IsIsolatedUpToFault side own id }
+    ensures in_front { (side : Side) (own : Announced) (id : ℕ) → IsIsolatedInFront side own id }
 {}
 
 ghost use Rattle.h3_connection.specs.Arrivals.{BytesCame, EndCame, ResetCame};
@@ -46,17 +55,54 @@ pub fn a_connection_fault_stays()
 {}
 
 ghost use Rattle.h3_connection.specs.Arrivals.{Arrival};
-ghost use Rattle.h3_connection.specs.Bounds.{IsBounded};
+ghost use Rattle.h3_field.specs.Field.{Field};
+ghost use Rattle.h3_connection.specs.Bounds.{IsBounded, StandsBounded};
+ghost use Rattle.h3_connection.specs.PartReading.{ReadsPart};
+ghost use Rattle.h3_connection.specs.ReceivingContracts.{StoresArrival, LosesNothing};
+ghost use Rattle.h3_connection.specs.SendingContracts.{CutsOff};
 ghost use Rattle.h3_connection.specs.Shown.{block_tries, waiting_heads};
+ghost use Rattle.h3_connection.specs.State.{EndpointState};
 
-/// No section is tried more than twice, and no more streams wait than the endpoint announced, whatever comes.
+/// No section is tried more than twice, and no more streams wait than the endpoint announced, whatever comes. This also holds of what is
+/// left where memory was refused: behind a delivery that was kept, a pull that lost nothing, and a head or trailer that was cut off.
+/// Every other refusal for want of memory changes nothing.
 pub fn tries_and_waiting_streams_are_bounded()
     ensures calls { (side : Side) (own : Announced) (calls : List Call) → IsBounded (endpoint_after (new_endpoint side own) calls) }
     ensures call { (e : EndpointHistory) (c : Call) → IsBounded e → IsBounded (called e c).1 }
     ensures arrives { (e : EndpointHistory) (a : Arrival) → IsBounded e → IsBounded (arrives e a).1 }
     ensures pulls { (e : EndpointHistory) (id : ℕ) → IsBounded e → IsBounded (pulls e id).1 }
+    ensures kept { (e : EndpointHistory) (a : Arrival) (new : EndpointState) → IsBounded e → StoresArrival e a new → StandsBounded new }
+    ensures lost { (e : EndpointHistory) (id : ℕ) (new : EndpointState) → IsBounded e → LosesNothing e id new → StandsBounded new }
+    ensures cut_off { (e : EndpointHistory) (id : ℕ) (fields : List Field) (new : EndpointState) → IsBounded e → CutsOff e id fields new → StandsBounded new }
+    ensures part { (e after : EndpointHistory) (arrivals : List Arrival) → IsBounded e → ReadsPart e arrivals after → IsBounded after }
     ensures tries { (e : EndpointHistory) (id : ℕ) → IsBounded e → block_tries e id ≤ 2 }
     ensures waiting { (e : EndpointHistory) → IsBounded e → waiting_heads e ≤ e.announced.limits.blocked }
+{}
+
+ghost use Rattle.std.specs.Prelude.{Result, Ok};
+ghost use Rattle.h3_header.specs.Head.{Head};
+ghost use Rattle.h3_connection.specs.declared.event.DeliverError.{DeliverError};
+ghost use Rattle.h3_connection.specs.declared.event.Pull.{Pull};
+ghost use Rattle.h3_connection.specs.declared.event.Refusal.{Refusal};
+ghost use Rattle.h3_connection.specs.Calls.{MakesEnd};
+ghost use Rattle.h3_connection.specs.ReceivingContracts.{Receives, PullsNext};
+ghost use Rattle.h3_connection.specs.SendingContracts.{Opens, SendsHead, SendsBody, SendsTrailer, Finishes, Resets, GoesAway, Cancels, Advances};
+
+/// An endpoint stands for a history with these bounds from its making on: each call's contract alone says that it leaves one, whether it
+/// was answered, refused, or refused memory.
+pub fn endpoints_stay_bounded()
+    ensures made { (side : Side) (announced : Announced) (s : EndpointState) → MakesEnd side (Ok announced) s → StandsBounded s }
+    ensures received { (old new : EndpointState) (a : Arrival) (result : Result Unit DeliverError) → Receives old new a result → StandsBounded old → StandsBounded new }
+    ensures pulled { (old new : EndpointState) (id : ℕ) (result : Pull) → PullsNext old new id result → StandsBounded old → StandsBounded new }
+    ensures opened { (old new : EndpointState) (result : Result ℕ Refusal) → Opens old new result → StandsBounded old → StandsBounded new }
+    ensures head { (old new : EndpointState) (id : ℕ) (head : Head) (result : Result Unit Refusal) → SendsHead old new id head result → StandsBounded old → StandsBounded new }
+    ensures body { (old new : EndpointState) (id : ℕ) (bytes : List ℕ) (result : Result Unit (Refusal × List ℕ)) → SendsBody old new id bytes result → StandsBounded old → StandsBounded new }
+    ensures trailer { (old new : EndpointState) (id : ℕ) (head : Head) (result : Result Unit Refusal) → SendsTrailer old new id head result → StandsBounded old → StandsBounded new }
+    ensures finished { (old new : EndpointState) (id : ℕ) (result : Result Unit Refusal) → Finishes old new id result → StandsBounded old → StandsBounded new }
+    ensures reset { (old new : EndpointState) (id : ℕ) (result : Result Unit Refusal) → Resets old new id result → StandsBounded old → StandsBounded new }
+    ensures goaway { (old new : EndpointState) (id : ℕ) (result : Result Unit Refusal) → GoesAway old new id result → StandsBounded old → StandsBounded new }
+    ensures canceled { (old new : EndpointState) (id : ℕ) (result : Result Unit Refusal) → Cancels old new id result → StandsBounded old → StandsBounded new }
+    ensures advanced { (old new : EndpointState) (id count : ℕ) → Advances old new id count → StandsBounded old → StandsBounded new }
 {}
 
 ghost use Rattle.h3_connection.specs.declared.event.Item.TheVariants as item;
@@ -116,7 +162,6 @@ pub fn unknown_frames_give_nothing()
 {}
 
 ghost use Rattle.std.specs.Prelude.{◌++◌, None};
-ghost use Rattle.h3_connection.specs.declared.event.Refusal.{Refusal};
 ghost use Rattle.h3_connection.specs.DeliveryCuts.{SameAnswers, LeftAs, role_with, IsNoSession, deliver_cut};
 
 /// However the bytes of a unidirectional stream of the peer are cut, they are answered alike and leave the same, but that an increment

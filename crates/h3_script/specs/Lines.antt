@@ -9,12 +9,7 @@ use Rattle.h3_connection.specs.declared.event.Pull.{Pull}
 use Rattle.h3_connection.specs.declared.event.Pull.TheVariants as pull
 use Rattle.h3_connection.specs.declared.event.Item.{Item}
 use Rattle.h3_connection.specs.declared.event.Item.TheVariants as item
-use Rattle.h3_connection.specs.declared.event.Fault.{Fault}
-use Rattle.h3_connection.specs.declared.event.Fault.TheVariants as fault
-use Rattle.h3_connection.specs.declared.event.StreamFault.{StreamFault}
-use Rattle.h3_connection.specs.declared.event.StreamFault.TheVariants as stream_fault
-use Rattle.h3_connection.specs.declared.event.Malformation.{Malformation}
-use Rattle.h3_connection.specs.declared.event.Malformation.TheVariants as malformation
+use Rattle.h3_connection.specs.FaultTexts.{fault_text}
 use Rattle.h3_connection.specs.declared.event.Refusal.{Refusal}
 use Rattle.h3_connection.specs.declared.event.Refusal.TheVariants as refusal
 use Rattle.h3_connection.specs.declared.event.PeerLimits.{PeerLimits}
@@ -50,24 +45,6 @@ abbrev pub with_behind : List ℕ → Behind → List ℕ
 with_behind name behind.Nothing = name
 with_behind name (behind.Code code) = name ++ (codes " " ++ code_text code)
 with_behind name (behind.Number number) = name ++ (codes " " ++ decimal number)
-
-abbrev pub malformation_name : Malformation → List ℕ
-malformation_name malformation.Name = codes "Name"
-malformation_name malformation.Value = codes "Value"
-malformation_name malformation.TooMany = codes "TooMany"
-malformation_name malformation.WrongSide = codes "WrongSide"
-malformation_name malformation.PseudoInTrailer = codes "PseudoInTrailer"
-malformation_name malformation.NoHead = codes "NoHead"
-
-abbrev pub stream_fault_text : StreamFault → List ℕ
-stream_fault_text (stream_fault.Malformed why) = codes "malformed " ++ malformation_name why
-stream_fault_text (stream_fault.Reset code) = codes "reset " ++ decimal code
-stream_fault_text stream_fault.Canceled = codes "canceled"
-
-abbrev pub fault_text : Fault → List ℕ
-fault_text (fault.Connection code) = code_text code
-fault_text (fault.Stream why) = stream_fault_text why
-fault_text fault.Memory = codes "out of memory"
 
 -- bytes as text, with U+FFFD for what is no character
 abbrev pub lossy : List ℕ → List ℕ

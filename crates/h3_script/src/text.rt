@@ -1,13 +1,12 @@
 //! The lines that answers are printed as.
 ghost use Rattle.std.specs.Prelude.{◌≡◌, ◌++◌, string_bytes, IfOk, OnOk};
 ghost use Rattle.std.specs.Fmt.{decimal};
-ghost use Rattle.h3_script.specs.Lines.{answer_line, pull_line, item_line, section_line, field_word, limits_words, lossy, malformation_name, refusal_text, shown_line, tables_words, with_behind};
+ghost use Rattle.h3_connection.specs.FaultTexts.{malformation_name};
+ghost use Rattle.h3_script.specs.Lines.{answer_line, pull_line, item_line, section_line, field_word, limits_words, lossy, refusal_text, shown_line, tables_words, with_behind};
 ghost use Rattle.h3_header.specs.Head.{head_fields};
 
 use bstr::BStr;
-use h3_connection::event::{
-    Fault, Item, Malformation, PeerLimits, Pull, Refusal, StreamFault, TableSizes,
-};
+use h3_connection::event::{Fault, Item, Malformation, PeerLimits, Pull, Refusal, TableSizes};
 use h3_field::HeaderField;
 use h3_header::Header;
 use h3_proto::error::Code;
@@ -74,37 +73,21 @@ fn refusal_parts(refusal: Refusal) -> (&'static str, Behind)
 pub fn malformation_name(why: Malformation) -> &'static str
     ensures { result.now ≡ malformation_name why }
 {
-    match why {
-        Malformation::Name => "Name",
-        Malformation::Value => "Value",
-        Malformation::TooMany => "TooMany",
-        Malformation::WrongSide => "WrongSide",
-        Malformation::PseudoInTrailer => "PseudoInTrailer",
-        Malformation::NoHead => "NoHead",
-    }
+    why.name()
 }
 
-/// A fault as text.
+/// A fault as text: its own `Display`.
 #[derive(Clone, Copy)]
 pub struct FaultText(pub Fault);
 
 impl fmt::Display for FaultText {
     ghost use Rattle.std.specs.Prelude.{Some};
-    ghost use Rattle.h3_script.specs.Lines.{fault_text};
+    ghost use Rattle.h3_connection.specs.FaultTexts.{fault_text};
 
     ghost output = { λ f. Some (fault_text f.0) };
 
     fn fmt<W: fmt::Write>(&self, f: &mut fmt::Formatter<W>) -> fmt::Result {
-        match self.0 {
-            Fault::Connection(code) => write!(f, "{code}"),
-            Fault::Stream(StreamFault::Malformed(why)) => {
-                let name = malformation_name(why);
-                write!(f, "malformed {name}")
-            }
-            Fault::Stream(StreamFault::Reset(code)) => write!(f, "reset {code}"),
-            Fault::Stream(StreamFault::Canceled) => write!(f, "canceled"),
-            Fault::Memory => write!(f, "out of memory"),
-        }
+        fmt::Display::fmt(&self.0, f)
     }
 }
 

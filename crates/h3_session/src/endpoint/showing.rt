@@ -1,7 +1,7 @@
 //! What can be read of an endpoint.
 ghost use Rattle.std.specs.Prelude.{◌≡◌, ◌≤◌, option_copied};
 ghost use Rattle.h3_connection.specs.OwnIds.{is_own};
-ghost use Rattle.h3_connection.specs.ReadingContracts.{ShowsOutgoing, ShowsFinished, ShowsReset, ShowsSettings, ShowsGoaways, ShowsSizes, ShowsHeads, ShowsSent, ShowsTries, ShowsLimits};
+ghost use Rattle.h3_connection.specs.ReadingContracts.{ShowsOutgoing, ShowsFinished, ShowsReset, ShowsSettings, ShowsGoaways, ShowsSizes, ShowsHeads, HeadsAreBounded, ShowsSent, ShowsTries, TriesAreBounded, ShowsLimits};
 
 use super::Endpoint;
 use h3_coding::varint::VarInt;
@@ -83,7 +83,8 @@ impl Endpoint {
     /// How many streams wait for insertions: no more than the endpoint announced.
     #[tactic(auto, using(crate::proofs::Taking::shows_heads))]
     pub fn waiting_heads(&self) -> usize
-        ensures { ShowsHeads self.now result }
+        ensures value { ShowsHeads self.now result }
+        ensures bound { HeadsAreBounded self.now result }
     {
         let inserted = self.streams.decoding.decoder().inserted();
         self.requests.waiting(inserted)
@@ -98,7 +99,8 @@ impl Endpoint {
 
     /// How often the field section that is next on a stream was tried, else the last one: at most twice.
     pub fn block_tries(&self, id: StreamId) -> u8
-        ensures { ShowsTries self.now id result }
+        ensures value { ShowsTries self.now id result }
+        ensures bound { TriesAreBounded result }
     {
         match self.requests.get(id) {
             Some(stream) => stream.incoming().tries(),
