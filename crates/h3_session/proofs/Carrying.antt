@@ -94,7 +94,7 @@ pub reset_told : (writer reader reader_after : EndpointState) (id : ℕ) (result
 reset_told writer reader reader_after id result given has was shows_has there shows_reset reset delivers same w r hw hr not_memory =
     let has_is : has_outgoing w id ≡ true = sym (shows_has w hw) ∙ there in
     let was_is : is_reset w id ≡ true = sym (shows_reset w hw) ∙ reset in
-    let x = delivers.done r hr (clear result (subst (λ a. is_memory a ≡ false) same not_memory)) in
+    let x = delivers.receives.done r hr (clear result (subst (λ a. is_memory a ≡ false) same not_memory)) in
     let handed = told_by w writer reader_after result (arrives r (ResetCame id reset_code)) hw x.0 x.1 in
     rw (has_is, was_is) (subst (λ a. Handed writer reader_after a (told w (arrives r (ResetCame id reset_code)))) (sym same) handed)
 

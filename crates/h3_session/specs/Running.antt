@@ -1,5 +1,6 @@
 -- What two stored endpoints answer to an event, by the histories that they stand for.
-use Rattle.std.specs.Prelude.{◌≡◌, ℕ, not, ◌&&◌, List, ◌++◌, ◌≤◌, take, nat_lt, ◌==◌, if◌then◌else◌, Bool, true, false, Option, Some, None, Result, Ok, Err}
+use Rattle.std.specs.Prelude.{◌≡◌, ℕ, not, ◌&&◌, List, ◌++◌, ◌≤◌, length, take, nat_lt, ◌==◌, if◌then◌else◌, Bool, true, false, Option, Some, None, Result, Ok, Err}
+use Rattle.std.specs.List.{list_any}
 use Rattle.h3_connection.specs.Answers.{call_refused, body_refused, delivery_refused}
 use Rattle.h3_connection.specs.Endpoint.{EndpointHistory, bytes_waiting}
 use Rattle.h3_connection.specs.Keeping.{arrives}
@@ -95,6 +96,16 @@ pub record RunsTo (ends : Ends) (events : List Event) (answers : List Answer) (c
   pub answered_so : answers ≡ answers_of_ends ends events
   pub client_stands : StandsFor client (ends_after ends events).client
   pub server_stands : StandsFor server (ends_after ends events).server
+
+-- Each event is answered; and the answers, up to the first that tells of refused memory, are those of these ends.
+pub record AnswersEach (ends : Ends) (events : List Event) (answers : List Answer) : Type 0 where
+  pub as_many : length answers ≡ length events
+  pub until_memory : (n : ℕ) → list_any is_memory (take n answers) ≡ false → take n answers ≡ answers_of_ends ends (take n events)
+
+-- So it is, and where no answer tells of refused memory the endpoints stand for the ends after the events.
+pub record RunsBetween (ends : Ends) (events : List Event) (answers : List Answer) (client server : EndpointState) : Type 0 where
+  pub each : AnswersEach ends events answers
+  pub runs : list_any is_memory answers ≡ false → RunsTo ends events answers client server
 
 -- a delivery that failed
 abbrev pub failed : DeliverError → Result Unit DeliverError
