@@ -1,5 +1,6 @@
 -- An event that is answered by its call is answered as two histories do, unless memory was refused.
 use Rattle.std.proofs.Common.{◌≡◌, inl, inr, ℕ, List, false, refl, sym, subst}
+use Rattle.h3_proto.specs.declared.stream.Side.{Side}
 use Rattle.h3_proto.specs.declared.stream.Side.TheVariants.{Client, Server}
 use Rattle.h3_connection.specs.SendingContracts.{Opens, SendsHead, SendsBody, SendsTrailer, Finishes, Resets, Cancels, GoesAway}
 use Rattle.h3_connection.specs.ReceivingContracts.{PullsNext}
@@ -10,7 +11,7 @@ use Rattle.h3_world.specs.declared.event.Answer.{Answer}
 use Rattle.h3_world.specs.declared.event.Answer.TheVariants as answer
 use Rattle.h3_world.specs.declared.event.Event.{Event}
 use Rattle.h3_world.specs.declared.event.Event.TheVariants as event
-use Rattle.h3_session.specs.Acting.{Acts, SendsShared, Tells}
+use Rattle.h3_session.specs.Acting.{Acts, ByOne, SendsShared, Tells}
 use Rattle.h3_session.specs.Running.{Shown, body_answer, done_answer, opened_answer}
 use Rattle.h3_session.proofs.Running.{AnswersEvent}
 use Rattle.h3_session.proofs.RunningCalls.{client_open, client_head, client_body, client_trailer, client_finish, client_reset, client_cancel, client_goaway, client_carries, client_ends, client_resets, client_pull, client_show, server_open, server_head, server_body, server_trailer, server_finish, server_reset, server_cancel, server_goaway, server_carries, server_ends, server_resets, server_pull, server_show}
@@ -35,7 +36,17 @@ module _ {R : Type 0} (told : R → Answer) (call : EndpointState → EndpointSt
       → AnswersEvent e client server given client_after server_after
   server_tells h answers = by_server e client server given (told h.0.result) client_after server_after h.0.given_is h.1 (answers h.0.result h.0.called)
 
--- a body that was not shared
+-- A body whose bytes are shared goes out, or memory is refused for that.
+pub shared : (side : Side) (id : ℕ) (bytes copy : List ℕ) (client server : EndpointState) (given : Answer) (client_after server_after : EndpointState) → copy ≡ bytes
+    → ByOne side (Tells body_answer (λ s t r. SendsBody s t id copy r)) client server given client_after server_after → Acts (event.Body side id bytes) client server given client_after server_after
+shared Client id bytes copy client server given client_after server_after is h = (inl (subst (λ b. Tells body_answer (λ s t r. SendsBody s t id b r) client client_after given) is h.0), h.1)
+shared Server id bytes copy client server given client_after server_after is h = (inl (subst (λ b. Tells body_answer (λ s t r. SendsBody s t id b r) server server_after given) is h.0), h.1)
+
+pub not_shared : (side : Side) (id : ℕ) (bytes : List ℕ) (client server : EndpointState) → Acts (event.Body side id bytes) client server (answer.Refused refusal.OutOfMemory) client server
+not_shared Client id bytes client server = (inr (refl, refl), refl)
+not_shared Server id bytes client server = (inr (refl, refl), refl)
+
+-- of which nothing is said where memory is not refused
 unshared : (e : Event) (client server : EndpointState) (given : Answer) (client_after server_after : EndpointState) → given ≡ answer.Refused refusal.OutOfMemory → AnswersEvent e client server given client_after server_after
 unshared e client server given client_after server_after is ends c s not_memory = absurd (cc (subst (λ a. is_memory a ≡ false) is not_memory))
 

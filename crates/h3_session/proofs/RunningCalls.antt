@@ -2,7 +2,6 @@
 use Rattle.std.proofs.Common.{◌≡◌, ◌≢◌, ℕ, List, false, Option, Some, refl, ap, sym, subst, ◌∙◌}
 use Rattle.std.specs.Prelude.{Result, Ok, Err}
 use Rattle.h3_header.specs.Head.{Head}
-use Rattle.h3_proto.specs.declared.stream.Side.{Side}
 use Rattle.h3_proto.specs.declared.stream.Side.TheVariants.{Client, Server}
 use Rattle.h3_connection.specs.Answers.{call_refused, body_refused}
 use Rattle.h3_connection.specs.Endpoint.{EndpointHistory}
@@ -20,7 +19,6 @@ use Rattle.h3_world.specs.Ends.{Ends, done}
 use Rattle.h3_world.specs.Headline.{is_memory}
 use Rattle.h3_world.specs.declared.event.Answer.{Answer}
 use Rattle.h3_world.specs.declared.event.Answer.TheVariants as answer
-use Rattle.h3_world.specs.declared.event.Event.{Event}
 use Rattle.h3_world.specs.declared.event.Event.TheVariants as does
 use Rattle.h3_session.specs.Running.{Carries, Shown, answer_of, done_answer, body_answer, opened_answer, bytes_go, end_goes, reset_goes}
 use Rattle.h3_session.proofs.Running.{AnswersEvent, Ended, client_done, server_done, client_bytes, server_bytes, client_end, server_end, client_reset as client_reset_goes, server_reset as server_reset_goes}

@@ -15,7 +15,7 @@ use Rattle.h3_session.proofs.Acting.{acts_answers}
 pub one_more : (client server : EndpointState) (events : List Event) (answers : List Answer) (c s : EndpointState) (e : Event) (a : Answer) (client_after server_after : EndpointState)
     → ActsEach client server events answers c s → Acts e c s a client_after server_after → ActsEach client server (events ++ e ∷ []) (answers ++ a ∷ []) client_after server_after
 one_more client server [] [] c s e a client_after server_after h step =
-    (client_after, server_after, subst (λ v. Acts e v server a client_after server_after) h.0 (subst (λ v. Acts e c v a client_after server_after) h.1 step), refl, refl)
+    (client_after, server_after, subst (λ v. Acts e v server a client_after server_after) h.0 (subst (λ v. Acts e c v a client_after server_after) h.1 step), (refl, refl))
 one_more client server (f ∷ events) (b ∷ answers) c s e a client_after server_after h step = (h.0, h.1, h.2, one_more h.0 h.1 events answers c s e a client_after server_after h.3 step)
 one_more client server [] (b ∷ answers) c s e a client_after server_after h step = absurd h
 one_more client server (f ∷ events) [] c s e a client_after server_after h step = absurd h

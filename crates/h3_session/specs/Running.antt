@@ -1,5 +1,5 @@
 -- What two stored endpoints answer to an event, by the histories that they stand for.
-use Rattle.std.specs.Prelude.{◌≡◌, ℕ, not, ◌&&◌, List, ◌++◌, ◌≤◌, length, take, nat_lt, ◌==◌, if◌then◌else◌, Bool, true, false, Option, Some, None, Result, Ok, Err}
+use Rattle.std.specs.Prelude.{◌≡◌, ℕ, not, ◌&&◌, List, ◌++◌, length, take, nat_lt, ◌==◌, if◌then◌else◌, Bool, true, false, Option, Some, None, Result, Ok, Err}
 use Rattle.std.specs.List.{list_any}
 use Rattle.h3_connection.specs.Answers.{call_refused, body_refused, delivery_refused}
 use Rattle.h3_connection.specs.Endpoint.{EndpointHistory, bytes_waiting}
@@ -15,7 +15,7 @@ use Rattle.h3_world.specs.declared.event.Event.{Event}
 use Rattle.h3_world.specs.declared.event.Answer.{Answer}
 use Rattle.h3_world.specs.declared.event.Answer.TheVariants as answer
 use Rattle.h3_world.specs.Delivering.{reset_code}
-use Rattle.h3_world.specs.Ends.{Ends, answered, ends_after, answers_of_ends}
+use Rattle.h3_world.specs.Ends.{Ends, ends_after, answers_of_ends}
 use Rattle.h3_world.specs.Headline.{is_memory}
 
 -- success, or why the call was refused
