@@ -6,4 +6,4 @@ returns-in_default c = not_shared c.args.side c.args.id c.args.body.now c.args.c
 
 pub returns : goal.returns
 returns c =
-    shared c.args.side c.args.id c.args.body.now c.in-Ok.shared c.args.client.now c.args.server.now c.send_body.result c.send_body.new.client c.send_body.new.server c.in-Ok.ensures.value c.send_body.ensures
+    shared c.args.side c.args.id c.args.body.now c.in-Ok.shared c.args.client.now c.args.server.now c.send_body.result c.send_body.new.client c.send_body.new.server c.in-Ok.ensures.cases c.send_body.ensures

@@ -1,4 +1,4 @@
-use Rattle.std.proofs.Common.{inl, inr, refl, rules}
+use Rattle.std.proofs.Common.{inl, rules}
 use Rattle.h3_session.proofs.Carrying.{too_few, goes_over}
 use Rattle.h3_session.proofs.run.carrying.carry_bytes.Goals as goal
 
