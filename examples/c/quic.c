@@ -44,6 +44,7 @@ struct quic_connection {
   uint8_t goodbye[PACKET]; /* the packet that closed the connection, which answers what still comes */
   size_t goodbye_count;
   ngtcp2_tstamp gone_at;
+  ngtcp2_tstamp heard_at; /* when a packet came last */
 };
 
 struct quic_socket {
@@ -151,6 +152,8 @@ void quic_consumed(quic_connection *connection, int64_t id, size_t count) {
   ngtcp2_conn_extend_max_stream_offset(connection->conn, id, count);
   ngtcp2_conn_extend_max_offset(connection->conn, count);
 }
+
+uint64_t quic_silence(const quic_connection *connection) { return (now() - connection->heard_at) / NGTCP2_MILLISECONDS; }
 
 void quic_close(quic_connection *connection, uint64_t code) {
   if (connection->close_asked) return;
@@ -465,6 +468,7 @@ static void read_packet(quic_socket *socket, const ngtcp2_path *path, const uint
   }
   int done = ngtcp2_conn_read_pkt(connection->conn, path, &info, packet, count, now());
   if (done != 0) fail(connection, done);
+  else connection->heard_at = now();
 }
 
 /* Reads what has come on the socket. */
@@ -506,10 +510,8 @@ static int wait_time(const quic_socket *socket, int most) {
   return first <= time ? 0 : (int)((first - time + NGTCP2_MILLISECONDS - 1) / NGTCP2_MILLISECONDS);
 }
 
-size_t quic_turn(quic_socket *socket, int milliseconds) {
-  struct pollfd wanted = {.fd = socket->file, .events = POLLIN};
-  if (poll(&wanted, 1, wait_time(socket, milliseconds)) > 0) read_packets(socket);
-  for (quic_connection *connection = socket->connections; connection; connection = connection->next) drive(connection);
+/* Frees the connections that are over. */
+static void delete_ended(quic_socket *socket) {
   for (quic_connection **at = &socket->connections; *at;) {
     quic_connection *connection = *at;
     if (connection->gone && connection->gone_at <= now()) {
@@ -518,6 +520,14 @@ size_t quic_turn(quic_socket *socket, int milliseconds) {
     } else
       at = &connection->next;
   }
+}
+
+size_t quic_turn(quic_socket *socket, int milliseconds) {
+  struct pollfd wanted = {.fd = socket->file, .events = POLLIN};
+  for (quic_connection *connection = socket->connections; connection; connection = connection->next) drive(connection);
+  delete_ended(socket);
+  if (!socket->server && quic_count(socket) == 0) return 0;
+  if (poll(&wanted, 1, wait_time(socket, milliseconds)) > 0) read_packets(socket);
   return quic_count(socket);
 }
 
