@@ -8,7 +8,8 @@ enum {
   TABLE = 4096,              /* bytes of the dynamic table that the peer may fill */
   BLOCKED = 16,              /* streams that may wait for it */
   SECTION = 64 * 1024,       /* the greatest field section that is taken */
-  FIELDS = 16
+  FIELDS = 16,
+  LINGER = 5000              /* milliseconds of silence behind which a connection that takes no more requests is closed */
 };
 
 struct http3 {
@@ -17,7 +18,8 @@ struct http3 {
   h3_endpoint endpoint;
   http3_request *requests;
   uint64_t next_id; /* behind the last request that came */
-  bool leaving;
+  uint64_t end_id;  /* requests from here on are not taken */
+  bool leaving;     /* and the peer was told so, by GOAWAY */
 };
 
 static http3_request *find(http3 *h, uint64_t id) {
@@ -129,7 +131,7 @@ static bool is_request(uint64_t id) { return id % 4 == 0; }
  * NULL: it is not taken. */
 static http3_request *take(http3 *h, uint64_t id) {
   bool is_new = h->setup->server && id >= h->next_id;
-  if (is_new && h->leaving) {
+  if (is_new && id >= h->end_id) {
     quic_reset(h->quic, (int64_t)id, H3_CODE_REQUEST_REJECTED);
     quic_stop(h->quic, (int64_t)id, H3_CODE_REQUEST_REJECTED);
     return NULL;
@@ -139,6 +141,7 @@ static http3_request *take(http3 *h, uint64_t id) {
       quic_close(h->quic, H3_CODE_INTERNAL_ERROR);
       return NULL;
     }
+  if (h->next_id == h->end_id) http3_leave(h);
   return find(h, id);
 }
 
@@ -212,7 +215,8 @@ static void fill(void *owner) {
   for (http3_request **at = &h->requests; *at;)
     if ((*at)->closed && (*at)->settled) drop(h, at);
     else at = &(*at)->next;
-  if (h->leaving && !h->requests) quic_close(h->quic, H3_CODE_NO_ERROR);
+  /* All is acknowledged, but its reader may not have it yet, and would lose it: the peer is the one to close, or falls silent. */
+  if (h->leaving && !h->requests && quic_silence(h->quic) >= LINGER) quic_close(h->quic, H3_CODE_NO_ERROR);
 }
 
 /* ---- the connection ---- */
@@ -224,6 +228,7 @@ static void *opened(quic_connection *quic, void *user) {
   if (!h) return NULL;
   h->quic = quic;
   h->setup = setup;
+  h->end_id = setup->requests > 0 && setup->requests < UINT64_MAX / 4 ? 4 * setup->requests : UINT64_MAX;
   h3_config_default(&config);
   config.server = setup->server;
   config.table = TABLE;
@@ -252,9 +257,10 @@ const quic_events http3_over_quic = {opened, received, was_reset, was_stopped, s
 
 void http3_leave(void *owner) {
   http3 *h = owner;
-  if (h->leaving) return;
+  if (h->leaving || !h->setup->server) return;
   h->leaving = true;
-  if (h->setup->server && h3_goaway(&h->endpoint, h->next_id, NULL) != H3_OK) quic_close(h->quic, H3_CODE_INTERNAL_ERROR);
+  h->end_id = h->next_id;
+  if (h3_goaway(&h->endpoint, h->next_id, NULL) != H3_OK) quic_close(h->quic, H3_CODE_INTERNAL_ERROR);
 }
 
 /* ---- what programs call ---- */

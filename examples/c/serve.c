@@ -1,8 +1,12 @@
-/* serve ADDRESS PORT CERTIFICATE KEY FOLDER: the files below a folder, over HTTP/3. GET and HEAD give a file (of a folder its
- * index.html); POST is answered with the count and the SHA-256 of its body, which is stored nowhere. SIGTERM and SIGINT let what was
- * begun end, at most five seconds. */
+/* serve [--requests N] ADDRESS PORT CERTIFICATE KEY FOLDER: the files below a folder, over HTTP/3. GET and HEAD give a file (of a folder
+ * its index.html); POST is answered with the count and the SHA-256 of its body, which is stored nowhere.
+ *
+ *   --requests N     so many requests on a connection, then GOAWAY (100,000; 0: no limit)
+ *
+ * SIGTERM and SIGINT: GOAWAY on each connection; what was begun ends, whatever its reader's speed. The second signal cuts it off. */
 #include "http3.h"
 #include <fcntl.h>
+#include <getopt.h>
 #include <gnutls/crypto.h>
 #include <signal.h>
 #include <stdio.h>
@@ -10,12 +14,9 @@
 #include <string.h>
 #include <strings.h>
 #include <sys/stat.h>
-#include <time.h>
 #include <unistd.h>
 
-enum { LAST_SECONDS = 5 }; /* how long what was begun may go on after the signal */
-
-static volatile sig_atomic_t asked_to_end;
+static volatile sig_atomic_t asked_to_end; /* how often */
 static int root; /* the folder */
 
 /* One request: the file that is sent, or the hash of what came. */
@@ -201,36 +202,48 @@ static void on_over(void *user, const quic_ending *ending) {
 
 static void on_signal(int signal) {
   (void)signal;
-  asked_to_end = 1;
+  if (asked_to_end < 2) asked_to_end++;
 }
 
-/* Serves until a signal comes, and then what was begun. */
+/* Serves until a signal comes, and then what was begun, or until the next signal. */
 static void run(quic_socket *socket) {
   while (!asked_to_end) quic_turn(socket, 1000);
   quic_refuse_more(socket);
-  quic_each(socket, http3_leave);
-  for (time_t end = time(NULL) + LAST_SECONDS; quic_count(socket) > 0 && time(NULL) < end;) quic_turn(socket, 100);
+  do quic_each(socket, http3_leave); /* each turn: one may just have done its handshake */
+  while (quic_turn(socket, 100) > 0 && asked_to_end < 2);
+}
+
+/* The options, before the five words. */
+static bool read_options(int count, char **arguments, http3_setup *setup) {
+  static const struct option options[] = {{"requests", 1, 0, 'r'}, {0, 0, 0, 0}};
+  for (int option; (option = getopt_long(count, arguments, "+", options, NULL)) != -1;) {
+    char *end = NULL;
+    if (option == 'r') setup->requests = strtoull(optarg, &end, 10);
+    if (!end || end == optarg || *end) return false;
+  }
+  return optind + 5 == count;
 }
 
 int main(int count, char **arguments) {
   static const http3_events events = {on_ready, on_head, on_body, on_end, on_failed, on_room, on_freed, on_over};
-  http3_setup setup = {.server = true, .events = &events};
+  http3_setup setup = {.server = true, .requests = 100000, .events = &events};
   struct sigaction action = {.sa_handler = on_signal};
-  if (count != 6) {
-    fprintf(stderr, "serve ADDRESS PORT CERTIFICATE KEY FOLDER\n");
+  if (!read_options(count, arguments, &setup)) {
+    fprintf(stderr, "serve [--requests N] ADDRESS PORT CERTIFICATE KEY FOLDER\n");
     return 2;
   }
-  root = open(arguments[5], O_RDONLY | O_DIRECTORY | O_CLOEXEC);
+  const char *address = arguments[optind], *port = arguments[optind + 1], *folder = arguments[optind + 4];
+  root = open(folder, O_RDONLY | O_DIRECTORY | O_CLOEXEC);
   if (root < 0) {
-    perror(arguments[5]);
+    perror(folder);
     return 1;
   }
   sigaction(SIGTERM, &action, NULL);
   sigaction(SIGINT, &action, NULL);
-  quic_identity identity = {.certificate = arguments[3], .key = arguments[4]};
-  quic_socket *socket = quic_listen(arguments[1], arguments[2], &identity, &http3_over_quic, &setup);
+  quic_identity identity = {.certificate = arguments[optind + 2], .key = arguments[optind + 3]};
+  quic_socket *socket = quic_listen(address, port, &identity, &http3_over_quic, &setup);
   if (socket) {
-    printf("serving %s at %s port %s\n", arguments[5], arguments[1], arguments[2]);
+    printf("serving %s at %s port %s\n", folder, address, port);
     fflush(stdout);
     run(socket);
     quic_free(socket);
