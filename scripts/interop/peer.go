@@ -184,7 +184,7 @@ func connect(trusted, address string) (quic.Connection, error) {
 
 func resets(connection quic.Connection, count int) error {
 	// GET https://localhost/hello.txt
-	const get = "\x01\x1a\x00\x00\xd1\xd7\x50\x09localhost\x51\x0a/hello.txt"
+	const get = "\x01\x1b\x00\x00\xd1\xd7\x50\x09localhost\x51\x0a/hello.txt"
 	control, err := connection.OpenUniStream()
 	if err == nil {
 		_, err = control.Write([]byte("\x00\x04\x00"))
