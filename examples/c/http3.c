@@ -1,6 +1,7 @@
 #include "http3.h"
 #include <stdlib.h>
 #include <string.h>
+#include <time.h>
 
 enum {
   PIECE = 16 * 1024,         /* bytes that are moved at once */
@@ -9,17 +10,21 @@ enum {
   BLOCKED = 16,              /* streams that may wait for it */
   SECTION = 64 * 1024,       /* the greatest field section that is taken */
   FIELDS = 16,
-  LINGER = 5000              /* milliseconds of silence behind which a connection that takes no more requests is closed */
+  LINGER = 5000,             /* milliseconds of silence behind which a connection that takes no more requests is closed */
+  NOTICE = 1                 /* seconds between the first GOAWAY and the last: requests that were on their way come */
 };
+
+static const uint64_t ANY_ID = (UINT64_C(1) << 62) - 4;
 
 struct http3 {
   quic_connection *quic;
   const http3_setup *setup;
   h3_endpoint endpoint;
   http3_request *requests;
-  uint64_t next_id; /* behind the last request that came */
-  uint64_t end_id;  /* requests from here on are not taken */
-  bool leaving;     /* and the peer was told so, by GOAWAY */
+  uint64_t next_id;  /* behind the last request that came */
+  uint64_t end_id;   /* requests from here on are not taken */
+  bool leaving;      /* the peer was told by GOAWAY to open no more */
+  time_t leaving_at; /* when http3_leave was called first; 0: never */
 };
 
 static http3_request *find(http3 *h, uint64_t id) {
@@ -125,6 +130,13 @@ static void pull_others(http3 *h, uint64_t id) {
     if (request->waiting) pull(request);
 }
 
+/* Tells the peer to open no more requests. Those below `end` that come all the same are taken. */
+static void say_goaway(http3 *h, uint64_t end) {
+  h->leaving = true;
+  h->end_id = end;
+  if (h3_goaway(&h->endpoint, end, NULL) != H3_OK) quic_close(h->quic, H3_CODE_INTERNAL_ERROR);
+}
+
 static bool is_request(uint64_t id) { return id % 4 == 0; }
 
 /* The request on a stream. At a server the first bytes on a stream open it, and all before it (RFC 9000, section 2.1), which may come later.
@@ -141,7 +153,8 @@ static http3_request *take(http3 *h, uint64_t id) {
       quic_close(h->quic, H3_CODE_INTERNAL_ERROR);
       return NULL;
     }
-  if (h->next_id == h->end_id) http3_leave(h);
+  /* the peer is told while it can still use as many streams as it may have opened: none is refused */
+  if (is_new && !h->leaving && h->end_id - h->next_id <= 4 * QUIC_STREAMS) say_goaway(h, h->end_id);
   return find(h, id);
 }
 
@@ -228,7 +241,7 @@ static void *opened(quic_connection *quic, void *user) {
   if (!h) return NULL;
   h->quic = quic;
   h->setup = setup;
-  h->end_id = setup->requests > 0 && setup->requests < UINT64_MAX / 4 ? 4 * setup->requests : UINT64_MAX;
+  h->end_id = setup->requests > 0 && setup->requests < ANY_ID / 4 ? 4 * setup->requests : UINT64_MAX;
   h3_config_default(&config);
   config.server = setup->server;
   config.table = TABLE;
@@ -257,10 +270,13 @@ const quic_events http3_over_quic = {opened, received, was_reset, was_stopped, s
 
 void http3_leave(void *owner) {
   http3 *h = owner;
-  if (h->leaving || !h->setup->server) return;
-  h->leaving = true;
-  h->end_id = h->next_id;
-  if (h3_goaway(&h->endpoint, h->next_id, NULL) != H3_OK) quic_close(h->quic, H3_CODE_INTERNAL_ERROR);
+  time_t now = time(NULL);
+  if (!h->setup->server) return;
+  if (h->leaving_at == 0) {
+    h->leaving_at = now;
+    if (!h->leaving) say_goaway(h, ANY_ID);
+  } else if (now - h->leaving_at > NOTICE && h->end_id > h->next_id)
+    say_goaway(h, h->next_id);
 }
 
 /* ---- what programs call ---- */

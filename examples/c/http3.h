@@ -35,7 +35,7 @@ typedef struct {
 
 typedef struct {
   bool server;
-  uint64_t requests; /* a server's: as many are taken on a connection, and GOAWAY sends the client to another; 0: no limit */
+  uint64_t requests; /* a server's: at most so many are taken on a connection, and GOAWAY sends the client to another before; 0: no limit */
   const http3_events *events;
   void *user;
 } http3_setup;
@@ -60,7 +60,8 @@ void http3_finish(http3_request *);
 void http3_give_up(http3_request *, uint64_t code);
 /* The value of a field of the head that was told last, ended by NUL. false: it has none, or one that is too long or has a NUL. */
 bool http3_value(http3 *, const h3_item *head, const char *name, char *value, size_t room);
-/* A server takes no further request on the connection. What was begun ends at its reader's speed; then the peer closes the connection, or it is
- * closed here when nothing has come for five seconds. */
+/* A server wants no further request on the connection: GOAWAY goes out, and, if this is called on and on, a second later the GOAWAY from which on
+ * requests are refused (RFC 9114, section 5.2). What was begun ends at its reader's speed; then the peer closes the connection, or it is closed
+ * here when nothing has come for five seconds. */
 void http3_leave(void *http3);
 #endif

@@ -18,7 +18,6 @@ enum {
   CID_LENGTH = 16,          /* of the connection ids that are made here */
   PACKET = 1452,            /* the longest UDP payload that is sent */
   KEPT_LIMIT = 256 * 1024,  /* bytes of a stream that may wait for their acknowledgment */
-  STREAMS = 100,            /* requests of the peer at once */
   PACKETS_A_TURN = 64       /* read before something is sent */
 };
 
@@ -347,7 +346,7 @@ static void settle(ngtcp2_settings *settings, ngtcp2_transport_params *params, b
   params->initial_max_data = 4 * KEPT_LIMIT;
   params->initial_max_stream_data_bidi_local = params->initial_max_stream_data_bidi_remote = KEPT_LIMIT;
   params->initial_max_stream_data_uni = KEPT_LIMIT;
-  params->initial_max_streams_bidi = server ? STREAMS : 0;
+  params->initial_max_streams_bidi = server ? QUIC_STREAMS : 0;
   params->initial_max_streams_uni = 16;
   params->max_idle_timeout = 30 * NGTCP2_SECONDS;
   params->active_connection_id_limit = 7;

@@ -7,6 +7,8 @@
 #include <stddef.h>
 #include <stdint.h>
 
+enum { QUIC_STREAMS = 100 }; /* requests that a client may have at once */
+
 typedef struct quic_socket quic_socket;
 typedef struct quic_connection quic_connection;
 

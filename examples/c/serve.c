@@ -1,7 +1,7 @@
 /* serve [--requests N] ADDRESS PORT CERTIFICATE KEY FOLDER: the files below a folder, over HTTP/3. GET and HEAD give a file (of a folder
  * its index.html); POST is answered with the count and the SHA-256 of its body, which is stored nowhere.
  *
- *   --requests N     so many requests on a connection, then GOAWAY (100,000; 0: no limit)
+ *   --requests N     at most so many requests on a connection: GOAWAY goes out when 100 are left (100,000; 0: no limit)
  *
  * SIGTERM and SIGINT: GOAWAY on each connection; what was begun ends, whatever its reader's speed. The second signal cuts it off. */
 #include "http3.h"
@@ -209,7 +209,7 @@ static void on_signal(int signal) {
 static void run(quic_socket *socket) {
   while (!asked_to_end) quic_turn(socket, 1000);
   quic_refuse_more(socket);
-  do quic_each(socket, http3_leave); /* each turn: one may just have done its handshake */
+  do quic_each(socket, http3_leave); /* on and on, also for those that did their handshake just now */
   while (quic_turn(socket, 100) > 0 && asked_to_end < 2);
 }
 

@@ -7,6 +7,7 @@ import (
 	"errors"
 	"io"
 	"sync"
+	"time"
 
 	"github.com/lucas-clemente/quic-go"
 )
@@ -17,6 +18,10 @@ const (
 	section      = 64 * 1024 // the greatest field section that is taken
 	piece        = 16 * 1024 // bytes that are moved at once
 	waitingLimit = 64 * 1024 // bytes of a body that may wait in the endpoint
+	streams      = 100       // requests that a client may have at once
+	anyID        = 1<<62 - 4 // the greatest id of a request
+
+	notice = time.Second // between the first GOAWAY and the last: requests that were on their way come
 )
 
 // pieces has the buffers that are not in use. A stream that waits has none.
@@ -35,11 +40,10 @@ type Connection struct {
 	inserted *sync.Cond     // the peer's encoder stream was read, or the connection is over
 	nextID   uint64         // a server's: behind the last request that came
 	endID    uint64         // requests from here on are not taken
-	left     chan struct{}  // closed: no further request is taken
-	leaving  bool
-	broken   error // why the connection is over
+	leaving  chan struct{}  // closed: the peer was told by GOAWAY to open no more requests
+	active   int            // requests that Accept gave, and whoever answers them has not said Done of
+	broken   error          // why the connection is over
 	writers  sync.WaitGroup
-	begun    sync.WaitGroup // requests that Accept gave, of which whoever answers one says Done, and their writers
 }
 
 // half is the own half of a stream.
@@ -64,7 +68,11 @@ func NewConnection(connection quic.Connection, trace *trace, requests uint64) (*
 	if err != nil {
 		return nil, err
 	}
-	c := &Connection{endpoint: endpoint, quic: connection, trace: trace, halves: map[*half]bool{}, endID: 4 * requests, left: make(chan struct{})}
+	c := &Connection{endpoint: endpoint, quic: connection, trace: trace, halves: map[*half]bool{}, leaving: make(chan struct{})}
+	c.endID = anyID
+	if requests > 0 {
+		c.endID = 4 * requests
+	}
 	c.inserted = sync.NewCond(&c.lock)
 	for i := 0; i < 3; i++ {
 		stream, err := connection.OpenUniStream()
@@ -75,7 +83,7 @@ func NewConnection(connection quic.Connection, trace *trace, requests uint64) (*
 		}
 		c.lock.Lock()
 		c.own = append(c.own, c.newHalf(stream))
-		c.startWriting(c.own[i], nil)
+		c.startWriting(c.own[i])
 		c.lock.Unlock()
 	}
 	go c.readOthers()
@@ -124,19 +132,13 @@ func (c *Connection) Close() {
 	c.lock.Unlock()
 }
 
-// startWriting starts the writer of a stream, which is counted at `also` too. The lock is held.
-func (c *Connection) startWriting(half *half, also *sync.WaitGroup) {
+// startWriting starts the writer of a stream. The lock is held.
+func (c *Connection) startWriting(half *half) {
 	c.halves[half] = true
 	c.writers.Add(1)
-	if also != nil {
-		also.Add(1)
-	}
 	go func() {
+		defer c.writers.Done()
 		c.write(half)
-		c.writers.Done()
-		if also != nil {
-			also.Done()
-		}
 	}()
 }
 
@@ -307,43 +309,68 @@ func (c *Connection) Accept() (*Request, error) {
 	}
 }
 
-// take takes a request, the last one with GOAWAY. nil: no more are taken.
+// take takes a request. nil: no more are taken. The peer is told while it can still use as many streams as it may have opened: so none is refused.
 func (c *Connection) take(stream quic.Stream) (*Request, error) {
 	c.lock.Lock()
 	defer c.lock.Unlock()
 	id := uint64(stream.StreamID())
-	if c.leaving {
+	if id >= c.endID {
 		return nil, nil
 	}
 	if err := c.deliver(id, nil, nil); err != nil { // opens the request
 		return nil, err
 	}
 	c.nextID = id + 4
-	c.begun.Add(1)
-	if c.nextID == c.endID {
-		c.leave()
+	c.active++
+	if c.endID-c.nextID <= 4*streams {
+		c.sayGoaway(c.endID)
 	}
 	return &Request{connection: c, stream: stream, id: id, sending: c.newHalf(stream)}, nil
 }
 
-// leave says by GOAWAY that no further request is taken. The lock is held.
-func (c *Connection) leave() {
-	if c.leaving {
-		return
+// sayGoaway tells the peer to open no more requests. Those below `end` that come all the same are taken. The lock is held.
+func (c *Connection) sayGoaway(end uint64) {
+	select {
+	case <-c.leaving:
+		if end == c.endID {
+			return
+		}
+	default:
+		close(c.leaving)
 	}
-	c.leaving = true
-	close(c.left)
-	if err := c.endpoint.Goaway(c.nextID); err != nil {
+	c.endID = end
+	if err := c.endpoint.Goaway(end); err != nil {
 		c.fail(err)
 	}
 	c.wakeOwn()
 }
 
-// Leave takes no further request.
+// Leave takes no further request but those that are on their way (RFC 9114, section 5.2). It waits for these.
 func (c *Connection) Leave() {
 	c.lock.Lock()
 	defer c.lock.Unlock()
-	c.leave()
+	c.sayGoaway(c.endID)
+	c.lock.Unlock()
+	select {
+	case <-c.quic.Context().Done():
+	case <-time.After(notice):
+	}
+	c.lock.Lock()
+	c.sayGoaway(c.nextID)
+}
+
+// Done says that a request that Accept gave is answered, or given up.
+func (r *Request) Done() {
+	r.connection.lock.Lock()
+	defer r.connection.lock.Unlock()
+	r.connection.active--
+}
+
+// isDone says whether all that was begun is answered, and written: what is left are the writers of the own streams.
+func (c *Connection) isDone() bool {
+	c.lock.Lock()
+	defer c.lock.Unlock()
+	return c.active == 0 && len(c.halves) <= len(c.own)
 }
 
 // call makes one call of the endpoint, and wakes the writers.
@@ -366,7 +393,7 @@ func (r *Request) SendHead(fields []Field) error {
 		err := r.connection.endpoint.SendHead(r.id, fields)
 		if err == nil && !r.hasWriter {
 			r.hasWriter = true
-			r.connection.startWriting(r.sending, &r.connection.begun)
+			r.connection.startWriting(r.sending)
 		}
 		return err
 	})

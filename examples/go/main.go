@@ -1,8 +1,8 @@
 // h3go holds HTTP/3 connections with the library behind include/h3.h, over quic-go (Debian's golang-github-lucas-clemente-quic-go-dev).
 //
 //	h3go serve [-requests N] ADDRESS CERTIFICATE KEY FOLDER
-//	    files below a folder; POST is answered with the count and SHA-256 of its body. -requests: as many on a connection, then GOAWAY
-//	    (100,000; 0: no limit). SIGTERM and SIGINT: GOAWAY, and what was begun ends, whatever its reader's speed; the second one cuts it off
+//	    files below a folder; POST is answered with the count and SHA-256 of its body. -requests: at most so many on a connection, GOAWAY
+//	    goes out when 100 are left (100,000; 0: no limit). SIGTERM and SIGINT: GOAWAY, and what was begun ends, whatever its reader's speed; the second one cuts it off
 //	h3go fetch [-post FILE] [-count N] [-parallel N] [-cancel BYTES] TRUSTED URL
 //	    the bodies to standard output
 package main
@@ -21,7 +21,7 @@ import (
 	"github.com/lucas-clemente/quic-go"
 )
 
-var settings = &quic.Config{MaxIncomingStreams: 100, MaxIncomingUniStreams: 16, MaxIdleTimeout: 30 * time.Second}
+var settings = &quic.Config{MaxIncomingStreams: streams, MaxIncomingUniStreams: 16, MaxIdleTimeout: 30 * time.Second}
 
 func fail(err error) {
 	if err != nil {

@@ -160,7 +160,7 @@ func takeRequests(connection *Connection, files http.FileSystem) {
 			return
 		}
 		go func() {
-			defer connection.begun.Done()
+			defer request.Done()
 			if err := (&handler{Request: request, files: files}).answer(); err != nil {
 				fmt.Fprintln(os.Stderr, "h3go: stream", request.id, "failed:", err)
 				request.GiveUp(codeOf(err))
@@ -169,28 +169,16 @@ func takeRequests(connection *Connection, files http.FileSystem) {
 	}
 }
 
-// waitForClose waits until the client closes, since its QUIC may have what its reader has not. Silence ends it too.
-func waitForClose(trace *trace, over <-chan bool) {
-	ticks := time.NewTicker(linger / 50)
-	defer ticks.Stop()
-	for !trace.isSilent(linger) {
-		select {
-		case <-over:
-			return
-		case <-ticks.C:
-		}
-	}
-}
-
 // server is what all connections share.
 type server struct {
 	files    http.FileSystem
-	requests uint64        // as many are taken on a connection
+	requests uint64        // at most so many are taken on a connection
 	leave    chan struct{} // closed: what was begun is to end
 	traces   tracer
 }
 
-// serve serves a connection until it is over, or no further request is taken and what was begun is done.
+// serve serves a connection until it is over, or no further request is taken and what was begun is done. Then the client is expected to close,
+// since its QUIC may have what its reader has not; if it is silent for long, the connection is closed here.
 func (s *server) serve(session quic.Connection) {
 	trace := s.traces.of(session)
 	if trace == nil {
@@ -200,21 +188,31 @@ func (s *server) serve(session quic.Connection) {
 	if err != nil {
 		return
 	}
-	over := make(chan bool)
+	defer connection.Close()
+	over := make(chan struct{})
 	go func() {
 		defer close(over)
 		takeRequests(connection, s.files)
 	}()
-	select {
-	case <-s.leave:
-		connection.Leave()
-	case <-connection.left:
-	case <-over:
+	leave, leaving := s.leave, connection.leaving
+	ticker := time.NewTicker(time.Hour)
+	defer ticker.Stop()
+	for {
+		select {
+		case <-over:
+			return
+		case <-leave:
+			connection.Leave()
+			leave = nil
+		case <-leaving:
+			ticker.Reset(linger / 50)
+			leaving = nil
+		case <-ticker.C:
+			if connection.isDone() && trace.isSilent(linger) {
+				return
+			}
+		}
 	}
-	connection.begun.Wait()
-	waitForClose(trace, over)
-	connection.Close()
-	<-over
 }
 
 // run serves until it is told to leave, and then what was begun.
@@ -258,7 +256,7 @@ func leaveAt(signals <-chan os.Signal, leave chan<- struct{}) {
 
 func serveCommand(words []string) error {
 	options := flag.NewFlagSet("serve", flag.ExitOnError)
-	requests := options.Uint64("requests", 100000, "as many requests on a connection, then GOAWAY (0: no limit)")
+	requests := options.Uint64("requests", 100000, "at most so many requests on a connection: GOAWAY goes out when 100 are left (0: no limit)")
 	options.Parse(words)
 	if options.NArg() != 4 {
 		return errors.New("serve [-requests N] ADDRESS CERTIFICATE KEY FOLDER")
