@@ -199,32 +199,46 @@ static void stream_closed(void *owner, int64_t stream) {
 
 /* ---- what goes out ---- */
 
-/* Moves what waits on a stream to QUIC, as far as it has room. */
-static void move_out(http3 *h, uint64_t id, http3_request *request) {
+/* Moves what waits on a stream to QUIC, as far as it has room. Answers whether anything was moved. */
+static bool move_out(http3 *h, uint64_t id, http3_request *request) {
   uint8_t bytes[PIECE];
-  for (;;) {
+  for (bool moved = false;; moved = true) {
     size_t room = quic_room(h->quic, (int64_t)id), count;
     uint32_t end;
-    if (room == 0) return;
-    if (h3_outgoing(&h->endpoint, id, bytes, room < PIECE ? room : PIECE, &count, &end) != H3_OK || (count == 0 && !end)) return;
-    if (!quic_send(h->quic, (int64_t)id, bytes, count, end)) return quic_close(h->quic, H3_CODE_INTERNAL_ERROR);
+    if (room == 0) return moved;
+    if (h3_outgoing(&h->endpoint, id, bytes, room < PIECE ? room : PIECE, &count, &end) != H3_OK || (count == 0 && !end)) return moved;
+    if (!quic_send(h->quic, (int64_t)id, bytes, count, end)) {
+      quic_close(h->quic, H3_CODE_INTERNAL_ERROR);
+      return false;
+    }
     h3_advance(&h->endpoint, id, count);
     if (!end) continue;
     if (request) request->finishing = false;
-    return;
+    return true;
   }
 }
 
-/* Asks for more of the bodies, and hands all that waits to QUIC: the connection's own streams first, since heads may wait for them. */
-static void fill(void *owner) {
-  http3 *h = owner;
-  for (http3_request *request = h->requests; request; request = request->next)
+/* Asks for more of a body, and hands it to QUIC, as long as QUIC has room. */
+static void send_more(http3_request *request) {
+  http3 *h = request->connection;
+  do
     if (request->sending && http3_room(request) > 0) h->setup->events->room(request);
+  while ((request->sending || request->finishing) && move_out(h, request->id, request));
+}
+
+/* The connection's own streams. */
+static void move_own(http3 *h) {
   move_out(h, h3_control_id(h->setup->server), NULL);
   move_out(h, h3_encoder_id(h->setup->server), NULL);
   move_out(h, h3_decoder_id(h->setup->server), NULL);
-  for (http3_request *request = h->requests; request; request = request->next)
-    if (request->sending || request->finishing) move_out(h, request->id, request);
+}
+
+/* Hands all that waits to QUIC: the connection's own streams first, since heads may wait for them, and again for what a program sent meanwhile. */
+static void fill(void *owner) {
+  http3 *h = owner;
+  move_own(h);
+  for (http3_request *request = h->requests; request; request = request->next) send_more(request);
+  move_own(h);
   for (http3_request **at = &h->requests; *at;)
     if ((*at)->closed && (*at)->settled) drop(h, at);
     else at = &(*at)->next;

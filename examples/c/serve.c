@@ -56,13 +56,13 @@ static bool read_path(const char *path, char *text, size_t room) {
 
 /* Opens a path below the folder, segment by segment, so that neither `..` nor a link leads out of it. -1: there is none. */
 static int open_below(char *path) {
-  int at = dup(root);
   char *rest, *segment = strtok_r(path, "/", &rest);
+  int at = segment ? root : dup(root);
   while (at >= 0 && segment) {
     int found = strcmp(segment, "..") == 0 || strcmp(segment, ".") == 0
                     ? -1
                     : openat(at, segment, O_RDONLY | O_NOFOLLOW | O_CLOEXEC | O_NONBLOCK);
-    close(at);
+    if (at != root) close(at);
     at = found;
     segment = strtok_r(NULL, "/", &rest);
   }
@@ -73,12 +73,14 @@ static int open_below(char *path) {
 static int open_file(const char *path, struct stat *status) {
   char text[4096];
   int file = read_path(path, text, sizeof text) ? open_below(text) : -1;
-  if (file >= 0 && fstat(file, status) == 0 && S_ISDIR(status->st_mode)) {
-    int index = openat(file, "index.html", O_RDONLY | O_NOFOLLOW | O_CLOEXEC);
+  bool found = file >= 0 && fstat(file, status) == 0;
+  if (found && S_ISDIR(status->st_mode)) {
+    int index = openat(file, "index.html", O_RDONLY | O_NOFOLLOW | O_CLOEXEC | O_NONBLOCK);
     close(file);
     file = index;
+    found = file >= 0 && fstat(file, status) == 0;
   }
-  if (file >= 0 && fstat(file, status) == 0 && S_ISREG(status->st_mode)) return file;
+  if (found && S_ISREG(status->st_mode)) return file;
   if (file >= 0) close(file);
   return -1;
 }
