@@ -10,7 +10,7 @@ enum {
   BLOCKED = 16,              /* streams that may wait for it */
   SECTION = 64 * 1024,       /* the greatest field section that is taken */
   FIELDS = 16,
-  LINGER = 5000,             /* milliseconds of silence behind which a connection that takes no more requests is closed */
+  LINGER = 5,                /* seconds of silence behind which a connection that takes no more requests is closed */
   NOTICE = 1                 /* seconds between the first GOAWAY and the last: requests that were on their way come */
 };
 
@@ -233,6 +233,9 @@ static void move_own(http3 *h) {
   move_out(h, h3_decoder_id(h->setup->server), NULL);
 }
 
+/* All is acknowledged, but its reader may not have it yet, and would lose it: the peer is the one to close, or falls silent. */
+static bool is_silent(const http3 *h) { return quic_silence(h->quic) >= 1000 * LINGER && time(NULL) - h->leaving_at > LINGER; }
+
 /* Hands all that waits to QUIC: the connection's own streams first, since heads may wait for them, and again for what a program sent meanwhile. */
 static void fill(void *owner) {
   http3 *h = owner;
@@ -242,8 +245,7 @@ static void fill(void *owner) {
   for (http3_request **at = &h->requests; *at;)
     if ((*at)->closed && (*at)->settled) drop(h, at);
     else at = &(*at)->next;
-  /* All is acknowledged, but its reader may not have it yet, and would lose it: the peer is the one to close, or falls silent. */
-  if (h->leaving && !h->requests && quic_silence(h->quic) >= LINGER) quic_close(h->quic, H3_CODE_NO_ERROR);
+  if (h->leaving && !h->requests && is_silent(h)) quic_close(h->quic, H3_CODE_NO_ERROR);
 }
 
 /* ---- the connection ---- */

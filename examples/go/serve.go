@@ -205,6 +205,7 @@ func (s *server) serve(session quic.Connection) {
 			connection.Leave()
 			leave = nil
 		case <-leaving:
+			trace.listen()
 			ticker.Reset(linger / 50)
 			leaving = nil
 		case <-ticker.C:

@@ -39,9 +39,7 @@ func (t *trace) SentPacket(_ *logging.ExtendedHeader, _ logging.ByteCount, _ *lo
 
 // ReceivedPacket sees that the peer is there.
 func (t *trace) ReceivedPacket(*logging.ExtendedHeader, logging.ByteCount, []logging.Frame) {
-	t.lock.Lock()
-	defer t.lock.Unlock()
-	t.heard = time.Now()
+	t.listen()
 }
 
 // UpdatedMetrics sees what is acknowledged.
@@ -49,6 +47,13 @@ func (t *trace) UpdatedMetrics(_ *logging.RTTStats, _, _ logging.ByteCount, pack
 	t.lock.Lock()
 	defer t.lock.Unlock()
 	t.inFlight = packets
+}
+
+// listen begins the time anew in which nothing has come.
+func (t *trace) listen() {
+	t.lock.Lock()
+	defer t.lock.Unlock()
+	t.heard = time.Now()
 }
 
 // Close sees the connection end.
