@@ -96,7 +96,6 @@ echo "10000000 $(hash_of "$big")" > "$work/posted"
 for _ in $(seq 1000); do cat "$folder/hello.txt"; done > "$work/thousand"
 cat "$big" "$big" > "$work/twice"
 head -n 50 "$work/thousand" > "$work/fifty"
-head -n 150 "$work/thousand" > "$work/limit"
 echo early > "$work/early"
 echo secret > "$work/secret.txt"
 ln -s ../secret.txt "$folder/link.txt"
@@ -221,11 +220,13 @@ resets() { # PORT, PROCESS of the server, which is a child of `timeout`
 head_gives() { # STATUS, BYTES, PORT
   works "$peer" head "$cert" "$2" "$(url "$3" /hello.txt)" && [ "$(cat "$work/got")" = "$1" ]
 }
-# A client that wants 160 answers gets 150, and says why.
+# A client that wants 160 answers is told to go while it may have 100 more: what it asked for it gets, and it asks no more than it may.
 limit_reached() { # TEXT, COMMAND..
-  local text=$1
+  local text=$1 count
   shift
-  refuses "$text" "$@" && cmp -s "$work/got" "$work/limit"
+  refuses "$text" "$@" || return 1
+  count=$(wc -l < "$work/got")
+  [ "$count" -ge 50 ] && [ "$count" -lt 150 ] && head -n "$count" "$work/thousand" | cmp -s - "$work/got" && ! grep -q "reset" "$work/log"
 }
 is_silent() { ! grep -qE "Sanitizer|runtime error|panic|DATA RACE" "$work/$1"; }
 
@@ -277,10 +278,12 @@ our_server() { # what it is called, PORT, PORT of a relay to it
 }
 
 limits() { # what it is called, PORT of a server that takes 150 requests on a connection, its PROCESS
-  check "$1 --requests 150, fetch: 160 requests" limit_reached "takes no more requests; not asked: 10" "${ours[@]}" --count 160 \
+  check "$1 --requests 150, fetch: 160 requests" limit_reached "takes no more requests; not asked" "${ours[@]}" --count 160 \
     "$(url "$2" /hello.txt)"
   check "$1 --requests 150, Go client: 160 requests" limit_reached "answer 7, detail 600" "${go_ours[@]}" -count 160 "$cert" \
     "$(url "$2" /hello.txt)"
+  check "$1 --requests 150, quic-go, which heeds no GOAWAY: the 151st is refused" refuses "stream 600 canceled with error code 267" \
+    "$peer" many "$cert" 200 1 "$(url "$2" /hello.txt)"
   check "$1: a reader of 2 MB a second at the server's end" slow_reader "$2" "$3"
 }
 
