@@ -220,6 +220,9 @@ resets() { # PORT, PROCESS of the server, which is a child of `timeout`
 head_gives() { # STATUS, BYTES, PORT
   works "$peer" head "$cert" "$2" "$(url "$3" /hello.txt)" && [ "$(cat "$work/got")" = "$1" ]
 }
+stops_a_put() { # PORT
+  works "$peer" put "$cert" "$big" "$(url "$1" /answer)" && grep -q "^405, a text of 29 bytes, all of the file: false$" "$work/got"
+}
 # A client that wants 160 answers is told to go while it may have 100 more: what it asked for it gets, and it asks no more than it may.
 limit_reached() { # TEXT, COMMAND..
   local text=$1 count
@@ -271,6 +274,7 @@ our_server() { # what it is called, PORT, PORT of a relay to it
   check "$1, fetch, packets lost: POST of 10 MB" gives "$work/posted" "${ours[@]}" --post "$big" "$(url "$3" /answer)"
   check "$1, quic-go: a head of 60,000 bytes" head_gives 200 60000 "$2"
   check "$1, quic-go: a head of 70,000 bytes gives 431" head_gives 431 70000 "$2"
+  check "$1, quic-go: a PUT of 10 MB gives 405, and is stopped" stops_a_put "$2"
   check "$1, fetch: no such file" refuses "status 404" "${ours[@]}" "$(url "$2" /none)"
   for path in /../secret.txt /%2e%2e/secret.txt /small/../../secret.txt //../secret.txt; do
     check "$1, fetch: $path climbs out" refuses "status 40" "${ours[@]}" "$(url "$2" "$path")"
@@ -420,7 +424,7 @@ refused_server() {
 check "fetch: each allocation refused in turn" refused_client "${ports[3]}"
 check "serve: each allocation refused in turn" refused_server "${ports[12]}"
 
-# Each allocation of the Rust program refused in turn: Rust ends it where its own is; where one of the library is, bytes are never delivered twice.
+# Each third allocation of the Rust program refused in turn: Rust ends it where its own is; where one of the library is, bytes are never delivered twice.
 refused_endpoints() {
   local count=0 status
   while [ "$count" -lt 600 ]; do
@@ -430,11 +434,11 @@ refused_endpoints() {
     if [ "$status" -eq 134 ]; then grep -q "memory allocation of" "$work/log" || return 1; fi
     if [ "$status" -eq 1 ]; then grep -qE "answer 18|Fault\(16" "$work/log" || return 1; fi
     if ! grep -q "allocation is refused" "$work/log"; then break; fi
-    count=$((count + 1))
+    count=$((count + 3))
   done
   [ "$status" -eq 0 ] && [ "$count" -gt 20 ]
 } 2> /dev/null # where the shell says that a program was aborted
 check "Rust: two endpoints" works "$work/two_endpoints"
-check "Rust: two endpoints, each allocation refused in turn" refused_endpoints
+check "Rust: two endpoints, each third allocation refused in turn" refused_endpoints
 check "Rust: two endpoints, under valgrind" works "${under_valgrind[@]}" "$work/two_endpoints"
 [ "$failed" -eq 0 ]

@@ -183,8 +183,7 @@ static void was_reset(void *owner, int64_t stream, uint64_t reason) {
   else pull_others(h, id);
 }
 
-static void was_stopped(void *owner, int64_t stream, uint64_t reason) {
-  (void)reason;
+static void was_stopped(void *owner, int64_t stream) {
   http3 *h = owner;
   http3_request *request = find(h, (uint64_t)stream);
   if (!is_request((uint64_t)stream)) return quic_close(h->quic, 0x104); /* H3_CLOSED_CRITICAL_STREAM */
@@ -341,13 +340,24 @@ void http3_finish(http3_request *request) {
   request->sending = false;
 }
 
-void http3_give_up(http3_request *request, uint64_t code) {
+/* Nothing more of the peer's message is told. */
+static void cancel(http3_request *request) {
   http3 *h = request->connection;
   uint64_t reason = 0;
-  uint32_t answer = h3_cancel(&h->endpoint, request->id, &reason);
+  uint32_t answer = h3_cancel(&h->endpoint, request->id, &reason); /* refused where the message is over */
   if (answer == H3_MEMORY || answer == H3_CLOSED) refuse(h, answer, reason);
   request->settled = true;
+}
+
+void http3_give_up(http3_request *request, uint64_t code) {
+  cancel(request);
   cut_off(request, code);
+}
+
+void http3_ignore(http3_request *request) {
+  if (request->settled) return;
+  cancel(request);
+  quic_stop(request->connection->quic, (int64_t)request->id, H3_CODE_NO_ERROR);
 }
 
 bool http3_value(http3 *h, const h3_item *head, const char *name, char *value, size_t room) {

@@ -216,15 +216,6 @@ static int on_reset(ngtcp2_conn *conn, int64_t id, uint64_t size, uint64_t code,
   return 0;
 }
 
-static int on_stop(ngtcp2_conn *conn, int64_t id, uint64_t code, void *user, void *stream_user) {
-  (void)conn, (void)stream_user;
-  quic_connection *connection = user;
-  stream *stream = find(connection, id);
-  if (stream) abandon(stream);
-  if (!connection->close_asked) connection->socket->events->was_stopped(connection->owner, id, code);
-  return 0;
-}
-
 static int on_new_id(ngtcp2_conn *conn, ngtcp2_cid *cid, uint8_t *token, size_t count, void *user) {
   (void)conn, (void)user;
   cid->datalen = count;
@@ -256,7 +247,6 @@ static const ngtcp2_callbacks CALLBACKS = {
     .delete_crypto_aead_ctx = ngtcp2_crypto_delete_crypto_aead_ctx_cb,
     .delete_crypto_cipher_ctx = ngtcp2_crypto_delete_crypto_cipher_ctx_cb,
     .get_path_challenge_data = ngtcp2_crypto_get_path_challenge_data_cb,
-    .stream_stop_sending = on_stop,
     .version_negotiation = ngtcp2_crypto_version_negotiation_cb,
 };
 
@@ -376,6 +366,10 @@ static ngtcp2_ssize write_packet(quic_connection *connection, stream *stream, ng
   if (!stream) return done;
   if (done == NGTCP2_ERR_STREAM_DATA_BLOCKED || done == NGTCP2_ERR_STREAM_SHUT_WR || done == NGTCP2_ERR_STREAM_NOT_FOUND)
     stream->blocked = true;
+  if (done == NGTCP2_ERR_STREAM_SHUT_WR) { /* STOP_SENDING came: ngtcp2 has reset the stream, and says so here alone */
+    abandon(stream);
+    if (!connection->close_asked) connection->socket->events->was_stopped(connection->owner, stream->id);
+  }
   if (taken >= 0) stream->out.taken += (uint64_t)taken;
   if (taken >= 0 && last && (size_t)taken == total) stream->out.end_taken = true;
   return done;

@@ -25,7 +25,7 @@ typedef struct {
   void *(*opened)(quic_connection *connection, void *user);                /* the handshake is done */
   void (*received)(void *owner, int64_t stream, const uint8_t *bytes, size_t count, bool end); /* in order, no gap */
   void (*was_reset)(void *owner, int64_t stream, uint64_t code);           /* RESET_STREAM came */
-  void (*was_stopped)(void *owner, int64_t stream, uint64_t code);         /* STOP_SENDING came; QUIC resets its side by itself */
+  void (*was_stopped)(void *owner, int64_t stream);                        /* STOP_SENDING came, and more was to be sent: QUIC has reset its side */
   void (*stream_closed)(void *owner, int64_t stream);                      /* both sides are done, all is acknowledged */
   void (*fill)(void *owner);                                               /* packets will be written: what is to be sent? */
   void (*closed)(void *owner, const quic_ending *ending);                  /* the last call; the owner frees itself */

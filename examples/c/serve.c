@@ -118,6 +118,12 @@ static void answer_text(http3_request *request, const char *status, const char *
   else http3_give_up(request, H3_CODE_INTERNAL_ERROR);
 }
 
+/* What is refused is not read either: a body may be long. */
+static void refuse(http3_request *request, const char *status, const char *text) {
+  answer_text(request, status, text);
+  http3_ignore(request);
+}
+
 static void answer_file(http3_request *request, const char *path) {
   work *work = request->data;
   struct stat status;
@@ -134,16 +140,16 @@ static void on_head(http3_request *request, const h3_item *head) {
   work *work = request->data = calloc(1, sizeof *work);
   if (!work) return http3_give_up(request, H3_CODE_INTERNAL_ERROR);
   work->file = -1;
-  if (head->kind == H3_TOO_LARGE_HEAD) return answer_text(request, "431", "the fields are too large\n");
+  if (head->kind == H3_TOO_LARGE_HEAD) return refuse(request, "431", "the fields are too large\n");
   if (!http3_value(request->connection, head, ":method", method, sizeof method) ||
       !http3_value(request->connection, head, ":path", path, sizeof path))
-    return answer_text(request, "400", "no method or path, or one that is too long\n");
+    return refuse(request, "400", "no method or path, or one that is too long\n");
   work->head_only = strcmp(method, "HEAD") == 0;
   if (work->head_only || strcmp(method, "GET") == 0) return answer_file(request, path);
-  if (strcmp(method, "POST") != 0) return answer_text(request, "405", "GET, HEAD and POST are known\n");
+  if (strcmp(method, "POST") != 0) return refuse(request, "405", "GET, HEAD and POST are known\n");
   if (gnutls_hash_init(&work->hash, GNUTLS_DIG_SHA256) == 0) return;
   work->hash = NULL;
-  answer_text(request, "500", "no hash\n");
+  refuse(request, "500", "no hash\n");
 }
 
 static void on_body(http3_request *request, const uint8_t *bytes, size_t count) {

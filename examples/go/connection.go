@@ -438,6 +438,12 @@ func (r *Request) GiveUp(code quic.StreamErrorCode) {
 	r.stream.CancelRead(code)
 }
 
+// Ignore wants nothing more of the request: a server has answered (RFC 9114, section 4.1), and the client need not send the rest.
+func (r *Request) Ignore() {
+	r.call(func() error { return r.connection.endpoint.Cancel(r.id) }) // refused where the message is over
+	r.stream.CancelRead(NoError)
+}
+
 // Next waits for the next item of the peer's message. A fault of the message is an error. What came before the connection was over is handed
 // out all the same.
 func (r *Request) Next() (Item, error) {

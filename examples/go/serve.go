@@ -57,6 +57,15 @@ func (h *handler) text(status, text string) error {
 	return h.Finish()
 }
 
+// refuse answers with a text, and does not read what it refuses: a body may be long.
+func (h *handler) refuse(status, text string) error {
+	err := h.text(status, text)
+	if err == nil {
+		h.Ignore()
+	}
+	return err
+}
+
 // file answers with a file below the folder. path.Clean takes every `..` away; links are followed.
 func (h *handler) file(name string) error {
 	place, err := url.ParseRequestURI(name)
@@ -129,13 +138,13 @@ func (h *handler) answer() error {
 	h.method = value(head, ":method")
 	switch {
 	case head.Kind == TooLargeHead:
-		err = h.text("431", "the fields are too large\n")
+		return h.refuse("431", "the fields are too large\n")
 	case h.method == http.MethodPost:
 		return h.post()
 	case h.method == http.MethodGet || h.method == http.MethodHead:
 		err = h.file(value(head, ":path"))
 	default:
-		err = h.text("405", "GET, HEAD and POST are known\n")
+		return h.refuse("405", "GET, HEAD and POST are known\n")
 	}
 	if err != nil {
 		return err

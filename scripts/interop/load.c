@@ -61,7 +61,7 @@ static void received(void *owner, int64_t id, const uint8_t *bytes, size_t count
 
 static void was_reset(void *owner, int64_t id, uint64_t code) { (void)id, (void)code, quic_close(((client *)owner)->quic, 0x102); }
 
-static void was_stopped(void *owner, int64_t id, uint64_t code) { (void)owner, (void)id, (void)code; }
+static void was_stopped(void *owner, int64_t id) { (void)owner, (void)id; }
 
 static void stream_closed(void *owner, int64_t id) { nghttp3_conn_close_stream(((client *)owner)->http, id, 0x100); }
 

@@ -7,6 +7,7 @@
 //	peer cancel TRUSTED URL COUNT                  COUNT times: takes a piece of the body, gives the request up; then one whole
 //	peer slow TRUSTED RATE URL                     the body to standard output, read at so many bytes a second
 //	peer head TRUSTED BYTES URL                    a request with a field of so many bytes: the status to standard output
+//	peer put TRUSTED FILE URL                      PUTs a file: the status, and whether all of the file was read
 //	peer resets TRUSTED COUNT ADDRESS              COUNT requests on one connection, each reset behind its head; then one whole
 package main
 
@@ -173,6 +174,41 @@ func head(client *http.Client, size int, url string) error {
 	return err
 }
 
+type counted struct {
+	io.Reader
+	count int64
+}
+
+func (c *counted) Read(bytes []byte) (int, error) {
+	count, err := c.Reader.Read(bytes)
+	c.count += int64(count)
+	return count, err
+}
+
+func put(client *http.Client, name, url string) error {
+	file, err := os.Open(name)
+	if err != nil {
+		return err
+	}
+	status, err := file.Stat()
+	if err != nil {
+		return err
+	}
+	body := &counted{Reader: file}
+	request, err := http.NewRequest(http.MethodPut, url, io.NopCloser(body))
+	if err != nil {
+		return err
+	}
+	answer, err := client.Do(request)
+	if err != nil {
+		return err
+	}
+	text, err := io.ReadAll(answer.Body)
+	time.Sleep(2 * time.Second) // the rest of the file would go out meanwhile
+	fmt.Printf("%d, a text of %d bytes, all of the file: %v\n", answer.StatusCode, len(text), body.count == status.Size())
+	return err
+}
+
 // a connection of QUIC, without HTTP/3, which trusts the certificate in a file
 func connect(trusted, address string) (quic.Connection, error) {
 	text, err := os.ReadFile(trusted)
@@ -224,7 +260,7 @@ func main() {
 		return
 	}
 	if len(words) < 3 {
-		fail(fmt.Errorf("serve, fetch, post, many, cancel, slow, head or resets, and their words"))
+		fail(fmt.Errorf("serve, fetch, post, many, cancel, slow, put, head or resets, and their words"))
 	}
 	if words[0] == "resets" && len(words) == 4 {
 		connection, err := connect(words[1], words[3])
@@ -249,6 +285,8 @@ func main() {
 		err = cancel(client, words[2], number(words[3]))
 	case words[0] == "slow" && len(words) == 4:
 		err = slow(client, number(words[2]), words[3])
+	case words[0] == "put" && len(words) == 4:
+		err = put(client, words[2], words[3])
 	case words[0] == "head" && len(words) == 4:
 		err = head(client, number(words[2]), words[3])
 	default:
