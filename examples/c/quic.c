@@ -593,8 +593,8 @@ size_t quic_turn(quic_socket *socket, int milliseconds) {
   struct timespec wait;
   for (quic_connection *connection = socket->connections; connection; connection = connection->next) drive(connection);
   delete_ended(socket);
+  if (!flush(socket)) wanted.events |= POLLOUT;
   if (!socket->server && quic_count(socket) == 0) return 0;
-  if (socket->batch.count > 0) wanted.events |= POLLOUT;
   wait = wait_time(socket, milliseconds);
   if (ppoll(&wanted, 1, &wait, NULL) > 0 && (wanted.revents & ~POLLOUT)) read_packets(socket);
   return quic_count(socket);
