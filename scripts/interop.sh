@@ -21,7 +21,11 @@ count() {
   failed=$((failed + bad))
 }
 
-if bash scripts/peer.sh && bash scripts/lib.sh && make --no-print-directory -s -C bench out/interop_exchange; then
+if ! bash scripts/packages.sh peer examples interop; then
+  echo "0 passed, 1 failed"
+  exit 1
+fi
+if bash scripts/lib.sh && make --no-print-directory -s -C bench out/interop_exchange; then
   count bench/out/interop_exchange bench/data
   count env LIB="$PWD/build/c" bash scripts/interop_quic.sh
 else

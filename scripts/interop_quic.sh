@@ -1,7 +1,7 @@
 #!/usr/bin/env bash
 # The examples in C, Go and Rust against HTTP/3 peers over QUIC that Debian has: gtlsclient and gtlsserver (ngtcp2), quic-go, Caddy and
 # Chromium. Only loopback addresses, each command within a time, each server ended at the end. Prints 'ok NAME' or 'failed NAME' for
-# each check; where a package is missing it says which, and fails. It makes the library first (`make lib`), or takes it from the folder LIB.
+# each check; where packages are missing it names them all, and fails. It makes the library (`make lib`), or takes it from the folder LIB.
 set -uo pipefail
 cd "$(dirname "$0")/.."
 top=$PWD
@@ -49,34 +49,14 @@ refuses() {
 
 # ---- packages ----
 
-need() { # PACKAGE, and a command or file of it
-  if [ "${2#/}" = "$2" ] && command -v "$2" >/dev/null; then return; fi
-  if [ -e "$2" ]; then return; fi
-  : > "$work/log"
-  bad "the package $1 is missing"
-}
-GO_SOURCE=/usr/share/gocode
-need gcc gcc
-need make make
-need pkg-config pkg-config
-need openssl openssl
-need python3 python3
-need rustc rustc
-need valgrind valgrind
-need libgnutls28-dev /usr/include/gnutls/gnutls.h
-need libngtcp2-dev /usr/include/ngtcp2/ngtcp2.h
-need libngtcp2-crypto-gnutls-dev /usr/include/ngtcp2/ngtcp2_crypto_gnutls.h
-need ngtcp2-server gtlsserver
-need ngtcp2-client gtlsclient
-need golang-go go
-need golang-github-lucas-clemente-quic-go-dev $GO_SOURCE/src/github.com/lucas-clemente/quic-go
-need caddy caddy
-need chromium chromium
-[ "$failed" -eq 0 ] || exit 1
+if ! bash scripts/packages.sh examples interop; then
+  bad "packages"
+  exit 1
+fi
 
 # ---- programs ----
 
-export PKG_CONFIG_PATH=$lib GO111MODULE=off GOPATH=$GO_SOURCE GOCACHE=${GOCACHE:-$work/go}
+export PKG_CONFIG_PATH=$lib GO111MODULE=off GOPATH=/usr/share/gocode GOCACHE=${GOCACHE:-$work/go}
 SANITIZERS="-O1 -g -fsanitize=address,undefined -fno-sanitize-recover=undefined"
 build() {
   : > "$work/log"
@@ -92,6 +72,9 @@ build make -s -C examples/c LIB="$lib" OUT="$work/refusing" CFLAGS="$SANITIZERS"
   LDFLAGS="$work/refuse.o -Wl,--wrap=malloc,--wrap=calloc,--wrap=realloc"
 build make -s -C examples/go LIB="$lib" OUT="$work"
 build make -s -C examples/rust LIB="$lib" OUT="$work"
+# the Rust example once more, with each allocation to be refused
+build rustc --edition 2021 -O -o "$work/two_refusing" examples/rust/two_endpoints.rs -C link-arg="$work/refuse.o" \
+  -C link-arg=-Wl,--wrap=malloc,--wrap=calloc,--wrap=realloc $(pkg-config --libs h3 | sed 's/-[lL][^ ]*/-C link-arg=&/g')
 build go build -o "$work/peer" scripts/interop/peer.go
 build go build -o "$work/violate" scripts/interop/violate.go
 serve=$work/checked/serve
@@ -112,16 +95,18 @@ big=$folder/big.bin
 echo "10000000 $(hash_of "$big")" > "$work/posted"
 for _ in $(seq 1000); do cat "$folder/hello.txt"; done > "$work/thousand"
 cat "$big" "$big" > "$work/twice"
+head -n 50 "$work/thousand" > "$work/fifty"
+echo early > "$work/early"
 echo secret > "$work/secret.txt"
 ln -s ../secret.txt "$folder/link.txt"
 
 # ---- servers ----
 
-mapfile -t ports < <(python3 scripts/interop/ports.py 13)
+mapfile -t ports < <(python3 scripts/interop/ports.py 17)
 listens() { grep -qi ":$(printf %04X "$1") " /proc/net/udp /proc/net/udp6 2>/dev/null; }
-# A server for ten minutes at most, and ten seconds after the signal that ends it. In the foreground, since `timeout` would else signal its
+# A server for ten minutes at most, and thirty seconds after the signal that ends it. In the foreground, since `timeout` would else signal its
 # whole group, twice, and LeakSanitizer, which looks for leaks at a program's end from a process of its own, may then never end.
-limited() { exec timeout --foreground -k 10 600 "$@"; }
+limited() { exec timeout --foreground -k 30 600 "$@"; }
 # start PORT LOG COMMAND..: a server in the background, until it listens; `last` is its process
 start() {
   local port=$1 log=$2
@@ -186,13 +171,65 @@ going_away() { # PORT, PROCESS of the server
   exec 3< "$work/pipe$1"
   head -c 1000 <&3 > "$work/got"
   kill -TERM "$2"
-  sleep 1
+  sleep 3 # the last GOAWAY comes behind a second or two
   cat <&3 >> "$work/got"
   exec 3<&-
   wait "$client"
   [ $? -eq 1 ] || return 1
   wait "$2" || return 1
   cmp -s "$work/got" "$big" && grep -q "takes no more requests" "$work/log"
+}
+# The server is told to end while a client reads 2 MB a second: all of its 10 MB come, and then the server ends by itself.
+slow_reader() { # PORT, PROCESS of the server
+  within 60 "$peer" slow "$cert" 2000000 "$(url "$1" /big.bin)" > "$work/got" &
+  local client=$!
+  sleep 1
+  kill -TERM "$2"
+  wait "$client" || return 1
+  wait "$2" || return 1
+  cmp -s "$work/got" "$big"
+}
+# The second signal cuts off what was begun: the client fails, and the server ends within a second.
+second_signal() { # PORT, PROCESS of the server
+  within 60 "$peer" slow "$cert" 100000 "$(url "$1" /big.bin)" > "$work/got" &
+  local client=$! begun
+  sleep 1
+  kill -TERM "$2"
+  sleep 1
+  kill -TERM "$2"
+  begun=$(date +%s%N)
+  wait "$2"
+  [ $(($(date +%s%N) - begun)) -le 1000000000 ] || return 1
+  ! wait "$client"
+}
+# 10,000 requests that are reset behind their heads: a bound for the processor time of the server, in hundredths of a second, and for the memory
+# that it grows by, in KiB.
+resets() { # PORT, PROCESS of the server, which is a child of `timeout`
+  local server before after
+  read -r server < "/proc/$2/task/$2/children"
+  used() { echo $(($(cut -d' ' -f14,15 "/proc/$server/stat" | tr ' ' '+'))); }
+  peak() { sed -n 's/^VmHWM:[^0-9]*\([0-9]*\) kB/\1/p' "/proc/$server/status"; }
+  works "$peer" resets "$cert" 1 "localhost:$1" || return 1
+  before=($(used) $(peak))
+  works "$peer" resets "$cert" 10000 "localhost:$1" && grep -q "^10000 reset, then [1-9]" "$work/got" || return 1
+  after=($(used) $(peak))
+  echo "$((after[0] - before[0])) hundredths of a second, $((after[1] - before[1])) KiB" | tee "$work/log" > "$work/measured"
+  [ $((after[0] - before[0])) -le 200 ] && [ $((after[1] - before[1])) -le 16384 ]
+}
+# A request whose head has a field of so many bytes is answered with this status.
+head_gives() { # STATUS, BYTES, PORT
+  works "$peer" head "$cert" "$2" "$(url "$3" /hello.txt)" && [ "$(cat "$work/got")" = "$1" ]
+}
+stops_a_put() { # PORT
+  works "$peer" put "$cert" "$big" "$(url "$1" /answer)" && grep -q "^405, a text of 29 bytes, all of the file: false$" "$work/got"
+}
+# A client that wants 160 answers is told to go while it may have 100 more: what it asked for it gets, and it asks no more than it may.
+limit_reached() { # TEXT, COMMAND..
+  local text=$1 count
+  shift
+  refuses "$text" "$@" || return 1
+  count=$(wc -l < "$work/got")
+  [ "$count" -ge 50 ] && [ "$count" -lt 150 ] && head -n "$count" "$work/thousand" | cmp -s - "$work/got" && ! grep -q "reset" "$work/log"
 }
 is_silent() { ! grep -qE "Sanitizer|runtime error|panic|DATA RACE" "$work/$1"; }
 
@@ -235,10 +272,23 @@ our_server() { # what it is called, PORT, PORT of a relay to it
   check "$1, fetch, packets lost: 1,000 requests on one connection" gives "$work/thousand" "${ours[@]}" --count 1000 --parallel 100 \
     "$(url "$3" /hello.txt)"
   check "$1, fetch, packets lost: POST of 10 MB" gives "$work/posted" "${ours[@]}" --post "$big" "$(url "$3" /answer)"
+  check "$1, quic-go: a head of 60,000 bytes" head_gives 200 60000 "$2"
+  check "$1, quic-go: a head of 70,000 bytes gives 431" head_gives 431 70000 "$2"
+  check "$1, quic-go: a PUT of 10 MB gives 405, and is stopped" stops_a_put "$2"
   check "$1, fetch: no such file" refuses "status 404" "${ours[@]}" "$(url "$2" /none)"
   for path in /../secret.txt /%2e%2e/secret.txt /small/../../secret.txt //../secret.txt; do
     check "$1, fetch: $path climbs out" refuses "status 40" "${ours[@]}" "$(url "$2" "$path")"
   done
+}
+
+limits() { # what it is called, PORT of a server that takes 150 requests on a connection, its PROCESS
+  check "$1 --requests 150, fetch: 160 requests" limit_reached "takes no more requests; not asked" "${ours[@]}" --count 160 \
+    "$(url "$2" /hello.txt)"
+  check "$1 --requests 150, Go client: 160 requests" limit_reached "answer 7, detail 600" "${go_ours[@]}" -count 160 "$cert" \
+    "$(url "$2" /hello.txt)"
+  check "$1 --requests 150, quic-go, which heeds no GOAWAY: the 151st is refused" refuses "stream 600 canceled with error code 267" \
+    "$peer" many "$cert" 200 1 "$(url "$2" /hello.txt)"
+  check "$1: a reader of 2 MB a second at the server's end" slow_reader "$2" "$3"
 }
 
 start "${ports[0]}" serve.log "$serve" 127.0.0.1 "${ports[0]}" "$cert" "$key" "$folder"
@@ -249,6 +299,12 @@ violations serve "${ports[0]}"
 check "serve, fetch: a link climbs out" refuses "status 404" "${ours[@]}" "$(url "${ports[0]}" /link.txt)"
 check "serve: GOAWAY at its end" going_away "${ports[0]}" "$c_server"
 check "serve: no leak and no error of memory" is_silent serve.log
+start "${ports[0]}" serve2.log "$serve" --requests 150 127.0.0.1 "${ports[0]}" "$cert" "$key" "$folder"
+limits serve "${ports[0]}" "$last"
+check "serve: no leak and no error of memory behind its limits" is_silent serve2.log
+start "${ports[13]}" serve3.log "$work/plain/serve" 127.0.0.1 "${ports[13]}" "$cert" "$key" "$folder"
+check "serve: 10,000 resets within 2 s of processor and 16 MiB" resets "${ports[13]}" "$last"
+check "serve: the second signal ends it at once" second_signal "${ports[13]}" "$last"
 
 start "${ports[1]}" h3go.log "$work/h3go" serve "127.0.0.1:${ports[1]}" "$cert" "$key" "$folder"
 go_server=$last
@@ -258,6 +314,12 @@ violations "Go server" "${ports[1]}"
 check "Go server, Go client: 10 MB" gives "$big" "${go_ours[@]}" "$cert" "$(url "${ports[1]}" /big.bin)"
 check "Go server: GOAWAY at its end" going_away "${ports[1]}" "$go_server"
 check "Go server: no panic" is_silent h3go.log
+start "${ports[1]}" h3go2.log "$work/h3go" serve -requests 150 "127.0.0.1:${ports[1]}" "$cert" "$key" "$folder"
+limits "Go server" "${ports[1]}" "$last"
+check "Go server: no panic behind its limits" is_silent h3go2.log
+start "${ports[14]}" h3go3.log "$work/h3go" serve "127.0.0.1:${ports[14]}" "$cert" "$key" "$folder"
+check "Go server: 10,000 resets within 2 s of processor and 16 MiB" resets "${ports[14]}" "$last"
+check "Go server: the second signal ends it at once" second_signal "${ports[14]}" "$last"
 
 # ---- our clients ----
 
@@ -270,6 +332,8 @@ cat > "$work/Caddyfile" <<CADDY
 https://localhost:${ports[4]} {
 	tls $cert $key
 	root * $folder
+	respond /early "early
+" 200
 	file_server
 }
 CADDY
@@ -294,6 +358,13 @@ our_clients "quic-go, packets lost" "${ports[9]}"
 our_clients Caddy "${ports[4]}"
 check "fetch, quic-go: POST of 10 MB" gives "$work/posted" "${ours[@]}" --post "$big" "$(url "${ports[3]}" /answer)"
 check "Go client, quic-go: POST of 10 MB" gives "$work/posted" "${go_ours[@]}" -post "$big" "$cert" "$(url "${ports[3]}" /answer)"
+for server in quic-go:${ports[3]} Caddy:${ports[4]}; do
+  check "fetch, ${server%:*}: an answer that stops a POST of 10 MB" gives "$work/early" "${ours[@]}" --post "$big" "$(url "${server#*:}" /early)"
+  check "Go client, ${server%:*}: an answer that stops a POST of 10 MB" gives "$work/early" "${go_ours[@]}" -post "$big" "$cert" \
+    "$(url "${server#*:}" /early)"
+done
+check "fetch: its first packet goes out at once" works python3 scripts/interop/first.py 0.05 "$work/plain/fetch" --address 127.0.0.1 \
+  --trust "$cert" "https://localhost:{port}/"
 check "fetch: a server whose certificate is not trusted" refuses "closed with QUIC code" "$work/checked/fetch" --address 127.0.0.1 \
   "$(url "${ports[3]}" /hello.txt)"
 
@@ -304,7 +375,6 @@ broken_server "Go client" "${ports[11]}" "detail" "the message is none" "${go_ou
 
 start "${ports[5]}" valgrind.log "${under_valgrind[@]}" "$work/plain/serve" 127.0.0.1 "${ports[5]}" "$cert" "$key" "$folder"
 head -c 500000 "$big" > "$folder/half.bin"
-head -n 50 "$work/thousand" > "$work/fifty"
 check "valgrind, fetch and serve: 500 kB" gives "$folder/half.bin" "${under_valgrind[@]}" "$work/plain/fetch" --address 127.0.0.1 --trust "$cert" \
   "$(url "${ports[5]}" /half.bin)"
 check "valgrind, fetch and serve: 50 requests" gives "$work/fifty" "${under_valgrind[@]}" "$work/plain/fetch" --address 127.0.0.1 --trust "$cert" \
@@ -354,6 +424,21 @@ refused_server() {
 check "fetch: each allocation refused in turn" refused_client "${ports[3]}"
 check "serve: each allocation refused in turn" refused_server "${ports[12]}"
 
+# Each third allocation of the Rust program refused in turn: Rust ends it where its own is; where one of the library is, bytes are never delivered twice.
+refused_endpoints() {
+  local count=0 status
+  while [ "$count" -lt 600 ]; do
+    : > "$work/log"
+    REFUSE_AT=$count within 20 "$work/two_refusing" 1000 > "$work/got"
+    status=$?
+    if [ "$status" -eq 134 ]; then grep -q "memory allocation of" "$work/log" || return 1; fi
+    if [ "$status" -eq 1 ]; then grep -qE "answer 18|Fault\(16" "$work/log" || return 1; fi
+    if ! grep -q "allocation is refused" "$work/log"; then break; fi
+    count=$((count + 3))
+  done
+  [ "$status" -eq 0 ] && [ "$count" -gt 20 ]
+} 2> /dev/null # where the shell says that a program was aborted
 check "Rust: two endpoints" works "$work/two_endpoints"
+check "Rust: two endpoints, each third allocation refused in turn" refused_endpoints
 check "Rust: two endpoints, under valgrind" works "${under_valgrind[@]}" "$work/two_endpoints"
 [ "$failed" -eq 0 ]

@@ -1,6 +1,7 @@
 #include "http3.h"
 #include <stdlib.h>
 #include <string.h>
+#include <time.h>
 
 enum {
   PIECE = 16 * 1024,         /* bytes that are moved at once */
@@ -8,16 +9,22 @@ enum {
   TABLE = 4096,              /* bytes of the dynamic table that the peer may fill */
   BLOCKED = 16,              /* streams that may wait for it */
   SECTION = 64 * 1024,       /* the greatest field section that is taken */
-  FIELDS = 16
+  FIELDS = 16,
+  LINGER = 5,                /* seconds of silence behind which a connection that takes no more requests is closed */
+  NOTICE = 1                 /* seconds between the first GOAWAY and the last: requests that were on their way come */
 };
+
+static const uint64_t ANY_ID = (UINT64_C(1) << 62) - 4;
 
 struct http3 {
   quic_connection *quic;
   const http3_setup *setup;
   h3_endpoint endpoint;
   http3_request *requests;
-  uint64_t next_id; /* behind the last request that came */
-  bool leaving;
+  uint64_t next_id;  /* behind the last request that came */
+  uint64_t end_id;   /* requests from here on are not taken */
+  bool leaving;      /* the peer was told by GOAWAY to open no more */
+  time_t leaving_at; /* when http3_leave was called first; 0: never */
 };
 
 static http3_request *find(http3 *h, uint64_t id) {
@@ -123,13 +130,20 @@ static void pull_others(http3 *h, uint64_t id) {
     if (request->waiting) pull(request);
 }
 
+/* Tells the peer to open no more requests. Those below `end` that come all the same are taken. */
+static void say_goaway(http3 *h, uint64_t end) {
+  h->leaving = true;
+  h->end_id = end;
+  if (h3_goaway(&h->endpoint, end, NULL) != H3_OK) quic_close(h->quic, H3_CODE_INTERNAL_ERROR);
+}
+
 static bool is_request(uint64_t id) { return id % 4 == 0; }
 
 /* The request on a stream. At a server the first bytes on a stream open it, and all before it (RFC 9000, section 2.1), which may come later.
  * NULL: it is not taken. */
 static http3_request *take(http3 *h, uint64_t id) {
   bool is_new = h->setup->server && id >= h->next_id;
-  if (is_new && h->leaving) {
+  if (is_new && id >= h->end_id) {
     quic_reset(h->quic, (int64_t)id, H3_CODE_REQUEST_REJECTED);
     quic_stop(h->quic, (int64_t)id, H3_CODE_REQUEST_REJECTED);
     return NULL;
@@ -139,6 +153,8 @@ static http3_request *take(http3 *h, uint64_t id) {
       quic_close(h->quic, H3_CODE_INTERNAL_ERROR);
       return NULL;
     }
+  /* the peer is told while it can still use as many streams as it may have opened: none is refused */
+  if (is_new && !h->leaving && h->end_id - h->next_id <= 4 * QUIC_STREAMS) say_goaway(h, h->end_id);
   return find(h, id);
 }
 
@@ -167,8 +183,7 @@ static void was_reset(void *owner, int64_t stream, uint64_t reason) {
   else pull_others(h, id);
 }
 
-static void was_stopped(void *owner, int64_t stream, uint64_t reason) {
-  (void)reason;
+static void was_stopped(void *owner, int64_t stream) {
   http3 *h = owner;
   http3_request *request = find(h, (uint64_t)stream);
   if (!is_request((uint64_t)stream)) return quic_close(h->quic, 0x104); /* H3_CLOSED_CRITICAL_STREAM */
@@ -183,36 +198,53 @@ static void stream_closed(void *owner, int64_t stream) {
 
 /* ---- what goes out ---- */
 
-/* Moves what waits on a stream to QUIC, as far as it has room. */
-static void move_out(http3 *h, uint64_t id, http3_request *request) {
+/* Moves what waits on a stream to QUIC, as far as it has room. Answers whether anything was moved. */
+static bool move_out(http3 *h, uint64_t id, http3_request *request) {
   uint8_t bytes[PIECE];
-  for (;;) {
+  for (bool moved = false;; moved = true) {
     size_t room = quic_room(h->quic, (int64_t)id), count;
     uint32_t end;
-    if (room == 0) return;
-    if (h3_outgoing(&h->endpoint, id, bytes, room < PIECE ? room : PIECE, &count, &end) != H3_OK || (count == 0 && !end)) return;
-    if (!quic_send(h->quic, (int64_t)id, bytes, count, end)) return quic_close(h->quic, H3_CODE_INTERNAL_ERROR);
+    if (room == 0) return moved;
+    if (h3_outgoing(&h->endpoint, id, bytes, room < PIECE ? room : PIECE, &count, &end) != H3_OK || (count == 0 && !end)) return moved;
+    if (!quic_send(h->quic, (int64_t)id, bytes, count, end)) {
+      quic_close(h->quic, H3_CODE_INTERNAL_ERROR);
+      return false;
+    }
     h3_advance(&h->endpoint, id, count);
     if (!end) continue;
     if (request) request->finishing = false;
-    return;
+    return true;
   }
 }
 
-/* Asks for more of the bodies, and hands all that waits to QUIC: the connection's own streams first, since heads may wait for them. */
-static void fill(void *owner) {
-  http3 *h = owner;
-  for (http3_request *request = h->requests; request; request = request->next)
+/* Asks for more of a body, and hands it to QUIC, as long as QUIC has room. */
+static void send_more(http3_request *request) {
+  http3 *h = request->connection;
+  do
     if (request->sending && http3_room(request) > 0) h->setup->events->room(request);
+  while ((request->sending || request->finishing) && move_out(h, request->id, request));
+}
+
+/* The connection's own streams. */
+static void move_own(http3 *h) {
   move_out(h, h3_control_id(h->setup->server), NULL);
   move_out(h, h3_encoder_id(h->setup->server), NULL);
   move_out(h, h3_decoder_id(h->setup->server), NULL);
-  for (http3_request *request = h->requests; request; request = request->next)
-    if (request->sending || request->finishing) move_out(h, request->id, request);
+}
+
+/* All is acknowledged, but its reader may not have it yet, and would lose it: the peer is the one to close, or falls silent. */
+static bool is_silent(const http3 *h) { return quic_silence(h->quic) >= 1000 * LINGER && time(NULL) - h->leaving_at > LINGER; }
+
+/* Hands all that waits to QUIC: the connection's own streams first, since heads may wait for them, and again for what a program sent meanwhile. */
+static void fill(void *owner) {
+  http3 *h = owner;
+  move_own(h);
+  for (http3_request *request = h->requests; request; request = request->next) send_more(request);
+  move_own(h);
   for (http3_request **at = &h->requests; *at;)
     if ((*at)->closed && (*at)->settled) drop(h, at);
     else at = &(*at)->next;
-  if (h->leaving && !h->requests) quic_close(h->quic, H3_CODE_NO_ERROR);
+  if (h->leaving && !h->requests && is_silent(h)) quic_close(h->quic, H3_CODE_NO_ERROR);
 }
 
 /* ---- the connection ---- */
@@ -224,6 +256,7 @@ static void *opened(quic_connection *quic, void *user) {
   if (!h) return NULL;
   h->quic = quic;
   h->setup = setup;
+  h->end_id = setup->requests > 0 && setup->requests < ANY_ID / 4 ? 4 * setup->requests : UINT64_MAX;
   h3_config_default(&config);
   config.server = setup->server;
   config.table = TABLE;
@@ -252,9 +285,13 @@ const quic_events http3_over_quic = {opened, received, was_reset, was_stopped, s
 
 void http3_leave(void *owner) {
   http3 *h = owner;
-  if (h->leaving) return;
-  h->leaving = true;
-  if (h->setup->server && h3_goaway(&h->endpoint, h->next_id, NULL) != H3_OK) quic_close(h->quic, H3_CODE_INTERNAL_ERROR);
+  time_t now = time(NULL);
+  if (!h->setup->server) return;
+  if (h->leaving_at == 0) {
+    h->leaving_at = now;
+    if (!h->leaving) say_goaway(h, ANY_ID);
+  } else if (now - h->leaving_at > NOTICE && h->end_id > h->next_id)
+    say_goaway(h, h->next_id);
 }
 
 /* ---- what programs call ---- */
@@ -303,13 +340,24 @@ void http3_finish(http3_request *request) {
   request->sending = false;
 }
 
-void http3_give_up(http3_request *request, uint64_t code) {
+/* Nothing more of the peer's message is told. */
+static void cancel(http3_request *request) {
   http3 *h = request->connection;
   uint64_t reason = 0;
-  uint32_t answer = h3_cancel(&h->endpoint, request->id, &reason);
+  uint32_t answer = h3_cancel(&h->endpoint, request->id, &reason); /* refused where the message is over */
   if (answer == H3_MEMORY || answer == H3_CLOSED) refuse(h, answer, reason);
   request->settled = true;
+}
+
+void http3_give_up(http3_request *request, uint64_t code) {
+  cancel(request);
   cut_off(request, code);
+}
+
+void http3_ignore(http3_request *request) {
+  if (request->settled) return;
+  cancel(request);
+  quic_stop(request->connection->quic, (int64_t)request->id, H3_CODE_NO_ERROR);
 }
 
 bool http3_value(http3 *h, const h3_item *head, const char *name, char *value, size_t room) {

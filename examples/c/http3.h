@@ -35,6 +35,7 @@ typedef struct {
 
 typedef struct {
   bool server;
+  uint64_t requests; /* a server's: at most so many are taken on a connection, and GOAWAY sends the client to another before; 0: no limit */
   const http3_events *events;
   void *user;
 } http3_setup;
@@ -57,8 +58,13 @@ bool http3_body(http3_request *, const uint8_t *bytes, size_t count);
 void http3_finish(http3_request *);
 /* Sends nothing more, and wants nothing more, with a code of RFC 9114, section 8.1. The other side's message is not told any further. */
 void http3_give_up(http3_request *, uint64_t code);
+/* A server that has answered wants nothing more of the request (RFC 9114, section 4.1): the rest of its body is not told, and the client need not
+ * send it. */
+void http3_ignore(http3_request *);
 /* The value of a field of the head that was told last, ended by NUL. false: it has none, or one that is too long or has a NUL. */
 bool http3_value(http3 *, const h3_item *head, const char *name, char *value, size_t room);
-/* Takes no further request; the connection is closed when those that came are done. */
+/* A server wants no further request on the connection: GOAWAY goes out, and, if this is called on and on, a second later the GOAWAY from which on
+ * requests are refused (RFC 9114, section 5.2). What was begun ends at its reader's speed; then the peer closes the connection, or it is closed
+ * here when nothing has come for five seconds. */
 void http3_leave(void *http3);
 #endif

@@ -5,6 +5,7 @@
 #include <errno.h>
 #include <gnutls/crypto.h>
 #include <netdb.h>
+#include <netinet/udp.h>
 #include <ngtcp2/ngtcp2_crypto.h>
 #include <poll.h>
 #include <stdio.h>
@@ -17,8 +18,8 @@
 enum {
   CID_LENGTH = 16,          /* of the connection ids that are made here */
   PACKET = 1452,            /* the longest UDP payload that is sent */
+  BATCH = 44,               /* packets that go out by one system call: less than 64 KiB */
   KEPT_LIMIT = 256 * 1024,  /* bytes of a stream that may wait for their acknowledgment */
-  STREAMS = 100,            /* requests of the peer at once */
   PACKETS_A_TURN = 64       /* read before something is sent */
 };
 
@@ -39,16 +40,28 @@ struct quic_connection {
   void *owner;
   stream *streams;
   bool close_asked, gone, told;
+  bool more; /* could go out, but for what a burst may have */
   ngtcp2_connection_close_error close;
   quic_ending ending;
   uint8_t goodbye[PACKET]; /* the packet that closed the connection, which answers what still comes */
   size_t goodbye_count;
   ngtcp2_tstamp gone_at;
+  ngtcp2_tstamp heard_at; /* when a packet came last */
 };
+
+/* Packets to one address, all of one length but the last, which may be shorter: the kernel cuts them apart (UDP_SEGMENT). */
+typedef struct {
+  uint8_t bytes[BATCH * PACKET];
+  size_t sent, count, segment; /* bytes that are out, all bytes, and those of a packet */
+  struct sockaddr_storage to;
+  socklen_t to_count;
+} batch;
 
 struct quic_socket {
   int file;
   bool server, refusing;
+  bool one_by_one; /* the kernel, or the way out, cuts no packets apart */
+  batch batch;
   struct sockaddr_storage local;
   socklen_t local_count;
   gnutls_certificate_credentials_t credentials;
@@ -152,6 +165,8 @@ void quic_consumed(quic_connection *connection, int64_t id, size_t count) {
   ngtcp2_conn_extend_max_offset(connection->conn, count);
 }
 
+uint64_t quic_silence(const quic_connection *connection) { return (now() - connection->heard_at) / NGTCP2_MILLISECONDS; }
+
 void quic_close(quic_connection *connection, uint64_t code) {
   if (connection->close_asked) return;
   connection->close_asked = true;
@@ -201,15 +216,6 @@ static int on_reset(ngtcp2_conn *conn, int64_t id, uint64_t size, uint64_t code,
   return 0;
 }
 
-static int on_stop(ngtcp2_conn *conn, int64_t id, uint64_t code, void *user, void *stream_user) {
-  (void)conn, (void)stream_user;
-  quic_connection *connection = user;
-  stream *stream = find(connection, id);
-  if (stream) abandon(stream);
-  if (!connection->close_asked) connection->socket->events->was_stopped(connection->owner, id, code);
-  return 0;
-}
-
 static int on_new_id(ngtcp2_conn *conn, ngtcp2_cid *cid, uint8_t *token, size_t count, void *user) {
   (void)conn, (void)user;
   cid->datalen = count;
@@ -241,7 +247,6 @@ static const ngtcp2_callbacks CALLBACKS = {
     .delete_crypto_aead_ctx = ngtcp2_crypto_delete_crypto_aead_ctx_cb,
     .delete_crypto_cipher_ctx = ngtcp2_crypto_delete_crypto_cipher_ctx_cb,
     .get_path_challenge_data = ngtcp2_crypto_get_path_challenge_data_cb,
-    .stream_stop_sending = on_stop,
     .version_negotiation = ngtcp2_crypto_version_negotiation_cb,
 };
 
@@ -250,6 +255,57 @@ static const ngtcp2_callbacks CALLBACKS = {
 /* A packet that does not go out is lost, as one in the network: QUIC sends its frames again. */
 static void put(quic_socket *socket, const uint8_t *packet, size_t count, const ngtcp2_addr *to) {
   while (sendto(socket->file, packet, count, 0, to->addr, to->addrlen) < 0 && errno == EINTR) continue;
+}
+
+/* Sends packets, of which all but the last have the length `segment`. */
+static ssize_t send_segments(quic_socket *socket, batch *batch, uint8_t *bytes, size_t count) {
+  union {
+    struct cmsghdr head;
+    char bytes[CMSG_SPACE(sizeof(uint16_t))];
+  } control = {.bytes = {0}};
+  uint16_t segment = (uint16_t)batch->segment;
+  struct iovec piece = {bytes, count};
+  struct msghdr message = {.msg_name = &batch->to, .msg_namelen = batch->to_count, .msg_iov = &piece, .msg_iovlen = 1};
+  if (count > batch->segment) {
+    message.msg_control = control.bytes;
+    message.msg_controllen = sizeof control.bytes;
+    control.head = (struct cmsghdr){.cmsg_level = SOL_UDP, .cmsg_type = UDP_SEGMENT, .cmsg_len = CMSG_LEN(sizeof segment)};
+    memcpy(CMSG_DATA(&control.head), &segment, sizeof segment);
+  }
+  return sendmsg(socket->file, &message, 0);
+}
+
+/* Sends the batch. false: the socket is full, and what is left of the batch is kept. Another error loses packets, as put does. */
+static bool flush(quic_socket *socket) {
+  batch *batch = &socket->batch;
+  while (batch->sent < batch->count) {
+    size_t left = batch->count - batch->sent, count = socket->one_by_one && left > batch->segment ? batch->segment : left;
+    ssize_t done = send_segments(socket, batch, batch->bytes + batch->sent, count);
+    if (done < 0 && (errno == EAGAIN || errno == EWOULDBLOCK)) return false;
+    if (done < 0 && errno == EINTR) continue;
+    if (done < 0 && count > batch->segment && (errno == EIO || errno == EINVAL)) socket->one_by_one = true;
+    else batch->sent += count;
+  }
+  batch->sent = batch->count = 0;
+  return true;
+}
+
+/* The packet that was written behind the batch joins it, where it has its length and goes the same way; else the batch goes out before. false: the
+ * socket is full. */
+static bool join(quic_socket *socket, size_t count, const ngtcp2_addr *to) {
+  batch *batch = &socket->batch;
+  if (batch->count > 0 && (count > batch->segment || batch->to_count != to->addrlen || memcmp(&batch->to, to->addr, to->addrlen) != 0)) {
+    uint8_t *packet = batch->bytes + batch->count;
+    if (!flush(socket)) return false; /* the packet is lost */
+    memmove(batch->bytes, packet, count);
+  }
+  if (batch->count == 0) {
+    batch->segment = count;
+    memcpy(&batch->to, to->addr, to->addrlen);
+    batch->to_count = to->addrlen;
+  }
+  batch->count += count;
+  return (count == batch->segment && batch->count + PACKET <= sizeof batch->bytes) || flush(socket);
 }
 
 /* Nothing more is done on a connection, but that its last packet is sent again where packets come until `gone_at`. */
@@ -310,26 +366,36 @@ static ngtcp2_ssize write_packet(quic_connection *connection, stream *stream, ng
   if (!stream) return done;
   if (done == NGTCP2_ERR_STREAM_DATA_BLOCKED || done == NGTCP2_ERR_STREAM_SHUT_WR || done == NGTCP2_ERR_STREAM_NOT_FOUND)
     stream->blocked = true;
+  if (done == NGTCP2_ERR_STREAM_SHUT_WR) { /* STOP_SENDING came: ngtcp2 has reset the stream, and says so here alone */
+    abandon(stream);
+    if (!connection->close_asked) connection->socket->events->was_stopped(connection->owner, stream->id);
+  }
   if (taken >= 0) stream->out.taken += (uint64_t)taken;
   if (taken >= 0 && last && (size_t)taken == total) stream->out.end_taken = true;
   return done;
 }
 
-/* Writes packets until there is nothing to send, or QUIC lets nothing more go out now. */
+/* Writes packets until there is nothing to send, or QUIC or the socket lets nothing more go out now. */
 static void write_packets(quic_connection *connection) {
-  uint8_t packet[PACKET];
+  batch *batch = &connection->socket->batch;
   ngtcp2_path_storage path;
+  size_t total = 0, burst = ngtcp2_conn_get_send_quantum(connection->conn);
+  connection->more = false;
+  if (!flush(connection->socket)) return;
   for (stream *stream = connection->streams; stream; stream = stream->next) stream->blocked = false;
-  for (;;) {
+  while (!connection->more) {
     stream *stream = next_to_send(connection);
     ngtcp2_path_storage_zero(&path);
-    ngtcp2_ssize done = write_packet(connection, stream, &path.path, packet);
+    ngtcp2_ssize done = write_packet(connection, stream, &path.path, batch->bytes + batch->count);
     if (done == NGTCP2_ERR_WRITE_MORE || (stream && stream->blocked && done < 0)) continue;
     if (done < 0) return fail(connection, (int)done);
     if (done == 0) break;
-    put(connection->socket, packet, (size_t)done, &path.path.remote);
     if (stream) move_behind(connection, stream);
+    if (!join(connection->socket, (size_t)done, &path.path.remote)) break;
+    total += (size_t)done;
+    connection->more = total >= burst;
   }
+  flush(connection->socket);
   ngtcp2_conn_update_pkt_tx_time(connection->conn, now());
 }
 
@@ -344,7 +410,7 @@ static void settle(ngtcp2_settings *settings, ngtcp2_transport_params *params, b
   params->initial_max_data = 4 * KEPT_LIMIT;
   params->initial_max_stream_data_bidi_local = params->initial_max_stream_data_bidi_remote = KEPT_LIMIT;
   params->initial_max_stream_data_uni = KEPT_LIMIT;
-  params->initial_max_streams_bidi = server ? STREAMS : 0;
+  params->initial_max_streams_bidi = server ? QUIC_STREAMS : 0;
   params->initial_max_streams_uni = 16;
   params->max_idle_timeout = 30 * NGTCP2_SECONDS;
   params->active_connection_id_limit = 7;
@@ -465,6 +531,7 @@ static void read_packet(quic_socket *socket, const ngtcp2_path *path, const uint
   }
   int done = ngtcp2_conn_read_pkt(connection->conn, path, &info, packet, count, now());
   if (done != 0) fail(connection, done);
+  else connection->heard_at = now();
 }
 
 /* Reads what has come on the socket. */
@@ -496,20 +563,21 @@ static void drive(quic_connection *connection) {
   }
 }
 
-/* Milliseconds until the first timer, at most `most`. */
-static int wait_time(const quic_socket *socket, int most) {
+/* How long until the first timer, at most so many milliseconds. */
+static struct timespec wait_time(const quic_socket *socket, int most) {
   ngtcp2_tstamp time = now(), first = time + (ngtcp2_tstamp)most * NGTCP2_MILLISECONDS;
-  for (quic_connection *connection = socket->connections; connection; connection = connection->next) {
+  bool full = socket->batch.count > 0; /* then nothing can be done before it has room */
+  for (quic_connection *connection = socket->connections; connection && !full; connection = connection->next) {
     ngtcp2_tstamp then = connection->gone ? connection->gone_at : ngtcp2_conn_get_expiry(connection->conn);
     if (then < first) first = then;
+    if (!connection->gone && connection->more) first = time;
   }
-  return first <= time ? 0 : (int)((first - time + NGTCP2_MILLISECONDS - 1) / NGTCP2_MILLISECONDS);
+  ngtcp2_tstamp wait = first <= time ? 0 : first - time;
+  return (struct timespec){(time_t)(wait / NGTCP2_SECONDS), (long)(wait % NGTCP2_SECONDS)};
 }
 
-size_t quic_turn(quic_socket *socket, int milliseconds) {
-  struct pollfd wanted = {.fd = socket->file, .events = POLLIN};
-  if (poll(&wanted, 1, wait_time(socket, milliseconds)) > 0) read_packets(socket);
-  for (quic_connection *connection = socket->connections; connection; connection = connection->next) drive(connection);
+/* Frees the connections that are over. */
+static void delete_ended(quic_socket *socket) {
   for (quic_connection **at = &socket->connections; *at;) {
     quic_connection *connection = *at;
     if (connection->gone && connection->gone_at <= now()) {
@@ -518,6 +586,17 @@ size_t quic_turn(quic_socket *socket, int milliseconds) {
     } else
       at = &connection->next;
   }
+}
+
+size_t quic_turn(quic_socket *socket, int milliseconds) {
+  struct pollfd wanted = {.fd = socket->file, .events = POLLIN};
+  struct timespec wait;
+  for (quic_connection *connection = socket->connections; connection; connection = connection->next) drive(connection);
+  delete_ended(socket);
+  if (!flush(socket)) wanted.events |= POLLOUT;
+  if (!socket->server && quic_count(socket) == 0) return 0;
+  wait = wait_time(socket, milliseconds);
+  if (ppoll(&wanted, 1, &wait, NULL) > 0 && (wanted.revents & ~POLLOUT)) read_packets(socket);
   return quic_count(socket);
 }
 

@@ -7,6 +7,8 @@
 #include <stddef.h>
 #include <stdint.h>
 
+enum { QUIC_STREAMS = 100 }; /* requests that a client may have at once */
+
 typedef struct quic_socket quic_socket;
 typedef struct quic_connection quic_connection;
 
@@ -23,7 +25,7 @@ typedef struct {
   void *(*opened)(quic_connection *connection, void *user);                /* the handshake is done */
   void (*received)(void *owner, int64_t stream, const uint8_t *bytes, size_t count, bool end); /* in order, no gap */
   void (*was_reset)(void *owner, int64_t stream, uint64_t code);           /* RESET_STREAM came */
-  void (*was_stopped)(void *owner, int64_t stream, uint64_t code);         /* STOP_SENDING came; QUIC resets its side by itself */
+  void (*was_stopped)(void *owner, int64_t stream);                        /* STOP_SENDING came, and more was to be sent: QUIC has reset its side */
   void (*stream_closed)(void *owner, int64_t stream);                      /* both sides are done, all is acknowledged */
   void (*fill)(void *owner);                                               /* packets will be written: what is to be sent? */
   void (*closed)(void *owner, const quic_ending *ending);                  /* the last call; the owner frees itself */
@@ -40,7 +42,8 @@ quic_socket *quic_listen(const char *address, const char *port, const quic_ident
 /* A client's connection to an address and port, where `host` is the name that the server's certificate has to have. */
 quic_socket *quic_connect(const char *address, const char *port, const char *host, const quic_identity *, const quic_events *,
                           void *user);
-/* Waits for packets and timers, at most so many milliseconds, and does what they ask. Answers how many connections are left. */
+/* Sends what there is to be sent and does what the timers ask, then waits for packets, at most so many milliseconds, and reads them.
+ * Call it in a loop. Answers how many connections are left. */
 size_t quic_turn(quic_socket *, int milliseconds);
 /* How many connections are left, those that are closing not counted. */
 size_t quic_count(const quic_socket *);
@@ -67,6 +70,8 @@ void quic_reset(quic_connection *, int64_t stream, uint64_t code);
 void quic_stop(quic_connection *, int64_t stream, uint64_t code);
 /* The peer may send so many bytes more on this stream: they were consumed. */
 void quic_consumed(quic_connection *, int64_t stream, size_t count);
+/* How many milliseconds ago the peer's last packet came. */
+uint64_t quic_silence(const quic_connection *);
 /* Closes the connection with a code of HTTP/3. The first code stays. */
 void quic_close(quic_connection *, uint64_t code);
 #endif

@@ -1,8 +1,12 @@
-/* serve ADDRESS PORT CERTIFICATE KEY FOLDER: the files below a folder, over HTTP/3. GET and HEAD give a file (of a folder its
- * index.html); POST is answered with the count and the SHA-256 of its body, which is stored nowhere. SIGTERM and SIGINT let what was
- * begun end, at most five seconds. */
+/* serve [--requests N] ADDRESS PORT CERTIFICATE KEY FOLDER: the files below a folder, over HTTP/3. GET and HEAD give a file (of a folder
+ * its index.html); POST is answered with the count and the SHA-256 of its body, which is stored nowhere.
+ *
+ *   --requests N     at most so many requests on a connection: GOAWAY goes out when 100 are left (100,000; 0: no limit)
+ *
+ * SIGTERM and SIGINT: GOAWAY on each connection; what was begun ends, whatever its reader's speed. The second signal cuts it off. */
 #include "http3.h"
 #include <fcntl.h>
+#include <getopt.h>
 #include <gnutls/crypto.h>
 #include <signal.h>
 #include <stdio.h>
@@ -10,12 +14,9 @@
 #include <string.h>
 #include <strings.h>
 #include <sys/stat.h>
-#include <time.h>
 #include <unistd.h>
 
-enum { LAST_SECONDS = 5 }; /* how long what was begun may go on after the signal */
-
-static volatile sig_atomic_t asked_to_end;
+static volatile sig_atomic_t asked_to_end; /* how often */
 static int root; /* the folder */
 
 /* One request: the file that is sent, or the hash of what came. */
@@ -55,13 +56,13 @@ static bool read_path(const char *path, char *text, size_t room) {
 
 /* Opens a path below the folder, segment by segment, so that neither `..` nor a link leads out of it. -1: there is none. */
 static int open_below(char *path) {
-  int at = dup(root);
   char *rest, *segment = strtok_r(path, "/", &rest);
+  int at = segment ? root : dup(root);
   while (at >= 0 && segment) {
     int found = strcmp(segment, "..") == 0 || strcmp(segment, ".") == 0
                     ? -1
                     : openat(at, segment, O_RDONLY | O_NOFOLLOW | O_CLOEXEC | O_NONBLOCK);
-    close(at);
+    if (at != root) close(at);
     at = found;
     segment = strtok_r(NULL, "/", &rest);
   }
@@ -72,12 +73,14 @@ static int open_below(char *path) {
 static int open_file(const char *path, struct stat *status) {
   char text[4096];
   int file = read_path(path, text, sizeof text) ? open_below(text) : -1;
-  if (file >= 0 && fstat(file, status) == 0 && S_ISDIR(status->st_mode)) {
-    int index = openat(file, "index.html", O_RDONLY | O_NOFOLLOW | O_CLOEXEC);
+  bool found = file >= 0 && fstat(file, status) == 0;
+  if (found && S_ISDIR(status->st_mode)) {
+    int index = openat(file, "index.html", O_RDONLY | O_NOFOLLOW | O_CLOEXEC | O_NONBLOCK);
     close(file);
     file = index;
+    found = file >= 0 && fstat(file, status) == 0;
   }
-  if (file >= 0 && fstat(file, status) == 0 && S_ISREG(status->st_mode)) return file;
+  if (found && S_ISREG(status->st_mode)) return file;
   if (file >= 0) close(file);
   return -1;
 }
@@ -115,6 +118,12 @@ static void answer_text(http3_request *request, const char *status, const char *
   else http3_give_up(request, H3_CODE_INTERNAL_ERROR);
 }
 
+/* What is refused is not read either: a body may be long. */
+static void refuse(http3_request *request, const char *status, const char *text) {
+  answer_text(request, status, text);
+  http3_ignore(request);
+}
+
 static void answer_file(http3_request *request, const char *path) {
   work *work = request->data;
   struct stat status;
@@ -131,16 +140,16 @@ static void on_head(http3_request *request, const h3_item *head) {
   work *work = request->data = calloc(1, sizeof *work);
   if (!work) return http3_give_up(request, H3_CODE_INTERNAL_ERROR);
   work->file = -1;
-  if (head->kind == H3_TOO_LARGE_HEAD) return answer_text(request, "431", "the fields are too large\n");
+  if (head->kind == H3_TOO_LARGE_HEAD) return refuse(request, "431", "the fields are too large\n");
   if (!http3_value(request->connection, head, ":method", method, sizeof method) ||
       !http3_value(request->connection, head, ":path", path, sizeof path))
-    return answer_text(request, "400", "no method or path, or one that is too long\n");
+    return refuse(request, "400", "no method or path, or one that is too long\n");
   work->head_only = strcmp(method, "HEAD") == 0;
   if (work->head_only || strcmp(method, "GET") == 0) return answer_file(request, path);
-  if (strcmp(method, "POST") != 0) return answer_text(request, "405", "GET, HEAD and POST are known\n");
+  if (strcmp(method, "POST") != 0) return refuse(request, "405", "GET, HEAD and POST are known\n");
   if (gnutls_hash_init(&work->hash, GNUTLS_DIG_SHA256) == 0) return;
   work->hash = NULL;
-  answer_text(request, "500", "no hash\n");
+  refuse(request, "500", "no hash\n");
 }
 
 static void on_body(http3_request *request, const uint8_t *bytes, size_t count) {
@@ -201,36 +210,48 @@ static void on_over(void *user, const quic_ending *ending) {
 
 static void on_signal(int signal) {
   (void)signal;
-  asked_to_end = 1;
+  if (asked_to_end < 2) asked_to_end++;
 }
 
-/* Serves until a signal comes, and then what was begun. */
+/* Serves until a signal comes, and then what was begun, or until the next signal. */
 static void run(quic_socket *socket) {
   while (!asked_to_end) quic_turn(socket, 1000);
   quic_refuse_more(socket);
-  quic_each(socket, http3_leave);
-  for (time_t end = time(NULL) + LAST_SECONDS; quic_count(socket) > 0 && time(NULL) < end;) quic_turn(socket, 100);
+  do quic_each(socket, http3_leave); /* on and on, also for those that did their handshake just now */
+  while (quic_turn(socket, 100) > 0 && asked_to_end < 2);
+}
+
+/* The options, before the five words. */
+static bool read_options(int count, char **arguments, http3_setup *setup) {
+  static const struct option options[] = {{"requests", 1, 0, 'r'}, {0, 0, 0, 0}};
+  for (int option; (option = getopt_long(count, arguments, "+", options, NULL)) != -1;) {
+    char *end = NULL;
+    if (option == 'r') setup->requests = strtoull(optarg, &end, 10);
+    if (!end || end == optarg || *end) return false;
+  }
+  return optind + 5 == count;
 }
 
 int main(int count, char **arguments) {
   static const http3_events events = {on_ready, on_head, on_body, on_end, on_failed, on_room, on_freed, on_over};
-  http3_setup setup = {.server = true, .events = &events};
+  http3_setup setup = {.server = true, .requests = 100000, .events = &events};
   struct sigaction action = {.sa_handler = on_signal};
-  if (count != 6) {
-    fprintf(stderr, "serve ADDRESS PORT CERTIFICATE KEY FOLDER\n");
+  if (!read_options(count, arguments, &setup)) {
+    fprintf(stderr, "serve [--requests N] ADDRESS PORT CERTIFICATE KEY FOLDER\n");
     return 2;
   }
-  root = open(arguments[5], O_RDONLY | O_DIRECTORY | O_CLOEXEC);
+  const char *address = arguments[optind], *port = arguments[optind + 1], *folder = arguments[optind + 4];
+  root = open(folder, O_RDONLY | O_DIRECTORY | O_CLOEXEC);
   if (root < 0) {
-    perror(arguments[5]);
+    perror(folder);
     return 1;
   }
   sigaction(SIGTERM, &action, NULL);
   sigaction(SIGINT, &action, NULL);
-  quic_identity identity = {.certificate = arguments[3], .key = arguments[4]};
-  quic_socket *socket = quic_listen(arguments[1], arguments[2], &identity, &http3_over_quic, &setup);
+  quic_identity identity = {.certificate = arguments[optind + 2], .key = arguments[optind + 3]};
+  quic_socket *socket = quic_listen(address, port, &identity, &http3_over_quic, &setup);
   if (socket) {
-    printf("serving %s at %s port %s\n", arguments[5], arguments[1], arguments[2]);
+    printf("serving %s at %s port %s\n", folder, address, port);
     fflush(stdout);
     run(socket);
     quic_free(socket);

@@ -7,6 +7,7 @@ import (
 	"errors"
 	"io"
 	"sync"
+	"time"
 
 	"github.com/lucas-clemente/quic-go"
 )
@@ -14,22 +15,42 @@ import (
 const (
 	table        = 4096      // bytes of the dynamic table that the peer may fill
 	blocked      = 16        // streams that may wait for it
+	section      = 64 * 1024 // the greatest field section that is taken
 	piece        = 16 * 1024 // bytes that are moved at once
 	waitingLimit = 64 * 1024 // bytes of a body that may wait in the endpoint
+	streams      = 100       // requests that a client may have at once
+	anyID        = 1<<62 - 4 // the greatest id of a request
+
+	notice = time.Second // between the first GOAWAY and the last: requests that were on their way come
 )
+
+// pieces has the buffers that are not in use. A stream that waits has none.
+var pieces = sync.Pool{New: func() any { return new([piece]byte) }}
 
 // Connection is one connection. Its lock is held in each call of the endpoint.
 type Connection struct {
-	opening  sync.Mutex // requests get their ids in the order in which QUIC opens its streams
+	opening  sync.Mutex // one request is opened at a time
+	opened   *uint64    // the id that the endpoint gave and QUIC has no stream for yet
 	lock     sync.Mutex
-	changed  *sync.Cond // something came, or went out
 	endpoint *Endpoint
 	quic     quic.Connection
-	nextID   uint64 // a server's: behind the last request that came
-	leaving  bool
-	broken   error
+	trace    *trace         // a server's
+	own      []*half        // control, encoder and decoder stream
+	halves   map[*half]bool // those that have a writer
+	inserted *sync.Cond     // the peer's encoder stream was read, or the connection is over
+	nextID   uint64         // a server's: behind the last request that came
+	endID    uint64         // requests from here on are not taken
+	leaving  chan struct{}  // closed: the peer was told by GOAWAY to open no more requests
+	active   int            // requests that Accept gave, and whoever answers them has not said Done of
+	broken   error          // why the connection is over
 	writers  sync.WaitGroup
-	accepted sync.WaitGroup // requests that Accept gave; whoever answers one says Done
+}
+
+// half is the own half of a stream.
+type half struct {
+	stream  quic.SendStream
+	id      uint64
+	changed *sync.Cond // bytes came to be sent, or went out, or no more do
 }
 
 // Request is a request and its response: one bidirectional stream.
@@ -37,50 +58,72 @@ type Request struct {
 	connection *Connection
 	stream     quic.Stream
 	id         uint64
+	sending    *half
+	hasWriter  bool
 }
 
-// NewConnection opens the three own streams, and reads the peer's.
-func NewConnection(connection quic.Connection, server bool) (*Connection, error) {
-	endpoint, err := NewEndpoint(server, table, blocked)
+// NewConnection opens the three own streams, and reads the peer's. A server has a trace, and takes so many requests (0: no limit).
+func NewConnection(connection quic.Connection, trace *trace, requests uint64) (*Connection, error) {
+	endpoint, err := NewEndpoint(trace != nil, section, table, blocked)
 	if err != nil {
 		return nil, err
 	}
-	c := &Connection{endpoint: endpoint, quic: connection}
-	c.changed = sync.NewCond(&c.lock)
+	c := &Connection{endpoint: endpoint, quic: connection, trace: trace, halves: map[*half]bool{}, leaving: make(chan struct{})}
+	c.endID = anyID
+	if requests > 0 {
+		c.endID = 4 * requests
+	}
+	c.inserted = sync.NewCond(&c.lock)
 	for i := 0; i < 3; i++ {
 		stream, err := connection.OpenUniStream()
 		if err != nil {
-			endpoint.Close()
+			connection.CloseWithError(InternalError, "")
+			c.Close()
 			return nil, err
 		}
-		c.startWriting(stream)
+		c.lock.Lock()
+		c.own = append(c.own, c.newHalf(stream))
+		c.startWriting(c.own[i])
+		c.lock.Unlock()
 	}
 	go c.readOthers()
 	return c, nil
 }
 
-// fail closes the connection with the code that a refusal names, else with H3_INTERNAL_ERROR. The lock is held.
-func (c *Connection) fail(err error) {
-	if c.broken != nil {
-		return
+func (c *Connection) newHalf(stream quic.SendStream) *half {
+	return &half{stream, uint64(stream.StreamID()), sync.NewCond(&c.lock)}
+}
+
+// over says that the connection is over, and wakes whoever waits. The first reason stays. The lock is held.
+func (c *Connection) over(why error) {
+	if c.broken == nil {
+		c.broken = why
 	}
-	c.broken = err
+	for half := range c.halves {
+		half.changed.Broadcast()
+	}
+	c.inserted.Broadcast()
+}
+
+// fail closes the connection with the code that a refusal names, else with H3_INTERNAL_ERROR. The lock is held.
+func (c *Connection) fail(err error) error {
+	if c.broken != nil {
+		return c.broken
+	}
 	code := uint64(InternalError)
 	var refusal Refusal
 	if errors.As(err, &refusal) && refusal.Detail != 0 {
 		code = refusal.Detail
 	}
 	go c.quic.CloseWithError(quic.ApplicationErrorCode(code), "")
-	c.changed.Broadcast()
+	c.over(err)
+	return err
 }
 
-// Close closes the connection without a fault, and frees the endpoint when nothing uses it any more.
+// Close closes the connection without a fault, and frees the endpoint when nothing is written any more.
 func (c *Connection) Close() {
 	c.lock.Lock()
-	if c.broken == nil {
-		c.broken = io.EOF
-	}
-	c.changed.Broadcast()
+	c.over(io.EOF)
 	c.lock.Unlock()
 	c.quic.CloseWithError(NoError, "")
 	c.writers.Wait()
@@ -89,50 +132,64 @@ func (c *Connection) Close() {
 	c.lock.Unlock()
 }
 
-func (c *Connection) startWriting(stream quic.SendStream) {
+// startWriting starts the writer of a stream. The lock is held.
+func (c *Connection) startWriting(half *half) {
+	c.halves[half] = true
 	c.writers.Add(1)
-	go c.write(stream)
+	go func() {
+		defer c.writers.Done()
+		c.write(half)
+	}()
 }
 
-// write moves what waits on a stream to QUIC until its end. Write waits until QUIC has room.
-func (c *Connection) write(stream quic.SendStream) {
-	defer c.writers.Done()
-	id, buffer := uint64(stream.StreamID()), make([]byte, piece)
-	for {
-		c.lock.Lock()
-		count, end := c.endpoint.Outgoing(id, buffer)
-		for count == 0 && !end && c.broken == nil {
-			c.changed.Wait()
-			count, end = c.endpoint.Outgoing(id, buffer)
-		}
-		over := c.broken != nil && count == 0 && !end
-		c.lock.Unlock()
-		if over {
-			return
-		}
-		_, err := stream.Write(buffer[:count])
-		c.lock.Lock()
-		if err != nil {
-			c.endpoint.Reset(id) // the peer stopped it, or the connection is over
-		} else if err = c.endpoint.Advance(id, count); err != nil {
-			c.fail(err)
-		}
-		c.changed.Broadcast()
-		c.lock.Unlock()
-		if end && err == nil {
-			stream.Close()
-		}
-		if end || err != nil {
-			return
+// wakeOwn wakes the writers of the own unidirectional streams that have something to send. The lock is held.
+func (c *Connection) wakeOwn() {
+	for _, half := range c.own {
+		if c.endpoint.State(half.id).Waiting > 0 {
+			half.changed.Broadcast()
 		}
 	}
+}
+
+// write moves what waits on a stream to QUIC until its end, its reset, or the connection's.
+func (c *Connection) write(half *half) {
+	c.lock.Lock()
+	defer c.lock.Unlock()
+	for c.broken == nil {
+		state := c.endpoint.State(half.id)
+		if state.Waiting == 0 && !state.Finished && !state.Reset {
+			half.changed.Wait()
+		} else if state.Reset || c.writePiece(half) {
+			break
+		}
+	}
+	delete(c.halves, half)
+	half.changed.Broadcast()
+}
+
+// writePiece moves a piece of what waits on a stream, and says whether it was the last. Write waits until QUIC has room. The lock is held,
+// and let go in between.
+func (c *Connection) writePiece(half *half) (last bool) {
+	buffer := pieces.Get().(*[piece]byte)
+	defer pieces.Put(buffer)
+	count, end := c.endpoint.Outgoing(half.id, buffer[:])
+	c.lock.Unlock()
+	_, err := half.stream.Write(buffer[:count])
+	if err == nil && end {
+		err = c.trace.closeStream(half.stream)
+	}
+	c.lock.Lock()
+	if err != nil {
+		c.endpoint.Reset(half.id) // the peer stopped it, or the connection is over
+	} else if err := c.endpoint.Advance(half.id, count); err != nil {
+		c.fail(err)
+	}
+	half.changed.Broadcast()
+	return end || err != nil
 }
 
 // deliver hands over what was read of a stream: bytes, its end, or its reset. The lock is held.
 func (c *Connection) deliver(id uint64, bytes []byte, end error) error {
-	if c.broken != nil {
-		return c.broken
-	}
 	err := c.endpoint.Deliver(id, bytes)
 	var reset *quic.StreamError
 	if err == nil && errors.Is(end, io.EOF) {
@@ -141,28 +198,44 @@ func (c *Connection) deliver(id uint64, bytes []byte, end error) error {
 		err = c.endpoint.DeliverReset(id, uint64(reset.ErrorCode))
 	}
 	if err != nil {
-		c.fail(err)
+		return c.fail(err)
 	}
-	c.changed.Broadcast()
-	return err
+	c.wakeOwn()
+	return nil
+}
+
+// pull is what comes next on a stream. A fault of the connection, or want of memory, is an error. The lock is held.
+func (c *Connection) pull(id uint64) (Item, error) {
+	item, err := c.endpoint.Pull(id)
+	switch {
+	case err == nil && item.Kind == FaultConnection:
+		err = Refusal{Detail: item.Number}
+	case err == nil && item.Kind == FaultMemory:
+		err = errors.New("no memory")
+	}
+	if err != nil {
+		return Item{}, c.fail(err)
+	}
+	if item.Kind != Body && item.Kind != Pending {
+		c.wakeOwn()
+	}
+	return item, nil
 }
 
 // readOther reads one of the peer's unidirectional streams: settings, instructions, or what is thrown away.
 func (c *Connection) readOther(stream quic.ReceiveStream) {
-	id, buffer := uint64(stream.StreamID()), make([]byte, piece)
+	id, buffer := uint64(stream.StreamID()), make([]byte, 4096)
 	for {
 		count, end := stream.Read(buffer)
 		c.lock.Lock()
 		err := c.deliver(id, buffer[:count], end)
 		for err == nil {
-			item := c.endpoint.Pull(id)
-			if item.Kind == FaultConnection {
-				c.fail(Refusal{Detail: item.Number})
-			}
-			if item.Kind >= End {
+			var item Item
+			if item, err = c.pull(id); item.Kind >= End {
 				break
 			}
 		}
+		c.inserted.Broadcast()
 		c.lock.Unlock()
 		if err != nil || end != nil {
 			return
@@ -176,10 +249,7 @@ func (c *Connection) readOthers() {
 		stream, err := c.quic.AcceptUniStream(context.Background())
 		if err != nil {
 			c.lock.Lock()
-			if c.broken == nil {
-				c.broken = err
-			}
-			c.changed.Broadcast()
+			c.over(err)
 			c.lock.Unlock()
 			return
 		}
@@ -187,27 +257,40 @@ func (c *Connection) readOthers() {
 	}
 }
 
-// Open opens a client's request. It waits while the peer allows no more at once.
+// openID asks the endpoint for a request's id, or gives the one that no stream of QUIC was there for the last time.
+func (c *Connection) openID() (uint64, error) {
+	c.lock.Lock()
+	defer c.lock.Unlock()
+	if c.opened == nil {
+		id, err := c.endpoint.OpenRequest()
+		if err != nil {
+			return 0, err
+		}
+		c.opened = &id
+	}
+	return *c.opened, nil
+}
+
+// Open opens a client's request. It waits while the peer allows no more at once. The endpoint is asked first, and what it refuses opens no
+// stream: so the ids of both stay the same.
 func (c *Connection) Open() (*Request, error) {
 	c.opening.Lock()
 	defer c.opening.Unlock()
+	id, err := c.openID()
+	if err != nil {
+		return nil, err
+	}
 	stream, err := c.quic.OpenStreamSync(context.Background())
 	if err != nil {
 		return nil, err
 	}
 	c.lock.Lock()
 	defer c.lock.Unlock()
-	id, err := c.endpoint.OpenRequest()
-	if err == nil && id != uint64(stream.StreamID()) {
-		err = errors.New("the ids of QUIC and of the endpoint differ")
+	c.opened = nil
+	if id != uint64(stream.StreamID()) {
+		return nil, c.fail(errors.New("the ids of QUIC and of the endpoint differ"))
 	}
-	if err != nil {
-		stream.CancelWrite(RequestCancelled)
-		stream.CancelRead(RequestCancelled)
-		return nil, err
-	}
-	c.startWriting(stream)
-	return &Request{c, stream, id}, nil
+	return &Request{connection: c, stream: stream, id: id, sending: c.newHalf(stream)}, nil
 }
 
 // Accept waits for a client's next request.
@@ -217,65 +300,111 @@ func (c *Connection) Accept() (*Request, error) {
 		if err != nil {
 			return nil, err
 		}
-		id := uint64(stream.StreamID())
-		c.lock.Lock()
-		leaving := c.leaving
-		if !leaving {
-			err = c.deliver(id, nil, nil) // opens the request
-			c.nextID = id + 4
-			c.accepted.Add(1)
-		}
-		c.lock.Unlock()
-		if err != nil {
-			c.accepted.Done()
-			return nil, err
-		}
-		if !leaving {
-			c.startWriting(stream)
-			return &Request{c, stream, id}, nil
+		request, err := c.take(stream)
+		if err != nil || request != nil {
+			return request, err
 		}
 		stream.CancelRead(RequestRejected)
 		stream.CancelWrite(RequestRejected)
 	}
 }
 
-// Leave takes no further request.
+// take takes a request. nil: no more are taken. The peer is told while it can still use as many streams as it may have opened: so none is refused.
+func (c *Connection) take(stream quic.Stream) (*Request, error) {
+	c.lock.Lock()
+	defer c.lock.Unlock()
+	id := uint64(stream.StreamID())
+	if id >= c.endID {
+		return nil, nil
+	}
+	if err := c.deliver(id, nil, nil); err != nil { // opens the request
+		return nil, err
+	}
+	c.nextID = id + 4
+	c.active++
+	if c.endID-c.nextID <= 4*streams {
+		c.sayGoaway(c.endID)
+	}
+	return &Request{connection: c, stream: stream, id: id, sending: c.newHalf(stream)}, nil
+}
+
+// sayGoaway tells the peer to open no more requests. Those below `end` that come all the same are taken. The lock is held.
+func (c *Connection) sayGoaway(end uint64) {
+	select {
+	case <-c.leaving:
+		if end == c.endID {
+			return
+		}
+	default:
+		close(c.leaving)
+	}
+	c.endID = end
+	if err := c.endpoint.Goaway(end); err != nil {
+		c.fail(err)
+	}
+	c.wakeOwn()
+}
+
+// Leave takes no further request but those that are on their way (RFC 9114, section 5.2). It waits for these.
 func (c *Connection) Leave() {
 	c.lock.Lock()
 	defer c.lock.Unlock()
-	if c.leaving {
-		return
+	c.sayGoaway(c.endID)
+	c.lock.Unlock()
+	select {
+	case <-c.quic.Context().Done():
+	case <-time.After(notice):
 	}
-	c.leaving = true
-	if err := c.endpoint.Goaway(c.nextID); err != nil {
-		c.fail(err)
-	}
-	c.changed.Broadcast()
+	c.lock.Lock()
+	c.sayGoaway(c.nextID)
 }
 
-// call makes one call of the endpoint.
-func (r *Request) call(call func() error) error {
+// Done says that a request that Accept gave is answered, or given up.
+func (r *Request) Done() {
 	r.connection.lock.Lock()
 	defer r.connection.lock.Unlock()
-	if r.connection.broken != nil {
-		return r.connection.broken
+	r.connection.active--
+}
+
+// isDone says whether all that was begun is answered, and written: what is left are the writers of the own streams.
+func (c *Connection) isDone() bool {
+	c.lock.Lock()
+	defer c.lock.Unlock()
+	return c.active == 0 && len(c.halves) <= len(c.own)
+}
+
+// call makes one call of the endpoint, and wakes the writers.
+func (r *Request) call(call func() error) error {
+	c := r.connection
+	c.lock.Lock()
+	defer c.lock.Unlock()
+	if c.broken != nil {
+		return c.broken
 	}
 	err := call()
-	r.connection.changed.Broadcast()
+	r.sending.changed.Broadcast()
+	c.wakeOwn()
 	return err
 }
 
-// SendHead sends a head.
+// SendHead sends a head. The stream has a writer from the first one on.
 func (r *Request) SendHead(fields []Field) error {
-	return r.call(func() error { return r.connection.endpoint.SendHead(r.id, fields) })
+	return r.call(func() error {
+		err := r.connection.endpoint.SendHead(r.id, fields)
+		if err == nil && !r.hasWriter {
+			r.hasWriter = true
+			r.connection.startWriting(r.sending)
+		}
+		return err
+	})
 }
 
 // Write sends a piece of the body, and waits while many bytes wait.
 func (r *Request) Write(bytes []byte) (int, error) {
 	c := r.connection
 	err := r.call(func() error {
-		for c.broken == nil && c.endpoint.WaitingBytes(r.id) >= waitingLimit {
-			c.changed.Wait()
+		for c.broken == nil && c.endpoint.State(r.id).Waiting >= waitingLimit {
+			r.sending.changed.Wait()
 		}
 		return c.endpoint.SendBody(r.id, bytes)
 	})
@@ -290,6 +419,13 @@ func (r *Request) Finish() error {
 	return r.call(func() error { return r.connection.endpoint.Finish(r.id) })
 }
 
+// IsStopped says whether the own message was cut off: by the peer, which wants no more of it, or by GiveUp.
+func (r *Request) IsStopped() bool {
+	r.connection.lock.Lock()
+	defer r.connection.lock.Unlock()
+	return r.connection.endpoint.State(r.id).Reset
+}
+
 // GiveUp sends nothing more, and wants nothing more.
 func (r *Request) GiveUp(code quic.StreamErrorCode) {
 	r.call(func() error {
@@ -302,34 +438,48 @@ func (r *Request) GiveUp(code quic.StreamErrorCode) {
 	r.stream.CancelRead(code)
 }
 
-// Next waits for the next item of the peer's message. A fault of the message is an error.
+// Ignore wants nothing more of the request: a server has answered (RFC 9114, section 4.1), and the client need not send the rest.
+func (r *Request) Ignore() {
+	r.call(func() error { return r.connection.endpoint.Cancel(r.id) }) // refused where the message is over
+	r.stream.CancelRead(NoError)
+}
+
+// Next waits for the next item of the peer's message. A fault of the message is an error. What came before the connection was over is handed
+// out all the same.
 func (r *Request) Next() (Item, error) {
-	c, buffer := r.connection, make([]byte, piece)
+	c := r.connection
 	c.lock.Lock()
 	defer c.lock.Unlock()
+	var unreadable error
 	for {
-		if c.broken != nil {
+		item, err := c.pull(r.id)
+		switch {
+		case err != nil:
+			return Item{}, err
+		case item.Kind == Waiting && c.broken == nil:
+			c.inserted.Wait()
+		case item.Kind == Waiting:
 			return Item{}, c.broken
-		}
-		item := c.endpoint.Pull(r.id)
-		switch item.Kind {
-		case Waiting:
-			c.changed.Wait()
-		case Pending:
-			c.lock.Unlock()
-			count, end := r.stream.Read(buffer)
-			c.lock.Lock()
-			if err := c.deliver(r.id, buffer[:count], end); err != nil {
+		case item.Kind == Pending && unreadable != nil:
+			return Item{}, unreadable
+		case item.Kind == Pending:
+			if unreadable, err = r.read(); err != nil {
 				return Item{}, err
 			}
-		case FaultConnection:
-			c.fail(Refusal{Detail: item.Number})
-		case FaultMemory:
-			c.fail(errors.New("no memory"))
-		case FaultMalformed, FaultReset, FaultCanceled:
+		case item.Kind == FaultMalformed || item.Kind == FaultReset || item.Kind == FaultCanceled:
 			return item, Fault{item.Kind, item.Number}
 		default:
 			return item, nil
 		}
 	}
+}
+
+// read reads a piece of the stream, and hands it over. `unreadable`: there will be nothing more. The lock is held, and let go in between.
+func (r *Request) read() (unreadable, err error) {
+	buffer := pieces.Get().(*[piece]byte)
+	defer pieces.Put(buffer)
+	r.connection.lock.Unlock()
+	count, end := r.stream.Read(buffer[:])
+	r.connection.lock.Lock()
+	return end, r.connection.deliver(r.id, buffer[:count], end)
 }

@@ -99,12 +99,14 @@ func number(yes bool) C.uint32_t {
 	return 0
 }
 
-// NewEndpoint makes an endpoint with a dynamic table of so many bytes, for which so many streams may wait.
-func NewEndpoint(server bool, table, blocked uint64) (*Endpoint, error) {
+// NewEndpoint makes an endpoint that takes heads and trailers of at most `section` bytes (RFC 9114, section 4.2.2), with a dynamic table of
+// `table` bytes, for which so many streams may wait.
+func NewEndpoint(server bool, section, table, blocked uint64) (*Endpoint, error) {
 	var config C.h3_config
 	var detail C.uint64_t
 	C.h3_config_default(&config)
-	config.server, config.table, config.blocked = number(server), C.uint64_t(table), C.uint64_t(blocked)
+	config.server, config.max_field_section_size = number(server), C.uint64_t(section)
+	config.table, config.blocked = C.uint64_t(table), C.uint64_t(blocked)
 	endpoint := &Endpoint{}
 	return endpoint, refusal(C.h3_new(&endpoint.raw, &config, &detail), detail)
 }
@@ -184,11 +186,17 @@ func (e *Endpoint) Advance(id uint64, count int) error {
 	return refusal(C.h3_advance(&e.raw, C.uint64_t(id), C.size_t(count)), 0)
 }
 
-// WaitingBytes says how many bytes wait on a stream.
-func (e *Endpoint) WaitingBytes(id uint64) uint64 {
+// State is what an endpoint tells of a stream's own half.
+type State struct {
+	Waiting         uint64 // bytes that wait to be sent
+	Finished, Reset bool
+}
+
+// State tells of a stream's own half.
+func (e *Endpoint) State(id uint64) State {
 	var state C.h3_stream_state
 	C.h3_stream(&e.raw, C.uint64_t(id), &state)
-	return uint64(state.waiting)
+	return State{uint64(state.waiting), state.is_finished == 1, state.is_reset == 1}
 }
 
 // taken is the refusal of a delivery, of which there is none where the bytes were taken and are read later.
@@ -217,32 +225,42 @@ func (e *Endpoint) DeliverReset(id, code uint64) error {
 	return taken(C.h3_deliver_reset(&e.raw, C.uint64_t(id), C.uint64_t(code), &detail), detail)
 }
 
-func (e *Endpoint) field(index int) Field {
+func (e *Endpoint) field(index int) (Field, error) {
 	name, value := make([]byte, 64), make([]byte, 256)
 	for {
 		var nameCount, valueCount C.size_t
 		answer := C.h3_item_field(&e.raw, C.size_t(index), start(name), C.size_t(len(name)), &nameCount, start(value), C.size_t(len(value)), &valueCount)
-		if answer != C.H3_ROOM {
-			return Field{string(name[:nameCount]), string(value[:valueCount])}
+		switch answer {
+		case C.H3_OK:
+			return Field{string(name[:nameCount]), string(value[:valueCount])}, nil
+		case C.H3_ROOM:
+			name, value = make([]byte, nameCount+1), make([]byte, valueCount+1)
+		default:
+			return Field{}, refusal(answer, 0)
 		}
-		name, value = make([]byte, nameCount+1), make([]byte, valueCount+1)
 	}
 }
 
 // Pull hands out what is next on a stream.
-func (e *Endpoint) Pull(id uint64) Item {
+func (e *Endpoint) Pull(id uint64) (Item, error) {
 	var raw C.h3_item
-	if C.h3_pull(&e.raw, C.uint64_t(id), &raw) != C.H3_OK {
-		return Item{Kind: NoMessages}
+	if answer := C.h3_pull(&e.raw, C.uint64_t(id), &raw); answer != C.H3_OK {
+		return Item{}, refusal(answer, 0)
 	}
 	item := Item{Kind: uint32(raw.kind), Status: int(raw.status), Number: uint64(raw.number)}
 	for i := 0; i < int(raw.fields); i++ {
-		item.Fields = append(item.Fields, e.field(i))
+		field, err := e.field(i)
+		if err != nil {
+			return Item{}, err
+		}
+		item.Fields = append(item.Fields, field)
 	}
 	if raw.len > 0 {
 		var count C.size_t
 		item.Bytes = make([]byte, int(raw.len))
-		C.h3_item_bytes(&e.raw, 0, start(item.Bytes), raw.len, &count)
+		if answer := C.h3_item_bytes(&e.raw, 0, start(item.Bytes), raw.len, &count); answer != C.H3_OK {
+			return Item{}, refusal(answer, 0)
+		}
 	}
-	return item
+	return item, nil
 }

@@ -1,7 +1,10 @@
 // h3go holds HTTP/3 connections with the library behind include/h3.h, over quic-go (Debian's golang-github-lucas-clemente-quic-go-dev).
 //
-//	h3go serve ADDRESS CERTIFICATE KEY FOLDER            files below a folder; POST is answered with the count and SHA-256 of its body
-//	h3go fetch [-post FILE] [-count N] [-parallel N] [-cancel BYTES] TRUSTED URL    the bodies to standard output
+//	h3go serve [-requests N] ADDRESS CERTIFICATE KEY FOLDER
+//	    files below a folder; POST is answered with the count and SHA-256 of its body. -requests: at most so many on a connection, GOAWAY
+//	    goes out when 100 are left (100,000; 0: no limit). SIGTERM and SIGINT: GOAWAY, and what was begun ends, whatever its reader's speed; the second one cuts it off
+//	h3go fetch [-post FILE] [-count N] [-parallel N] [-cancel BYTES] TRUSTED URL
+//	    the bodies to standard output
 package main
 
 import (
@@ -18,7 +21,7 @@ import (
 	"github.com/lucas-clemente/quic-go"
 )
 
-var settings = &quic.Config{MaxIncomingStreams: 100, MaxIncomingUniStreams: 16, MaxIdleTimeout: 30 * time.Second}
+var settings = &quic.Config{MaxIncomingStreams: streams, MaxIncomingUniStreams: 16, MaxIdleTimeout: 30 * time.Second}
 
 func fail(err error) {
 	if err != nil {
@@ -49,6 +52,16 @@ func ask(request *Request, place *url.URL, file string) error {
 		return err
 	}
 	return request.Finish()
+}
+
+// tryToAsk gives a request up that cannot be sent. Where the server wanted no more of it, there may be a response all the same.
+func tryToAsk(request *Request, place *url.URL, file string) error {
+	err := ask(request, place, file)
+	if err == nil || request.IsStopped() {
+		return nil
+	}
+	request.GiveUp(RequestCancelled)
+	return err
 }
 
 var errGivenUp = errors.New("given up")
@@ -83,16 +96,18 @@ func answer(request *Request, cancel int) ([]byte, error) {
 	}
 }
 
+// exchange gives the body of the response as soon as it is whole, whatever became of the request's body (RFC 9114, section 4.1).
 func exchange(connection *Connection, place *url.URL, file string, cancel int) ([]byte, error) {
 	request, err := connection.Open()
 	if err != nil {
 		return nil, err
 	}
 	sent := make(chan error, 1)
-	go func() { sent <- ask(request, place, file) }()
+	go func() { sent <- tryToAsk(request, place, file) }()
 	body, err := answer(request, cancel)
-	if err == nil {
-		err = <-sent
+	var fault Fault
+	if errors.As(err, &fault) && fault.Kind == FaultCanceled {
+		err = <-sent // why it was given up
 	}
 	return body, err
 }
@@ -131,7 +146,7 @@ func connect(trusted string, place *url.URL) (*Connection, error) {
 	if err != nil {
 		return nil, err
 	}
-	return NewConnection(session, false)
+	return NewConnection(session, nil, 0)
 }
 
 func fetch(words []string) error {
@@ -158,24 +173,28 @@ func fetch(words []string) error {
 		answers[i] = make(chan answered, 1)
 	}
 	go several(connection, place, *post, *parallel, *cancel, answers)
+	var failed error
 	for i := range answers {
 		got := <-answers[i]
-		if got.err != nil && got.err != errGivenUp {
-			return got.err
+		if got.err != nil {
+			if failed == nil && got.err != errGivenUp {
+				failed = got.err // the other responses are written all the same
+			}
+			continue
 		}
 		if _, err := os.Stdout.Write(got.body); err != nil {
 			return err
 		}
 	}
-	return nil
+	return failed
 }
 
 func main() {
-	if len(os.Args) == 6 && os.Args[1] == "serve" {
-		fail(serve(os.Args[2], os.Args[3], os.Args[4], os.Args[5]))
+	if len(os.Args) > 2 && os.Args[1] == "serve" {
+		fail(serveCommand(os.Args[2:]))
 	} else if len(os.Args) > 2 && os.Args[1] == "fetch" {
 		fail(fetch(os.Args[2:]))
 	} else {
-		fail(errors.New("serve ADDRESS CERTIFICATE KEY FOLDER, or fetch [OPTION..] TRUSTED URL"))
+		fail(errors.New("serve [-requests N] ADDRESS CERTIFICATE KEY FOLDER, or fetch [OPTION..] TRUSTED URL"))
 	}
 }

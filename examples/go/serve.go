@@ -5,6 +5,7 @@ import (
 	"crypto/sha256"
 	"crypto/tls"
 	"errors"
+	"flag"
 	"fmt"
 	"io"
 	"mime"
@@ -21,10 +22,8 @@ import (
 	"github.com/lucas-clemente/quic-go"
 )
 
-const (
-	lastTime  = 5 * time.Second // how long what was begun may go on after the signal
-	closeTime = 2 * time.Second // how long a client that has all its answers may take to close: quic-go does not say what was acknowledged
-)
+// linger is how long a client may be silent that has all its answers, and is expected to close.
+const linger = 5 * time.Second
 
 // handler answers one request.
 type handler struct {
@@ -56,6 +55,15 @@ func (h *handler) text(status, text string) error {
 		}
 	}
 	return h.Finish()
+}
+
+// refuse answers with a text, and does not read what it refuses: a body may be long.
+func (h *handler) refuse(status, text string) error {
+	err := h.text(status, text)
+	if err == nil {
+		h.Ignore()
+	}
+	return err
 }
 
 // file answers with a file below the folder. path.Clean takes every `..` away; links are followed.
@@ -124,20 +132,19 @@ func (h *handler) answer() error {
 	if err != nil {
 		return err
 	}
-	if head.Kind == TooLargeHead {
-		return h.text("431", "the fields are too large\n")
-	}
-	if head.Kind != Head {
+	if head.Kind != Head && head.Kind != TooLargeHead {
 		return fmt.Errorf("kind %d is no head", head.Kind) // a session of WebTransport
 	}
 	h.method = value(head, ":method")
-	switch h.method {
-	case http.MethodPost:
+	switch {
+	case head.Kind == TooLargeHead:
+		return h.refuse("431", "the fields are too large\n")
+	case h.method == http.MethodPost:
 		return h.post()
-	case http.MethodGet, http.MethodHead:
+	case h.method == http.MethodGet || h.method == http.MethodHead:
 		err = h.file(value(head, ":path"))
 	default:
-		err = h.text("405", "GET, HEAD and POST are known\n")
+		return h.refuse("405", "GET, HEAD and POST are known\n")
 	}
 	if err != nil {
 		return err
@@ -162,7 +169,7 @@ func takeRequests(connection *Connection, files http.FileSystem) {
 			return
 		}
 		go func() {
-			defer connection.accepted.Done()
+			defer request.Done()
 			if err := (&handler{Request: request, files: files}).answer(); err != nil {
 				fmt.Fprintln(os.Stderr, "h3go: stream", request.id, "failed:", err)
 				request.GiveUp(codeOf(err))
@@ -171,64 +178,115 @@ func takeRequests(connection *Connection, files http.FileSystem) {
 	}
 }
 
-// serveConnection serves a connection until it is over, or `leave` is closed and what was begun is done.
-func serveConnection(session quic.Connection, files http.FileSystem, leave <-chan bool) {
-	connection, err := NewConnection(session, true)
-	if err != nil {
-		session.CloseWithError(InternalError, "")
-		return
-	}
-	over := make(chan bool)
-	go func() {
-		defer close(over)
-		takeRequests(connection, files)
-	}()
-	select {
-	case <-leave:
-		connection.Leave()
-		connection.accepted.Wait()
-		select {
-		case <-over:
-		case <-time.After(closeTime):
-		}
-	case <-over:
-		connection.accepted.Wait()
-	}
-	connection.Close()
-	<-over
+// server is what all connections share.
+type server struct {
+	files    http.FileSystem
+	requests uint64        // at most so many are taken on a connection
+	leave    chan struct{} // closed: what was begun is to end
+	traces   tracer
 }
 
-func serve(address, certificate, key, folder string) error {
-	pair, err := tls.LoadX509KeyPair(certificate, key)
-	if err != nil {
-		return err
+// serve serves a connection until it is over, or no further request is taken and what was begun is done. Then the client is expected to close,
+// since its QUIC may have what its reader has not; if it is silent for long, the connection is closed here.
+func (s *server) serve(session quic.Connection) {
+	trace := s.traces.of(session)
+	if trace == nil {
+		return
 	}
-	listener, err := quic.ListenAddr(address, &tls.Config{Certificates: []tls.Certificate{pair}, NextProtos: []string{"h3"}}, settings)
+	connection, err := NewConnection(session, trace, s.requests)
 	if err != nil {
-		return err
+		return
 	}
-	asked, leave := make(chan os.Signal, 1), make(chan bool)
-	signal.Notify(asked, syscall.SIGTERM, syscall.SIGINT)
-	context, stop := context.WithCancel(context.Background())
+	defer connection.Close()
+	over := make(chan struct{})
 	go func() {
-		<-asked
-		close(leave)
-		stop()
-		time.AfterFunc(lastTime, func() { fail(errors.New("what was begun did not end in time")) })
+		defer close(over)
+		takeRequests(connection, s.files)
 	}()
-	fmt.Println("serving", folder, "at", address)
+	leave, leaving := s.leave, connection.leaving
+	ticker := time.NewTicker(time.Hour)
+	defer ticker.Stop()
+	for {
+		select {
+		case <-over:
+			return
+		case <-leave:
+			connection.Leave()
+			leave = nil
+		case <-leaving:
+			trace.listen()
+			ticker.Reset(linger / 50)
+			leaving = nil
+		case <-ticker.C:
+			if connection.isDone() && trace.isSilent(linger) {
+				return
+			}
+		}
+	}
+}
+
+// run serves until it is told to leave, and then what was begun.
+func (s *server) run(listener quic.Listener) {
+	accepting, stop := context.WithCancel(context.Background())
+	go func() {
+		<-s.leave
+		stop()
+	}()
 	var connections sync.WaitGroup
 	for {
-		session, err := listener.Accept(context)
+		session, err := listener.Accept(accepting)
 		if err != nil {
 			break
 		}
 		connections.Add(1)
 		go func() {
 			defer connections.Done()
-			serveConnection(session, http.Dir(folder), leave)
+			s.serve(session)
 		}()
 	}
+	go func() { // no more are taken
+		for {
+			session, err := listener.Accept(context.Background())
+			if err != nil {
+				return
+			}
+			session.CloseWithError(NoError, "")
+		}
+	}()
 	connections.Wait()
+}
+
+// leaveAt tells a server to leave at the first signal, and ends the program at the second.
+func leaveAt(signals <-chan os.Signal, leave chan<- struct{}) {
+	<-signals
+	close(leave)
+	<-signals
+	fail(errors.New("what was begun is cut off"))
+}
+
+func serveCommand(words []string) error {
+	options := flag.NewFlagSet("serve", flag.ExitOnError)
+	requests := options.Uint64("requests", 100000, "at most so many requests on a connection: GOAWAY goes out when 100 are left (0: no limit)")
+	options.Parse(words)
+	if options.NArg() != 4 {
+		return errors.New("serve [-requests N] ADDRESS CERTIFICATE KEY FOLDER")
+	}
+	address, folder := options.Arg(0), options.Arg(3)
+	pair, err := tls.LoadX509KeyPair(options.Arg(1), options.Arg(2))
+	if err != nil {
+		return err
+	}
+	s := &server{files: http.Dir(folder), requests: *requests, leave: make(chan struct{})}
+	config := settings.Clone()
+	config.Tracer = &s.traces
+	listener, err := quic.ListenAddr(address, &tls.Config{Certificates: []tls.Certificate{pair}, NextProtos: []string{"h3"}}, config)
+	if err != nil {
+		return err
+	}
+	signals := make(chan os.Signal, 2)
+	signal.Notify(signals, syscall.SIGTERM, syscall.SIGINT)
+	go leaveAt(signals, s.leave)
+	fmt.Println("serving", folder, "at", address)
+	s.run(listener)
 	return listener.Close()
 }

@@ -1,7 +1,7 @@
 //! An endpoint of an HTTP/3 connection, over the exports of include/h3.h. All that is `unsafe` of the example is in this file.
 #![allow(dead_code)]
 
-use std::ptr;
+use std::{error, fmt, ptr};
 
 /// The handle: one pointer that only the library reads.
 #[repr(C)]
@@ -35,10 +35,10 @@ pub struct Config {
 }
 
 impl Config {
-    /// A client, or a server, that takes field sections of any size and has no dynamic table.
+    /// A client, or a server, that takes field sections of 64 KiB (RFC 9114, section 4.2.2) and has no dynamic table.
     pub fn of(server: bool) -> Config {
         Config {
-            max_field_section_size: (1 << 62) - 1,
+            max_field_section_size: 65_536,
             max_webtransport_sessions: 0,
             table: 0,
             blocked: 0,
@@ -53,7 +53,7 @@ impl Config {
 }
 
 #[repr(C)]
-#[derive(Default)]
+#[derive(Default, Clone, Copy)]
 struct RawItem {
     kind: u32,
     status: u32,
@@ -85,6 +85,7 @@ extern "C" {
 }
 
 /// Answers of `h3.h` that are asked for by name.
+pub const KEPT: u32 = 5;
 pub const NONE: u32 = 25;
 pub const ROOM: u32 = 26;
 
@@ -94,6 +95,14 @@ pub struct Refusal {
     pub answer: u32,
     pub detail: u64,
 }
+
+impl fmt::Display for Refusal {
+    fn fmt(&self, f: &mut fmt::Formatter) -> fmt::Result {
+        write!(f, "h3 refused: answer {}, detail {}", self.answer, self.detail)
+    }
+}
+
+impl error::Error for Refusal {}
 
 /// A name and a value.
 pub type Field = (Vec<u8>, Vec<u8>);
@@ -123,6 +132,8 @@ pub enum Pulled {
 /// Owns an endpoint. `&mut self` is the rule of one call at a time, and `Drop` frees it once. It is not `Sync`.
 pub struct Endpoint {
     raw: Raw,
+    /// An item that was pulled on a stream, and that memory was refused for when it was read.
+    unread: Option<(u64, RawItem)>,
 }
 
 // SAFETY: nothing of an endpoint is shared or bound to a thread: that its handle is Send is proved
@@ -133,6 +144,14 @@ impl Drop for Endpoint {
     fn drop(&mut self) {
         // SAFETY: the handle holds an endpoint from `new` on, and is not used after this.
         unsafe { h3_raw_free(self.raw) }
+    }
+}
+
+/// What was delivered is taken too where memory was refused for reading it (`KEPT`): the next delivery or pull reads on.
+fn taken(done: Result<(), Refusal>) -> Result<(), Refusal> {
+    match done {
+        Err(Refusal { answer: KEPT, .. }) => Ok(()),
+        done => done,
     }
 }
 
@@ -152,7 +171,7 @@ impl Endpoint {
         let mut detail = 0;
         let answer = unsafe { h3_raw_new(config, &mut detail, &mut raw) };
         answered(answer, detail)?;
-        Ok(Endpoint { raw })
+        Ok(Endpoint { raw, unread: None })
     }
 
     /// One call that may be refused with a number beside it.
@@ -216,16 +235,17 @@ impl Endpoint {
         self.call(|raw, _, out| unsafe { h3_raw_advance(raw, id, count, out) })
     }
 
+    /// Hands over what came on a stream. An error says that nothing was taken.
     pub fn deliver(&mut self, id: u64, bytes: &[u8]) -> Result<(), Refusal> {
-        self.call(|raw, detail, out| unsafe { h3_raw_deliver(raw, id, bytes.as_ptr(), bytes.len(), detail, out) })
+        taken(self.call(|raw, detail, out| unsafe { h3_raw_deliver(raw, id, bytes.as_ptr(), bytes.len(), detail, out) }))
     }
 
     pub fn deliver_end(&mut self, id: u64) -> Result<(), Refusal> {
-        self.call(|raw, detail, out| unsafe { h3_raw_deliver_end(raw, id, detail, out) })
+        taken(self.call(|raw, detail, out| unsafe { h3_raw_deliver_end(raw, id, detail, out) }))
     }
 
     pub fn deliver_reset(&mut self, id: u64, code: u64) -> Result<(), Refusal> {
-        self.call(|raw, detail, out| unsafe { h3_raw_deliver_reset(raw, id, code, detail, out) })
+        taken(self.call(|raw, detail, out| unsafe { h3_raw_deliver_reset(raw, id, code, detail, out) }))
     }
 
     fn field(&mut self, index: usize) -> Result<Field, Refusal> {
@@ -266,10 +286,8 @@ impl Endpoint {
         Ok(bytes)
     }
 
-    /// What comes next on a stream.
-    pub fn pull(&mut self, id: u64) -> Result<Pulled, Refusal> {
-        let mut item = RawItem::default();
-        self.call(|raw, _, out| unsafe { h3_raw_pull(raw, id, &mut item, out) })?;
+    /// Reads the item that was pulled last.
+    fn item(&mut self, item: RawItem) -> Result<Pulled, Refusal> {
         Ok(match item.kind {
             1 => Pulled::Interim(self.fields(item.fields)?),
             2 => Pulled::Head(self.fields(item.fields)?),
@@ -284,5 +302,19 @@ impl Endpoint {
             11 => Pulled::NoMessages,
             kind => Pulled::Fault(kind, item.number),
         })
+    }
+
+    /// What comes next on a stream. An item that memory was refused for is not lost: pull the same stream again, before any other.
+    pub fn pull(&mut self, id: u64) -> Result<Pulled, Refusal> {
+        let mut item = RawItem::default();
+        match self.unread.take() {
+            Some((stream, unread)) if stream == id => item = unread,
+            _ => self.call(|raw, _, out| unsafe { h3_raw_pull(raw, id, &mut item, out) })?,
+        }
+        let pulled = self.item(item);
+        if pulled.is_err() {
+            self.unread = Some((id, item));
+        }
+        pulled
     }
 }

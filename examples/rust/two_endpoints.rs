@@ -1,11 +1,12 @@
 //! Two endpoints in one program, with the bytes between them carried by hand in pieces: a request with a body is answered, and
-//! what was sent is what was pulled. The server's endpoint runs on a thread of its own for its part.
+//! what was sent is what was pulled. The server's endpoint runs on a thread of its own for its part. The words are the lengths of the pieces.
 
 mod h3;
 
 use h3::{Config, Endpoint, Field, Pulled, Refusal};
+use std::collections::BTreeSet;
 use std::process::ExitCode;
-use std::thread;
+use std::{env, thread};
 
 const BODY: usize = 20_000;
 
@@ -19,37 +20,53 @@ fn text(fields: &[Field]) -> String {
     lines.join(" ")
 }
 
-/// Carries all that waits on one stream to the other endpoint, at most `piece` bytes at once, and the end where it is told.
-fn carry_stream(from: &mut Endpoint, to: &mut Endpoint, id: u64, piece: usize) -> Result<(), Refusal> {
+/// One way between two endpoints.
+#[derive(Default)]
+struct Way {
+    /// The streams that bytes went over, and whose end did not.
+    open: BTreeSet<u64>,
+}
+
+impl Way {
+    /// Carries what waits on all streams, lowest ids first, at most `piece` bytes at once, and their ends. `next_waiting` finds bytes
+    /// alone: a stream that was finished when nothing waited is one of those that bytes went over before.
+    fn carry(&mut self, from: &mut Endpoint, to: &mut Endpoint, piece: usize) -> Result<(), Refusal> {
+        let mut next = 0;
+        while let Some(id) = from.next_waiting(next) {
+            self.open.insert(id);
+            next = id + 1;
+        }
+        for id in self.open.clone() {
+            if carry_stream(from, to, id, piece)? {
+                self.open.remove(&id);
+            }
+        }
+        Ok(())
+    }
+}
+
+/// Carries all that waits on one stream to the other endpoint, and the end where it is told. Answers whether it was.
+fn carry_stream(from: &mut Endpoint, to: &mut Endpoint, id: u64, piece: usize) -> Result<bool, Refusal> {
     let mut buffer = vec![0; piece];
     loop {
         let (count, end) = from.outgoing(id, &mut buffer)?;
         if count == 0 && !end {
-            return Ok(());
+            return Ok(false);
         }
         to.deliver(id, &buffer[..count])?;
         from.advance(id, count)?;
         if end {
-            return to.deliver_end(id);
+            to.deliver_end(id)?;
+            return Ok(true);
         }
     }
-}
-
-/// Carries what waits on all streams, lowest ids first.
-fn carry(from: &mut Endpoint, to: &mut Endpoint, piece: usize) -> Result<(), Refusal> {
-    let mut next = 0;
-    while let Some(id) = from.next_waiting(next) {
-        carry_stream(from, to, id, piece)?;
-        next = id + 1;
-    }
-    Ok(())
 }
 
 /// Pulls a stream to its end: the head and the whole body.
 fn read(endpoint: &mut Endpoint, id: u64) -> Result<(Vec<Field>, Vec<u8>), String> {
     let (mut head, mut body) = (Vec::new(), Vec::new());
     loop {
-        match endpoint.pull(id).map_err(|refusal| format!("{refusal:?}"))? {
+        match endpoint.pull(id).map_err(|refusal| refusal.to_string())? {
             Pulled::Head(fields) => head = fields,
             Pulled::Body(bytes) => body.extend(bytes),
             Pulled::End => return Ok((head, body)),
@@ -58,6 +75,7 @@ fn read(endpoint: &mut Endpoint, id: u64) -> Result<(Vec<Field>, Vec<u8>), Strin
     }
 }
 
+/// A request without its end.
 fn request(client: &mut Endpoint) -> Result<u64, Refusal> {
     let id = client.open_request()?;
     client.send_head(
@@ -67,14 +85,13 @@ fn request(client: &mut Endpoint) -> Result<u64, Refusal> {
     for piece in body().chunks(10_000) {
         client.send_body(id, piece)?;
     }
-    client.finish(id)?;
     Ok(id)
 }
 
 /// The server's part: what came is sent back.
 fn answer(server: &mut Endpoint, id: u64) -> Result<String, String> {
     let (head, body) = read(server, id)?;
-    let refused = |refusal: Refusal| format!("{refusal:?}");
+    let refused = |refusal: Refusal| refusal.to_string();
     server.send_head(id, &[(b":status", b"200"), (b"x-example", b"rust")]).map_err(refused)?;
     server.send_body(id, &body).map_err(refused)?;
     server.finish(id).map_err(refused)?;
@@ -82,13 +99,16 @@ fn answer(server: &mut Endpoint, id: u64) -> Result<String, String> {
 }
 
 fn exchange(piece: usize) -> Result<(), String> {
-    let refused = |refusal: Refusal| format!("{refusal:?}");
+    let refused = |refusal: Refusal| refusal.to_string();
     let config = |server| Config { table: 4096, blocked: 16, ..Config::of(server) };
     let mut client = Endpoint::new(&config(false)).map_err(refused)?;
     let mut server = Endpoint::new(&config(true)).map_err(refused)?;
-    carry(&mut server, &mut client, piece).map_err(refused)?;
+    let (mut to_server, mut to_client) = (Way::default(), Way::default());
+    to_client.carry(&mut server, &mut client, piece).map_err(refused)?;
     let id = request(&mut client).map_err(refused)?;
-    carry(&mut client, &mut server, piece).map_err(refused)?;
+    to_server.carry(&mut client, &mut server, piece).map_err(refused)?;
+    client.finish(id).map_err(refused)?;
+    to_server.carry(&mut client, &mut server, piece).map_err(refused)?;
     let (mut server, head) = thread::spawn(move || {
         let head = answer(&mut server, id);
         (server, head)
@@ -96,7 +116,7 @@ fn exchange(piece: usize) -> Result<(), String> {
     .join()
     .map_err(|_| "the server's thread ended".to_string())?;
     let head = head?;
-    carry(&mut server, &mut client, piece).map_err(refused)?;
+    to_client.carry(&mut server, &mut client, piece).map_err(refused)?;
     let (response, got) = read(&mut client, id)?;
     println!("request {head}; response {}; {} bytes", text(&response), got.len());
     let expected = ":method=POST :scheme=https :authority=localhost :path=/echo x-example=rust";
@@ -110,7 +130,8 @@ fn exchange(piece: usize) -> Result<(), String> {
 }
 
 fn main() -> ExitCode {
-    for piece in [1, 7, 1000, 200_000] {
+    let given: Vec<usize> = env::args().skip(1).filter_map(|word| word.parse().ok()).collect();
+    for piece in if given.is_empty() { vec![1, 7, 1000, 200_000] } else { given } {
         if let Err(why) = exchange(piece) {
             eprintln!("pieces of {piece} bytes: {why}");
             return ExitCode::FAILURE;

@@ -5,6 +5,10 @@
 //	peer post TRUSTED FILE URL                     POSTs a file, the answer's body to standard output
 //	peer many TRUSTED COUNT PARALLEL URL           COUNT requests on one connection; "COUNT bodies of N bytes, one SHA-256"
 //	peer cancel TRUSTED URL COUNT                  COUNT times: takes a piece of the body, gives the request up; then one whole
+//	peer slow TRUSTED RATE URL                     the body to standard output, read at so many bytes a second
+//	peer head TRUSTED BYTES URL                    a request with a field of so many bytes: the status to standard output
+//	peer put TRUSTED FILE URL                      PUTs a file: the status, and whether all of the file was read
+//	peer resets TRUSTED COUNT ADDRESS              COUNT requests on one connection, each reset behind its head; then one whole
 package main
 
 import (
@@ -18,9 +22,11 @@ import (
 	"net/http"
 	"os"
 	"strconv"
+	"strings"
 	"sync"
 	"time"
 
+	"github.com/lucas-clemente/quic-go"
 	"github.com/lucas-clemente/quic-go/http3"
 )
 
@@ -36,6 +42,10 @@ func serve(address, certificate, key, folder string) {
 	handler := http.HandlerFunc(func(w http.ResponseWriter, r *http.Request) {
 		if r.Method != http.MethodPost {
 			files.ServeHTTP(w, r)
+			return
+		}
+		if r.URL.Path == "/early" { // the body is not read: STOP_SENDING goes out behind the answer
+			fmt.Fprintln(w, "early")
 			return
 		}
 		hash := sha256.New()
@@ -134,6 +144,109 @@ func cancel(client *http.Client, url string, count int) error {
 	return err
 }
 
+func slow(client *http.Client, rate int, url string) error {
+	answer, err := client.Get(url)
+	if err != nil {
+		return err
+	}
+	defer answer.Body.Close()
+	for piece := int64(rate / 20); err == nil; {
+		_, err = io.CopyN(os.Stdout, answer.Body, piece)
+		time.Sleep(time.Second / 20)
+	}
+	if err == io.EOF {
+		err = nil
+	}
+	return err
+}
+
+func head(client *http.Client, size int, url string) error {
+	request, err := http.NewRequest(http.MethodGet, url, nil)
+	if err != nil {
+		return err
+	}
+	request.Header.Set("x-long", strings.Repeat("a", size))
+	answer, err := client.Do(request)
+	if err == nil {
+		answer.Body.Close()
+		fmt.Println(answer.StatusCode)
+	}
+	return err
+}
+
+type counted struct {
+	io.Reader
+	count int64
+}
+
+func (c *counted) Read(bytes []byte) (int, error) {
+	count, err := c.Reader.Read(bytes)
+	c.count += int64(count)
+	return count, err
+}
+
+func put(client *http.Client, name, url string) error {
+	file, err := os.Open(name)
+	if err != nil {
+		return err
+	}
+	status, err := file.Stat()
+	if err != nil {
+		return err
+	}
+	body := &counted{Reader: file}
+	request, err := http.NewRequest(http.MethodPut, url, io.NopCloser(body))
+	if err != nil {
+		return err
+	}
+	answer, err := client.Do(request)
+	if err != nil {
+		return err
+	}
+	text, err := io.ReadAll(answer.Body)
+	time.Sleep(2 * time.Second) // the rest of the file would go out meanwhile
+	fmt.Printf("%d, a text of %d bytes, all of the file: %v\n", answer.StatusCode, len(text), body.count == status.Size())
+	return err
+}
+
+// a connection of QUIC, without HTTP/3, which trusts the certificate in a file
+func connect(trusted, address string) (quic.Connection, error) {
+	text, err := os.ReadFile(trusted)
+	fail(err)
+	pool := x509.NewCertPool()
+	pool.AppendCertsFromPEM(text)
+	return quic.DialAddr(address, &tls.Config{RootCAs: pool, ServerName: "localhost", NextProtos: []string{"h3"}}, nil)
+}
+
+func resets(connection quic.Connection, count int) error {
+	// GET https://localhost/hello.txt
+	const get = "\x01\x1b\x00\x00\xd1\xd7\x50\x09localhost\x51\x0a/hello.txt"
+	control, err := connection.OpenUniStream()
+	if err == nil {
+		_, err = control.Write([]byte("\x00\x04\x00"))
+	}
+	for i := 0; i <= count && err == nil; i++ {
+		var stream quic.Stream
+		if stream, err = connection.OpenStreamSync(context.Background()); err != nil {
+			break
+		}
+		_, err = stream.Write([]byte(get))
+		if i < count {
+			stream.CancelWrite(0x10c)
+			stream.CancelRead(0x10c)
+			continue
+		}
+		stream.Close()
+		stream.SetReadDeadline(time.Now().Add(10 * time.Second))
+		var text []byte
+		if text, err = io.ReadAll(stream); err == nil {
+			fmt.Printf("%d reset, then %d bytes\n", count, len(text))
+		}
+	}
+	connection.CloseWithError(0x100, "")
+	return err
+}
+
 func number(text string) int {
 	value, err := strconv.Atoi(text)
 	fail(err)
@@ -147,7 +260,13 @@ func main() {
 		return
 	}
 	if len(words) < 3 {
-		fail(fmt.Errorf("serve, fetch, post, many or cancel, and their words"))
+		fail(fmt.Errorf("serve, fetch, post, many, cancel, slow, put, head or resets, and their words"))
+	}
+	if words[0] == "resets" && len(words) == 4 {
+		connection, err := connect(words[1], words[3])
+		fail(err)
+		fail(resets(connection, number(words[2])))
+		return
 	}
 	client, leave := newClient(words[1])
 	var err error
@@ -164,6 +283,12 @@ func main() {
 		err = many(client, number(words[2]), number(words[3]), words[4])
 	case words[0] == "cancel" && len(words) == 4:
 		err = cancel(client, words[2], number(words[3]))
+	case words[0] == "slow" && len(words) == 4:
+		err = slow(client, number(words[2]), words[3])
+	case words[0] == "put" && len(words) == 4:
+		err = put(client, words[2], words[3])
+	case words[0] == "head" && len(words) == 4:
+		err = head(client, number(words[2]), words[3])
 	default:
 		err = fmt.Errorf("no such words")
 	}

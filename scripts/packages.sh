@@ -1,0 +1,51 @@
+#!/usr/bin/env bash
+# packages.sh SET..: are the Debian packages there that a command wants? Names all that are missing at once, with the line that installs them.
+# The sets: peer (what bench/ is built with), examples (what `make examples` is), interop (what `make interop` runs them against), load (`make load`).
+set -uo pipefail
+
+missing=()
+need() { # PACKAGE, and a command or file of it
+  if [ "${2#/}" = "$2" ] && command -v "$2" >/dev/null; then return; fi
+  [ -e "$2" ] || missing+=("$1")
+}
+GO_SOURCE=/usr/share/gocode/src/github.com/lucas-clemente/quic-go
+for set in "$@"; do
+  case $set in
+    peer)
+      for name in nghttp3 nghttp2; do
+        need "lib$name-dev" "/usr/include/$name/$name.h"
+        need "lib$name-dev" "$(gcc -print-file-name="lib$name.a" 2>/dev/null)"
+      done
+      ;;
+    examples)
+      need gcc gcc
+      need make make
+      need pkg-config pkg-config
+      need openssl openssl
+      need rustc rustc
+      need libgnutls28-dev /usr/include/gnutls/gnutls.h
+      need libngtcp2-dev /usr/include/ngtcp2/ngtcp2.h
+      need libngtcp2-crypto-gnutls-dev /usr/include/ngtcp2/ngtcp2_crypto_gnutls.h
+      need golang-go go
+      need golang-github-lucas-clemente-quic-go-dev $GO_SOURCE
+      ;;
+    interop)
+      need python3 python3
+      need valgrind valgrind
+      need ngtcp2-server gtlsserver
+      need ngtcp2-client gtlsclient
+      need caddy caddy
+      need chromium chromium
+      ;;
+    load)
+      need python3 python3
+      need libnghttp3-dev /usr/include/nghttp3/nghttp3.h
+      need ngtcp2-server gtlsserver
+      need caddy caddy
+      ;;
+  esac
+done
+[ ${#missing[@]} -eq 0 ] && exit 0
+mapfile -t missing < <(printf '%s\n' "${missing[@]}" | sort -u)
+echo "missing: ${missing[*]} (Debian: apt-get install ${missing[*]})" >&2
+exit 1
