@@ -1,10 +1,10 @@
 -- The stream waits for as much as before.
 use Rattle.std.proofs.Common.{rules}
-use Rattle.h3_requests.proofs.Counts.{written}
+use Rattle.h3_requests.proofs.Ready.{written}
 use Rattle.h3_requests.proofs.streams.RequestStreams.send_data.Goals as goal
 
 pub invariant_of-self-then-not-takes_body : goal.invariant_of-self-then-not-takes_body
-invariant_of-self-then-not-takes_body c = written _ _ _ c.args.id c.in-Some.stream.now _ (c.get_mut.follows.holds _) (search rules) (search rules) c.self.invariant
+invariant_of-self-then-not-takes_body c = written _ _ _ _ c.args.id c.in-Some.stream.now _ (c.get_mut.follows.holds _) (search rules) (search rules) (search rules) c.self.invariant
 
 pub invariant_of-self-2 : goal.invariant_of-self-2
-invariant_of-self-2 c = written _ _ _ c.args.id c.in-Some.stream.now _ (c.get_mut.follows.holds _) (search rules) (search rules) c.self.invariant
+invariant_of-self-2 c = written _ _ _ _ c.args.id c.in-Some.stream.now _ (c.get_mut.follows.holds _) (search rules) (search rules) (search rules) c.self.invariant
