@@ -30,6 +30,6 @@ abbrev pub AreReady : ReadyStreams → Streams RequestState → Type 0
 AreReady s streams = (q : ℕ) → is_ready s q ≡ has_bytes (kept_at streams q)
 
 -- What is kept beside the streams is what they say.
-pub record AreKept (counts : List ℕ) (ready : ReadyStreams) (streams : Streams RequestState) : Type 0 where
+pub record AreKept (counts : List ℕ) (s : ReadyStreams) (streams : Streams RequestState) : Type 0 where
   pub counted : AreCounted counts streams
-  pub ready : AreReady ready streams
+  pub ready : AreReady s streams

@@ -50,7 +50,8 @@ impl RequestStreams {
         };
         let waiting = stream.outgoing.waiting();
         stream.outgoing.advance(count.min(waiting));
-        self.ready.settle(id, stream.outgoing.waiting() > 0);
+        let left = stream.outgoing.waiting();
+        self.ready.settle(id, left > 0);
         true
     }
 

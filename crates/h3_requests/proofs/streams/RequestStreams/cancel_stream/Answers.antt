@@ -1,7 +1,7 @@
 -- The count of the stream is replaced by what it waits for now.
 use Rattle.std.proofs.Common.{rules}
 use Rattle.h3_requests.proofs.Counts.{has_count_at}
-use Rattle.h3_requests.proofs.Ready.{replaced, written}
+use Rattle.h3_requests.proofs.Sendable.{replaced, written}
 use Rattle.h3_requests.proofs.streams.RequestStreams.cancel_stream.Goals as goal
 
 pub invariant_of-self-then-is_settled : goal.invariant_of-self-then-is_settled

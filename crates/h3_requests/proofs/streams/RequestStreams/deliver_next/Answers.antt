@@ -3,7 +3,7 @@ use Rattle.std.proofs.Common.{rules, ◌≡◌, None, sym, subst}
 use Rattle.std.specs.Prelude.{IfErr}
 use Rattle.h3_connection.specs.State.{kept_at}
 use Rattle.h3_requests.specs.Changing.{receiver_refusal, IsRefusedBy}
-use Rattle.h3_requests.proofs.Ready.{written}
+use Rattle.h3_requests.proofs.Sendable.{written}
 use Rattle.h3_requests.proofs.streams.RequestStreams.deliver_next.Goals as goal
 
 pub returns-in_default-clause-why : goal.returns-in_default-clause-why

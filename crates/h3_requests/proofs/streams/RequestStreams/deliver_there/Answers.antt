@@ -1,7 +1,7 @@
 -- The stream waits for as much as before.
 use Rattle.std.proofs.Common.{rules}
 use Rattle.h3_connection.specs.Delivering.{kept}
-use Rattle.h3_requests.proofs.Ready.{written}
+use Rattle.h3_requests.proofs.Sendable.{written}
 use Rattle.h3_requests.proofs.Received.{received_there}
 use Rattle.h3_requests.proofs.streams.RequestStreams.deliver_there.Goals as goal
 

@@ -1,6 +1,6 @@
 -- The stream waits for as much as before.
 use Rattle.std.proofs.Common.{rules}
-use Rattle.h3_requests.proofs.Ready.{written}
+use Rattle.h3_requests.proofs.Sendable.{written}
 use Rattle.h3_requests.proofs.streams.RequestStreams.finish_stream.Goals as goal
 
 pub invariant_of-self-then-not-takes_end : goal.invariant_of-self-then-not-takes_end

@@ -4,7 +4,7 @@ use Rattle.std.specs.Prelude.{Some}
 use Rattle.h3_blocked.specs.Counting.{waits_at}
 use Rattle.h3_requests.specs.HasBytes.{has_bytes}
 use Rattle.h3_requests.proofs.Counts.{has_count_at}
-use Rattle.h3_requests.proofs.Ready.{inserted}
+use Rattle.h3_requests.proofs.Sendable.{inserted}
 use Rattle.h3_requests.proofs.streams.RequestStreams.open.Goals as goal
 
 pub replace-requires-clause-among : goal.replace-requires-clause-among

@@ -11,7 +11,7 @@ use Rattle.h3_connection.specs.State.{RequestState, kept_at}
 use Rattle.h3_requests.specs.Ready.{AreKept}
 use Rattle.h3_requests.proofs.Counts.{has_count_at, replaced_twice}
 use Rattle.h3_requests.proofs.Pulls.{gives_just, gives_limited}
-use Rattle.h3_requests.proofs.Ready.{kept_again, replaced, written}
+use Rattle.h3_requests.proofs.Sendable.{kept_again, replaced, written}
 use Rattle.h3_requests.proofs.streams.RequestStreams.pull_into.Goals as goal
 
 pub within_limit-requires-clause-among : goal.within_limit-requires-clause-among
@@ -19,7 +19,7 @@ within_limit-requires-clause-among c = has_count_at _ c.self.inside.streams.by_i
 
 pub invariant_of-self-then-answer_settled : goal.invariant_of-self-then-answer_settled
 invariant_of-self-then-answer_settled c =
-    replaced _ _ _ _ _ c.args.id c.in-Some.stream.now _ (c.get_mut.follows.holds _) (search rules) c.within_limit.ensures.sorted (search rules) refl c.self.invariant
+    replaced _ _ _ _ _ c.args.id c.in-Some.stream.now _ (c.get_mut.follows.holds _) (search rules) c.within_limit.ensures.sorted (search rules) (search rules) c.self.invariant
 
 pub returns-then-answer_settled-clause-answer : goal.returns-then-answer_settled-clause-answer
 returns-then-answer_settled-clause-answer c = λ passed.
@@ -34,11 +34,11 @@ returns-then-answer_settled-clause-answer c = λ passed.
 
 pub invariant_of-self-in_default-reserve : goal.invariant_of-self-in_default-reserve
 invariant_of-self-in_default-reserve c =
-    written _ _ _ _ c.args.id c.in-Some.stream.now _ (c.get_mut.follows.holds _) (search rules) refl refl (kept_again c.reserve.ensures.items c.self.invariant)
+    written _ _ _ _ c.args.id c.in-Some.stream.now _ (c.get_mut.follows.holds _) (search rules) refl (search rules) (kept_again c.reserve.ensures.items c.self.invariant)
 
 pub invariant_of-self-then-is_memory : goal.invariant_of-self-then-is_memory
 invariant_of-self-then-is_memory c =
-    written _ _ _ _ c.args.id c.in-Some.stream.now _ (c.get_mut.follows.holds _) (search rules) (search rules) refl (kept_again c.reserve.ensures.items c.self.invariant)
+    written _ _ _ _ c.args.id c.in-Some.stream.now _ (c.get_mut.follows.holds _) (search rules) (search rules) (search rules) (kept_again c.reserve.ensures.items c.self.invariant)
 
 pub replace-requires-clause-among : goal.replace-requires-clause-among
 replace-requires-clause-among c =
@@ -49,14 +49,14 @@ pub within_limit-requires-2-clause-among : goal.within_limit-requires-2-clause-a
 within_limit-requires-2-clause-among c =
     let now : RequestState = record { incoming = c.pull_into.new.self; outgoing = c.stream.inside.outgoing } in
     let between : AreKept c.replace.new.counts.items c.self.inside.ready (c.get_mut.follows.lender now).by_id.entries =
-    replaced _ _ _ _ _ c.args.id c.in-Some.stream.now now (c.get_mut.follows.holds now) (search rules) c.replace.ensures.sorted (search rules) refl (kept_again c.reserve.ensures.items c.self.invariant) in
+    replaced _ _ _ _ _ c.args.id c.in-Some.stream.now now (c.get_mut.follows.holds now) (search rules) c.replace.ensures.sorted (search rules) (search rules) (kept_again c.reserve.ensures.items c.self.invariant) in
     let found : kept_at c.self.inside.streams.by_id.entries c.args.id ≡ Some c.in-Some.stream.now = search rules in
     let there : kept_at (c.get_mut.follows.lender now).by_id.entries c.args.id ≡ Some now = ((c.get_mut.follows.holds now).0 (ap is_some found)).here in
     has_count_at _ (c.get_mut.follows.lender now).by_id.entries c.args.id _ (sym (ap waits_at there)) between.counted
 
 pub invariant_of-self-2 : goal.invariant_of-self-2
 invariant_of-self-2 c =
-    replaced _ _ _ _ _ c.args.id c.in-Some.stream.now _ (c.get_mut.follows.holds _) (search rules) c.within_limit-2.ensures.sorted (search (rules, replaced_twice)) refl (kept_again c.reserve.ensures.items c.self.invariant)
+    replaced _ _ _ _ _ c.args.id c.in-Some.stream.now _ (c.get_mut.follows.holds _) (search rules) c.within_limit-2.ensures.sorted (search (rules, replaced_twice)) (search rules) (kept_again c.reserve.ensures.items c.self.invariant)
 
 pub returns-clause-answer : goal.returns-clause-answer
 returns-clause-answer c = λ passed.

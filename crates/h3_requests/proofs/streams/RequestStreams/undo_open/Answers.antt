@@ -2,7 +2,7 @@
 use Rattle.std.proofs.Common.{ap, ◌∙◌}
 use Rattle.h3_blocked.specs.Counting.{waits_at}
 use Rattle.h3_requests.proofs.Counts.{has_count_at}
-use Rattle.h3_requests.proofs.Ready.{removed}
+use Rattle.h3_requests.proofs.Sendable.{removed}
 use Rattle.h3_requests.proofs.streams.RequestStreams.undo_open.Goals as goal
 
 pub replace-requires-clause-among : goal.replace-requires-clause-among

@@ -16,7 +16,7 @@ use Rattle.h3_requests.specs.HasBytes.{has_bytes}
 use Rattle.h3_requests.specs.Lending.{Writes}
 use Rattle.h3_requests.specs.Ready.{AreKept, AreReady, IsOneTest, is_listed, is_ready}
 use Rattle.h3_requests.specs.declared.ready.ReadyStreams.{ReadyStreams}
-use Rattle.h3_requests.proofs.Counts as counts
+use Rattle.h3_requests.proofs.Counts as counting
 
 -- one stream changes, and the test of its id
 ready_at : (s t : ReadyStreams) (old new : Streams RequestState) (id : ℕ) (is : Bool) → IsOneTest id is (is_ready s) (is_ready t) → is ≡ has_bytes (kept_at new id)
@@ -36,7 +36,7 @@ room_kept same h = record { counted = h.counted; ready = λ q. same q ∙ h.read
 
 -- the same counts, in a vector with more room
 pub kept_again : {counts others : List ℕ} {s : ReadyStreams} {streams : Streams RequestState} → others ≡ counts → AreKept counts s streams → AreKept others s streams
-kept_again same h = record { counted = counts.counted_again same h.counted; ready = h.ready }
+kept_again same h = record { counted = counting.counted_again same h.counted; ready = h.ready }
 
 bytes_stay : (s : ReadyStreams) (old new : Streams RequestState) (id : ℕ) (before after : RequestState) → Sets old new id after → kept_at old id ≡ Some before
     → after.outgoing.pieces ≡ before.outgoing.pieces → AreReady s old → AreReady s new
@@ -49,7 +49,7 @@ bytes_stay s old new id before after sets there same h =
 pub written : (counts : List ℕ) (s : ReadyStreams) (old new : Streams RequestState) (id : ℕ) (before after : RequestState) → Writes old new id after → kept_at old id ≡ Some before
     → after.incoming.waits_for ≡ before.incoming.waits_for → after.outgoing.pieces ≡ before.outgoing.pieces → AreKept counts s old → AreKept counts s new
 written counts s old new id before after writes there same waits h =
-    record { counted = counts.written counts old new id before after writes there same h.counted; ready = bytes_stay s old new id before after (writes.0 (ap is_some there)) there waits h.ready }
+    record { counted = counting.written counts old new id before after writes there same h.counted; ready = bytes_stay s old new id before after (writes.0 (ap is_some there)) there waits h.ready }
 
 -- or its count was replaced
 pub replaced : (counts others : List ℕ) (s : ReadyStreams) (old new : Streams RequestState) (id : ℕ) (before after : RequestState) → Writes old new id after → kept_at old id ≡ Some before
@@ -57,7 +57,7 @@ pub replaced : (counts others : List ℕ) (s : ReadyStreams) (old new : Streams 
     → AreKept others s new
 replaced counts others s old new id before after writes there sorted replaces waits h =
     record {
-      counted = counts.replaced counts others old new id before after writes there sorted replaces h.counted;
+      counted = counting.replaced counts others old new id before after writes there sorted replaces h.counted;
       ready = bytes_stay s old new id before after (writes.0 (ap is_some there)) there waits h.ready;
     }
 
@@ -68,7 +68,7 @@ pub settled : (counts : List ℕ) (s t : ReadyStreams) (old new : Streams Reques
 settled counts s t old new id is before after writes there same one waits h =
     let sets : Sets old new id after = writes.0 (ap is_some there) in
     record {
-      counted = counts.written counts old new id before after writes there same h.counted;
+      counted = counting.written counts old new id before after writes there same h.counted;
       ready = ready_at s t old new id is one (waits ∙ sym (ap has_bytes sets.here)) sets.others h.ready;
     }
 
@@ -78,7 +78,7 @@ pub inserted : (counts others : List ℕ) (s t : ReadyStreams) (old new : Stream
     → IsOneTest id false (is_ready s) (is_ready t) → AreKept counts s old → AreKept others t new
 inserted counts others s t old new id count r sets distinct nothing none is sorted replaces one h =
     record {
-      counted = counts.inserted counts others old new id count r sets distinct nothing is sorted replaces h.counted;
+      counted = counting.inserted counts others old new id count r sets distinct nothing is sorted replaces h.counted;
       ready = ready_at s t old new id false one (sym (ap has_bytes sets.here ∙ none)) sets.others h.ready;
     }
 
@@ -87,7 +87,7 @@ pub removed : (counts others : List ℕ) (s t : ReadyStreams) (old new : Streams
     → count ≡ waits_at (kept_at old id) → IsNonDecreasing others → Replaces counts others count 0 → IsOneTest id false (is_ready s) (is_ready t) → AreKept counts s old → AreKept others t new
 removed counts others s t old new id count takes distinct is sorted replaces one h =
     record {
-      counted = counts.removed counts others old new id count takes distinct is sorted replaces h.counted;
+      counted = counting.removed counts others old new id count takes distinct is sorted replaces h.counted;
       ready = ready_at s t old new id false one (sym (ap has_bytes takes.here)) takes.others h.ready;
     }
 
