@@ -104,6 +104,16 @@ pub quiet : (s : EndpointState) (id : ℕ) → id ≢ control_id s.side → id �
 quiet s id control encoder decoder =
     ap (λ o. not (is_some (sender_in s id)) && nat_lt 0 (length (waiting_of s.own o))) (none_of s.side id control encoder decoder) ∙ nothing (not (is_some (sender_in s id)))
 
+-- the first of the own streams
+pub least_own : (s : EndpointState) (from control : ℕ) (first second third both found : Option ℕ) → control ≡ control_id s.side → IsLeast (λ id. id == control && has_own_bytes s id) from first
+    → IsLeast (λ id. id == control + 4 && has_own_bytes s id) from second → IsLeast (λ id. id == control + 8 && has_own_bytes s id) from third → both ≡ earlier_of first second
+    → found ≡ earlier_of both third → IsLeast (has_own_bytes s) from found
+least_own s from control first second third both found is one two three joined result =
+    let others : (id : ℕ) → id ≢ control → id ≢ control + 4 → id ≢ control + 8 → has_own_bytes s id ≡ false
+    = subst (λ n. (id : ℕ) → id ≢ n → id ≢ n + 4 → id ≢ n + 8 → has_own_bytes s id ≡ false) (sym is) (quiet s) in
+    subst (IsLeast (has_own_bytes s) from) (sym (result ∙ ap (λ o. earlier_of o third) joined))
+    (least_of_three (has_own_bytes s) control (control + 4) (control + 8) from first second third others one two three)
+
 or_false : (b : Bool) → (b || false) ≡ b
 or_false true = refl
 or_false false = refl

@@ -11,7 +11,6 @@ impl Endpoint {
     /// The first stream from this id on on which bytes wait to be sent, of the request streams and the own unidirectional ones; none
     /// where bytes wait on no stream from there on. It takes no memory. A look-up passes by the streams on which nothing waits, so going from
     /// each answer to the next costs one look-up for each stream that waits.
-    #[tactic(auto, using(crate::proofs::Next::next_of_both))]
     pub fn next_waiting(&self, from: u64) -> Option<StreamId>
         ensures { ShowsNextWaiting self.now from result }
     {
@@ -19,7 +18,6 @@ impl Endpoint {
     }
 
     // The same of the own streams alone.
-    #[tactic(auto, using(crate::proofs::Next::least_of_three, crate::proofs::Next::quiet))]
     fn next_own(&self, from: u64) -> Option<StreamId>
         ensures { IsLeast (has_own_bytes self.now) from result }
     {
