@@ -106,9 +106,11 @@ static void of_ids(h3_endpoint *e) {
     IS(h3_deliver_reset(e, ids[i], 0, &detail), H3_ARGUMENT);
     IS(h3_pull(e, ids[i], &item), H3_ARGUMENT);
     IS(h3_stream(e, ids[i], &s), H3_ARGUMENT);
-    uint64_t next;
+    uint64_t next = 8;
+    uint32_t fin = 9;
     IS(h3_next_waiting(e, ids[i], &next), H3_NONE);
-    HOLDS(detail == 0 && n == 7);
+    IS(h3_outgoing(e, ids[i], b, 4, &n, &fin), H3_ARGUMENT);
+    HOLDS(detail == 0 && n == 7 && next == 8 && fin == 9);
   }
 }
 
@@ -217,6 +219,81 @@ static void of_items(void) {
   h3_free(&e);
 }
 
+/* a sweep of h3_next_waiting names the streams on which bytes wait, in order, and no others; where there is none no id is written */
+static void of_sweep(h3_endpoint *e, uint64_t end, unsigned count) {
+  uint64_t next = 0, found;
+  unsigned seen = 0;
+  for (uint64_t id = 0; id < end; id++) {
+    h3_stream_state s;
+    IS(h3_stream(e, id, &s), H3_OK);
+    if (!s.waiting) continue;
+    found = 1;
+    IS(h3_next_waiting(e, next, &found), H3_OK);
+    HOLDS(found == id);
+    found = 1;
+    IS(h3_next_waiting(e, id, &found), H3_OK);
+    HOLDS(found == id);
+    next = id + 1;
+    seen++;
+  }
+  found = 1;
+  IS(h3_next_waiting(e, next, &found), H3_NONE);
+  HOLDS(found == 1 && seen == count);
+}
+
+enum { STREAMS = 300 };
+
+static void of_waiting(void) {
+  h3_endpoint e = H3_NONE_YET;
+  h3_config c;
+  h3_stream_state s;
+  uint64_t id, detail;
+  h3_field_size f = {7, 3};
+  h3_config_default(&c);
+  IS(h3_new(&e, &c, NULL), H3_OK);
+  of_sweep(&e, 12, 3);
+  for (unsigned i = 0; i < STREAMS; i++) IS(h3_open_request(&e, &id, NULL), H3_OK);
+  of_sweep(&e, 4 * STREAMS, 3);
+  /* from the last stream to the first one; an empty body, a further one and an end change nothing */
+  for (unsigned i = STREAMS; i-- > 0;) IS(h3_send_head(&e, 4 * i, &f, 1, ":methodGET", 10, NULL), H3_OK);
+  for (unsigned i = 0; i < STREAMS; i += 7) {
+    IS(h3_send_body(&e, 4 * i, NULL, 0, NULL), H3_OK);
+    IS(h3_send_body(&e, 4 * i, "body", 4, NULL), H3_OK);
+    IS(h3_finish(&e, 4 * i, NULL), H3_OK);
+  }
+  of_sweep(&e, 4 * STREAMS, STREAMS + 3);
+  /* some of the bytes are taken, and all of them */
+  for (unsigned i = 0; i < STREAMS; i += 2) {
+    IS(h3_advance(&e, 4 * i, 1), H3_OK);
+    IS(h3_stream(&e, 4 * i, &s), H3_OK);
+    if (i % 4) IS(h3_advance(&e, 4 * i, s.waiting), H3_OK);
+  }
+  of_sweep(&e, 4 * STREAMS, STREAMS * 3 / 4 + 3);
+  for (id = 2; id <= 10; id += 4) {
+    IS(h3_stream(&e, id, &s), H3_OK);
+    IS(h3_advance(&e, id, s.waiting), H3_OK);
+  }
+  /* what was reset is not named, and neither is one whose head is refused for its size (SETTINGS of the peer: no section above 10 bytes) */
+  for (unsigned i = 0; i < STREAMS; i++) {
+    IS(h3_stream(&e, 4 * i, &s), H3_OK);
+    if (s.waiting && i % 3) IS(h3_reset(&e, 4 * i, NULL), H3_OK);
+  }
+  of_sweep(&e, 4 * STREAMS, STREAMS / 4);
+  IS(h3_deliver(&e, 3, "\x00\x04\x02\x06\x0a", 5, NULL), H3_OK);
+  IS(h3_open_request(&e, &id, NULL), H3_OK);
+  IS(h3_send_head(&e, id, &f, 1, ":methodGET", 10, &detail), H3_TOO_LARGE);
+  of_sweep(&e, 4 * STREAMS + 12, STREAMS / 4);
+  /* a server opens none, and no id is written */
+  h3_free(&e);
+  c.server = 1;
+  IS(h3_new(&e, &c, NULL), H3_OK);
+  id = 5;
+  IS(h3_open_request(&e, &id, NULL), H3_NOT_CLIENT);
+  HOLDS(id == 5);
+  of_sweep(&e, 12, 3);
+  h3_free(&e);
+}
+
 int main(void) {
   h3_endpoint e = H3_NONE_YET;
   h3_config c;
@@ -232,6 +309,7 @@ int main(void) {
   h3_free(&e);
   of_none(&e);
   of_items();
+  of_waiting();
   if (!bad) puts("ok arguments: wrong arguments of every kind are answered, and nothing is done");
   return bad;
 }

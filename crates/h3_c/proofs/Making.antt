@@ -24,9 +24,9 @@ lacks_memory given s h = record { answer = OutOfMemory; is = refl; refused = com
 pub refused : (given : GivenConfig) (e : NewError) (n : Told) → n ≡ new_told e → Creates (side_of given) (announced_of given) (Err e) → Unmakes given n
 refused given e n is h = record { answer = e; is = is; refused = h }
 
-pub made : (given : GivenConfig) (v : Seen) (value : Option Seen) (n : Told) → n ≡ ok → value ≡ Some v → v.last ≡ Pending → Creates (side_of given) (announced_of given) (Ok v.endpoint) → Makes given n value
-made given v value n is there last h =
+pub made : (given : GivenConfig) (v : Seen) (before after : Option Seen) (n : Told) → n ≡ ok → after ≡ Some v → v.last ≡ Pending → Creates (side_of given) (announced_of given) (Ok v.endpoint) → Makes given n before after
+made given v before after n is there last h =
     record { answer = Ok v.endpoint; is = is; done = h; made = there ∙ ap (λ p. let w : Seen = record { endpoint = v.endpoint; last = p } in Some w) last }
 
-pub unmade : (given : GivenConfig) (n : Told) (value : Option Seen) → Unmakes given n → Makes given n value
-unmade given n value u = record { answer = Err u.answer; is = u.is; done = u.refused; made = tt }
+pub unmade : (given : GivenConfig) (n : Told) (before after : Option Seen) → Unmakes given n → after ≡ before → Makes given n before after
+unmade given n before after u same = record { answer = Err u.answer; is = u.is; done = u.refused; made = same }

@@ -47,10 +47,10 @@ abbrev pub made_told : Result EndpointState NewError → Told
 made_told (Ok s) = ok
 made_told (Err e) = new_told e
 
--- the handle owns the endpoint that was made, of which nothing was pulled
-abbrev pub IsMade : Result EndpointState NewError → Option Seen → Type 0
-IsMade (Ok s) value = value ≡ Some (record { endpoint = s; last = Pending })
-IsMade (Err e) value = Unit {0}
+-- the handle owns the endpoint that was made, of which nothing was pulled; and what it owned before where none was made
+abbrev pub IsMade : Result EndpointState NewError → Option Seen → Option Seen → Type 0
+IsMade (Ok s) before after = after ≡ Some (record { endpoint = s; last = Pending })
+IsMade (Err e) before after = after ≡ before
 
 -- why none is made
 pub record Unmakes (given : GivenConfig) (n : Told) : Type 0 where
@@ -58,8 +58,8 @@ pub record Unmakes (given : GivenConfig) (n : Told) : Type 0 where
   pub is : n ≡ new_told answer
   pub refused : Creates (side_of given) (announced_of given) (Err answer)
 
-pub record Makes (given : GivenConfig) (n : Told) (value : Option Seen) : Type 0 where
+pub record Makes (given : GivenConfig) (n : Told) (before after : Option Seen) : Type 0 where
   pub answer : Result EndpointState NewError
   pub is : n ≡ made_told answer
   pub done : Creates (side_of given) (announced_of given) answer
-  pub made : IsMade answer value
+  pub made : IsMade answer before after

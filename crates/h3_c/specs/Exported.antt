@@ -1,10 +1,11 @@
 -- What the exports promise: the contract of the call that each makes, of the endpoint that the handle owned and the one that the handle
 -- for the next call owns, with the numbers that C gets.
-use Rattle.std.specs.Prelude.{◌≡◌, ◌⊎◌, ◌<◌, ◌≤◌, ◌^◌, ◌++◌, ◌==◌, ◌&&◌, ℕ, nat_le, if◌then◌else◌, Bool, List, length, take, drop, min, slice_get, Option, Some, None, Result}
+use Rattle.std.specs.Prelude.{◌≡◌, ◌≢◌, ◌⊎◌, ◌<◌, ◌≤◌, ◌^◌, ◌++◌, ◌==◌, ◌&&◌, ℕ, nat_le, if◌then◌else◌, Bool, List, length, take, drop, min, slice_get, Option, Some, None, Result}
 use Rattle.h3_field.specs.Field.{Field}
 use Rattle.h3_header.specs.Head.{Head}
 use Rattle.h3_header.specs.HeadRead.{HeadRead, IsHead, IsNone}
 use Rattle.h3_connection.specs.Endpoint.{EndpointHistory, bytes_waiting}
+use Rattle.h3_connection.specs.NextWaiting.{ShowsNextWaiting}
 use Rattle.h3_connection.specs.Shown.{is_finished}
 use Rattle.h3_connection.specs.ReceivingContracts.{PullsNext}
 use Rattle.h3_connection.specs.SendingContracts.{Advances, Opens}
@@ -55,8 +56,8 @@ pub record Pulls (id : ℕ) (n : Told) (v w : Seen) (given : PulledItem) : Type 
   pub given_so : given ≡ shown w.last
 
 -- The bytes of an item from one on, as many as fit.
-pub record ReadsBytes (v : Seen) (from : ℕ) (n : Told) (before after : List ℕ) (count : ℕ) : Type 0 where
-  pub past : length (bytes_of v.last) ≤ from → (n ≡ none) × (after ≡ before)
+pub record ReadsBytes (v : Seen) (from : ℕ) (n : Told) (before after : List ℕ) (count_before count : ℕ) : Type 0 where
+  pub past : length (bytes_of v.last) ≤ from → (n ≡ none) × (after ≡ before) × (count ≡ count_before)
   pub inside : from < length (bytes_of v.last) → (n ≡ ok) × (count ≡ min (length (drop from (bytes_of v.last))) (length before))
       × (after ≡ take (length before) (drop from (bytes_of v.last)) ++ drop (length (drop from (bytes_of v.last))) before)
 
@@ -73,36 +74,37 @@ pub record Takes (v w : Seen) (id count : ℕ) (n : Told) : Type 0 where
   pub many : (e : EndpointHistory) → StandsFor v.endpoint e → length (bytes_waiting e id) < count → (n ≡ argument) × (w ≡ v)
   pub last : w.last ≡ v.last
 
--- bytes wait on a stream from that id on
-pub record Waits (v : Seen) (from id : ℕ) : Type 0 where
-  pub from_there : from ≤ id
-  pub bytes : (e : EndpointHistory) → StandsFor v.endpoint e → 0 < length (bytes_waiting e id)
+-- `h3_next_waiting`: the least id from there on of a stream on which bytes wait; or bytes wait on none of them, and no id is written
+abbrev pub WaitsNext : Seen → ℕ → Told → ℕ → ℕ → Type 0
+WaitsNext v from n before after = ((n ≡ ok) × ShowsNextWaiting v.endpoint from (Some after)) ⊎ ((n ≡ none) × ShowsNextWaiting v.endpoint from None × (after ≡ before))
 
--- `h3_next_waiting`: bytes wait on the stream that is answered
-abbrev pub IsNextFound : Told → Seen → ℕ → ℕ → Type 0
-IsNextFound n v from id = n ≡ ok → Waits v from id
-
-pub record WaitsNext (v : Seen) (from : ℕ) (n : Told) (id : ℕ) : Type 0 where
-  pub told : (n ≡ ok) ⊎ (n ≡ none)
-  pub found : IsNextFound n v from id
-
--- `h3_open_request`: the id is the next one
-pub record OpensRequest (n : Told) (v w : Seen) (id : ℕ) : Type 0 where
+-- `h3_open_request`: the id is the next one, and is not written where none is opened
+pub record OpensRequest (n : Told) (v w : Seen) (before after : ℕ) : Type 0 where
   pub calls : Calls call_told n v w (λ call. Opens v.endpoint w.endpoint call)
-  pub id_is : n ≡ ok → id ≡ v.endpoint.next_id
+  pub id_is : n ≡ ok → after ≡ v.endpoint.next_id
+  pub unwritten : n ≢ ok → after ≡ before
 
 -- `H3_ROOM` where a buffer is too small
 abbrev pub room_told : Bool → Told
 room_told fits = if fits then ok else room
 
--- A field's name and value, and how long both are.
-abbrev pub GivesField : Option Field → Told → List ℕ → List ℕ → ℕ → List ℕ → List ℕ → ℕ → Type 0
-GivesField None n name name_after name_len value value_after value_len = n ≡ none
-GivesField (Some f) n name name_after name_len value value_after value_len =
-    (n ≡ room_told (nat_le (length f.name) (length name) && nat_le (length f.value) (length value)))
-    × (name_len ≡ length f.name) × (name_after ≡ put f.name name) × (value_len ≡ length f.value) × (value_after ≡ put f.value value)
+-- where a field goes: C's buffers for its name and value, and what tells how long both are
+pub record Places : Type 0 where
+  pub name : List ℕ
+  pub name_len : ℕ
+  pub value : List ℕ
+  pub value_len : ℕ
 
--- A field of the head or trailer that was pulled last, where memory was not refused.
-abbrev pub ReadsField : Seen → ℕ → Told → List ℕ → List ℕ → ℕ → List ℕ → List ℕ → ℕ → Type 0
-ReadsField v index n name name_after name_len value value_after value_len =
-    (n ≡ memory) ⊎ GivesField (slice_get (fields_of v.last) index) n name name_after name_len value value_after value_len
+abbrev pub places : List ℕ → ℕ → List ℕ → ℕ → Places
+places name name_len value value_len = record { name = name; name_len = name_len; value = value; value_len = value_len }
+
+-- A field's name and value, as much as fits, and how long both are. Nothing is written where there is none.
+abbrev pub GivesField : Option Field → Told → Places → Places → Type 0
+GivesField None n before after = (n ≡ none) × (after ≡ before)
+GivesField (Some f) n before after =
+    (n ≡ room_told (nat_le (length f.name) (length before.name) && nat_le (length f.value) (length before.value)))
+    × (after ≡ places (put f.name before.name) (length f.name) (put f.value before.value) (length f.value))
+
+-- A field of the head or trailer that was pulled last. Nothing is written where memory was refused.
+abbrev pub ReadsField : Seen → ℕ → Told → Places → Places → Type 0
+ReadsField v index n before after = ((n ≡ memory) × (after ≡ before)) ⊎ GivesField (slice_get (fields_of v.last) index) n before after

@@ -48,13 +48,13 @@ abbrev pub ShowsConnection : Seen → ConnectionState → Type 0
 ShowsConnection v s = (e : EndpointHistory) → StandsFor v.endpoint e → IsConnection e s
 
 -- the value of a setting, where the peer announced it
-abbrev pub IsValue : Option ℕ → Told → ℕ → Type 0
-IsValue None n value = n ≡ none
-IsValue (Some announced) n value = (n ≡ ok) × (value ≡ announced)
+abbrev pub IsValue : Option ℕ → Told → ℕ → ℕ → Type 0
+IsValue None n before after = (n ≡ none) × (after ≡ before)
+IsValue (Some announced) n before after = (n ≡ ok) × (after ≡ announced)
 
 abbrev pub setting_in : Option (List (ℕ × ℕ)) → ℕ → Option ℕ
 setting_in None id = None
 setting_in (Some pairs) id = value_of id pairs
 
-abbrev pub ShowsSetting : Seen → ℕ → Told → ℕ → Type 0
-ShowsSetting v id n value = (e : EndpointHistory) → StandsFor v.endpoint e → IsValue (setting_in e.peer.settings id) n value
+abbrev pub ShowsSetting : Seen → ℕ → Told → ℕ → ℕ → Type 0
+ShowsSetting v id n before after = (e : EndpointHistory) → StandsFor v.endpoint e → IsValue (setting_in e.peer.settings id) n before after

@@ -27,8 +27,6 @@ pub struct Connection {
     last: Pull,
     // the fields of the head or trailer that was pulled, once they were asked for
     fields: Option<Vec<HeaderField>>,
-    // the request streams on which something was sent that may still wait
-    filled: Vec<u64>,
 }
 
 impl Model for Connection {
@@ -45,14 +43,13 @@ impl Model for Connection {
 
 impl Connection {
     /// Nothing was pulled yet.
-    pub(crate) fn of(alloc: Global, endpoint: Endpoint) -> Connection
+    pub(crate) fn of(endpoint: Endpoint) -> Connection
         ensures { result ≡ record { endpoint = endpoint; last = Pull.Pending } }
     {
         Connection {
             endpoint,
             last: Pull::Pending,
             fields: None,
-            filled: Vec::new(alloc),
         }
     }
 }
@@ -79,7 +76,7 @@ fn made_in_range(alloc: Global, given: &GivenConfig) -> Result<Box<Connection>, 
     ensures refused { IfErr result (Unmakes given.now) }
 {
     match endpoint_of(alloc, given) {
-        Ok(endpoint) => match boxed(alloc, Connection::of(alloc, endpoint)) {
+        Ok(endpoint) => match boxed(alloc, Connection::of(endpoint)) {
             Ok(connection) => Ok(connection),
             Err(_) => Err(MEMORY),
         },

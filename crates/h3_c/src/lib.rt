@@ -7,7 +7,6 @@ mod config;
 mod connection;
 mod exports;
 mod fields;
-mod filled;
 mod handle;
 mod items;
 mod loose;

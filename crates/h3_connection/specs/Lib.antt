@@ -39,6 +39,8 @@ pub mod HandedOut
 pub mod SendingContracts
 pub mod ReceivingContracts
 pub mod ReadingContracts
+pub mod NextWaiting
+pub mod NextWaitingLaws
 pub mod CallLists
 pub mod Isolation
 pub mod CallCuts

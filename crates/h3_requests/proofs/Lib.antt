@@ -1,4 +1,5 @@
 pub mod Counts
 pub mod Found
 pub mod Pulls
+pub mod Sendable
 pub mod Received

@@ -6,6 +6,7 @@ ghost use Rattle.h3_connection.specs.Calls.{fresh_request, Sets};
 ghost use Rattle.h3_connection.specs.State.{kept_at};
 
 use crate::map::StreamMap;
+use crate::ready::ReadyStreams;
 use crate::stream::RequestStream;
 use h3_blocked::replace;
 use h3_proto::stream::StreamId;
@@ -23,6 +24,8 @@ pub struct RequestStreams {
     streams: StreamMap,
     // what the streams wait for, in order, and no 0
     blocked: Vec<usize>,
+    // those on which bytes wait to be sent
+    ready: ReadyStreams,
 }
 
 impl Model for RequestStreams {
@@ -33,9 +36,9 @@ impl Model for RequestStreams {
 
     ghost view = { λ s. s.streams.by_id.entries };
 
-    ghost use Rattle.h3_requests.specs.Counted.{AreCounted};
+    ghost use Rattle.h3_requests.specs.Ready.{AreKept};
 
-    ghost invariant = { λ s. AreCounted s.blocked.items s.streams.by_id.entries };
+    ghost invariant = { λ s. AreKept s.blocked.items s.ready s.streams.by_id.entries };
 }
 
 impl RequestStreams {
@@ -46,6 +49,7 @@ impl RequestStreams {
         RequestStreams {
             streams: StreamMap::new(alloc),
             blocked: Vec::new(alloc),
+            ready: ReadyStreams::new(alloc),
         }
     }
 
@@ -67,6 +71,7 @@ impl RequestStreams {
             return Err(AllocError);
         };
         replace(&mut self.blocked, waits_of(&before), 0);
+        self.ready.settle(id, false);
         Ok(())
     }
 
@@ -76,6 +81,7 @@ impl RequestStreams {
     {
         let stream = self.streams.remove(id);
         replace(&mut self.blocked, waits_of(&stream), 0);
+        self.ready.settle(id, false);
     }
 }
 

@@ -5,6 +5,7 @@ pub mod SendingCalls
 pub mod Parts
 pub mod SendingBodies
 pub mod Taking
+pub mod Next
 pub mod Inserting
 pub mod SendingSections
 pub mod SendingHeads

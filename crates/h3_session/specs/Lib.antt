@@ -1,5 +1,6 @@
 pub mod OpenedLaws
 pub mod Refused
+pub mod Next
 pub mod Reading
 pub mod Canceling
 pub mod Arriving

@@ -20,6 +20,7 @@ use std::marker::Model;
 
 mod copying;
 mod heads;
+mod next;
 mod pulling;
 mod reading;
 mod receiving;

@@ -7,8 +7,7 @@ ghost use Rattle.h3_c.specs.Numbers.{call_told};
 
 use super::Connection;
 use crate::fields::{FieldSize, given_head};
-use crate::filled::note;
-use crate::numbers::{ARGUMENT, MEMORY, Told, called};
+use crate::numbers::{ARGUMENT, Told, called};
 use h3_header::Header;
 use h3_proto::stream::StreamId;
 use std::alloc::Global;
@@ -40,14 +39,9 @@ impl Connection {
 
     // (a function of its own: each exit of one that owns the head would drop it)
     fn put_head(&mut self, stream: StreamId, head: &Header) -> Told
-        ensures { OrMemory result self.old self.new (Calls call_told result self.old self.new (λ call. SendsHead self.old.endpoint self.new.endpoint stream head.now call)) }
+        ensures { Calls call_told result self.old self.new (λ call. SendsHead self.old.endpoint self.new.endpoint stream head.now call) }
     {
-        if self.filled.reserve(1).is_err() {
-            return MEMORY;
-        }
-        let told = called(self.endpoint.send_head(stream, head));
-        note(&mut self.filled, stream.into_inner());
-        told
+        called(self.endpoint.send_head(stream, head))
     }
 
     /// A trailer goes out on a stream.
@@ -76,13 +70,8 @@ impl Connection {
 
     // (a function of its own: each exit of one that owns the trailer would drop it)
     fn put_trailer(&mut self, stream: StreamId, trailer: &Header) -> Told
-        ensures { OrMemory result self.old self.new (Calls call_told result self.old self.new (λ call. SendsTrailer self.old.endpoint self.new.endpoint stream trailer.now call)) }
+        ensures { Calls call_told result self.old self.new (λ call. SendsTrailer self.old.endpoint self.new.endpoint stream trailer.now call) }
     {
-        if self.filled.reserve(1).is_err() {
-            return MEMORY;
-        }
-        let told = called(self.endpoint.send_trailer(stream, trailer));
-        note(&mut self.filled, stream.into_inner());
-        told
+        called(self.endpoint.send_trailer(stream, trailer))
     }
 }

@@ -1,6 +1,6 @@
 //! What is pulled.
-ghost use Rattle.std.specs.Prelude.{◌≡◌, slice_get};
-ghost use Rattle.h3_c.specs.Exported.{GivesField, OnStream, Pulls, ReadsBytes, ReadsField};
+ghost use Rattle.std.specs.Prelude.{◌≡◌, ◌≤◌, ◌^◌, slice_get};
+ghost use Rattle.h3_c.specs.Exported.{GivesField, OnStream, Pulls, ReadsBytes, ReadsField, places};
 
 use super::Connection;
 use crate::items::{PulledItem, bytes_of, fields_of, shown};
@@ -14,7 +14,8 @@ use std::alloc::Global;
 impl Connection {
     /// What comes next on a stream: it takes the place of what was pulled before.
     pub(crate) fn pull(&mut self, id: u64, item: &mut PulledItem) -> Told
-        ensures { OnStream id result self.old self.new (Pulls id result self.old self.new item.new) }
+        ensures pulls { OnStream id result self.old self.new (Pulls id result self.old self.new item.new) }
+        ensures unwritten { 2 ^ 62 ≤ id → item.new ≡ item.old }
     {
         let Ok(id) = StreamId::try_from(id) else {
             return ARGUMENT;
@@ -37,7 +38,7 @@ impl Connection {
         value_len: &mut usize,
     ) -> Told
         ensures same { self.new ≡ self.old }
-        ensures field { ReadsField self.old index result name.old name.new name_len.new value.old value.new value_len.new }
+        ensures field { ReadsField self.old index result (places name.old name_len.old value.old value_len.old) (places name.new name_len.new value.new value_len.new) }
     {
         let fields = match self.fields.take() {
             Some(fields) => fields,
@@ -53,7 +54,7 @@ impl Connection {
 
     /// The bytes of the item that was pulled last, from `from` on.
     pub(crate) fn item_bytes(&self, from: usize, out: &mut [u8], count: &mut usize) -> Told
-        ensures { ReadsBytes self.now from result out.old out.new count.new }
+        ensures { ReadsBytes self.now from result out.old out.new count.old count.new }
     {
         let bytes = bytes_of(&self.last);
         if bytes.len() <= from {
@@ -73,7 +74,7 @@ fn field_at(
     value: &mut [u8],
     value_len: &mut usize,
 ) -> Told
-    ensures { GivesField (slice_get fields.now index) result name.old name.new name_len.new value.old value.new value_len.new }
+    ensures { GivesField (slice_get fields.now index) result (places name.old name_len.old value.old value_len.old) (places name.new name_len.new value.new value_len.new) }
 {
     let Some(field) = fields.get(index) else {
         return NONE;

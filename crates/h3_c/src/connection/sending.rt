@@ -5,7 +5,6 @@ ghost use Rattle.h3_c.specs.Exported.{Calls, CallsOn, OnStream, OpensRequest, Or
 ghost use Rattle.h3_c.specs.Numbers.{call_told, body_told};
 
 use super::Connection;
-use crate::filled::note;
 use crate::numbers::{ARGUMENT, MEMORY, OK, Told, called, refused, sent};
 use bytes::Bytes;
 use h3_coding::varint::VarInt;
@@ -15,7 +14,7 @@ use std::alloc::Global;
 impl Connection {
     /// Opens the next request stream, whose id goes to `id`.
     pub(crate) fn open_request(&mut self, id: &mut u64) -> Told
-        ensures { OpensRequest result self.old self.new id.new }
+        ensures { OpensRequest result self.old self.new id.old id.new }
     {
         match self.endpoint.open_request() {
             Ok(opened) => {
@@ -36,12 +35,7 @@ impl Connection {
         let Ok(body) = Bytes::copy_from_slice(alloc, body) else {
             return MEMORY;
         };
-        if self.filled.reserve(1).is_err() {
-            return MEMORY;
-        }
-        let told = sent(&self.endpoint.send_body(stream, body));
-        note(&mut self.filled, id);
-        told
+        sent(&self.endpoint.send_body(stream, body))
     }
 
     /// The message on a stream is whole.

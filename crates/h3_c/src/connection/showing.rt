@@ -1,5 +1,5 @@
 //! What can be read.
-ghost use Rattle.std.specs.Prelude.{◌≡◌, OnOk, IfOk};
+ghost use Rattle.std.specs.Prelude.{◌≡◌, ◌≤◌, ◌^◌, OnOk, IfOk};
 ghost use Rattle.h3_c.specs.Exported.{OnStream};
 ghost use Rattle.h3_c.specs.Numbers.{ok};
 ghost use Rattle.h3_c.specs.Showing.{ShowsStream, ShowsConnection, ShowsSetting};
@@ -13,7 +13,8 @@ use h3_proto::stream::StreamId;
 impl Connection {
     /// A stream's state.
     pub(crate) fn stream(&self, id: u64, state: &mut StreamState) -> Told
-        ensures { OnStream id result self.now self.now ((result ≡ ok) × ShowsStream self.now id state.new) }
+        ensures shows { OnStream id result self.now self.now ((result ≡ ok) × ShowsStream self.now id state.new) }
+        ensures unwritten { 2 ^ 62 ≤ id → state.new ≡ state.old }
     {
         let Ok(id) = StreamId::try_from(id) else {
             return ARGUMENT;
@@ -61,7 +62,7 @@ impl Connection {
 
     /// The value of a setting that the peer announced.
     pub(crate) fn peer_setting(&self, setting: u64, value: &mut u64) -> Told
-        ensures { ShowsSetting self.now setting result value.new }
+        ensures { ShowsSetting self.now setting result value.old value.new }
     {
         let Some(settings) = self.endpoint.peer_settings() else {
             return NONE;

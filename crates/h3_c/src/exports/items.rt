@@ -1,6 +1,6 @@
 //! What C calls: items.
-ghost use Rattle.std.specs.Prelude.{◌≡◌, IsSome};
-ghost use Rattle.h3_c.specs.Exported.{OnStream, Pulls, ReadsBytes, ReadsField, Steps};
+ghost use Rattle.std.specs.Prelude.{◌≡◌, ◌≤◌, ◌^◌, IsSome};
+ghost use Rattle.h3_c.specs.Exported.{OnStream, Pulls, ReadsBytes, ReadsField, Steps, places};
 ghost use Rattle.h3_c.specs.Numbers.{number};
 
 use crate::handle::{Handle, kept, opened};
@@ -19,6 +19,7 @@ pub extern "C" fn h3_raw_pull(
     requires { IsSome handle.value }
     ensures there { IsSome out.new.value }
     ensures goes { Steps handle.value out.new.value (λ v w. OnStream id (number result 0) v w (Pulls id (number result 0) v w item.new)) }
+    ensures unwritten { 2 ^ 62 ≤ id → item.new ≡ item.old }
 {
     let mut connection = opened(alloc, handle);
     let told = connection.pull(id, item);
@@ -40,7 +41,7 @@ pub extern "C" fn h3_raw_item_field(
 ) -> u32
     requires { IsSome handle.value }
     ensures there { IsSome out.new.value }
-    ensures goes { Steps handle.value out.new.value (λ v w. (w ≡ v) × ReadsField v index (number result 0) name.old name.new name_len.new value.old value.new value_len.new) }
+    ensures goes { Steps handle.value out.new.value (λ v w. (w ≡ v) × ReadsField v index (number result 0) (places name.old name_len.old value.old value_len.old) (places name.new name_len.new value.new value_len.new)) }
 {
     let mut connection = opened(alloc, handle);
     let told = connection.item_field(alloc, index, name, name_len, value, value_len);
@@ -60,7 +61,7 @@ pub extern "C" fn h3_raw_item_bytes(
 ) -> u32
     requires { IsSome handle.value }
     ensures there { IsSome out.new.value }
-    ensures goes { Steps handle.value out.new.value (λ v w. (w ≡ v) × ReadsBytes v from (number result 0) buffer.old buffer.new count.new) }
+    ensures goes { Steps handle.value out.new.value (λ v w. (w ≡ v) × ReadsBytes v from (number result 0) buffer.old buffer.new count.old count.new) }
 {
     let connection = opened(alloc, handle);
     let told = connection.item_bytes(from, buffer, count);

@@ -18,8 +18,8 @@ pub extern "C" fn h3_raw_new(
     detail: &mut u64,
     out: &mut Handle,
 ) -> u32
-    ensures range { 0x210842108421083 ≤ config.now.grease → number result detail.new ≡ argument }
-    ensures made { config.now.grease < 0x210842108421083 → Makes config.now (number result detail.new) out.new.value }
+    ensures range { 0x210842108421083 ≤ config.now.grease → (number result detail.new ≡ argument) × (out.new.value ≡ out.old.value) }
+    ensures made { config.now.grease < 0x210842108421083 → Makes config.now (number result detail.new) out.old.value out.new.value }
 {
     let told = match made(alloc, config) {
         Ok(connection) => {

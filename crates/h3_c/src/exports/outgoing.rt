@@ -1,5 +1,5 @@
 //! What C calls: what waits to be sent.
-ghost use Rattle.std.specs.Prelude.{◌≡◌, IsSome};
+ghost use Rattle.std.specs.Prelude.{◌≡◌, ◌≤◌, ◌^◌, IsSome};
 ghost use Rattle.h3_c.specs.Exported.{CopiesOut, OnStream, Steps, Takes, WaitsNext};
 ghost use Rattle.h3_c.specs.Numbers.{number};
 
@@ -17,7 +17,7 @@ pub extern "C" fn h3_raw_next_waiting(
 ) -> u32
     requires { IsSome handle.value }
     ensures there { IsSome out.new.value }
-    ensures goes { Steps handle.value out.new.value (λ v w. (w ≡ v) × WaitsNext v from (number result 0) id.new) }
+    ensures goes { Steps handle.value out.new.value (λ v w. (w ≡ v) × WaitsNext v from (number result 0) id.old id.new) }
 {
     let connection = opened(alloc, handle);
     let told = connection.next_waiting(from, id);
@@ -39,6 +39,7 @@ pub extern "C" fn h3_raw_outgoing(
     requires { IsSome handle.value }
     ensures there { IsSome out.new.value }
     ensures goes { Steps handle.value out.new.value (λ v w. (w ≡ v) × OnStream id (number result 0) v w (CopiesOut v id (number result 0) buffer.old buffer.new count.new fin.new)) }
+    ensures unwritten { 2 ^ 62 ≤ id → (buffer.new ≡ buffer.old) × (count.new ≡ count.old) × (fin.new ≡ fin.old) }
 {
     let connection = opened(alloc, handle);
     let told = connection.outgoing(id, buffer, count, fin);

@@ -18,7 +18,7 @@ pub extern "C" fn h3_raw_open_request(
 ) -> u32
     requires { IsSome handle.value }
     ensures there { IsSome out.new.value }
-    ensures goes { Steps handle.value out.new.value (λ v w. OpensRequest (number result detail.new) v w id.new) }
+    ensures goes { Steps handle.value out.new.value (λ v w. OpensRequest (number result detail.new) v w id.old id.new) }
 {
     let mut connection = opened(alloc, handle);
     let told = connection.open_request(id);

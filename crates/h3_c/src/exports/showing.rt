@@ -1,5 +1,5 @@
 //! What C calls: what can be read.
-ghost use Rattle.std.specs.Prelude.{◌≡◌, IsSome};
+ghost use Rattle.std.specs.Prelude.{◌≡◌, ◌≤◌, ◌^◌, IsSome};
 ghost use Rattle.h3_c.specs.Exported.{OnStream, Steps};
 ghost use Rattle.h3_c.specs.Numbers.{number, ok};
 ghost use Rattle.h3_c.specs.Showing.{ShowsStream, ShowsConnection, ShowsSetting};
@@ -20,6 +20,7 @@ pub extern "C" fn h3_raw_stream(
     requires { IsSome handle.value }
     ensures there { IsSome out.new.value }
     ensures goes { Steps handle.value out.new.value (λ v w. (w ≡ v) × OnStream id (number result 0) v w (((number result 0) ≡ ok) × ShowsStream v id state.new)) }
+    ensures unwritten { 2 ^ 62 ≤ id → state.new ≡ state.old }
 {
     let connection = opened(alloc, handle);
     let told = connection.stream(id, state);
@@ -56,7 +57,7 @@ pub extern "C" fn h3_raw_peer_setting(
 ) -> u32
     requires { IsSome handle.value }
     ensures there { IsSome out.new.value }
-    ensures goes { Steps handle.value out.new.value (λ v w. (w ≡ v) × ShowsSetting v setting (number result 0) value.new) }
+    ensures goes { Steps handle.value out.new.value (λ v w. (w ≡ v) × ShowsSetting v setting (number result 0) value.old value.new) }
 {
     let connection = opened(alloc, handle);
     let told = connection.peer_setting(setting, value);

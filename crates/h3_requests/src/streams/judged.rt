@@ -11,7 +11,7 @@ ghost use Rattle.h3_outgoing.specs.Sent.{has_body, has_ended, was_cut_off};
 ghost use Rattle.h3_requests.specs.Refused.{or_later, head_refused_at, body_refused_at, end_refused_at, reset_refused_at, cancel_refused_at};
 
 use super::RequestStreams;
-use bytes::Bytes;
+use bytes::{Buf, Bytes};
 use h3_blocked::replace;
 use h3_connection::event::Refusal;
 use h3_proto::stream::StreamId;
@@ -37,6 +37,9 @@ impl RequestStreams {
         let Ok(()) = stream.outgoing.reserve() else {
             return Err(Refusal::OutOfMemory);
         };
+        let Ok(()) = self.ready.reserve(id) else {
+            return Err(Refusal::OutOfMemory);
+        };
         Ok(())
     }
 
@@ -59,6 +62,9 @@ impl RequestStreams {
         let Ok(()) = stream.outgoing.reserve() else {
             return Err(Refusal::OutOfMemory);
         };
+        let Ok(()) = self.ready.reserve(id) else {
+            return Err(Refusal::OutOfMemory);
+        };
         Ok(())
     }
 
@@ -77,10 +83,17 @@ impl RequestStreams {
         if !stream.outgoing.takes_body() {
             return Err((Refusal::OutOfOrder, body));
         }
-        match stream.outgoing.send_body(body) {
-            Ok(()) => Ok(()),
-            Err(body) => Err((Refusal::OutOfMemory, body)),
+        if !body.has_remaining() {
+            return Ok(());
         }
+        let Ok(()) = self.ready.reserve(id) else {
+            return Err((Refusal::OutOfMemory, body));
+        };
+        if let Err(body) = stream.outgoing.send_body(body) {
+            return Err((Refusal::OutOfMemory, body));
+        }
+        self.ready.settle(id, stream.outgoing.waiting() > 0);
+        Ok(())
     }
 
     /// The message is whole. It takes no memory. Refused are, in this order, a stream that is not there, and one whose final head was
@@ -116,6 +129,7 @@ impl RequestStreams {
             return Err(Refusal::Ended);
         }
         stream.outgoing.reset();
+        self.ready.settle(id, false);
         Ok(())
     }
 

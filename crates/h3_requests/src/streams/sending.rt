@@ -1,9 +1,11 @@
 //! What is sent on a request stream.
 ghost use Rattle.std.specs.Prelude.{◌≡◌, None, is_some, length, min, OnOk, IfErr, IfSome, IsSome};
 ghost use Rattle.h3_connection.specs.Calls.{Sets, AllSame};
+ghost use Rattle.h3_connection.specs.NextWaiting.{IsLeast};
 ghost use Rattle.h3_connection.specs.State.{kept_at};
 ghost use Rattle.h3_connection.specs.WaitingPieces.{bytes_of};
 ghost use Rattle.h3_outgoing.specs.Sent.{has_section, taken_from};
+ghost use Rattle.h3_requests.specs.HasBytes.{has_bytes};
 
 use super::RequestStreams;
 use bytes::Bytes;
@@ -26,7 +28,14 @@ impl RequestStreams {
         let Some(stream) = self.streams.get_mut(id) else {
             return Err(section);
         };
-        stream.outgoing.send_section(section, place)
+        let Ok(()) = self.ready.reserve(id) else {
+            return Err(section);
+        };
+        if let Err(section) = stream.outgoing.send_section(section, place) {
+            return Err(section);
+        }
+        self.ready.settle(id, stream.outgoing.waiting() > 0);
+        Ok(())
     }
 
     /// Takes the first bytes of what waits, at most all, and answers whether the stream is there. Nothing happens where it is not.
@@ -41,6 +50,16 @@ impl RequestStreams {
         };
         let waiting = stream.outgoing.waiting();
         stream.outgoing.advance(count.min(waiting));
+        let left = stream.outgoing.waiting();
+        self.ready.settle(id, left > 0);
         true
+    }
+
+    /// The first stream from this id on on which bytes wait, and none where bytes wait on none of them. It takes no memory, and looks
+    /// at no other stream.
+    pub fn next_waiting(&self, from: u64) -> Option<StreamId>
+        ensures { IsLeast (λ id. has_bytes (kept_at self.now id)) from result }
+    {
+        self.ready.next(from)
     }
 }

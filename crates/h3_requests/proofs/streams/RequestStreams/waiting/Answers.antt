@@ -8,4 +8,4 @@ use Rattle.h3_requests.proofs.streams.RequestStreams.waiting.Goals as goal
 pub returns : goal.returns
 returns c = λ receivers are.
     c.above.ensures ∙ ap (above c.args.inserted) c.deref.ensures.value
-    ∙ waits _ c.self.inside.streams.by_id.entries receivers c.self.invariant (subst (AreReceivers receivers) (sym c.self.view_is) are) c.args.inserted
+    ∙ waits _ c.self.inside.streams.by_id.entries receivers c.self.invariant.counted (subst (AreReceivers receivers) (sym c.self.view_is) are) c.args.inserted

@@ -1,0 +1,35 @@
+-- Which streams are ready: bytes wait on them.
+use Rattle.std.specs.Prelude.{◌≡◌, ◌≢◌, ℕ, ◌^◌, Bool, not, ◌&&◌, ◌==◌, false, nat_lt, List, Option, Some, None}
+use Rattle.std.specs.BTreeSet.{contains}
+use Rattle.std.specs.Ordering.{nat_cmp}
+use Rattle.h3_connection.specs.State.{RequestState, kept_at}
+use Rattle.h3_connection.specs.StreamSets.{Streams}
+use Rattle.h3_requests.specs.Counted.{AreCounted}
+use Rattle.h3_requests.specs.HasBytes.{has_bytes}
+use Rattle.h3_requests.specs.declared.ready.ReadyStreams.{ReadyStreams}
+
+-- it is one of the ids
+abbrev pub is_listed : ReadyStreams → ℕ → Bool
+is_listed s q = contains nat_cmp s.ids q
+
+abbrev pub is_reserved : Option ℕ → ℕ → Bool
+is_reserved None q = false
+is_reserved (Some id) q = id == q
+
+-- it is one of the ids, and not the one for which only room was taken
+abbrev pub is_ready : ReadyStreams → ℕ → Bool
+is_ready s q = is_listed s q && not (is_reserved s.reserved q) && nat_lt q (2 ^ 62)
+
+-- The test of one number answers this, and that of each other one as before.
+pub record IsOneTest (id : ℕ) (is : Bool) (before after : ℕ → Bool) : Type 0 where
+  pub own : after id ≡ is
+  pub others : (q : ℕ) → q ≢ id → after q ≡ before q
+
+-- ready are the streams on which bytes wait, and no others
+abbrev pub AreReady : ReadyStreams → Streams RequestState → Type 0
+AreReady s streams = (q : ℕ) → is_ready s q ≡ has_bytes (kept_at streams q)
+
+-- What is kept beside the streams is what they say.
+pub record AreKept (counts : List ℕ) (s : ReadyStreams) (streams : Streams RequestState) : Type 0 where
+  pub counted : AreCounted counts streams
+  pub ready : AreReady s streams
