@@ -1,7 +1,7 @@
 #!/usr/bin/env bash
 # C programs over build/c (scripts/lib.sh), by the machine's C compiler alone: the calls of crates/h3_cases and hostile lists of calls through the header,
-# each allocation refused in turn, large input with none refused, two endpoints under random schedules, and wrong arguments. Once as they are, and once with the sanitizers of
-# addresses, leaks and undefined behaviour where the compiler has them. One line 'ok NAME' or 'failed NAME' for each; the last is the sum.
+# each allocation refused in turn, large input with none refused, two endpoints under random schedules, and wrong arguments. Once as they are,
+# and once with the sanitizers of addresses, leaks and undefined behaviour where the compiler has them (large input, memory: once). One line 'ok NAME' or 'failed NAME' for each; the last is the sum.
 set -uo pipefail
 cd "$(dirname "$0")/.."
 
