@@ -274,7 +274,7 @@ def ran(program, given, counter):
     """what it wrote, its status, and how many calls for memory there were and were refused"""
     with tempfile.TemporaryDirectory() as folder:
         env = {"LD_PRELOAD": counter, "COUNTS": f"{folder}/counts"} if counter else {}
-        it = subprocess.run([program], input=given, stdout=subprocess.PIPE, env=env, timeout=120)
+        it = subprocess.run([program], input=given, stdout=subprocess.PIPE, env=env, timeout=300)
         counts = [1, 0]
         if counter:
             with open(f"{folder}/counts") as file:
@@ -302,7 +302,7 @@ def check(name, program, x, counter):
         wrote, status, counts = ran(program, given, counter)
         wrong = list(differences(x, wrote, status, counts))
     except subprocess.TimeoutExpired:
-        wrong, counts = ["it did not end within two minutes"], [0, 0]
+        wrong, counts = ["it did not end within five minutes"], [0, 0]
     told = f"{len(x.wanted):,} answers to {len(given):,} bytes, {counts[0]:,} calls for memory and none refused"
     print(f"failed sizes, {name}: {wrong[0]}" if wrong else f"ok sizes, {name}: {told}", flush=True)
     return bool(wrong)
@@ -318,7 +318,7 @@ def main():
             subprocess.run(["cc", "-O1", "-shared", "-fPIC", "-o", counter, f"{folder}/counter.c", "-ldl"], check=True)
         fields = [(b"x-%04d" % n, b"%08d" % n) for n in range(1000)]
         of_calls = Lines()
-        calls(of_calls, 10_000, 100_000, b"0123456789abcdef" * (MIB // 16 * 16))
+        calls(of_calls, 10_000, 100_000, b"0123456789abcdef" * (MIB // 16))
         return max([
             check("bodies of 64 KiB, heads of 64 KiB", program, exchange(64 * KIB, [(b"x-a", b"v" * 64 * KIB)], [(b"x-b", b"w" * 64 * KIB)]), counter),
             check("bodies of 16 MiB, heads of 1,000 fields", program, exchange(16 * MIB, fields, fields), counter),
