@@ -248,6 +248,7 @@ def compare(found, page):
         wanted = {row: row_text(row, "", it).split(" | ")[2:] for row, it in rows.items()}
         listed = {line[2:].split(" | ")[0]: line.split(" | ")[2:] for line in there}
         wrong = sorted(row for row in set(wanted) | set(listed) if wanted.get(row) != listed.get(row))
+        wrong += [f"{line[2:].split(' | ')[0]} has a ? for its sections" for line in there if line.split(" | ")[1] == "?"]
         if f"{total:,} lines" not in section:
             wrong.append(f"the sum, {total:,} lines")
         if heading == PARTS[0][0] and total > MOST:
