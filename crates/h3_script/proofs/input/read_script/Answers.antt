@@ -1,4 +1,4 @@
-use Rattle.std.proofs.Common.{subst}
+use Rattle.std.proofs.Common.{subst, inr}
 use Rattle.h3_script.specs.Inputs.{Fails}
 use Rattle.h3_script.proofs.input.read_script.Goals as goal
 
