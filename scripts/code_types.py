@@ -1,4 +1,3 @@
-#!/usr/bin/env python3
 """The types of the code that a contract reads: from the types of a signature on, through their fields.
 
 A contract sees a type with an `impl Model` by its view alone, so only the fields that the view names (`it.field`) are followed; of any

@@ -19,7 +19,8 @@ static void *counted(void *block, size_t size) {
 void *__wrap_malloc(size_t size) { return counted(__real_malloc(size), size); }
 void *__wrap_realloc(void *old, size_t size) { return counted(__real_realloc(old, size), size); }
 
-enum { KIB = 1024, MIB = 1024 * 1024, BODY = 16 * MIB, FIELDS = 1000, VALUE = 64 * KIB, STREAMS = 10000, HEADS = 2000, NEW_FIELDS = 50, GOAWAYS = 110000 };
+enum { KIB = 1024, MIB = 1024 * 1024, BODY = 16 * MIB, FIELDS = 1000, VALUE = 64 * KIB };
+enum { STREAMS = 10000, HEADS = 2000, NEW_FIELDS = 50, GOAWAYS = 110000 };
 
 static void fail(const char *what, uint64_t id, uint64_t number) {
   printf("failed sizes: %s, stream %llu, %llu (%ld of %ld allocations refused)\n", what, (unsigned long long)id, (unsigned long long)number, refused,
