@@ -247,6 +247,7 @@ def calls(x, streams, insertions, body):
     cost = lambda fields: sum(len(name) + len(value) + 64 for name, value in fields) + 64
     x.line("call sent", "sent %d" % (cost(RESPONSE + big + wide) + cost(wide) + len(body) + 64))
     x.line("call reset 0", ok)
+    x.line("call sends 0", "reset")
     # streams: bytes that are not pulled, a cancellation, a reset, an end
     for n in range(1, streams):
         x.line("call deliver %d %s" % (4 * n, hexed(head_frame(REQUEST))), ok)
