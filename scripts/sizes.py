@@ -304,7 +304,8 @@ def check(name, program, x, counter):
         wrong = list(differences(x, wrote, status, counts))
     except subprocess.TimeoutExpired:
         wrong, counts = ["it did not end within five minutes"], [0, 0]
-    told = f"{len(x.wanted):,} answers to {len(given):,} bytes, {counts[0]:,} calls for memory and none refused"
+    counted = f"{counts[0]:,} calls for memory and none refused" if counter else "calls for memory not counted"
+    told = f"{len(x.wanted):,} answers to {len(given):,} bytes, {counted}"
     print(f"failed sizes, {name}: {wrong[0]}" if wrong else f"ok sizes, {name}: {told}", flush=True)
     return bool(wrong)
 
