@@ -44,8 +44,9 @@
  * MEMORY
  *
  * H3_MEMORY: malloc or realloc answered NULL. Nothing is lost and nothing leaks; the same call may be made again. A sum of bytes past
- * 2^56 counts as want of memory too. After H3_KEPT what was taken is read by the next h3_pull of any stream (of h3_control_id, which hands out
- * nothing, if no other is at hand) or by the next delivery. h3_finish, h3_reset, h3_advance, h3_outgoing, h3_next_waiting, the states and
+ * 2^56 counts as want of memory too. After H3_KEPT what was taken is read by the next delivery, or by the next h3_pull of a stream that may
+ * still hand something out: not of one whose h3_pull answers H3_END or a fault of the stream again. Where no such stream is at hand, pull
+ * h3_control_id, which hands out nothing. h3_finish, h3_reset, h3_advance, h3_outgoing, h3_next_waiting, the states and
  * h3_free take no memory.
  *
  * HOW QUIC'S CALLBACKS MAP TO CALLS
@@ -356,8 +357,9 @@ static inline uint64_t h3_decoder_id(int server) { return server ? 11 : 10; }
 
 /* ---- the exports of libh3.a ----
  *
- * Programs in C call the functions above, which test for none and for NULL, and hand the endpoint over and back. A program in another language may
- * call these: each takes the handle by value and writes the handle for the next call through its last argument, on every answer. The handle
+ * Programs in C call the functions above, which hand the endpoint over and back. They test for none, and take NULL for `detail`, for `fin`, for
+ * a buffer that is to be filled (it has no room then), and for bytes and sizes where their length or count is 0. Every other pointer has to be
+ * there: no call tests it. A program in another language may call these: each takes the handle by value and writes the handle for the next call through its last argument, on every answer. The handle
  * must hold an endpoint. No pointer may be NULL, also beside a length of 0. */
 uint32_t h3_raw_new(const h3_config *config, uint64_t *detail, h3_endpoint *out); /* *out is written on H3_OK alone */
 void h3_raw_free(h3_endpoint endpoint);

@@ -5,12 +5,16 @@
     python3 scripts/headline.py --write   writes the rows of the page anew: their lines and names. A row's second column stays
 
 From each name of the contract the `use` lines of the specs are followed, from definition to definition; a type of the code is taken from
-its crate's src. What the kit gives (lists, numbers, std) is not followed, and neither are laws or proofs. A name that is bound in a
-definition and stands for another one elsewhere counts as that other one: so the list may be too long, and never too short.
+its crate's src. These types and those of the signature are followed through the fields that a contract sees of them (scripts/code_types.py), to
+each `impl Model` and the definitions that its view names. What the kit gives (lists, numbers, std) is not followed, and neither are laws or proofs.
+A name that is bound in a definition and stands for another one elsewhere counts as that other one: so the list may be too long.
 """
 import os
 import re
 import sys
+
+sys.path.insert(0, os.path.dirname(os.path.abspath(__file__)))
+import code_types  # noqa: E402
 
 TOP = os.path.dirname(os.path.dirname(os.path.abspath(__file__)))
 CRATES = f"{TOP}/crates"
@@ -18,6 +22,9 @@ PAGE = f"{TOP}/docs/HEADLINE.md"
 CONTRACT = f"{CRATES}/h3_session/src/run.rt"
 # The parts of the page: its headings, and from which names each part goes on. The last one takes what is left.
 PARTS = (("## What is answered", ("RunsUntilMemory", "Run", "Happens", "empty_world", "is_memory", "AreFew", "IsMadeSetup")), ("## The endpoints that are handed back", ("RunsInWorld",)), ("## The same answers by two endpoints", ("RunsTo", "AnswersEach", "new_ends")), ("## What each call leaves", None))
+# Behind these the values of the code: a heading, and from which types of the signature its rows come, and from those that which parts list.
+VALUES = (("## The values in the answers", ("Setup", "Event", "Answer"), PARTS[:1]), ("## The values that are handed back", ("Outcome",), PARTS[1:]))
+HEADINGS = [it[0] for it in PARTS + VALUES]
 MOST = 1500
 WORD = re.compile(r"[^\s(){}\[\],;.]+")
 USE = re.compile(r"^\s*(?:pub |ghost )?use Rattle\.([\w.]+?)(?:\.\{(.*)\}| as (\w+))?;?$")
@@ -175,6 +182,46 @@ def parts(specs):
             lines, listed = rows.get(row, (0, []))
             rows[row] = (lines + count, listed + [name])
         out.append((heading, rows))
+    return out + values(specs, known, dict(out))
+
+
+def types_in(rows):
+    """the types of the code in these rows, each with its file"""
+    return [(row.strip("`"), name) for row, (_, names) in rows.items() if row.endswith(".rt`") for name in names]
+
+
+def values(specs, known, rows_of):
+    """for each part of the values its rows: types that no part before lists, views, and the definitions that these name"""
+
+    def seen_by(view):
+        return specs.reached_from(*imports(view.split("\n")), "\n".join(it for it in view.split("\n") if not USE.match(it)))
+
+    def behind(view):
+        return "\n".join(specs.module(path).text(name) for path, name in seen_by(view) if ".declared." not in path)
+
+    listed = {it for rows in rows_of.values() for it in types_in(rows)}
+    out, met, file = [], set(), os.path.relpath(CONTRACT, CRATES)
+    for heading, signature, before in VALUES:
+        rows = {}
+        roots = [(code_types.defined(file, it), it) for it in signature] + [it for part, _ in before for it in types_in(rows_of[part])]
+
+        def add(row, count, name):
+            lines, names = rows.get(row, (0, []))
+            rows[row] = (lines + count, names + [name])
+
+        for it in code_types.reached(roots, behind):
+            count = code_types.model_text(*it).count("\n") + 1 if code_types.model_text(*it) else 0
+            if it not in listed:
+                count += code_types.type_text(*it).count("\n") + 1
+            if it in met or not count:
+                continue
+            met.add(it)
+            add(f"`{it[0]}`", count, it[1])
+            for path, name in specs.closure(seen_by(code_types.view_text(*it)), known):
+                if ".declared." not in path:
+                    crate, _, module = path.partition(".specs.")
+                    add(f"`{crate}` `{module}`", len(specs.module(path).definitions[name]), name)
+        out.append((heading, rows))
     return out
 
 
@@ -185,7 +232,7 @@ def row_text(row, about, found):
 
 def sections(page):
     """the page from each part's heading up to the next part, with the text in front of the first"""
-    starts = [page.index(heading) for heading, _ in PARTS]
+    starts = [page.index(heading) for heading in HEADINGS]
     return page[:starts[0]], [page[a:b] for a, b in zip(starts, starts[1:] + [len(page)])]
 
 
@@ -201,6 +248,7 @@ def compare(found, page):
         wanted = {row: row_text(row, "", it).split(" | ")[2:] for row, it in rows.items()}
         listed = {line[2:].split(" | ")[0]: line.split(" | ")[2:] for line in there}
         wrong = sorted(row for row in set(wanted) | set(listed) if wanted.get(row) != listed.get(row))
+        wrong += [f"{line[2:].split(' | ')[0]} has a ? for its sections" for line in there if line.split(" | ")[1] == "?"]
         if f"{total:,} lines" not in section:
             wrong.append(f"the sum, {total:,} lines")
         if heading == PARTS[0][0] and total > MOST:

@@ -1,12 +1,14 @@
 #!/usr/bin/env python3
 """The program where memory is refused.
 
-    python3 scripts/refused_memory.py PROGRAM
+    python3 scripts/refused_memory.py PROGRAM CASES
 
-runs it on some scripts of examples/ again and again: at the first call for memory that is refused, the second, and so on, until a run
+runs the program on some scripts of examples/ again and again: at the first call for memory that is refused, the second, and so on, until a run
 meets no refusal; each number both for that call alone and for all from it on. Each run has to end with status 2, or with status 0 and the
-lines of the example up to one that tells of refused memory. It prints a line 'ok NAME' or 'failed NAME' a script. The calls are refused
-by a few lines of C; where no C compiler is there it says so and tries nothing.
+lines of the example up to one that tells of refused memory. Then it runs the program of cases (crates/h3_cases) on a head with two insertions, which
+is sent again where memory was refused: what was inserted before stands on the encoder stream, nothing on the head's own, and the second section
+refers to it. It prints a line 'ok NAME' or 'failed NAME' a script, and one for the insertions. The calls are refused by a few lines of C; where no
+C compiler is there it says so and tries nothing.
 """
 import os
 import shutil
@@ -17,6 +19,14 @@ import tempfile
 TOP = os.path.dirname(os.path.dirname(os.path.abspath(__file__)))
 SCRIPTS = ("first", "table", "interim", "refused_event")
 MEMORY = (b"refused OutOfMemory", b"refused Kept", b"fault out of memory")
+# A client whose peer takes a table of 220 bytes and lets two streams wait. The answers of both heads, and what waits on the encoder stream and on
+# the head's own behind each, depend on how many insertions were made when memory was refused.
+HEAD = b"call head 0 :method=GET :scheme=https :authority=www.example.com :path=/sample/path"
+WAITS = [b"call waits 6", b"call waits 0"]
+CALLS = [b"call new c 1000 0 0", b"call deliver 3 0004050140dc0702", b"call open", HEAD, *WAITS, HEAD, *WAITS]
+CAPACITY, INSERTIONS = b"023fbd01", (b"c08cf1e3c2e5f23a6ba0ab90f4ff", b"c1896103a6ba0ac5634cff")
+# The frame: its entries are both inserted behind the base, one of them before it, both before it (RFC 9204, section 4.5).
+FRAMES = (b"01060381d1d71011", b"01060380d1d78010", b"01060300d1d78180")
 SHIM = r"""
 #define _GNU_SOURCE
 #include <dlfcn.h>
@@ -47,13 +57,12 @@ void *realloc(void *old, size_t size) {
 """
 
 
-def ran(program, shim, name, first, last):
+def ran(program, shim, given, first, last):
     """what it wrote, its status, and whether it met a refusal"""
     told, tell = os.pipe()
     os.set_inheritable(tell, True)
     env = {"LD_PRELOAD": shim, "FAIL_FROM": str(first), "FAIL_TO": str(last)}
-    with open(f"{TOP}/examples/{name}.talk", "rb") as script:
-        it = subprocess.run([program], stdin=script, stdout=subprocess.PIPE, env=env, timeout=60, preexec_fn=lambda: os.dup2(tell, 9), pass_fds=(9, tell))
+    it = subprocess.run([program], input=given, stdout=subprocess.PIPE, stderr=subprocess.DEVNULL, env=env, timeout=60, preexec_fn=lambda: os.dup2(tell, 9), pass_fds=(9, tell))
     os.close(tell)
     met = os.read(told, 1) != b""
     os.close(told)
@@ -73,15 +82,15 @@ def is_allowed(wrote, status, met, wanted, usual):
 
 
 def check(program, shim, name):
-    with open(f"{TOP}/examples/{name}.stdout", "rb") as file:
-        wanted = file.read().split(b"\n")[:-1]
+    with open(f"{TOP}/examples/{name}.talk", "rb") as script, open(f"{TOP}/examples/{name}.stdout", "rb") as file:
+        given, wanted = script.read(), file.read().split(b"\n")[:-1]
     usual = 1 if wanted[0].startswith(b"line ") else 0
     runs, statuses = 0, set()
     for last in (lambda n: n, lambda n: 10 ** 9):
         met, number = True, 0
         while met:
             number += 1
-            wrote, status, met = ran(program, shim, name, number, last(number))
+            wrote, status, met = ran(program, shim, given, number, last(number))
             runs, statuses = runs + 1, statuses | {status}
             if not is_allowed(wrote, status, met, wanted, usual):
                 print(f"failed {name} with memory refused: call {number} for memory refused: status {status}, {wrote[:200]!r}")
@@ -90,8 +99,36 @@ def check(program, shim, name):
     return 0
 
 
+def waits(bytes):
+    return b"waits " + (bytes or b"-")
+
+
+def insertions(cases, shim):
+    """each call for memory of the calls refused in turn: how often the head was refused with no insertion, one and two made"""
+    begun, both = [b"ok", b"ok", b"stream 0"], waits(CAPACITY + b"".join(INSERTIONS))
+    found, met, number = [0, 0, 0], True, 0
+    while met:
+        number += 1
+        wrote, status, met = ran(cases, shim, b"\n".join(CALLS) + b"\n", number, number)
+        lines = wrote.split(b"\n")[:-1]
+        if lines[:4] != begun + [b"refused OutOfMemory"]:
+            # memory was refused elsewhere, or not at all
+            continue
+        wanted = {waits(CAPACITY + b"".join(INSERTIONS[:made])): made for made in range(3)}
+        made = wanted.get(lines[4])
+        if made is None or lines[5:] != [waits(b""), b"ok", both, waits(FRAMES[made])] or status:
+            print(f"failed insertions with memory refused: call {number} for memory refused: status {status}, {lines[3:]}")
+            return 1
+        found[made] += 1
+    if lines != begun + [b"ok", both, waits(FRAMES[0]), b"refused OutOfOrder", both, waits(FRAMES[0])] or not found[1]:
+        print(f"failed insertions with memory refused: {found} refusals with no, one and two insertions made; with none {lines[3:]}")
+        return 1
+    print(f"ok insertions with memory refused: {number} runs, of which {found[0]}, {found[1]} and {found[2]} refuse the head with none, one and two made")
+    return 0
+
+
 def main():
-    program = os.path.abspath(sys.argv[1])
+    program, cases = map(os.path.abspath, sys.argv[1:3])
     if not shutil.which("cc"):
         print("ok refused memory: not tried, since there is no C compiler")
         return 0
@@ -99,7 +136,7 @@ def main():
         with open(f"{folder}/shim.c", "w") as file:
             file.write(SHIM)
         subprocess.run(["cc", "-O1", "-shared", "-fPIC", "-o", f"{folder}/shim.so", f"{folder}/shim.c", "-ldl"], check=True)
-        return max([check(program, f"{folder}/shim.so", name) for name in SCRIPTS])
+        return max([check(program, f"{folder}/shim.so", name) for name in SCRIPTS] + [insertions(cases, f"{folder}/shim.so")])
 
 
 if __name__ == "__main__":

@@ -1,7 +1,7 @@
 #!/usr/bin/env bash
 # C programs over build/c (scripts/lib.sh), by the machine's C compiler alone: the calls of crates/h3_cases and hostile lists of calls through the header,
-# each allocation refused in turn, two endpoints under random schedules, and wrong arguments. Once as they are, and once with the sanitizers of
-# addresses, leaks and undefined behaviour where the compiler has them. One line 'ok NAME' or 'failed NAME' for each; the last is the sum.
+# each allocation refused in turn, large input with none refused, two endpoints under random schedules, and wrong arguments. Once as they are,
+# and once with the sanitizers of addresses, leaks and undefined behaviour where the compiler has them (large input, memory: once). One line 'ok NAME' or 'failed NAME' for each; the last is the sum.
 set -uo pipefail
 cd "$(dirname "$0")/.."
 
@@ -52,12 +52,14 @@ run() { # NAME PROGRAM ARGUMENTS..
 checks() {
   compile calls calls
   compile memory memory -Wl,--wrap=malloc,--wrap=realloc,--wrap=free
+  compile sizes sizes -Wl,--wrap=malloc,--wrap=realloc
   compile schedules schedules
   compile arguments arguments
   if [ "$bad" -eq 0 ]; then
     rows "$out/calls" "rows"
     run "hostile calls" python3 scripts/hostile_calls.py "$out/calls" 400
     run memory "$out/memory"
+    run sizes "$out/sizes"
     run schedules "$out/schedules" 0 1000
     run arguments "$out/arguments"
   fi

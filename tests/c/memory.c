@@ -1,5 +1,6 @@
 /* Each allocation of an exchange between two endpoints is refused in turn: the call says so, is made again, and in the end the same items come
- * out. Nothing is left allocated. Linked with --wrap for malloc, realloc and free. */
+ * out. Nothing is left allocated. And once more with a head that waits for two insertions, where each call has to give what was worked out
+ * beforehand. Linked with --wrap for malloc, realloc and free. */
 #include "h3.h"
 #include <stdio.h>
 #include <stdlib.h>
@@ -188,6 +189,89 @@ static void exchange(void) {
   h3_free(&ends[1]);
 }
 
+/* what waits on a stream goes over in one delivery. Bytes that were taken and not read are read by a delivery of none */
+static void carry(int side, uint64_t id) {
+  uint8_t buffer[200];
+  size_t n;
+  uint32_t fin, answer;
+  if (h3_outgoing(&ends[side], id, buffer, sizeof buffer, &n, &fin) || !n || n == sizeof buffer) fail("outgoing", 0);
+  int tries = 0;
+  while ((answer = h3_deliver(&ends[!side], id, buffer, n, NULL)) == H3_MEMORY)
+    if (++tries > 2) fail("deliver", answer);
+  if (answer == H3_KEPT) AGAIN(h3_deliver(&ends[!side], id, "", 0, NULL), "deliver");
+  else if (answer) fail("deliver", answer);
+  if (h3_advance(&ends[side], id, n)) fail("advance", 0);
+}
+
+static h3_item pulled(int side, uint64_t id) {
+  h3_item item;
+  int tries = 0;
+  do {
+    if (h3_pull(&ends[side], id, &item)) fail("pull", 0);
+  } while (item.kind == H3_FAULT_MEMORY && ++tries < 3);
+  return item;
+}
+
+/* A head with two insertions: a table of 220 bytes, two streams may wait. The entries are 57 and 49 bytes (RFC 9204, section 3.2.1). */
+static void waiting_head(void) {
+  static const h3_field_size sizes[] = {{7, 3}, {7, 5}, {10, 15}, {5, 12}};
+  static const char *const head_bytes = ":methodGET:schemehttps:authoritywww.example.com:path/sample/path";
+  uint64_t id;
+  h3_item item;
+  h3_state state;
+  for (int side = 0; side < 2; side++) {
+    h3_config c;
+    h3_config_default(&c);
+    c.max_field_section_size = 1000;
+    c.server = (uint32_t)side;
+    if (side) c.table = 220, c.blocked = 2;
+    AGAIN(h3_new(&ends[side], &c, NULL), "new");
+  }
+  AGAIN(h3_open_request(&ends[0], &id, NULL), "open_request");
+  carry(1, 3);
+  AGAIN(h3_send_head(&ends[0], id, sizes, 4, head_bytes, strlen(head_bytes), NULL), "send_head");
+  carry(0, id);
+  item = pulled(1, id);
+  if (item.kind != H3_WAITING || item.number != 2) fail("the head does not wait for two insertions", item.kind);
+  carry(0, 6);
+  item = pulled(1, id);
+  if (item.kind != H3_HEAD || item.fields != 4) fail("the head does not come", item.kind);
+  for (size_t i = 0, at = 0; i < 4; i++) {
+    uint8_t both[2][16];
+    size_t n, v;
+    AGAIN(h3_item_field(&ends[1], i, both[0], 16, &n, both[1], 16, &v), "item_field");
+    if (n != sizes[i].name || v != sizes[i].value || memcmp(both[0], head_bytes + at, n) || memcmp(both[1], head_bytes + at + n, v))
+      fail("another field", (uint32_t)i);
+    at += n + v;
+  }
+  if (pulled(1, id).kind != H3_PENDING) fail("something comes behind the head", 0);
+  carry(1, 11);
+  if (h3_connection(&ends[0], &state)) fail("connection", 0);
+  if (!state.has_settings || state.peer_table != 220 || state.peer_blocked != 2 || state.peer_section != 1000 || state.sending_table != 106 ||
+      state.receiving_table || state.waiting_heads)
+    fail("another state of the client", (uint32_t)state.sending_table);
+  if (h3_connection(&ends[1], &state)) fail("connection", 1);
+  if (state.has_settings || state.sending_table || state.receiving_table != 106 || state.waiting_heads)
+    fail("another state of the server", (uint32_t)state.receiving_table);
+  h3_free(&ends[0]);
+  h3_free(&ends[1]);
+}
+
+/* that exchange with each allocation refused in turn; answers how many there are */
+static long waiting_heads(void) {
+  long before = live;
+  for (run_number = 0;; run_number++) {
+    refused = 0;
+    left = run_number;
+    waiting_head();
+    int all = left >= 0;
+    left = -1;
+    if (live != before) fail("something is left allocated", (uint32_t)(live - before));
+    if (all) return run_number;
+    if (refused != 1) fail("the refusals were not one", (uint32_t)refused);
+  }
+}
+
 int main(void) {
   static char expected[sizeof story];
   long before = live;
@@ -208,5 +292,6 @@ int main(void) {
   }
   if (run_number < 100) fail("there were too few allocations", (uint32_t)run_number);
   printf("ok memory: %ld allocations refused in turn, each call made again, the same items came out, nothing left allocated\n", run_number);
+  printf("ok memory, a head that waits: %ld allocations refused in turn, each call made again and answered as with memory\n", waiting_heads());
   return 0;
 }

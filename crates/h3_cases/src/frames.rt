@@ -26,7 +26,7 @@ pub fn answer(told: &mut Told, command: &str, words: &[&str]) {
     }
 }
 
-/// The frame at the front, or the first two and the bytes behind them.
+/// The frame at the front, or the first two and the bytes behind them; or what is written of a frame with these bytes.
 fn read(told: &mut Told, command: &str, bytes: &[u8]) {
     let mut from = bytes;
     match command {
@@ -38,6 +38,7 @@ fn read(told: &mut Told, command: &str, bytes: &[u8]) {
             told.say("; rest ");
             told.digits(from);
         }
+        "data" | "headers" => with_payload(told, command, bytes),
         _ => told.unreadable(),
     }
 }
@@ -109,6 +110,30 @@ fn written(told: &mut Told, frame: Frame<Bytes>) {
         told.say("no length");
     }
     drop(frame);
+}
+
+/// What is written of a DATA or a HEADERS frame with this payload: its head, and the payload that the frame lends.
+fn with_payload(told: &mut Told, command: &str, bytes: &[u8]) {
+    match Bytes::copy_from_slice(told.alloc(), bytes) {
+        Ok(payload) => both_parts(told, of_payload(command, payload)),
+        Err(_) => told.refused(),
+    }
+}
+
+fn of_payload(command: &str, payload: Bytes) -> Frame<Bytes> {
+    if command == "data" {
+        Frame::Data(payload)
+    } else {
+        Frame::Headers(payload)
+    }
+}
+
+fn both_parts(told: &mut Told, frame: Frame<Bytes>) {
+    if let Some(payload) = frame.payload() {
+        told.digits(payload.chunk());
+        told.say(" behind ");
+    }
+    written(told, frame);
 }
 
 /// The first bytes that are sent, and how many there are in all.

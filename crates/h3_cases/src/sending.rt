@@ -64,6 +64,11 @@ fn head(told: &mut Told, command: &str) {
             first(told, WriteBuf::from(head));
         }
         "decoder" => first(told, WriteBuf::from(UniStreamHeader::Decoder)),
+        "type" => parts(told, WriteBuf::from(StreamType::ENCODER), &[]),
+        "goaway" => {
+            let frame = Frame::Goaway(VarInt::from_u32(2));
+            parts(told, WriteBuf::from((StreamType::ENCODER, frame)), &[]);
+        }
         _ => told.unreadable(),
     }
 }
@@ -91,24 +96,19 @@ fn frame(told: &mut Told, command: &str, payload: Bytes, more: &[&str]) {
     }
 }
 
-/// How many bytes are sent; the first of them, and those behind so many.
-fn parts(told: &mut Told, sent: WriteBuf<Bytes>, more: &[&str]) {
-    match more {
-        [count] => {
-            let count = told.small(*count);
-            two_parts(told, sent, count);
-        }
-        _ => {
-            drop(sent);
-            told.unreadable();
-        }
-    }
-}
-
-fn two_parts(told: &mut Told, mut sent: WriteBuf<Bytes>, count: usize) {
+/// How many bytes are sent; the first of them, and in turn those that are first once so many more are taken.
+fn parts(told: &mut Told, mut sent: WriteBuf<Bytes>, counts: &[&str]) {
     told.show(sent.remaining());
     told.say(": ");
     told.digits(sent.chunk());
+    for count in counts {
+        let count = told.small(*count);
+        behind(told, &mut sent, count);
+    }
+    drop(sent);
+}
+
+fn behind(told: &mut Told, sent: &mut WriteBuf<Bytes>, count: usize) {
     if count > sent.remaining() {
         told.unreadable();
     } else {
@@ -116,7 +116,6 @@ fn two_parts(told: &mut Told, mut sent: WriteBuf<Bytes>, count: usize) {
     }
     told.say(" then ");
     told.digits(sent.chunk());
-    drop(sent);
 }
 
 /// How many bytes of a message are sent; and in turn the first part of them, of which so many are taken.

@@ -1,9 +1,10 @@
 //! Settings (RFC 9114, section 7.2.4).
 use crate::case::Told;
-use bytes::BytesMut;
+use bytes::{Bytes, BytesMut};
 use h3_proto::config;
 use h3_proto::config::Config;
 use h3_proto::frame::{SettingId, Settings, SettingsError};
+use h3_wire::proto::frame::{Frame, PayloadLen};
 use std::io::Cursor;
 
 pub fn answer(told: &mut Told, command: &str, words: &[&str]) {
@@ -11,6 +12,7 @@ pub fn answer(told: &mut Told, command: &str, words: &[&str]) {
         "announce" => announce(told, words),
         "insert" => drop(filled(told, words)),
         "flags" => flags(told, words),
+        "frame" => whole_frame(told, words),
         "room" => room(told, words),
         _ => match words {
             [first, more @ ..] => of_first(told, command, *first, more),
@@ -27,6 +29,7 @@ fn of_first(told: &mut Told, command: &str, first: &str, more: &[&str]) {
     let payload = told.bytes(first);
     match command {
         "read" => read(told, &payload, more),
+        "decode" => decode(told, &payload, more),
         "front" => front(told, &payload),
         _ => told.unreadable(),
     }
@@ -110,6 +113,16 @@ fn values(told: &mut Told, settings: &Settings, ids: &[&str]) {
     }
 }
 
+/// The values of these ids in a whole SETTINGS frame.
+fn decode(told: &mut Told, frame: &[u8], ids: &[&str]) {
+    let mut from = frame;
+    match Frame::<PayloadLen>::decode(told.alloc(), &mut from) {
+        Ok(Frame::Settings(settings)) => values(told, &settings, ids),
+        Ok(frame) => told.debug(frame),
+        Err(e) => told.show(e),
+    }
+}
+
 /// The setting 1 of the first two bytes, and the bytes behind them.
 fn front(told: &mut Told, bytes: &[u8]) {
     if bytes.len() < 2 {
@@ -153,6 +166,17 @@ fn of_pairs(told: &mut Told, pairs: &[&str]) -> Settings {
 fn get(told: &mut Told, id: u64, pairs: &[&str]) {
     let settings = of_pairs(told, pairs);
     told.debug(settings.get(SettingId(id)));
+}
+
+/// The SETTINGS frame of pairs, whole.
+fn whole_frame(told: &mut Told, pairs: &[&str]) {
+    let frame: Frame<Bytes> = Frame::Settings(of_pairs(told, pairs));
+    if frame.has_length() {
+        let mut out = BytesMut::new(told.alloc());
+        told.done(frame.encode(&mut out));
+        told.digits(out.as_slice());
+    }
+    drop(frame);
 }
 
 /// What a peer of these pairs allows.

@@ -1,5 +1,5 @@
 -- What was read of an input, and what it is.
-use Rattle.std.specs.Prelude.{ℕ, ◌^◌, ◌≤◌, List, length, Option}
+use Rattle.std.specs.Prelude.{◌≡◌, ◌⊎◌, ℕ, ◌^◌, ◌≤◌, List, length, Option}
 use Rattle.std.specs.Io.KnownBytes.{Consumes, IsAtEnd, Appends}
 use Rattle.h3_script.specs.Lines.{refused_line}
 use Rattle.h3_script.specs.Script.{IsScript, RefusesLine}
@@ -32,6 +32,15 @@ pub record RefusesInput (input rest old new : Option (List ℕ)) : Type 0 where
   pub read : HasRead input rest text
   pub refuses : RefusesLine (2 ^ 48) text number
   pub written : Appends old new (refused_line number)
+
+-- some line that was refused
+pub record ReadsSomeRefused (input rest : Option (List ℕ)) : Type 0 where
+  pub number : ℕ
+  pub refused : ReadsRefused input rest number
+
+-- There is no script, and no line is told: nothing was written, unless a line is refused. What was written of its number is not said.
+abbrev pub LosesInput : Option (List ℕ) → Option (List ℕ) → Option (List ℕ) → Option (List ℕ) → Type 0
+LosesInput input rest old new = (new ≡ old) ⊎ ReadsSomeRefused input rest
 
 -- why no script was read
 abbrev pub Fails : Option (List ℕ) → Option (List ℕ) → Failure → Type 0

@@ -1,7 +1,7 @@
 //! A script from a reader: all of it is read, and a refused line is told.
 ghost use Rattle.std.specs.Prelude.{◌≡◌, ◌⊎◌, IfOk, IfErr};
 ghost use Rattle.std.specs.Io.KnownBytes.{Appends};
-ghost use Rattle.h3_script.specs.Inputs.{HasRead, ReadsScript, RefusesInput, Fails};
+ghost use Rattle.h3_script.specs.Inputs.{HasRead, ReadsScript, RefusesInput, LosesInput, Fails};
 ghost use Rattle.h3_script.specs.Lines.{refused_line};
 
 use crate::error::ScriptError;
@@ -23,8 +23,8 @@ enum Failure {
 }
 
 /// Reads a script of at most 2^48 bytes whole. Where a line is refused nothing but `line` and the number of the first such line is
-/// written, and the error is the status 1. It is 2 where memory was refused, or a read or a write failed; nothing is promised of what
-/// was written then.
+/// written, and the error is the status 1. It is 2 where memory was refused, or a read or a write failed. Then nothing was written, unless
+/// a line is refused: nothing is promised of what was written of its number.
 pub fn read_script<R: Read, W: Write>(
     alloc: Global,
     reader: &mut R,
@@ -33,6 +33,8 @@ pub fn read_script<R: Read, W: Write>(
     ensures ok { IfOk result (λ s. ReadsScript (R.remaining reader.old) (R.remaining reader.new) s.setup s.events.items) }
     ensures unwritten { IfOk result (λ _. W.contents writer.new ≡ W.contents writer.old) }
     ensures refused { IfErr result (λ status. status ≡ 1 → RefusesInput (R.remaining reader.old) (R.remaining reader.new)
+        (W.contents writer.old) (W.contents writer.new)) }
+    ensures lost { IfErr result (λ status. status ≡ 2 → LosesInput (R.remaining reader.old) (R.remaining reader.new)
         (W.contents writer.old) (W.contents writer.new)) }
     ensures statuses { IfErr result (λ status. (status ≡ 1) ⊎ (status ≡ 2)) }
 {

@@ -1,8 +1,8 @@
 -- What the program reads and writes.
-use Rattle.std.specs.Prelude.{◌≡◌, ℕ, ◌^◌, false, List, Option}
+use Rattle.std.specs.Prelude.{◌≡◌, ◌⊎◌, ℕ, ◌^◌, false, List, Option}
 use Rattle.std.specs.List.{list_any}
 use Rattle.std.specs.Io.KnownBytes.{Appends}
-use Rattle.h3_script.specs.Inputs.{HasRead}
+use Rattle.h3_script.specs.Inputs.{HasRead, ReadsScript, LosesInput}
 use Rattle.h3_script.specs.Lines.{printed}
 use Rattle.h3_script.specs.Script.{IsScript}
 use Rattle.h3_world.specs.Ends.{new_ends, answers_of_ends}
@@ -43,3 +43,13 @@ pub record AnswersScript (input rest old new : Option (List ℕ)) : Type 0 where
   pub read : HasRead input rest text
   pub script : IsScript (2 ^ 48) text setup events
   pub prints : Prints setup events old new
+
+-- some script that was read
+pub record ReadsSomeScript (input rest : Option (List ℕ)) : Type 0 where
+  pub setup : Setup
+  pub events : List Event
+  pub reads : ReadsScript input rest setup events
+
+-- Neither answers nor a line are told: nothing was written, unless a line is refused or what was read is a script. What was written then is not said.
+abbrev pub Loses : Option (List ℕ) → Option (List ℕ) → Option (List ℕ) → Option (List ℕ) → Type 0
+Loses input rest old new = LosesInput input rest old new ⊎ ReadsSomeScript input rest

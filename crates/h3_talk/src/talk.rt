@@ -3,7 +3,7 @@ ghost use Rattle.std.specs.Prelude.{◌≡◌, ◌⊎◌, ◌≤◌, true, IfOk}
 ghost use Rattle.std.specs.Io.KnownBytes.{Appends};
 ghost use Rattle.h3_script.specs.Few.{AreFew};
 ghost use Rattle.h3_script.specs.Inputs.{RefusesInput};
-ghost use Rattle.h3_talk.specs.Talks.{AnswersTo, Prints, AnswersScript};
+ghost use Rattle.h3_talk.specs.Talks.{AnswersTo, Prints, AnswersScript, Loses};
 ghost use Rattle.h3_world.specs.Setup.{IsMadeSetup};
 
 use h3_script::input::read_script;
@@ -18,11 +18,14 @@ use std::io::{Read, Write};
 /// Answers a script: reads it whole, drives a client and a server by it and writes a line for each
 /// event. The status is 0 then. Where a line is refused nothing but `line` and the number of the
 /// first such line is written, and the status is 1. It is 2 where memory was refused outside an
-/// event, or a read or a write failed; nothing is promised of what was written then.
+/// event, or a read or a write failed. Then nothing was written, unless a line is refused or the
+/// input is a script: nothing is promised of what was written of its number or its answers.
 pub fn talk<R: Read, W: Write>(alloc: Global, reader: &mut R, writer: &mut W) -> u8
     ensures answered { result ≡ 0 → AnswersScript (R.remaining reader.old) (R.remaining reader.new)
         (W.contents writer.old) (W.contents writer.new) }
     ensures refused { result ≡ 1 → RefusesInput (R.remaining reader.old) (R.remaining reader.new)
+        (W.contents writer.old) (W.contents writer.new) }
+    ensures lost { result ≡ 2 → Loses (R.remaining reader.old) (R.remaining reader.new)
         (W.contents writer.old) (W.contents writer.new) }
     ensures statuses { result ≤ 2 }
 {

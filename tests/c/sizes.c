@@ -1,0 +1,313 @@
+/* Large input, with memory for all of it: bodies of 16 MiB, heads of 64 KiB and of 1,000 fields, 10,000 streams, 100,000 insertions and
+ * deliveries of 1 MiB. Each call of the header is made at such a size. No call may tell of want of memory, and no allocation may have been
+ * refused: they are counted. Linked with --wrap for malloc and realloc. */
+#include "h3.h"
+#include <stdio.h>
+#include <stdlib.h>
+#include <string.h>
+
+void *__real_malloc(size_t);
+void *__real_realloc(void *, size_t);
+
+static long allocations, refused;
+
+static void *counted(void *block, size_t size) {
+  allocations++;
+  refused += !block && size;
+  return block;
+}
+void *__wrap_malloc(size_t size) { return counted(__real_malloc(size), size); }
+void *__wrap_realloc(void *old, size_t size) { return counted(__real_realloc(old, size), size); }
+
+enum { KIB = 1024, MIB = 1024 * 1024, BODY = 16 * MIB, FIELDS = 1000, VALUE = 64 * KIB };
+enum { STREAMS = 10000, HEADS = 2000, NEW_FIELDS = 50, GOAWAYS = 110000 };
+
+static void fail(const char *what, uint64_t id, uint64_t number) {
+  printf("failed sizes: %s, stream %llu, %llu (%ld of %ld allocations refused)\n", what, (unsigned long long)id, (unsigned long long)number, refused,
+      allocations);
+  exit(1);
+}
+#define WANT(test, what, id, number) \
+  do { \
+    if (!(test)) fail(what, id, number); \
+  } while (0)
+#define DONE(call, what, id) \
+  do { \
+    uint32_t answer_ = (call); \
+    WANT(answer_ == H3_OK, what, id, answer_); \
+  } while (0)
+
+static h3_endpoint ends[2]; /* a client and a server */
+static uint8_t *piece;      /* of BODY + MIB bytes */
+static uint8_t *body;
+
+/* fields as h3_send_head takes them */
+typedef struct {
+  h3_field_size sizes[FIELDS + 8];
+  size_t count, len;
+  uint8_t bytes[2 * VALUE];
+} list;
+
+static void add(list *l, const char *name, const void *value, size_t len) {
+  size_t n = strlen(name);
+  WANT(l->count < FIELDS + 8 && l->len + n + len <= sizeof l->bytes, "a list is too long", 0, l->count);
+  memcpy(l->bytes + l->len, name, n);
+  memcpy(l->bytes + l->len + n, value, len);
+  l->len += n + len;
+  l->sizes[l->count++] = (h3_field_size){(uint32_t)n, (uint32_t)len};
+}
+static void begin(list *l, int side) {
+  l->count = l->len = 0;
+  if (side) {
+    add(l, ":status", "200", 3);
+    return;
+  }
+  add(l, ":method", "POST", 4);
+  add(l, ":scheme", "https", 5);
+  add(l, ":authority", "localhost", 9);
+  add(l, ":path", "/index", 6);
+}
+
+/* so many fields of one name, whose values are numbers from there on */
+static void add_numbers(list *l, const char *name, unsigned from, unsigned count) {
+  char value[16];
+  for (unsigned n = from; n < from + count; n++) add(l, name, value, (size_t)snprintf(value, sizeof value, "%06u", n));
+}
+
+static void make(void) {
+  for (int side = 0; side < 2; side++) {
+    h3_config c;
+    h3_config_default(&c);
+    c.max_field_section_size = 1 << 24;
+    c.server = (uint32_t)side;
+    c.table = 4096;
+    c.blocked = 100;
+    DONE(h3_new(&ends[side], &c, NULL), "h3_new", side);
+  }
+}
+static void drop(void) {
+  h3_free(&ends[0]);
+  h3_free(&ends[1]);
+}
+
+/* what waits on a stream goes over, as much as fits into `piece` at a time; answers how many bytes went in the largest delivery */
+static size_t carry(int side, uint64_t id) {
+  size_t most = 0, n;
+  uint32_t fin;
+  for (;;) {
+    DONE(h3_outgoing(&ends[side], id, piece, BODY + MIB, &n, &fin), "h3_outgoing", id);
+    if (!n) break;
+    DONE(h3_deliver(&ends[!side], id, piece, n, NULL), "h3_deliver", id);
+    DONE(h3_advance(&ends[side], id, n), "h3_advance", id);
+    if (n > most) most = n;
+  }
+  if (fin) DONE(h3_deliver_end(&ends[!side], id, NULL), "h3_deliver_end", id);
+  return most;
+}
+static void carry_own(void) {
+  for (int side = 0; side < 2; side++) {
+    carry(side, h3_control_id(side));
+    carry(side, h3_encoder_id(side));
+    carry(side, h3_decoder_id(side));
+  }
+}
+
+/* the next item is of this kind */
+static h3_item pulled(int side, uint64_t id, uint32_t kind) {
+  h3_item item;
+  DONE(h3_pull(&ends[side], id, &item), "h3_pull", id);
+  WANT(item.kind == kind, "an item of another kind", id, item.kind);
+  return item;
+}
+
+/* the item has these fields, in this order */
+static void same_fields(int side, uint64_t id, const h3_item *item, const list *l) {
+  static uint8_t name[64], value[VALUE];
+  size_t at = 0;
+  WANT(item->fields == l->count, "another count of fields", id, item->fields);
+  for (size_t i = 0; i < l->count; i++) {
+    size_t n, v;
+    DONE(h3_item_field(&ends[side], i, name, sizeof name, &n, value, sizeof value, &v), "h3_item_field", id);
+    WANT(n == l->sizes[i].name && v == l->sizes[i].value, "another size of a field", id, i);
+    WANT(!memcmp(name, l->bytes + at, n) && !memcmp(value, l->bytes + at + n, v), "another field", id, i);
+    at += n + v;
+  }
+}
+
+/* the body comes out, in whatever pieces */
+static void same_body(int side, uint64_t id, size_t len) {
+  for (size_t at = 0; at < len;) {
+    size_t n;
+    h3_item item = pulled(side, id, H3_BODY);
+    DONE(h3_item_bytes(&ends[side], 0, piece, BODY + MIB, &n), "h3_item_bytes", id);
+    WANT(n && n == item.len && n <= len - at && !memcmp(piece, body + at, n), "another body", id, n);
+    at += n;
+  }
+}
+
+/* a message of a head, a body and a trailer */
+static void send(int side, uint64_t id, const list *head, size_t len, const list *trailer) {
+  h3_stream_state s;
+  DONE(h3_send_head(&ends[side], id, head->sizes, head->count, head->bytes, head->len, NULL), "h3_send_head", id);
+  if (len) DONE(h3_send_body(&ends[side], id, body, len, NULL), "h3_send_body", id);
+  if (trailer) DONE(h3_send_trailer(&ends[side], id, trailer->sizes, trailer->count, trailer->bytes, trailer->len, NULL), "h3_send_trailer", id);
+  DONE(h3_finish(&ends[side], id, NULL), "h3_finish", id);
+  DONE(h3_stream(&ends[side], id, &s), "h3_stream", id);
+  WANT(s.waiting > len && s.is_finished, "too few bytes wait", id, s.waiting);
+}
+static void take(int side, uint64_t id, const list *head, size_t len, const list *trailer) {
+  h3_item item = pulled(side, id, H3_HEAD);
+  same_fields(side, id, &item, head);
+  same_body(side, id, len);
+  if (trailer) {
+    item = pulled(side, id, H3_TRAILER);
+    same_fields(side, id, &item, trailer);
+  }
+  pulled(side, id, H3_END);
+}
+
+/* bodies of these sizes, with heads and trailers of 64 KiB and of 1,000 fields */
+static void bodies(void) {
+  static list head, trailer;
+  static const size_t lens[] = {VALUE, BODY};
+  uint64_t id;
+  h3_state state;
+  make();
+  carry_own();
+  for (size_t i = 0; i < 2; i++) {
+    DONE(h3_open_request(&ends[0], &id, NULL), "h3_open_request", 0);
+    for (int side = 0; side < 2; side++) {
+      begin(&head, side);
+      if (i) add_numbers(&head, "x-a", 0, FIELDS);
+      else add(&head, "x-a", body, VALUE);
+      trailer.count = trailer.len = 0;
+      if (i) add_numbers(&trailer, "x-b", 0, FIELDS);
+      else add(&trailer, "x-b", body, VALUE);
+      send(side, id, &head, lens[i], &trailer);
+      carry_own();
+      carry(side, id);
+      take(!side, id, &head, lens[i], &trailer);
+      carry_own();
+    }
+  }
+  DONE(h3_connection(&ends[0], &state), "h3_connection", 0);
+  WANT(state.sent > BODY + VALUE && state.peer_section == 1 << 24, "another state of the connection", 0, state.sent);
+  drop();
+}
+
+/* requests on so many streams at once, and then their responses; and as many that are cut off and given up */
+static void streams(void) {
+  static list head;
+  uint64_t id, seen = 0;
+  make();
+  carry_own();
+  for (int side = 0; side < 2; side++) {
+    begin(&head, side);
+    for (uint64_t n = 0; n < STREAMS; n++) {
+      if (!side) DONE(h3_open_request(&ends[0], &id, NULL), "h3_open_request", n);
+      send(side, 4 * n, &head, 100, NULL);
+    }
+    carry_own();
+    seen = 0;
+    for (id = 0; h3_next_waiting(&ends[side], id, &id) == H3_OK; id++) {
+      WANT(id == 4 * seen, "h3_next_waiting names another stream", id, seen);
+      carry(side, id);
+      seen++;
+    }
+    WANT(seen == STREAMS, "h3_next_waiting leaves streams out", 0, seen);
+    for (uint64_t n = 0; n < STREAMS; n++) take(!side, 4 * n, &head, 100, NULL);
+    carry_own();
+  }
+  begin(&head, 0);
+  for (uint64_t n = 0; n < STREAMS; n++) {
+    DONE(h3_open_request(&ends[0], &id, NULL), "h3_open_request", n);
+    send(0, id, &head, 100, NULL);
+    carry_own();
+    DONE(h3_reset(&ends[0], id, NULL), "h3_reset", id);
+    DONE(h3_deliver_reset(&ends[1], id, 256, NULL), "h3_deliver_reset", id);
+    WANT(pulled(1, id, H3_FAULT_RESET).number == 256, "another code", id, 0);
+    DONE(h3_cancel(&ends[0], id, NULL), "h3_cancel", id);
+    pulled(0, id, H3_FAULT_CANCELED);
+  }
+  drop();
+}
+
+/* responses of new fields, which are inserted in the place of older ones */
+static void insertions(void) {
+  static list head;
+  uint64_t id;
+  h3_state state;
+  make();
+  carry_own();
+  for (unsigned n = 0; n < HEADS; n++) {
+    DONE(h3_open_request(&ends[0], &id, NULL), "h3_open_request", n);
+    DONE(h3_deliver(&ends[1], id, "", 0, NULL), "h3_deliver", id);
+    begin(&head, 1);
+    add_numbers(&head, "x-a", NEW_FIELDS * n, NEW_FIELDS);
+    send(1, id, &head, 0, NULL);
+    carry(1, id);
+    pulled(0, id, H3_WAITING);
+    carry_own();
+    take(0, id, &head, 0, NULL);
+    carry_own();
+    DONE(h3_connection(&ends[0], &state), "h3_connection", 0);
+    WANT(state.receiving_table <= 4096 && (n < 2 || state.receiving_table > 4000), "another size of the table", id, state.receiving_table);
+  }
+  drop();
+}
+
+/* deliveries of 1 MiB on each kind of stream */
+static void deliveries(void) {
+  uint64_t id, value, detail;
+  h3_state state;
+  h3_item item;
+  size_t n;
+  make();
+  DONE(h3_deliver(&ends[0], 3, "\0\4\3\6\101\0", 6, NULL), "h3_deliver", 3); /* SETTINGS that take sections of 256 bytes */
+  DONE(h3_peer_setting(&ends[0], 6, &value), "h3_peer_setting", 0);
+  WANT(value == 256, "another setting", 0, value);
+  memcpy(piece, "\41\200\20\0\0", 5); /* an unknown frame of 1 MiB */
+  memset(piece + 5, 0, MIB);
+  DONE(h3_deliver(&ends[0], 3, piece, MIB + 5, NULL), "h3_deliver", 3);
+  memset(piece, 0, MIB); /* increments of 0 */
+  piece[0] = 3;
+  DONE(h3_deliver(&ends[0], 11, piece, MIB, NULL), "h3_deliver", 11);
+  memcpy(piece, "\2\77\341\37", 4); /* a table of 4,096 bytes; insertions of :authority and seven bytes */
+  for (n = 0; n < MIB / 9; n++) memcpy(piece + 4 + 9 * n, "\300\7abcdefg", 9);
+  DONE(h3_deliver(&ends[0], 7, piece, 4 + 9 * n, NULL), "h3_deliver", 7);
+  memcpy(piece, "\100\124\4", 3); /* a WebTransport stream of session 4 */
+  memcpy(piece + 3, body, MIB);
+  DONE(h3_deliver(&ends[0], 15, piece, MIB + 3, NULL), "h3_deliver", 15);
+  WANT(pulled(0, 15, H3_SESSION).number == 4, "another session", 15, 0);
+  item = pulled(0, 15, H3_RAW);
+  DONE(h3_item_bytes(&ends[0], 0, piece, MIB, &n), "h3_item_bytes", 15);
+  WANT(item.len == MIB && n == MIB && !memcmp(piece, body, MIB), "other bytes", 15, n);
+  drop();
+  make();
+  for (unsigned k = 0; k < GOAWAYS; k++) DONE(h3_goaway(&ends[1], (UINT64_C(1) << 62) - 4 - 4 * k, NULL), "h3_goaway", k);
+  n = carry(1, 3);
+  WANT(n > MIB, "the GOAWAYs went in small pieces", 3, n);
+  DONE(h3_connection(&ends[0], &state), "h3_connection", 0);
+  id = (UINT64_C(1) << 62) - 4 * (uint64_t)GOAWAYS;
+  WANT(state.has_goaway && state.goaway == id, "another GOAWAY", 3, state.goaway);
+  WANT(h3_open_request(&ends[0], &value, &detail) == H3_GOING_AWAY && detail == id, "a request is opened behind a GOAWAY", 0, detail);
+  drop();
+}
+
+int main(void) {
+  piece = malloc(BODY + MIB);
+  body = malloc(BODY);
+  if (!piece || !body) fail("the test itself has no memory", 0, 0);
+  for (size_t i = 0; i < BODY; i++) body[i] = (uint8_t)('a' + i % 23);
+  bodies();
+  streams();
+  insertions();
+  deliveries();
+  WANT(!refused && allocations > 100000, "allocations were refused, or not counted", 0, 0);
+  free(piece);
+  free(body);
+  printf("ok sizes: bodies of 16 MiB, heads of 64 KiB and 1,000 fields, 10,000 streams, 100,000 insertions, deliveries of 1 MiB: %ld allocations, none "
+         "refused\n",
+      allocations);
+  return 0;
+}
