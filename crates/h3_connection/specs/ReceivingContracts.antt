@@ -44,7 +44,7 @@ pub record Receives (old new : EndpointState) (a : Arrival) (result : Result Uni
   pub kept : (e : EndpointHistory) → StandsFor old e → result ≡ Err deliver_error.Kept → IsTaken e (stream_of a) × StoresArrival e a new
   pub some_kept : result ≡ Err deliver_error.Kept → new.kept ≢ []
 
--- bytes and ends of a request stream are kept only behind what is kept
+-- what comes on a request stream is kept only behind what is kept
 abbrev pub KeepsBehind : EndpointState → ℕ → Result Unit DeliverError → Type 0
 KeepsBehind old id result = kind_of old.side id ≡ Request → result ≡ Err deliver_error.Kept → old.kept ≢ []
 
@@ -59,8 +59,9 @@ pub record DeliversEnd (old new : EndpointState) (id : ℕ) (result : Result Uni
   pub behind : KeepsBehind old id result
 
 -- `deliver_reset`
-abbrev pub DeliversReset : EndpointState → EndpointState → ℕ → ℕ → Result Unit DeliverError → Type 0
-DeliversReset old new id code result = Receives old new (ResetCame id code) result
+pub record DeliversReset (old new : EndpointState) (id code : ℕ) (result : Result Unit DeliverError) : Type 0 where
+  pub receives : Receives old new (ResetCame id code) result
+  pub behind : KeepsBehind old id result
 
 -- A pull that was refused memory hands out nothing and loses nothing: what was kept was read up to some point; or all of it was,
 -- and the stream goes on as if it had not been asked.

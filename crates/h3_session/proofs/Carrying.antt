@@ -18,11 +18,18 @@ use Rattle.h3_connection.specs.declared.event.Refusal.{Refusal}
 use Rattle.h3_world.specs.Headline.{is_memory}
 use Rattle.h3_world.specs.declared.event.Answer.{Answer}
 use Rattle.h3_world.specs.declared.event.Answer.TheVariants as answer
-use Rattle.h3_session.specs.Running.{Carried, Carries, HandsOver, answer_of, told_answer, told, is_stored, bytes_taken, bytes_go, end_goes, reset_goes}
+use Rattle.h3_session.specs.Acting.{Offers}
+use Rattle.h3_session.specs.Running.{Carried, Carries, answer_of, told_answer, told, is_stored, bytes_taken, bytes_go, end_goes, reset_goes}
 use Rattle.h3_world.specs.Delivering.{reset_code}
 
 abbrev Handed : EndpointState → EndpointState → Answer → Carried → Type 0
 Handed writer reader given c = (given ≡ c.given) × StandsFor writer c.writer × StandsFor reader c.reader
+
+-- Of the bytes that wait on the stream so many were offered, these; unless memory was refused.
+abbrev HandsOver : EndpointState → EndpointState → ℕ → ℕ → List ℕ → Answer → EndpointState → EndpointState → Type 0
+HandsOver writer reader id count bytes given writer_after reader_after =
+    (w r : EndpointHistory) → StandsFor writer w → StandsFor reader r → count ≤ waiting w id → is_memory given ≡ false →
+    Handed writer_after reader_after given (bytes_taken w r id count (arrives r (BytesCame id bytes)))
 
 -- the bytes were taken
 taken_by : (w r after : EndpointHistory) (id count : ℕ) (writer reader : EndpointState) → StandsFor writer (sender.advance w id count) → StandsFor reader after
@@ -31,7 +38,7 @@ taken_by w r after id count writer reader hw hr x none is =
     subst (λ o. Handed writer reader (answer.Delivered count) (bytes_taken w r id count (o, x.1))) none
     (refl, hw, subst (StandsFor reader) (sym is) hr)
 
-pub handed : (writer writer_after reader reader_after : EndpointState) (id count : ℕ) (bytes : List ℕ) → Delivers reader reader_after id bytes (Ok tt) → Advances writer writer_after id count
+handed : (writer writer_after reader reader_after : EndpointState) (id count : ℕ) (bytes : List ℕ) → Delivers reader reader_after id bytes (Ok tt) → Advances writer writer_after id count
     → HandsOver writer reader id count bytes (answer.Delivered count) writer_after reader_after
 handed writer writer_after reader reader_after id count bytes delivers advances w r hw hr fits not_memory =
     let x = delivers.receives.done r hr refl in
@@ -56,12 +63,11 @@ hands_by writer writer_after reader reader_after id count bytes (Err (deliver_er
 hands_by writer writer_after reader reader_after id count bytes (Err (deliver_error.OutOfMemory back)) delivers taken left w r hw hr fits not_memory = absurd (cc)
 hands_by writer writer_after reader reader_after id count bytes (Err deliver_error.Kept) delivers taken left w r hw hr fits not_memory = absurd (cc)
 
-pub hands_over : (writer writer_after reader reader_after : EndpointState) (id count : ℕ) (bytes : List ℕ) (result : Result Unit DeliverError) (stored : Bool) (given : Answer) → Delivers reader reader_after id bytes result
-    → stored ≡ is_stored result → (stored ≡ true → Advances writer writer_after id count) → (stored ≡ false → writer_after ≡ writer)
-    → given ≡ answer_of (answer.Delivered count) (delivery_refused result) → HandsOver writer reader id count bytes given writer_after reader_after
-hands_over writer writer_after reader reader_after id count bytes result stored given delivers is taken left same =
-    subst (λ a. HandsOver writer reader id count bytes a writer_after reader_after) (sym same)
-    (hands_by writer writer_after reader reader_after id count bytes result delivers (λ there. taken (is ∙ there)) (λ not_stored. left (is ∙ not_stored)))
+hands_over : (writer writer_after reader reader_after : EndpointState) (id count : ℕ) (bytes : List ℕ) (given : Answer) → Offers id count bytes writer reader given writer_after reader_after
+    → HandsOver writer reader id count bytes given writer_after reader_after
+hands_over writer writer_after reader reader_after id count bytes given offers =
+    subst (λ a. HandsOver writer reader id count bytes a writer_after reader_after) (sym offers.given_is)
+    (hands_by writer writer_after reader reader_after id count bytes offers.result offers.delivers offers.taken offers.left)
 
 -- An end or a reset.
 told_by : (w : EndpointHistory) (writer reader : EndpointState) (result : Result Unit DeliverError) (x : Option Refusal × EndpointHistory) → StandsFor writer w → delivery_refused result ≡ x.0 → StandsFor reader x.1
@@ -94,7 +100,7 @@ pub reset_told : (writer reader reader_after : EndpointState) (id : ℕ) (result
 reset_told writer reader reader_after id result given has was shows_has there shows_reset reset delivers same w r hw hr not_memory =
     let has_is : has_outgoing w id ≡ true = sym (shows_has w hw) ∙ there in
     let was_is : is_reset w id ≡ true = sym (shows_reset w hw) ∙ reset in
-    let x = delivers.done r hr (clear result (subst (λ a. is_memory a ≡ false) same not_memory)) in
+    let x = delivers.receives.done r hr (clear result (subst (λ a. is_memory a ≡ false) same not_memory)) in
     let handed = told_by w writer reader_after result (arrives r (ResetCame id reset_code)) hw x.0 x.1 in
     rw (has_is, was_is) (subst (λ a. Handed writer reader_after a (told w (arrives r (ResetCame id reset_code)))) (sym same) handed)
 
@@ -139,13 +145,13 @@ too_few writer reader id count waits has shows_has there shows_waiting few w r h
     rw (has_is, short) (ap answer.Short is, hw, hr)
 
 pub goes_over : (writer writer_after reader reader_after : EndpointState) (id count waits : ℕ) (has : Bool) (bytes : List ℕ) (given : Answer) → ShowsOutgoing writer id has → has ≡ true → ShowsWaiting writer id waits → count ≤ waits
-    → ((w : EndpointHistory) → StandsFor writer w → bytes ≡ take count (bytes_waiting w id)) → HandsOver writer reader id count bytes given writer_after reader_after
+    → ((w : EndpointHistory) → StandsFor writer w → bytes ≡ take count (bytes_waiting w id)) → Offers id count bytes writer reader given writer_after reader_after
     → Carries (λ w r. bytes_go w r id count) writer reader given writer_after reader_after
-goes_over writer writer_after reader reader_after id count waits has bytes given shows_has there shows_waiting enough front hands w r hw hr not_memory =
+goes_over writer writer_after reader reader_after id count waits has bytes given shows_has there shows_waiting enough front offers w r hw hr not_memory =
     let has_is : has_outgoing w id ≡ true = sym (shows_has w hw) ∙ there in
     let fits : count ≤ waiting w id = subst (λ n. count ≤ n) (shows_waiting w hw) enough in
     let all : nat_lt (waiting w id) count ≡ false = not_fewer (waiting w id) count fits in
-    let x = hands w r hw hr fits not_memory in
+    let x = hands_over writer writer_after reader reader_after id count bytes given offers w r hw hr fits not_memory in
     let over : Handed writer_after reader_after given (bytes_taken w r id count (arrives r (BytesCame id (take count (bytes_waiting w id))))) =
     subst (λ l. Handed writer_after reader_after given (bytes_taken w r id count (arrives r (BytesCame id l)))) (front w hw) x in
     rw (has_is, all) over

@@ -1,5 +1,5 @@
 -- What two endpoints answer is a run of the world in which they stand.
-use Rattle.std.proofs.Common.{List, sym, subst}
+use Rattle.std.proofs.Common.{zero, suc, ℕ, List, [], ◌∷◌, take, sym, subst}
 use Rattle.std.specs.List.{AllByRecursion}
 use Rattle.h3_connection.specs.State.{EndpointState}
 use Rattle.h3_world.specs.declared.event.Answer.{Answer}
@@ -12,8 +12,8 @@ use Rattle.h3_world.specs.Run.{Run}
 use Rattle.h3_world.specs.Sendable.{IsSendable}
 use Rattle.h3_world.specs.World.{World, empty_world}
 use Rattle.h3_headline.specs.Standing.{Stands}
-use Rattle.h3_session.specs.Headlines.{RunsInWorld}
-use Rattle.h3_session.specs.Running.{RunsTo}
+use Rattle.h3_session.specs.Headlines.{RunsInWorld, RunsUntilMemory}
+use Rattle.h3_session.specs.Running.{AnswersEach, RunsTo}
 use Rattle.h3_session.specs.Typed.{IsTyped}
 use Rattle.h3_session.proofs.Sendables.{few_are_sendable}
 
@@ -34,3 +34,16 @@ runs_in_world setup events answers client server law typed h few =
       client_stands = h.client_stands;
       server_stands = h.server_stands;
     }
+
+front_of_all : {X : Type 0} (P : X → Type 0) (n : ℕ) (xs : List X) → AllByRecursion P xs → AllByRecursion P (take n xs)
+front_of_all P zero xs h = tt
+front_of_all P (suc n) [] h = tt
+front_of_all P (suc n) (x ∷ xs) h = (h.0, front_of_all P n xs h.1)
+
+-- So are those up to the first that tells of refused memory.
+pub runs_until_memory : (setup : Setup) (events : List Event) (answers : List Answer) → ((front : List Event) → AllByRecursion IsSendable front → RunOfEnds setup front)
+    → AllByRecursion IsTyped events → AnswersEach (new_ends setup) events answers → AreFew events → RunsUntilMemory setup events answers
+runs_until_memory setup events answers law typed h few = λ n not_memory.
+    let front = take n events in
+    let on = law front (front_of_all IsSendable n events (few_are_sendable events typed few)) in
+    (on.0, subst (λ given. Run (Happens setup) empty_world front given on.0) (sym (h.until_memory n not_memory)) on.1)

@@ -24,6 +24,7 @@ pub mod PullingStreams
 pub mod PullingKept
 pub mod Running
 pub mod RunningCalls
+pub mod Acting
 pub mod Copying
 pub mod Runs
 pub mod Carrying

@@ -9,10 +9,19 @@ use Rattle.h3_connection.specs.State.{EndpointState, StandsFor}
 use Rattle.h3_connection.specs.declared.arrival.Arrival.TheVariants.{BytesCame, EndCame, ResetCame}
 use Rattle.h3_connection.specs.declared.event.Refusal.{Refusal}
 use Rattle.h3_world.specs.Delivering.{reset_code}
-use Rattle.h3_world.specs.Ends.{Ends, done, was_offered, delivery, end_delivery, reset_delivery}
+use Rattle.h3_world.specs.Ends.{Ends, answered, done, was_offered, delivery, end_delivery, reset_delivery}
+use Rattle.h3_world.specs.Headline.{is_memory}
 use Rattle.h3_world.specs.declared.event.Answer.{Answer}
+use Rattle.h3_world.specs.declared.event.Event.{Event}
 use Rattle.h3_world.specs.declared.event.Answer.TheVariants as answer
 use Rattle.h3_session.specs.Running.{answer_of, Carried, nothing_goes, bytes_taken, told, bytes_go, end_goes, reset_goes}
+
+-- The answer is that of two histories which the endpoints stand for, and what they hold then stands for the histories after it;
+-- unless memory was refused.
+abbrev pub AnswersEvent : Event → EndpointState → EndpointState → Answer → EndpointState → EndpointState → Type 0
+AnswersEvent event client server given client_after server_after =
+    (ends : Ends) → StandsFor client ends.client → StandsFor server ends.server → is_memory given ≡ false →
+    (given ≡ (answered ends event).0) × StandsFor client_after (answered ends event).1.client × StandsFor server_after (answered ends event).1.server
 
 -- a call of one end: the answer, and what both stand for then
 abbrev pub Ended : Answer → EndpointState → EndpointState → Answer × Ends → Type 0

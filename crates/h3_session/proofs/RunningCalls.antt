@@ -2,7 +2,6 @@
 use Rattle.std.proofs.Common.{◌≡◌, ◌≢◌, ℕ, List, false, Option, Some, refl, ap, sym, subst, ◌∙◌}
 use Rattle.std.specs.Prelude.{Result, Ok, Err}
 use Rattle.h3_header.specs.Head.{Head}
-use Rattle.h3_proto.specs.declared.stream.Side.{Side}
 use Rattle.h3_proto.specs.declared.stream.Side.TheVariants.{Client, Server}
 use Rattle.h3_connection.specs.Answers.{call_refused, body_refused}
 use Rattle.h3_connection.specs.Endpoint.{EndpointHistory}
@@ -20,10 +19,9 @@ use Rattle.h3_world.specs.Ends.{Ends, done}
 use Rattle.h3_world.specs.Headline.{is_memory}
 use Rattle.h3_world.specs.declared.event.Answer.{Answer}
 use Rattle.h3_world.specs.declared.event.Answer.TheVariants as answer
-use Rattle.h3_world.specs.declared.event.Event.{Event}
 use Rattle.h3_world.specs.declared.event.Event.TheVariants as does
-use Rattle.h3_session.specs.Running.{AnswersEvent, Carries, Shown, answer_of, done_answer, body_answer, opened_answer, bytes_go, end_goes, reset_goes}
-use Rattle.h3_session.proofs.Running.{Ended, client_done, server_done, client_bytes, server_bytes, client_end, server_end, client_reset as client_reset_goes, server_reset as server_reset_goes}
+use Rattle.h3_session.specs.Running.{Carries, Shown, answer_of, done_answer, body_answer, opened_answer, bytes_go, end_goes, reset_goes}
+use Rattle.h3_session.proofs.Running.{AnswersEvent, Ended, client_done, server_done, client_bytes, server_bytes, client_end, server_end, client_reset as client_reset_goes, server_reset as server_reset_goes}
 
 -- a call answers and leaves what its definition does, unless memory was refused
 abbrev Acts : (EndpointHistory → Option Refusal × EndpointHistory) → EndpointState → EndpointState → Option Refusal → Type 0
@@ -166,10 +164,3 @@ pub server_resets : (client server client_after server_after : EndpointState) (i
 server_resets client server client_after server_after id given h ends c s not_memory =
     let x = h ends.server ends.client s c not_memory in
     subst (Ended given client_after server_after) (sym (server_reset_goes ends id)) (x.0, x.2, x.1)
-
--- By the side that acts.
-pub as_side : (event : Side → Event) (side acting : Side) (client server : EndpointState) (given made : Answer) (client_after server_after : EndpointState) → side ≡ acting → given ≡ made
-    → AnswersEvent (event acting) client server made client_after server_after → AnswersEvent (event side) client server given client_after server_after
-as_side event side acting client server given made client_after server_after is same h =
-    subst (λ s. AnswersEvent (event s) client server given client_after server_after) (sym is)
-    (subst (λ a. AnswersEvent (event acting) client server a client_after server_after) (sym same) h)

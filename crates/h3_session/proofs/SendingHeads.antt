@@ -47,6 +47,7 @@ module _ (rule : EndpointHistory → Option Refusal) (after : EndpointHistory �
         done = λ e h not_memory. was_refused e (after e) old (rule e) r (is e h) h;
         same = λ refused not_memory. same_itself old;
         memory = λ e h memory. absurd (is_rule (cc));
+        too_large = λ e h memory some. absurd (is_rule (cc));
       }
 
   pub section_lacks : ((e : EndpointHistory) → StandsFor old e → rule e ≡ size_refused old.peer.settings fields) → SendsSection (λ e. does (rule e) e (after e)) old old id fields (Some refusal.OutOfMemory)
@@ -55,6 +56,7 @@ module _ (rule : EndpointHistory → Option Refusal) (after : EndpointHistory �
         done = λ e h not_memory. absurd (not_memory refl);
         same = λ refused not_memory. absurd (not_memory refl);
         memory = λ e h memory. (may_lack is e h, not_begun old e id fields h);
+        too_large = λ e h memory some. same_itself old;
       }
 
   done_by : (new : EndpointState) (e : EndpointHistory) (refused : Option Refusal) → StandsFor old e → rule e ≡ refused → (refused ≡ None → StandsFor new (after e)) → (refused ≢ None → new ≡ old)
@@ -72,6 +74,8 @@ module _ (rule : EndpointHistory → Option Refusal) (after : EndpointHistory �
             done_by new e refused stands (is e stands ∙ sym (h.size not_memory)) (λ none. subst (StandsFor new) (sym (afters e)) (h.done none e (part e) stands (parts e stands))) (λ some. h.same some not_memory);
         same = λ some not_memory. subst (λ v. IsSame old v) (sym (h.same some not_memory)) (same_itself old);
         memory = λ e stands memory. (may_lack is e stands, h.memory memory e stands);
+        too_large = λ e stands memory some.
+            subst (λ v. IsSame old v) (sym (h.too_large memory (λ none. some (ap (λ o. (does o e (after e)).0) (is e stands ∙ none))))) (same_itself old);
       }
 
 -- The call begins over streams that are found as they were: it is refused there,
@@ -85,6 +89,7 @@ module _ (act : EndpointHistory → Option Refusal × EndpointHistory) (s : Endp
         done = λ e stands not_memory. ((h.done e stands not_memory).0, stands_same s (act e).1 mid (h.done e stands not_memory).1 same);
         same = λ some not_memory. requests_same s (record s { requests = mid }) refl same refl;
         memory = λ e stands memory. ((h.memory e stands memory).0, cut_alike e (h.memory e stands memory).1);
+        too_large = λ e stands memory refused. requests_same s (record s { requests = mid }) refl same refl;
       }
 
   begun_same : (new : EndpointState) → IsSame (record s { requests = mid }) new → IsSame s new
@@ -117,6 +122,7 @@ module _ (act : EndpointHistory → Option Refusal × EndpointHistory) (s : Endp
         done = λ e stands not_memory. h.done e (stands_same s e mid stands same) not_memory;
         same = λ some not_memory. begun_same new (h.same some not_memory);
         memory = λ e stands memory. h.memory e (stands_same s e mid stands same) memory;
+        too_large = λ e stands memory refused. begun_same new (h.too_large e (stands_same s e mid stands same) memory refused);
       }
 
 -- `send_head`

@@ -6,6 +6,7 @@ pub mod Arriving
 pub mod SendingFields
 pub mod Pulling
 pub mod Running
+pub mod Acting
 pub mod Copied
 pub mod Typed
 pub mod Headlines

@@ -1,5 +1,6 @@
 -- What two stored endpoints answer to an event, by the histories that they stand for.
-use Rattle.std.specs.Prelude.{◌≡◌, ℕ, not, ◌&&◌, List, ◌++◌, ◌≤◌, take, nat_lt, ◌==◌, if◌then◌else◌, Bool, true, false, Option, Some, None, Result, Ok, Err}
+use Rattle.std.specs.Prelude.{◌≡◌, ℕ, not, ◌&&◌, List, ◌++◌, length, take, nat_lt, ◌==◌, if◌then◌else◌, Bool, true, false, Option, Some, None, Result, Ok, Err}
+use Rattle.std.specs.List.{list_any}
 use Rattle.h3_connection.specs.Answers.{call_refused, body_refused, delivery_refused}
 use Rattle.h3_connection.specs.Endpoint.{EndpointHistory, bytes_waiting}
 use Rattle.h3_connection.specs.Keeping.{arrives}
@@ -14,15 +15,8 @@ use Rattle.h3_world.specs.declared.event.Event.{Event}
 use Rattle.h3_world.specs.declared.event.Answer.{Answer}
 use Rattle.h3_world.specs.declared.event.Answer.TheVariants as answer
 use Rattle.h3_world.specs.Delivering.{reset_code}
-use Rattle.h3_world.specs.Ends.{Ends, answered, ends_after, answers_of_ends}
+use Rattle.h3_world.specs.Ends.{Ends, ends_after, answers_of_ends}
 use Rattle.h3_world.specs.Headline.{is_memory}
-
--- The answer is that of two histories which the endpoints stand for, and what they hold then stands for the histories after it;
--- unless memory was refused.
-abbrev pub AnswersEvent : Event → EndpointState → EndpointState → Answer → EndpointState → EndpointState → Type 0
-AnswersEvent event client server given client_after server_after =
-    (ends : Ends) → StandsFor client ends.client → StandsFor server ends.server → is_memory given ≡ false →
-    (given ≡ (answered ends event).0) × StandsFor client_after (answered ends event).1.client × StandsFor server_after (answered ends event).1.server
 
 -- success, or why the call was refused
 abbrev pub answer_of : Answer → Option Refusal → Answer
@@ -96,6 +90,11 @@ pub record RunsTo (ends : Ends) (events : List Event) (answers : List Answer) (c
   pub client_stands : StandsFor client (ends_after ends events).client
   pub server_stands : StandsFor server (ends_after ends events).server
 
+-- Each event is answered; and the answers, up to the first that tells of refused memory, are those of these ends.
+pub record AnswersEach (ends : Ends) (events : List Event) (answers : List Answer) : Type 0 where
+  pub as_many : length answers ≡ length events
+  pub until_memory : (n : ℕ) → list_any is_memory (take n answers) ≡ false → take n answers ≡ answers_of_ends ends (take n events)
+
 -- a delivery that failed
 abbrev pub failed : DeliverError → Result Unit DeliverError
 failed e = Err e
@@ -106,11 +105,3 @@ is_stored (Ok done) = true
 is_stored (Err deliver_error.Kept) = true
 is_stored (Err (deliver_error.Refused r)) = false
 is_stored (Err (deliver_error.OutOfMemory bytes)) = false
-
--- Of the bytes that wait on the stream so many were offered, these; unless memory was refused.
-abbrev pub HandsOver : EndpointState → EndpointState → ℕ → ℕ → List ℕ → Answer → EndpointState → EndpointState → Type 0
-HandsOver writer reader id count bytes given writer_after reader_after =
-    (w r : EndpointHistory) → StandsFor writer w → StandsFor reader r → count ≤ waiting w id → is_memory given ≡ false →
-    (given ≡ (bytes_taken w r id count (arrives r (BytesCame id bytes))).given)
-    × StandsFor writer_after (bytes_taken w r id count (arrives r (BytesCame id bytes))).writer
-    × StandsFor reader_after (bytes_taken w r id count (arrives r (BytesCame id bytes))).reader

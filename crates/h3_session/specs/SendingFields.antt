@@ -58,6 +58,7 @@ pub record SendsFields (old new : EndpointState) (id : ℕ) (fields : List Field
   pub size : refused ≢ Some refusal.OutOfMemory → refused ≡ size_refused old.peer.settings fields
   pub same : refused ≢ None → refused ≢ Some refusal.OutOfMemory → new ≡ old
   pub memory : refused ≡ Some refusal.OutOfMemory → (e : EndpointHistory) → StandsFor old e → CutsOff e id fields new
+  pub too_large : refused ≡ Some refusal.OutOfMemory → size_refused old.peer.settings fields ≢ None → new ≡ old
 
 -- The sum of what was sent, with the section.
 pub record IsJudged (s : EndpointState) (fields : List Field) (sum : ℕ) : Type 0 where

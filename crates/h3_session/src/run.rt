@@ -1,13 +1,13 @@
 //! A client and a server over a schedule: two endpoints, and the bytes carried between them.
 ghost use Rattle.std.specs.Prelude.{◌≡◌, ◌<◌, ◌^◌, false, Ok, IfOk};
 ghost use Rattle.std.specs.List.{list_any};
-ghost use Rattle.h3_connection.specs.State.{StandsFor};
-ghost use Rattle.h3_world.specs.Ends.{Ends, new_ends};
+ghost use Rattle.h3_world.specs.Ends.{new_ends};
 ghost use Rattle.h3_world.specs.Few.{AreFew};
 ghost use Rattle.h3_world.specs.Headline.{is_memory};
 ghost use Rattle.h3_world.specs.Setup.{IsMadeSetup};
-ghost use Rattle.h3_session.specs.Headlines.{RunsInWorld};
-ghost use Rattle.h3_session.specs.Running.{RunsTo};
+ghost use Rattle.h3_session.specs.Headlines.{RunsInWorld, RunsUntilMemory};
+ghost use Rattle.h3_session.specs.Acting.{ActsEach, RunsByCalls};
+ghost use Rattle.h3_session.specs.Running.{AnswersEach, RunsTo};
 
 mod acting;
 mod carrying;
@@ -37,8 +37,7 @@ fn run_between(
     server: &mut Endpoint,
     events: &[Event],
 ) -> Result<Vec<Answer>, AllocError>
-    ensures { IfOk result (λ answers. (ends : Ends) → StandsFor client.old ends.client → StandsFor server.old ends.server →
-        list_any is_memory answers.items ≡ false → RunsTo ends events.now answers.items client.new server.new) }
+    ensures { IfOk result (λ answers. ActsEach client.old server.old events.now answers.items client.new server.new) }
 {
     let mut answers = Vec::with_capacity(alloc, events.len())?;
     for event in events {
@@ -74,6 +73,14 @@ fn beside<A: Drop, B: Drop>(first: A, second: Result<B, AllocError>) -> Result<(
 /// Drives a client and a server by the events, in order, and answers each. `Err` arises only where there is no room for the
 /// endpoints and the answers, before the first event.
 ///
+/// Whatever memory is refused:
+/// - `calls`: each event is answered by the calls of the endpoints that it names, by their own contracts, and the endpoints are handed back
+///   as these left them.
+/// - `each`: there are as many answers as events, and those up to the first that tells of refused memory are the answers of two
+///   endpoints of the definitions with the bytes carried between them.
+/// - `front`: within the bounds of `headline`, these are the answers of a run of the world of a connection, in each step of which
+///   all that `headline` says holds.
+///
 /// Where no answer tells of refused memory:
 /// - `runs`: the answers are those of two endpoints of the definitions with the bytes carried between them, and the endpoints
 ///   handed back stand for these.
@@ -85,6 +92,9 @@ fn beside<A: Drop, B: Drop>(first: A, second: Result<B, AllocError>) -> Result<(
 /// What `Setup::new` answers is a made setup: `h3_world::laws::setups_are_made`.
 pub fn run(alloc: Global, setup: Setup, events: &[Event]) -> Result<Outcome, AllocError>
     requires { IsMadeSetup setup }
+    ensures calls { IfOk result (λ out. RunsByCalls (new_ends setup) events.now out.answers.items out.client out.server) }
+    ensures each { IfOk result (λ out. AnswersEach (new_ends setup) events.now out.answers.items) }
+    ensures front { IfOk result (λ out. AreFew events.now → RunsUntilMemory setup events.now out.answers.items) }
     ensures runs { IfOk result (λ out. list_any is_memory out.answers.items ≡ false →
         RunsTo (new_ends setup) events.now out.answers.items out.client out.server) }
     ensures headline { IfOk result (λ out. list_any is_memory out.answers.items ≡ false → AreFew events.now →

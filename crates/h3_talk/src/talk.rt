@@ -1,11 +1,9 @@
 //! The program: a script in, the answers out.
-ghost use Rattle.std.specs.List.{list_any};
-ghost use Rattle.std.specs.Prelude.{◌≡◌, ◌⊎◌, ◌≤◌, true, false, IfOk};
+ghost use Rattle.std.specs.Prelude.{◌≡◌, ◌⊎◌, ◌≤◌, true, IfOk};
 ghost use Rattle.std.specs.Io.KnownBytes.{Appends};
 ghost use Rattle.h3_script.specs.Few.{AreFew};
 ghost use Rattle.h3_script.specs.Inputs.{RefusesInput};
-ghost use Rattle.h3_talk.specs.Talks.{AreAnswers, Prints, AnswersScript};
-ghost use Rattle.h3_world.specs.Headline.{is_memory};
+ghost use Rattle.h3_talk.specs.Talks.{AnswersTo, Prints, AnswersScript};
 ghost use Rattle.h3_world.specs.Setup.{IsMadeSetup};
 
 use h3_script::input::read_script;
@@ -58,7 +56,7 @@ fn answer<W: Write>(alloc: Global, script: Script, writer: &mut W) -> u8
 fn answers_to(alloc: Global, setup: Setup, events: &[Event]) -> Result<Vec<Answer>, AllocError>
     requires made { IsMadeSetup setup }
     requires few { AreFew events.now }
-    ensures { IfOk result (λ answers. list_any is_memory answers.items ≡ false → AreAnswers setup events.now answers.items) }
+    ensures { IfOk result (λ answers. AnswersTo setup events.now answers.items) }
 {
     match run(alloc, setup, events) {
         Ok(outcome) => Ok(answers_of(outcome)),

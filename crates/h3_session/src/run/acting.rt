@@ -1,7 +1,9 @@
 //! Calls of one of two endpoints.
 ghost use Rattle.std.specs.Prelude.{◌≡◌};
 ghost use Rattle.h3_world.specs.declared.event.Event.TheVariants as does;
-ghost use Rattle.h3_session.specs.Running.{AnswersEvent, Shown, opened_answer, done_answer, body_answer};
+ghost use Rattle.h3_connection.specs.SendingContracts.{SendsBody};
+ghost use Rattle.h3_session.specs.Acting.{Acts, ByOne, Tells};
+ghost use Rattle.h3_session.specs.Running.{Shown, opened_answer, done_answer, body_answer};
 
 use super::carrying::{carry_bytes, carry_end, carry_reset};
 use crate::endpoint::Endpoint;
@@ -45,7 +47,7 @@ fn sent(tried: Result<(), (Refusal, Bytes)>) -> Answer
 
 /// A side opens a request stream.
 fn open_request(client: &mut Endpoint, server: &mut Endpoint, side: Side) -> Answer
-    ensures { AnswersEvent (does.OpenRequest side) client.old server.old result client.new server.new }
+    ensures { Acts (does.OpenRequest side) client.old server.old result client.new server.new }
 {
     match side {
         Side::Client => opened(client.open_request()),
@@ -61,7 +63,7 @@ fn send_head(
     id: StreamId,
     head: &Header,
 ) -> Answer
-    ensures { AnswersEvent (does.Head side id head.now) client.old server.old result client.new server.new }
+    ensures { Acts (does.Head side id head.now) client.old server.old result client.new server.new }
 {
     match side {
         Side::Client => done(client.send_head(id, head)),
@@ -77,7 +79,7 @@ fn send_body(
     id: StreamId,
     body: Bytes,
 ) -> Answer
-    ensures { AnswersEvent (does.Body side id body) client.old server.old result client.new server.new }
+    ensures { ByOne side (Tells body_answer (λ s t r. SendsBody s t id body r)) client.old server.old result client.new server.new }
 {
     match side {
         Side::Client => sent(client.send_body(id, body)),
@@ -93,7 +95,7 @@ fn share_body(
     id: StreamId,
     body: &Bytes,
 ) -> Answer
-    ensures { AnswersEvent (does.Body side id body.now) client.old server.old result client.new server.new }
+    ensures { Acts (does.Body side id body.now) client.old server.old result client.new server.new }
 {
     let Ok(shared) = body.clone() else {
         return Answer::Refused(Refusal::OutOfMemory);
@@ -109,7 +111,7 @@ fn send_trailer(
     id: StreamId,
     trailer: &Header,
 ) -> Answer
-    ensures { AnswersEvent (does.Trailer side id trailer.now) client.old server.old result client.new server.new }
+    ensures { Acts (does.Trailer side id trailer.now) client.old server.old result client.new server.new }
 {
     match side {
         Side::Client => done(client.send_trailer(id, trailer)),
@@ -119,7 +121,7 @@ fn send_trailer(
 
 /// A side finishes its message.
 fn finish(client: &mut Endpoint, server: &mut Endpoint, side: Side, id: StreamId) -> Answer
-    ensures { AnswersEvent (does.Finish side id) client.old server.old result client.new server.new }
+    ensures { Acts (does.Finish side id) client.old server.old result client.new server.new }
 {
     match side {
         Side::Client => done(client.finish(id)),
@@ -129,7 +131,7 @@ fn finish(client: &mut Endpoint, server: &mut Endpoint, side: Side, id: StreamId
 
 /// A side resets its sending.
 fn reset(client: &mut Endpoint, server: &mut Endpoint, side: Side, id: StreamId) -> Answer
-    ensures { AnswersEvent (does.Reset side id) client.old server.old result client.new server.new }
+    ensures { Acts (does.Reset side id) client.old server.old result client.new server.new }
 {
     match side {
         Side::Client => done(client.reset(id)),
@@ -139,7 +141,7 @@ fn reset(client: &mut Endpoint, server: &mut Endpoint, side: Side, id: StreamId)
 
 /// A side gives up what comes on a stream.
 fn cancel(client: &mut Endpoint, server: &mut Endpoint, side: Side, id: StreamId) -> Answer
-    ensures { AnswersEvent (does.Cancel side id) client.old server.old result client.new server.new }
+    ensures { Acts (does.Cancel side id) client.old server.old result client.new server.new }
 {
     match side {
         Side::Client => done(client.cancel(id)),
@@ -149,7 +151,7 @@ fn cancel(client: &mut Endpoint, server: &mut Endpoint, side: Side, id: StreamId
 
 /// A side goes away.
 fn goaway(client: &mut Endpoint, server: &mut Endpoint, side: Side, id: VarInt) -> Answer
-    ensures { AnswersEvent (does.Goaway side id) client.old server.old result client.new server.new }
+    ensures { Acts (does.Goaway side id) client.old server.old result client.new server.new }
 {
     match side {
         Side::Client => done(client.goaway(id)),
@@ -166,7 +168,7 @@ fn deliver(
     id: StreamId,
     count: usize,
 ) -> Answer
-    ensures { AnswersEvent (does.Deliver side id count) client.old server.old result client.new server.new }
+    ensures { Acts (does.Deliver side id count) client.old server.old result client.new server.new }
 {
     match side {
         Side::Client => carry_bytes(alloc, client, server, id, count),
@@ -176,7 +178,7 @@ fn deliver(
 
 /// The end of a side's stream goes over.
 fn deliver_end(client: &mut Endpoint, server: &mut Endpoint, side: Side, id: StreamId) -> Answer
-    ensures { AnswersEvent (does.DeliverEnd side id) client.old server.old result client.new server.new }
+    ensures { Acts (does.DeliverEnd side id) client.old server.old result client.new server.new }
 {
     match side {
         Side::Client => carry_end(client, server, id),
@@ -186,7 +188,7 @@ fn deliver_end(client: &mut Endpoint, server: &mut Endpoint, side: Side, id: Str
 
 /// The reset of a side's stream goes over.
 fn deliver_reset(client: &mut Endpoint, server: &mut Endpoint, side: Side, id: StreamId) -> Answer
-    ensures { AnswersEvent (does.DeliverReset side id) client.old server.old result client.new server.new }
+    ensures { Acts (does.DeliverReset side id) client.old server.old result client.new server.new }
 {
     match side {
         Side::Client => carry_reset(client, server, id),
@@ -196,7 +198,7 @@ fn deliver_reset(client: &mut Endpoint, server: &mut Endpoint, side: Side, id: S
 
 /// A side asks for the next item.
 fn pull(client: &mut Endpoint, server: &mut Endpoint, side: Side, id: StreamId) -> Answer
-    ensures { AnswersEvent (does.Pull side id) client.old server.old result client.new server.new }
+    ensures { Acts (does.Pull side id) client.old server.old result client.new server.new }
 {
     match side {
         Side::Client => Answer::Pulled(client.pull(id)),
@@ -213,7 +215,7 @@ fn shown(end: &Endpoint) -> Answer
 
 /// A side shows its limits and tables.
 fn show(client: &mut Endpoint, server: &mut Endpoint, side: Side) -> Answer
-    ensures { AnswersEvent (does.Show side) client.old server.old result client.new server.new }
+    ensures { Acts (does.Show side) client.old server.old result client.new server.new }
 {
     match side {
         Side::Client => shown(client),
@@ -228,7 +230,7 @@ pub(super) fn act(
     server: &mut Endpoint,
     event: &Event,
 ) -> Answer
-    ensures { AnswersEvent event.now client.old server.old result client.new server.new }
+    ensures { Acts event.now client.old server.old result client.new server.new }
 {
     match event {
         Event::OpenRequest(side) => open_request(client, server, *side),

@@ -5,7 +5,8 @@ ghost use Rattle.h3_connection.specs.Endpoint.{EndpointHistory, bytes_waiting};
 ghost use Rattle.h3_connection.specs.SendingContracts.{Advances};
 ghost use Rattle.h3_connection.specs.State.{StandsFor};
 ghost use Rattle.h3_world.specs.declared.event.Answer.TheVariants as answer;
-ghost use Rattle.h3_session.specs.Running.{Carries, HandsOver, answer_of, is_stored, failed, told_answer, bytes_go, end_goes, reset_goes};
+ghost use Rattle.h3_session.specs.Acting.{CarriesBytes, CarriesEnd, CarriesReset, Offers};
+ghost use Rattle.h3_session.specs.Running.{answer_of, is_stored, failed, told_answer};
 
 use crate::endpoint::Endpoint;
 use bytes::Bytes;
@@ -87,7 +88,6 @@ fn advance_if(writer: &mut Endpoint, id: StreamId, count: usize, taken: bool)
 }
 
 /// Offers bytes to the reader. Those that it takes leave the writer, which has so many.
-
 fn hand_over(
     writer: &mut Endpoint,
     reader: &mut Endpoint,
@@ -95,7 +95,7 @@ fn hand_over(
     count: usize,
     bytes: Bytes,
 ) -> Answer
-    ensures { HandsOver writer.old reader.old id count bytes result writer.new reader.new }
+    ensures { Offers id count bytes writer.old reader.old result writer.new reader.new }
 {
     let tried = reader.deliver(id, bytes);
     let stored = is_stored(&tried);
@@ -104,7 +104,6 @@ fn hand_over(
 }
 
 /// The first bytes that wait on a stream go over.
-
 pub(super) fn carry_bytes(
     alloc: Global,
     writer: &mut Endpoint,
@@ -112,7 +111,7 @@ pub(super) fn carry_bytes(
     id: StreamId,
     count: usize,
 ) -> Answer
-    ensures { Carries (λ w r. bytes_go w r id count) writer.old reader.old result writer.new reader.new }
+    ensures { CarriesBytes id count writer.old reader.old result writer.new reader.new }
 {
     if !writer.has_outgoing(id) {
         return Answer::NoStream;
@@ -128,9 +127,8 @@ pub(super) fn carry_bytes(
 }
 
 /// The end of a stream goes over, once it is finished and nothing of it waits.
-
 pub(super) fn carry_end(writer: &mut Endpoint, reader: &mut Endpoint, id: StreamId) -> Answer
-    ensures { Carries (λ w r. end_goes w r id) writer.old reader.old result writer.new reader.new }
+    ensures { CarriesEnd id writer.old reader.old result writer.new reader.new }
 {
     if !writer.has_outgoing(id) {
         return Answer::NoStream;
@@ -146,7 +144,7 @@ pub(super) fn carry_end(writer: &mut Endpoint, reader: &mut Endpoint, id: Stream
 
 /// The reset of a stream goes over.
 pub(super) fn carry_reset(writer: &mut Endpoint, reader: &mut Endpoint, id: StreamId) -> Answer
-    ensures { Carries (λ w r. reset_goes w r id) writer.old reader.old result writer.new reader.new }
+    ensures { CarriesReset id writer.old reader.old result writer.new reader.new }
 {
     if !writer.has_outgoing(id) {
         return Answer::NoStream;

@@ -1,16 +1,37 @@
 use Rattle.h3_world.specs.Ends.{new_ends}
-use Rattle.h3_session.proofs.Headlines.{runs_in_world}
-use Rattle.h3_session.proofs.Runs.{ran}
+use Rattle.h3_session.proofs.Headlines.{runs_in_world, runs_until_memory}
+use Rattle.h3_session.proofs.Runs.{answers_each, ran, runs_to}
 use Rattle.h3_session.proofs.run.run.Goals as goal
 
-pub returns-clause-runs : goal.returns-clause-runs
-returns-clause-runs c =
+pub returns-clause-calls : goal.returns-clause-calls
+returns-clause-calls c =
     ran (λ v. v.items) (new_ends c.args.setup) c.args.events.now c.announcing-client.result c.announcing-server.result c.run_between-answers.result _ _ _ _ _ c.in_ok-client-2.answers
     c.announcing-client.ensures c.announcing-server.ensures c.in_ok-client.ensures.0 c.in_ok-client.ensures.1 c.run_between-answers.ensures c.in_ok-client-2.ensures.0 c.in_ok-client-2.ensures.1
 
+pub returns-clause-each : goal.returns-clause-each
+returns-clause-each c =
+    let calls = ran (λ v. v.items) (new_ends c.args.setup) c.args.events.now c.announcing-client.result c.announcing-server.result c.run_between-answers.result _ _ _ _ _ c.in_ok-client-2.answers
+    c.announcing-client.ensures c.announcing-server.ensures c.in_ok-client.ensures.0 c.in_ok-client.ensures.1 c.run_between-answers.ensures c.in_ok-client-2.ensures.0 c.in_ok-client-2.ensures.1 in
+    answers_each (new_ends c.args.setup) c.args.events.now c.in_ok-client-2.answers.items _ _ calls
+
+pub returns-clause-front : goal.returns-clause-front
+returns-clause-front c = λ few.
+    let calls = ran (λ v. v.items) (new_ends c.args.setup) c.args.events.now c.announcing-client.result c.announcing-server.result c.run_between-answers.result _ _ _ _ _ c.in_ok-client-2.answers
+    c.announcing-client.ensures c.announcing-server.ensures c.in_ok-client.ensures.0 c.in_ok-client.ensures.1 c.run_between-answers.ensures c.in_ok-client-2.ensures.0 c.in_ok-client-2.ensures.1 in
+    runs_until_memory c.args.setup c.args.events.now c.in_ok-client-2.answers.items
+    (λ front. c.two_endpoints_run_in_a_world.ensures c.args.setup front c.requires) c.events_are_typed.ensures
+    (answers_each (new_ends c.args.setup) c.args.events.now c.in_ok-client-2.answers.items _ _ calls) few
+
+pub returns-clause-runs : goal.returns-clause-runs
+returns-clause-runs c =
+    let calls = ran (λ v. v.items) (new_ends c.args.setup) c.args.events.now c.announcing-client.result c.announcing-server.result c.run_between-answers.result _ _ _ _ _ c.in_ok-client-2.answers
+    c.announcing-client.ensures c.announcing-server.ensures c.in_ok-client.ensures.0 c.in_ok-client.ensures.1 c.run_between-answers.ensures c.in_ok-client-2.ensures.0 c.in_ok-client-2.ensures.1 in
+    runs_to (new_ends c.args.setup) c.args.events.now c.in_ok-client-2.answers.items _ _ calls
+
 pub returns-clause-headline : goal.returns-clause-headline
 returns-clause-headline c = λ whole few.
-    let runs = ran (λ v. v.items) (new_ends c.args.setup) c.args.events.now c.announcing-client.result c.announcing-server.result c.run_between-answers.result _ _ _ _ _ c.in_ok-client-2.answers
-    c.announcing-client.ensures c.announcing-server.ensures c.in_ok-client.ensures.0 c.in_ok-client.ensures.1 c.run_between-answers.ensures c.in_ok-client-2.ensures.0 c.in_ok-client-2.ensures.1 whole in
+    let calls = ran (λ v. v.items) (new_ends c.args.setup) c.args.events.now c.announcing-client.result c.announcing-server.result c.run_between-answers.result _ _ _ _ _ c.in_ok-client-2.answers
+    c.announcing-client.ensures c.announcing-server.ensures c.in_ok-client.ensures.0 c.in_ok-client.ensures.1 c.run_between-answers.ensures c.in_ok-client-2.ensures.0 c.in_ok-client-2.ensures.1 in
     runs_in_world c.args.setup c.args.events.now c.in_ok-client-2.answers.items _ _
-    (c.two_endpoints_run_in_a_world.ensures c.args.setup c.args.events.now c.requires) c.events_are_typed.ensures runs few
+    (c.two_endpoints_run_in_a_world.ensures c.args.setup c.args.events.now c.requires) c.events_are_typed.ensures
+    (runs_to (new_ends c.args.setup) c.args.events.now c.in_ok-client-2.answers.items _ _ calls whole) few

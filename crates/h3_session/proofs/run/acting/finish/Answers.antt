@@ -1,15 +1,8 @@
-use Rattle.h3_proto.specs.declared.stream.Side.TheVariants.{Client, Server}
-use Rattle.h3_world.specs.declared.event.Event.TheVariants as does
-use Rattle.h3_session.specs.Running.{done_answer}
-use Rattle.h3_session.proofs.RunningCalls.{as_side, client_finish, server_finish}
+use Rattle.std.proofs.Common.{refl}
 use Rattle.h3_session.proofs.run.acting.finish.Goals as goal
 
 pub returns-in-Client : goal.returns-in-Client
-returns-in-Client c =
-    as_side (λ side. does.Finish side c.args.id) c.args.side Client c.args.client.now c.args.server.now c.done.result (done_answer c.finish.result) c.finish.new.self c.args.server.now c.in-Client.is c.done.ensures
-    (client_finish c.args.client.now c.finish.new.self c.args.server.now c.args.id c.finish.result c.finish.ensures)
+returns-in-Client c = rw c.in-Client.is (record { result = c.finish.result; given_is = c.done.ensures; called = c.finish.ensures }, refl)
 
 pub returns-in-Server : goal.returns-in-Server
-returns-in-Server c =
-    as_side (λ side. does.Finish side c.args.id) c.args.side Server c.args.client.now c.args.server.now c.done-in-Server.result (done_answer c.finish-in-Server.result) c.args.client.now c.finish-in-Server.new.self c.in-Server.is c.done-in-Server.ensures
-    (server_finish c.args.client.now c.args.server.now c.finish-in-Server.new.self c.args.id c.finish-in-Server.result c.finish-in-Server.ensures)
+returns-in-Server c = rw c.in-Server.is (record { result = c.finish-in-Server.result; given_is = c.done-in-Server.ensures; called = c.finish-in-Server.ensures }, refl)

@@ -1,15 +1,8 @@
-use Rattle.h3_proto.specs.declared.stream.Side.TheVariants.{Client, Server}
-use Rattle.h3_world.specs.declared.event.Event.TheVariants as does
-use Rattle.h3_session.specs.Running.{done_answer}
-use Rattle.h3_session.proofs.RunningCalls.{as_side, client_reset, server_reset}
+use Rattle.std.proofs.Common.{refl}
 use Rattle.h3_session.proofs.run.acting.reset.Goals as goal
 
 pub returns-in-Client : goal.returns-in-Client
-returns-in-Client c =
-    as_side (λ side. does.Reset side c.args.id) c.args.side Client c.args.client.now c.args.server.now c.done.result (done_answer c.reset.result) c.reset.new.self c.args.server.now c.in-Client.is c.done.ensures
-    (client_reset c.args.client.now c.reset.new.self c.args.server.now c.args.id c.reset.result c.reset.ensures)
+returns-in-Client c = rw c.in-Client.is (record { result = c.reset.result; given_is = c.done.ensures; called = c.reset.ensures }, refl)
 
 pub returns-in-Server : goal.returns-in-Server
-returns-in-Server c =
-    as_side (λ side. does.Reset side c.args.id) c.args.side Server c.args.client.now c.args.server.now c.done-in-Server.result (done_answer c.reset-in-Server.result) c.args.client.now c.reset-in-Server.new.self c.in-Server.is c.done-in-Server.ensures
-    (server_reset c.args.client.now c.args.server.now c.reset-in-Server.new.self c.args.id c.reset-in-Server.result c.reset-in-Server.ensures)
+returns-in-Server c = rw c.in-Server.is (record { result = c.reset-in-Server.result; given_is = c.done-in-Server.ensures; called = c.reset-in-Server.ensures }, refl)

@@ -1,0 +1,27 @@
+//! The laws of the definitions that the contracts of `Endpoint` and of `run` name. Each is a function that does nothing: its contract is the law.
+//!
+//! - Isolation: what a request stream's calls are answered rests on its own calls and on the insertions read (`each_stream_is_isolated`); what
+//!   comes on streams and in frames of unknown types changes nothing else (`unknown_streams_change_nothing_else`, `unknown_frames_give_nothing`).
+//! - Cuts: where bytes are cut into deliveries doesn't count (`cut_deliveries_are_answered_alike`, `cut_pulls_are_answered_alike`,
+//!   `cut_calls_are_answered_alike`).
+//! - Bounds: no section is tried more than twice, and no more streams wait than were announced (`tries_and_waiting_streams_are_bounded`).
+//! - What stays: a connection fault (`a_connection_fault_stays`), and the end of a stream once it was handed out (`the_end_stays`). Where nothing is
+//!   kept, calls are the plain ones (`nothing_kept_is_plain`).
+//! - Two endpoints: a schedule's answers are those of a run of the world of a connection (`two_endpoints_run_in_a_world`), in which each endpoint
+//!   decodes what the other sent (`endpoints_decode_what_was_sent`). The parts of what `run` promises, each by itself: `no_connection_fault`,
+//!   `ordered_sends_are_accepted`, `what_is_pulled_is_what_was_sent`, `everything_comes_out`, `what_comes_out_rests_on_what_was_sent`, `tables_agree`,
+//!   `no_instruction_is_refused`, `runs_can_be_cut`, and by the answers of two endpoints alone `endpoints_hand_out_what_was_sent`.
+//! - What `Setup::new` answers may be given to `run` (`setups_are_made`).
+pub use h3_connection::laws::{
+    a_connection_fault_stays, cut_calls_are_answered_alike, cut_deliveries_are_answered_alike,
+    cut_pulls_are_answered_alike, each_stream_is_isolated, nothing_kept_is_plain, the_end_stays,
+    tries_and_waiting_streams_are_bounded, unknown_frames_give_nothing,
+    unknown_streams_change_nothing_else,
+};
+pub use h3_headline::laws::{endpoints_decode_what_was_sent, two_endpoints_run_in_a_world};
+pub use h3_headline::parts::{
+    endpoints_hand_out_what_was_sent, everything_comes_out, no_connection_fault,
+    no_instruction_is_refused, ordered_sends_are_accepted, runs_can_be_cut, tables_agree,
+    what_comes_out_rests_on_what_was_sent, what_is_pulled_is_what_was_sent,
+};
+pub use h3_world::laws::setups_are_made;
