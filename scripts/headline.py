@@ -17,7 +17,7 @@ CRATES = f"{TOP}/crates"
 PAGE = f"{TOP}/docs/HEADLINE.md"
 CONTRACT = f"{CRATES}/h3_session/src/run.rt"
 # The parts of the page: its headings, and from which names each part goes on. The last one takes what is left.
-PARTS = (("## What is answered", ("Run", "Happens", "empty_world", "is_memory", "AreFew", "IsMadeSetup")), ("## The endpoints that are handed back", ("RunsInWorld",)), ("## The same answers by two endpoints", None))
+PARTS = (("## What is answered", ("RunsUntilMemory", "Run", "Happens", "empty_world", "is_memory", "AreFew", "IsMadeSetup")), ("## The endpoints that are handed back", ("RunsInWorld",)), ("## The same answers by two endpoints", ("RunsTo", "AnswersEach", "new_ends")), ("## What each call leaves", None))
 MOST = 1500
 WORD = re.compile(r"[^\s(){}\[\],;.]+")
 USE = re.compile(r"^\s*(?:pub |ghost )?use Rattle\.([\w.]+?)(?:\.\{(.*)\}| as (\w+))?;?$")
