@@ -1,15 +1,10 @@
 //! A connection (RFC 9114): a client and a server over `Endpoint`. In place of QUIC, what waits on a stream of one end is delivered
 //! to the other.
 use crate::log::words;
-use bytes::Bytes;
-use h3_coding::varint::VarInt;
-use h3_connection::event::{DeliverError, Item, Pull, Refusal};
-use h3_connection::setup::Limits;
-use h3_header::Header;
-use h3_proto::config::Config;
-use h3_proto::error::Code;
-use h3_proto::stream::{Side, StreamId};
 use h3_session::endpoint::Endpoint;
+use h3_session::{
+    Bytes, Code, Config, DeliverError, Header, Item, Limits, Pull, Refusal, Side, StreamId, VarInt,
+};
 use http::{Method, StatusCode};
 use http_header::{HeaderMap, HeaderName, HeaderValue};
 use http_uri::Uri;
