@@ -374,6 +374,8 @@ broken_server "Go client" "${ports[11]}" "detail" "the message is none" "${go_ou
 # ---- memory, and two endpoints ----
 
 start "${ports[5]}" valgrind.log "${under_valgrind[@]}" "$work/plain/serve" 127.0.0.1 "${ports[5]}" "$cert" "$key" "$folder"
+# on a busy machine valgrind's first handshake may take longer than the ten seconds that it may
+for _ in 1 2 3; do if works "${ours[@]}" "$(url "${ports[5]}" /hello.txt)"; then break; fi; done
 head -c 500000 "$big" > "$folder/half.bin"
 check "valgrind, fetch and serve: 500 kB" gives "$folder/half.bin" "${under_valgrind[@]}" "$work/plain/fetch" --address 127.0.0.1 --trust "$cert" \
   "$(url "${ports[5]}" /half.bin)"
