@@ -1,0 +1,4 @@
+pub mod ContentRows
+pub mod Fields
+pub mod RequestRows
+pub mod ResponseRows

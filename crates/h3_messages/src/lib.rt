@@ -1,0 +1,12 @@
+//! Well-formed messages (RFC 9114, 4.1.2 and 4.2 to 4.5; RFC 9220, 3): which rule a field list breaks, as it came, and how much
+//! content a message has. A list is judged before it becomes a `Header`, since a `Header` keeps neither the order of its
+//! fields nor repeats of pseudo-header fields. Names and values have the grammar that `Header::try_from` asks.
+//!
+//! Nothing here takes memory, and no list is refused for its length.
+#![tactic(auto)]
+
+pub mod content;
+pub mod violation;
+
+pub use content::{Asked, Content};
+pub use violation::Violation;
