@@ -3,7 +3,7 @@ use Rattle.std.specs.Prelude.{◌≡◌, true, false, [], ◌∷◌, codes, refl
 use Rattle.h3_messages.specs.Content.{asked_by, content_of_request, content_of_response, takes_data, may_end, takes_trailer}
 use Rattle.h3_messages.specs.declared.content.Content.TheVariants.{Unsaid, Exactly, NoContent, Tunnel}
 use Rattle.h3_messages.specs.declared.content.Asked.TheVariants.{AskedHead, AskedConnect, AskedOther}
-use Rattle.h3_messages.proofs.Fields.{field}
+use Rattle.h3_messages.proofs.Written.{field}
 
 pub length_5 : content_of_response AskedOther (field (codes ":status") (codes "200") ∷ field (codes "content-length") (codes "5") ∷ []) ≡ Exactly 5
 length_5 = refl

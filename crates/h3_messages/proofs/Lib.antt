@@ -1,4 +1,5 @@
 pub mod ContentRows
-pub mod Fields
 pub mod RequestRows
 pub mod ResponseRows
+pub mod Steps
+pub mod Written

@@ -2,7 +2,7 @@
 use Rattle.std.specs.Prelude.{◌≡◌, true, false, [], ◌∷◌, codes, Some, None, refl}
 use Rattle.h3_messages.specs.Messages.{violation_of_request}
 use Rattle.h3_messages.specs.declared.violation.Violation.TheVariants.{PseudoOrder, RepeatedPseudo, WrongPseudo, MissingPseudo, ConnectionField, Protocol, Connect, Scheme, Authority, Path, ContentLength, Value}
-use Rattle.h3_messages.proofs.Fields.{field}
+use Rattle.h3_messages.proofs.Written.{field}
 
 -- plain GET: 9114 4.3.1
 pub row_1 : violation_of_request true (field (codes ":method") (codes "GET") ∷ field (codes ":scheme") (codes "https") ∷ field (codes ":authority") (codes "a") ∷ field (codes ":path") (codes "/") ∷ []) ≡ None

@@ -2,7 +2,7 @@
 use Rattle.std.specs.Prelude.{◌≡◌, [], ◌∷◌, codes, Some, None, refl}
 use Rattle.h3_messages.specs.Messages.{violation_of_response, violation_of_trailer}
 use Rattle.h3_messages.specs.declared.violation.Violation.TheVariants.{PseudoOrder, RepeatedPseudo, WrongPseudo, MissingPseudo, ConnectionField, Status, ContentLength, TrailerField, Value}
-use Rattle.h3_messages.proofs.Fields.{field}
+use Rattle.h3_messages.proofs.Written.{field}
 
 -- 200: 9114 4.3.2
 pub row_151 : violation_of_response (field (codes ":status") (codes "200") ∷ []) ≡ None

@@ -1,6 +1,7 @@
 -- Which field lists are well-formed messages (RFC 9114, sections 4.1.2 and 4.2 to 4.5; RFC 9220, section 3): the first rule that a list
 -- breaks, as it came, with its order and repeats. Names and values have the grammar of `HeadRead.head_of`, which is asked before.
-use Rattle.std.specs.Prelude.{ℕ, ◌+◌, ◌-◌, ◌*◌, ◌^◌, Bool, true, not, ◌&&◌, ◌||◌, List, [], ◌∷◌, map, fold, length, codes, bytes_eq, slice_index, nat_lt, nat_le, ◌==◌, if◌then◌else◌, Option, Some, None}
+use Rattle.std.specs.Prelude.{ℕ, ◌+◌, ◌-◌, ◌*◌, ◌^◌, Bool, true, not, ◌&&◌, ◌||◌, List, [], ◌∷◌, map, fold, length, codes, bytes_eq, slice_index, nat_lt, ◌==◌, if◌then◌else◌, Option, Some, None}
+use Rattle.std.specs.Char.{to_ascii_lowercase, is_ascii_digit, is_ascii_alphabetic}
 use Rattle.std.specs.List.{list_all, list_any, count_by}
 use Rattle.h3_field.specs.Field.{Field}
 use Rattle.h3_header.specs.HeadTests.{is_authority}
@@ -29,12 +30,9 @@ values_pass test name fields = list_all (λ f. not (has_name name f) || test f.v
 abbrev pub is_one_of : List (List ℕ) → List ℕ → Bool
 is_one_of names name = list_any (bytes_eq name) names
 
-abbrev pub lower_byte : ℕ → ℕ
-lower_byte b = if nat_le 65 b && nat_le b 90 then b + 32 else b
-
 -- alike but for upper case
 abbrev pub is_word : List ℕ → List ℕ → Bool
-is_word word text = bytes_eq word (map lower_byte text)
+is_word word text = bytes_eq (map to_ascii_lowercase text) (map to_ascii_lowercase word)
 
 abbrev pub is_pseudo : Field → Bool
 is_pseudo f = slice_index f.name 0 == 58
@@ -66,15 +64,12 @@ abbrev pub is_te_wrong : List Field → Bool
 is_te_wrong fields = not (values_pass (is_word (codes "trailers")) (codes "te") fields)
 
 -- Content-Length = 1*DIGIT (RFC 9110, 8.6). One field line alone, also where the values are alike: a recipient MAY reject (8.6)
-abbrev pub is_digit : ℕ → Bool
-is_digit b = nat_le 48 b && nat_le b 57
-
 abbrev pub number_of : List ℕ → ℕ
 number_of digits = fold (λ n b. n * 10 + (b - 48)) 0 digits
 
 -- no stream carries 2 ^ 62 bytes (RFC 9000, 4.5)
 abbrev pub is_length : List ℕ → Bool
-is_length text = nat_lt 0 (length text) && (list_all is_digit text && nat_lt (number_of text) (2 ^ 62))
+is_length text = nat_lt 0 (length text) && (list_all is_ascii_digit text && nat_lt (number_of text) (2 ^ 62))
 
 abbrev pub is_length_wrong : List Field → Bool
 is_length_wrong fields = repeats (codes "content-length") fields || not (values_pass is_length (codes "content-length") fields)
@@ -128,11 +123,8 @@ is_connect_wrong fields =
     || (is_plain_connect fields && (holds (codes ":scheme") fields || holds (codes ":path") fields)))
 
 -- scheme = ALPHA *( .. ) (RFC 3986, 3.1)
-abbrev pub is_letter : ℕ → Bool
-is_letter b = nat_le 97 (lower_byte b) && nat_le (lower_byte b) 122
-
 abbrev pub is_scheme_wrong : List Field → Bool
-is_scheme_wrong fields = holds (codes ":scheme") fields && not (is_letter (slice_index (value_of (codes ":scheme") fields) 0))
+is_scheme_wrong fields = holds (codes ":scheme") fields && not (is_ascii_alphabetic (slice_index (value_of (codes ":scheme") fields) 0))
 
 -- no userinfo (4.3.1), and a host that is not empty (RFC 9110, 4.2.1)
 abbrev pub is_plain_host : List ℕ → Bool

@@ -5,8 +5,17 @@
 //! Nothing here takes memory, and no list is refused for its length.
 #![tactic(auto)]
 
+mod authority;
 pub mod content;
+mod fields;
+mod host;
+mod pseudo;
+mod request;
+mod response;
+mod text;
 pub mod violation;
 
 pub use content::{Asked, Content};
+pub use request::request_violation;
+pub use response::{response_violation, trailer_violation};
 pub use violation::Violation;
