@@ -1,3 +1,4 @@
+pub mod AuthorityTests
 pub mod ContentRows
 pub mod RequestRows
 pub mod ResponseRows

@@ -1,5 +1,5 @@
 -- One step of a walk over a list: what the rest holds, by its first item and what follows.
-use Rattle.std.proofs.Common.{◌≡◌, ℕ, ◌+◌, ◌*◌, ◌-◌, ◌^◌, ◌<◌, ◌≤◌, Bool, true, false, not, cond, min, nat_lt, List, [], ◌∷◌, length, take, drop, get_or, add-one, ap, sym, ◌∙◌, drop-cons, refl, arith}
+use Rattle.std.proofs.Common.{◌≡◌, ℕ, ◌+◌, ◌*◌, ◌-◌, ◌^◌, ◌<◌, ◌≤◌, Bool, true, false, not, cond, min, nat_lt, List, ◌∷◌, length, take, drop, get_or, add-one, ap, sym, drop-cons, refl, arith}
 use Rattle.std.specs.List.{count_by, list_any}
 use Rattle.std.proofs.lemmas.Bool.{lt-ltb}
 use Rattle.std.proofs.lemmas.List.{at_drop_all}

@@ -3,13 +3,13 @@ use Rattle.std.specs.Prelude.{ℕ, ◌+◌, Bool, true, false, ◌||◌, List, c
 use Rattle.h3_field.specs.Field.{Field}
 use Rattle.h3_messages.specs.Messages.{value_of, number_of, is_length, is_connect}
 use Rattle.h3_messages.specs.declared.content.Asked.{Asked}
-use Rattle.h3_messages.specs.declared.content.Asked.TheVariants.{AskedHead, AskedConnect, AskedOther}
+use Rattle.h3_messages.specs.declared.content.Asked.TheVariants.{Head, Connect, Other}
 use Rattle.h3_messages.specs.declared.content.Content.{Content}
 use Rattle.h3_messages.specs.declared.content.Content.TheVariants.{Unsaid, Exactly, NoContent, Tunnel}
 
 -- method names are case-sensitive (RFC 9110, 9.1)
 abbrev pub asked_by : List ℕ → Asked
-asked_by method = if bytes_eq method (codes "HEAD") then AskedHead else (if bytes_eq method (codes "CONNECT") then AskedConnect else AskedOther)
+asked_by method = if bytes_eq method (codes "HEAD") then Head else (if bytes_eq method (codes "CONNECT") then Connect else Other)
 
 -- what content-length says, where it is a length (8.6)
 abbrev pub said : List ℕ → Content
@@ -30,9 +30,9 @@ content_of_status status size = if is_without_content status then NoContent else
 -- Responses to HEAD never include content. A 2xx response to CONNECT is a tunnel's beginning, and its content-length is ignored
 -- (RFC 9110, 9.3.6)
 abbrev pub content_expected : Asked → List ℕ → List ℕ → Content
-content_expected AskedConnect status size = if slice_index status 0 == 50 then Tunnel else content_of_status status size
-content_expected AskedHead status size = NoContent
-content_expected AskedOther status size = content_of_status status size
+content_expected Connect status size = if slice_index status 0 == 50 then Tunnel else content_of_status status size
+content_expected Head status size = NoContent
+content_expected Other status size = content_of_status status size
 
 abbrev pub content_of_response : Asked → List Field → Content
 content_of_response asked fields = content_expected asked (value_of (codes ":status") fields) (value_of (codes "content-length") fields)

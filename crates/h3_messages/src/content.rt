@@ -24,11 +24,11 @@ pub enum Content {
 #[derive(Clone, Copy, Debug, PartialEq, Eq)]
 pub enum Asked {
     /// HEAD, whose response has no content (RFC 9110, 9.3.2).
-    AskedHead,
+    Head,
     /// CONNECT, whose 2xx response begins a tunnel (RFC 9110, 9.3.6).
-    AskedConnect,
+    Connect,
     /// Any other method.
-    AskedOther,
+    Other,
 }
 
 impl Asked {
@@ -37,11 +37,11 @@ impl Asked {
         ensures { result ≡ asked_by method.now }
     {
         if method == b"HEAD".as_slice() {
-            Asked::AskedHead
+            Asked::Head
         } else if method == b"CONNECT".as_slice() {
-            Asked::AskedConnect
+            Asked::Connect
         } else {
-            Asked::AskedOther
+            Asked::Other
         }
     }
 }
@@ -135,13 +135,13 @@ fn content_expected(asked: Asked, status: &[u8], size: &[u8]) -> Content
     ensures { result ≡ content_expected asked status.now size.now }
 {
     match asked {
-        Asked::AskedHead => Content::NoContent,
-        Asked::AskedConnect => {
+        Asked::Head => Content::NoContent,
+        Asked::Connect => {
             if byte_at(status, 0) == b'2' {
                 return Content::Tunnel;
             }
             content_of_status(status, size)
         }
-        Asked::AskedOther => content_of_status(status, size),
+        Asked::Other => content_of_status(status, size),
     }
 }

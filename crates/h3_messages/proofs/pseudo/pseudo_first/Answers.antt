@@ -1,4 +1,4 @@
-use Rattle.std.proofs.Common.{◌≡◌, ℕ, Bool, true, false, not, drop, ap, sym, ◌∙◌, arith}
+use Rattle.std.proofs.Common.{◌≡◌, true, false, drop, ap, sym, ◌∙◌, arith}
 use Rattle.h3_messages.specs.Messages.{is_pseudo}
 use Rattle.h3_messages.proofs.Steps.{order_found, order_pseudo, order_regular, order_end, rest_in_order}
 use Rattle.h3_messages.proofs.pseudo.pseudo_first.Goals.{then-not-is_pseudo, else-not-is_pseudo+else-regular}
