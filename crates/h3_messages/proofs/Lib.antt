@@ -1,0 +1,6 @@
+pub mod AuthorityTests
+pub mod ContentRows
+pub mod RequestRows
+pub mod ResponseRows
+pub mod Steps
+pub mod Written

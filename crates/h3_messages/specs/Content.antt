@@ -1,0 +1,55 @@
+-- How much content a message has (RFC 9114, section 4.1.2; RFC 9110, sections 6.4.1, 8.6 and 9.3.6), and what comes of it.
+use Rattle.std.specs.Prelude.{ℕ, ◌+◌, Bool, true, false, ◌||◌, List, codes, bytes_eq, slice_index, nat_le, ◌==◌, if◌then◌else◌}
+use Rattle.h3_field.specs.Field.{Field}
+use Rattle.h3_messages.specs.Messages.{value_of, number_of, is_length, is_connect}
+use Rattle.h3_messages.specs.declared.content.Asked.{Asked}
+use Rattle.h3_messages.specs.declared.content.Asked.TheVariants.{Head, Connect, Other}
+use Rattle.h3_messages.specs.declared.content.Content.{Content}
+use Rattle.h3_messages.specs.declared.content.Content.TheVariants.{Unsaid, Exactly, NoContent, Tunnel}
+
+-- method names are case-sensitive (RFC 9110, 9.1)
+abbrev pub asked_by : List ℕ → Asked
+asked_by method = if bytes_eq method (codes "HEAD") then Head else (if bytes_eq method (codes "CONNECT") then Connect else Other)
+
+-- what content-length says, where it is a length (8.6)
+abbrev pub said : List ℕ → Content
+said text = if is_length text then Exactly (number_of text) else Unsaid
+
+-- A CONNECT request has no content; what follows is the tunnel's (RFC 9110, 9.3.6; RFC 9114, 4.4)
+abbrev pub content_of_request : List Field → Content
+content_of_request fields = if is_connect fields then Tunnel else said (value_of (codes "content-length") fields)
+
+-- 204 and 304 have no content (RFC 9110, 6.4.1)
+abbrev pub is_without_content : List ℕ → Bool
+is_without_content status = bytes_eq status (codes "204") || bytes_eq status (codes "304")
+
+-- a message with no content may have a content-length that is not 0 (RFC 9114, 4.1.2)
+abbrev pub content_of_status : List ℕ → List ℕ → Content
+content_of_status status size = if is_without_content status then NoContent else said size
+
+-- Responses to HEAD never include content. A 2xx response to CONNECT is a tunnel's beginning, and its content-length is ignored
+-- (RFC 9110, 9.3.6)
+abbrev pub content_expected : Asked → List ℕ → List ℕ → Content
+content_expected Connect status size = if slice_index status 0 == 50 then Tunnel else content_of_status status size
+content_expected Head status size = NoContent
+content_expected Other status size = content_of_status status size
+
+abbrev pub content_of_response : Asked → List Field → Content
+content_of_response asked fields = content_expected asked (value_of (codes ":status") fields) (value_of (codes "content-length") fields)
+
+-- DATA of so many bytes may come behind so many: the sum of DATA lengths does not pass content-length (4.1.2)
+abbrev pub takes_data : Content → ℕ → ℕ → Bool
+takes_data Unsaid came size = true
+takes_data (Exactly all) came size = nat_le (came + size) all
+takes_data NoContent came size = size == 0
+takes_data Tunnel came size = true
+
+-- the content may end here, by the stream's end or a trailer: it equals content-length (4.1.2)
+abbrev pub may_end : Content → ℕ → Bool
+may_end (Exactly all) came = came == all
+may_end _ came = true
+
+-- once CONNECT has completed only DATA is permitted, and any other known frame is H3_FRAME_UNEXPECTED (4.4)
+abbrev pub takes_trailer : Content → Bool
+takes_trailer Tunnel = false
+takes_trailer _ = true

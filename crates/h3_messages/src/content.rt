@@ -1,0 +1,147 @@
+//! How much content a message has, and what comes of it (RFC 9114, 4.1.2; RFC 9110, 6.4.1, 8.6 and 9.3.6).
+ghost use Rattle.std.specs.Prelude.{◌≡◌};
+ghost use Rattle.h3_messages.specs.Content.{asked_by, said, content_of_request, is_without_content, content_of_status, content_expected, content_of_response, takes_data, may_end, takes_trailer};
+
+use crate::fields::value_of;
+use crate::request::is_connect;
+use crate::text::{byte_at, length_of};
+use h3_field::HeaderField;
+
+/// How much content follows a head.
+#[derive(Clone, Copy, Debug, PartialEq, Eq)]
+pub enum Content {
+    /// As much as comes: no `content-length` says it.
+    Unsaid,
+    /// As many bytes as `content-length` says.
+    Exactly(u64),
+    /// None, whatever `content-length` says.
+    NoContent,
+    /// A tunnel's bytes, and no trailer (RFC 9114, 4.4).
+    Tunnel,
+}
+
+/// What a client's stream remembers of its request's method.
+#[derive(Clone, Copy, Debug, PartialEq, Eq)]
+pub enum Asked {
+    /// HEAD, whose response has no content (RFC 9110, 9.3.2).
+    Head,
+    /// CONNECT, whose 2xx response begins a tunnel (RFC 9110, 9.3.6).
+    Connect,
+    /// Any other method.
+    Other,
+}
+
+impl Asked {
+    /// What a stream remembers of this method. Methods are case-sensitive (RFC 9110, 9.1).
+    pub fn by(method: &[u8]) -> Asked
+        ensures { result ≡ asked_by method.now }
+    {
+        if method == b"HEAD".as_slice() {
+            Asked::Head
+        } else if method == b"CONNECT".as_slice() {
+            Asked::Connect
+        } else {
+            Asked::Other
+        }
+    }
+}
+
+impl Content {
+    /// The content behind the head of a request: a tunnel's for CONNECT, else as much as `content-length` says.
+    pub fn of_request(fields: &[HeaderField]) -> Content
+        ensures { result ≡ content_of_request fields.now }
+    {
+        if is_connect(fields) {
+            return Content::Tunnel;
+        }
+        said(value_of(b"content-length", fields))
+    }
+
+    /// The content behind the head of a final response to a request of this method.
+    pub fn of_response(asked: Asked, fields: &[HeaderField]) -> Content
+        ensures { result ≡ content_of_response asked fields.now }
+    {
+        let status = value_of(b":status", fields);
+        let size = value_of(b"content-length", fields);
+        content_expected(asked, status, size)
+    }
+
+    /// Whether DATA of this many bytes may come behind so many (RFC 9114, 4.1.2).
+    pub fn takes_data(self, came: u64, size: u64) -> bool
+        ensures { result ≡ takes_data self came size }
+    {
+        match self {
+            Content::Unsaid => true,
+            Content::Exactly(all) => came <= all && size <= all - came,
+            Content::NoContent => size == 0,
+            Content::Tunnel => true,
+        }
+    }
+
+    /// Whether the content may end behind so many bytes, by the stream's end or a trailer (RFC 9114, 4.1.2).
+    pub fn may_end(self, came: u64) -> bool
+        ensures { result ≡ may_end self came }
+    {
+        match self {
+            Content::Exactly(all) => came == all,
+            Content::Unsaid => true,
+            Content::NoContent => true,
+            Content::Tunnel => true,
+        }
+    }
+
+    /// Whether a trailer may come: behind a tunnel's beginning none may (RFC 9114, 4.4).
+    pub fn takes_trailer(self) -> bool
+        ensures { result ≡ takes_trailer self }
+    {
+        match self {
+            Content::Tunnel => false,
+            Content::Unsaid => true,
+            Content::Exactly(_) => true,
+            Content::NoContent => true,
+        }
+    }
+}
+
+// What this `content-length` says, where it is a length.
+fn said(text: &[u8]) -> Content
+    ensures { result ≡ said text.now }
+{
+    match length_of(text) {
+        Some(size) => Content::Exactly(size),
+        None => Content::Unsaid,
+    }
+}
+
+// Whether a message of this status has no content (RFC 9110, 6.4.1).
+fn is_without_content(status: &[u8]) -> bool
+    ensures { result ≡ is_without_content status.now }
+{
+    status == b"204".as_slice() || status == b"304".as_slice()
+}
+
+// The content of a response with this status and this `content-length`.
+fn content_of_status(status: &[u8], size: &[u8]) -> Content
+    ensures { result ≡ content_of_status status.now size.now }
+{
+    if is_without_content(status) {
+        return Content::NoContent;
+    }
+    said(size)
+}
+
+// The same for a request of this method.
+fn content_expected(asked: Asked, status: &[u8], size: &[u8]) -> Content
+    ensures { result ≡ content_expected asked status.now size.now }
+{
+    match asked {
+        Asked::Head => Content::NoContent,
+        Asked::Connect => {
+            if byte_at(status, 0) == b'2' {
+                return Content::Tunnel;
+            }
+            content_of_status(status, size)
+        }
+        Asked::Other => content_of_status(status, size),
+    }
+}

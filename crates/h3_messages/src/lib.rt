@@ -1,0 +1,21 @@
+//! Well-formed messages (RFC 9114, 4.1.2 and 4.2 to 4.5; RFC 9220, 3): which rule a field list breaks, as it came, and how much
+//! content a message has. A list is judged before it becomes a `Header`, since a `Header` keeps neither the order of its
+//! fields nor repeats of pseudo-header fields. Names and values have the grammar that `Header::try_from` asks.
+//!
+//! Nothing here takes memory, and no list is refused for its length.
+#![tactic(auto)]
+
+mod authority;
+pub mod content;
+mod fields;
+mod host;
+mod pseudo;
+mod request;
+mod response;
+mod text;
+pub mod violation;
+
+pub use content::{Asked, Content};
+pub use request::request_violation;
+pub use response::{response_violation, trailer_violation};
+pub use violation::Violation;

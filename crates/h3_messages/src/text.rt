@@ -1,0 +1,78 @@
+//! What a name or a value says.
+ghost use Rattle.std.specs.Prelude.{◌≡◌, ◌^◌, min, nat_lt, slice_index, if◌then◌else◌, Some, None};
+ghost use Rattle.std.specs.Char.{is_ascii_digit};
+ghost use Rattle.std.specs.List.{list_all};
+ghost use Rattle.h3_messages.specs.Messages.{is_word, is_space, is_length, number_of};
+
+// No stream carries as many bytes (RFC 9000, 4.5).
+const LENGTH_LIMIT: u64 = 1 << 62;
+
+/// The byte at this place, or 0 behind the end.
+pub(crate) fn byte_at(text: &[u8], index: usize) -> u8
+    ensures { result ≡ slice_index text.now index }
+{
+    if index < text.len() { text[index] } else { 0 }
+}
+
+/// Whether the text is the word, but for upper case.
+pub(crate) fn is_word(word: &[u8], text: &[u8]) -> bool
+    ensures { result ≡ is_word word.now text.now }
+{
+    text.eq_ignore_ascii_case(word)
+}
+
+/// Whether the byte is a space or a tab.
+pub(crate) fn is_space(byte: u8) -> bool
+    ensures { result ≡ is_space byte }
+{
+    byte == 32 || byte == 9
+}
+
+/// Whether each byte is a digit.
+fn are_digits(text: &[u8]) -> bool
+    ensures { result ≡ list_all is_ascii_digit text.now }
+{
+    'bytes: for byte in text {
+        if !byte.is_ascii_digit() {
+            return false;
+        }
+    }
+    true
+}
+
+/// The number of these digits, or 2 ^ 62 where it is greater.
+#[tactic(auto, using(crate::proofs::Steps::number_step))]
+fn number_of(digits: &[u8]) -> u64
+    ensures { result ≡ min (2 ^ 62) (number_of digits.now) }
+{
+    let mut number: u64 = 0;
+    'bytes: for byte in digits {
+        let digit = byte.saturating_sub(b'0') as u64;
+        number = number
+            .saturating_mul(10)
+            .saturating_add(digit)
+            .min(LENGTH_LIMIT);
+    }
+    number
+}
+
+/// The number of bytes that a `content-length` says, or none where it is no length (RFC 9110, 8.6).
+pub(crate) fn length_of(text: &[u8]) -> Option<u64>
+    ensures { result ≡ (if is_length text.now then Some (number_of text.now) else None) }
+{
+    if text.is_empty() || !are_digits(text) {
+        return None;
+    }
+    let number = number_of(text);
+    if number == LENGTH_LIMIT {
+        return None;
+    }
+    Some(number)
+}
+
+/// Whether the digits say a number above 0.
+pub(crate) fn says_more_than_none(digits: &[u8]) -> bool
+    ensures { result ≡ nat_lt 0 (number_of digits.now) }
+{
+    number_of(digits) > 0
+}
