@@ -1,0 +1,473 @@
+"""The cases of scripts/interop/upstream.py: rows of crates/h3_cases/stdin, and generated ones."""
+import os
+import re
+import sys
+
+TOP = os.path.join(os.path.dirname(os.path.abspath(__file__)), "..", "..")
+sys.path.insert(0, os.path.join(TOP, "scripts"))
+import independent_qpack as qpack  # noqa: E402
+
+CAUSE = re.compile(r" by (.*)$")
+
+
+class Case:
+    """one line for h3, some for h3_cases, and what both answers are compared as"""
+
+    def __init__(self, group, line, asked):
+        self.group, self.line, self.asked = group, line, asked
+
+    def heads(self):
+        return []
+
+    def ours(self):
+        return self.told[0]
+
+    def theirs(self, line):
+        return line
+
+
+def hexed(data):
+    return data.hex() or "-"
+
+
+# ---- parts: both programs print the same words
+
+def varint(data):
+    return Case("integers", f"varint {hexed(data)}", [f"varint read {hexed(data)}"])
+
+
+def varint_write(number):
+    return Case("integers", f"varint_write {number}", [f"varint write {number}"])
+
+
+def frame(data):
+    return Case("frames", f"frame {hexed(data)}", [f"frame read {hexed(data)}"])
+
+
+def two_frames(data):
+    return Case("frames", f"two_frames {hexed(data)}", [f"frame two {hexed(data)}"])
+
+
+def settings(data, ids):
+    ids = " ".join(str(id) for id in ids)
+    return Case("settings", f"settings {hexed(data)} {ids}", [f"settings read {hexed(data)} {ids}"])
+
+
+def stream(first, later, last, data):
+    return Case("streams of frames", f"stream {first} {later} {last} {hexed(data)}", [f"stream read {first} {later} {last} {hexed(data)}"])
+
+
+def cuts(data):
+    return Case("streams of frames", f"cuts {hexed(data)}", [f"stream cuts {hexed(data)}"])
+
+
+# ---- sections: h3 is asked by a message, and ours by its parts
+
+def cause(line):
+    """what a refusal names as its cause, without what the parts of a cause hold"""
+    found = CAUSE.search(line)
+    return re.sub(r"(HuffmanDecoding|InvalidStaticIndex|InvalidBase|InvalidPrefix|UnknownPrefix)\(.*\)?: .*", r"\1", found.group(1)) if found else line
+
+
+class Section(Case):
+    """a field section that stands as a request, a response or a trailer"""
+
+    def __init__(self, kind, limit, data):
+        head = frame_of(1, data)
+        if kind == "trailer":
+            head = frame_of(1, bytes.fromhex("0000d1d7500161c1")) + head
+        side = "client" if kind == "response" else "server"
+        super().__init__(f"sections of a {kind}", f"{side} {limit} 99999 0/{hexed(head)}/end", [f"section read {limit} {hexed(data)}"])
+        self.kind, self.data = kind, data
+
+    def heads(self):
+        read = self.told[0]
+        if not read.startswith("size "):
+            return []
+        words = fields_of(self.data)
+        more = {"request": "target", "response": "status", "trailer": "fields"}[self.kind]
+        return [f"head fields{words}", f"head {more}{words}"]
+
+    def ours(self):
+        read = self.told[0]
+        if not self.later:
+            if read.startswith("HeaderTooLong("):
+                return f"too large {read[14:read.index(')')]}"
+            return "section " + re.sub(r"(HuffmanDecoding|InvalidStaticIndex).*", r"\1", read.split(" rest ")[0])
+        return message(self.kind, *self.told_later)
+
+    def theirs(self, line):
+        found = CAUSE.search(line)
+        if not found:
+            return plain(line, self.kind)
+        return refusal(found.group(1))
+
+
+def fields_of(section):
+    """the fields of a section that ours has read, as words; with both ends escapes"""
+    reader, words = qpack.Reader(section), ""
+    reader.integer(8), reader.integer(7)
+    while reader.left():
+        first = reader.peek()
+        if first >> 7:
+            name, value = STATIC[reader.integer(6)]
+        elif first >> 6:
+            name = STATIC[reader.integer(4)][0]
+            value = qpack.text(reader.string(8))
+        else:
+            name = qpack.text(reader.string(4))
+            value = qpack.text(reader.string(8))
+        words += f" {escaped(name)}={escaped(value)}"
+    return words
+
+
+def escaped(data):
+    """bytes as both programs print them: what is no letter, digit or sign is an escape"""
+    return "".join(chr(byte) if 33 <= byte < 127 and byte != 37 else f"%{byte:02X}" for byte in data)
+
+
+def refusal(text):
+    """a cause, as its Debug text and its own"""
+    if re.match(r"(Invalid|Missing|Contradicted)[A-Za-z]*\b", text) and is_head(text):
+        own = text[text.index(": ") + 2:] if ": " in text else text
+        own = head_text(text)
+        return "head " + own
+    debug = text.split(": ")[0]
+    debug = re.sub(r"(HuffmanDecoding|InvalidStaticIndex).*", r"\1", debug)
+    return "section " + debug
+
+
+HEAD_ERRORS = ("InvalidHeaderName(", "InvalidHeaderValue(", "InvalidRequest(", "MissingMethod", "MissingStatus", "MissingAuthority", "ContradictedAuthority")
+
+
+def is_head(text):
+    return text.startswith(HEAD_ERRORS)
+
+
+def head_text(text):
+    """the text of a HeaderError, which stands behind its Debug text"""
+    for start in ("invalid header name: ", "invalid header value: ", "invalid request", "missing method", "missing status", "missing authority", "uri and"):
+        at = text.rfind(start)
+        if at >= 0:
+            return "invalid request" if start == "invalid request" else text[at:]
+    return text
+
+
+def plain(line, kind):
+    """the head or the trailer of an answer that is no refusal"""
+    if kind == "trailer":
+        ending = line.rsplit(" | ", 1)[-1]
+        return ending if ending.startswith("trailer") else line
+    return line.split(" | ", 1)[0]
+
+
+def message(kind, fields, more):
+    """what a head makes of its fields, in the words of the other program"""
+    if not re.match(r"\d+ \d+:", fields):
+        return "head " + fields
+    words = fields.split(":", 1)[1].split(" ")[1:]
+    pseudo = dict(word.split("=", 1) for word in words if word.startswith(":"))
+    rest = "".join(" " + word for word in words if not word.startswith(":"))
+    if kind == "trailer":
+        return "trailer" + rest
+    if kind == "response":
+        return f"response {pseudo[':status']};{rest}" if more[:1].isdigit() else "head " + more
+    refused = more in ("missing authority", "invalid request", "uri and authority field are in contradiction") or more.startswith("missing method")
+    return "head " + more if refused else f"request {pseudo[':method']} {escaped(more.encode('latin-1'))} {pseudo.get(':protocol', '')};{rest}"
+
+
+# ---- whole connections
+
+class Connection(Case):
+    """some streams of the peer, whole, and what its first message is"""
+
+    def __init__(self, side, limit, piece, streams):
+        words = " ".join(f"{id}/{hexed(data)}/{last}" for id, data, last in streams)
+        asked = [f"call new {side[0]} {limit} 0 0"] if side == "client" else [f"call new s {limit} 0 0"]
+        if side == "client":
+            asked.append("call open")
+        self.first = len(asked)
+        for id, data, last in streams:
+            for at in range(0, max(len(data), 1), piece):
+                asked.append(f"call deliver {id} {hexed(data[at:at + piece])}")
+            if last == "end":
+                asked.append(f"call end {id}")
+            if last == "reset":
+                asked.append(f"call gone {id} 268")
+        self.delivered = len(asked)
+        asked += ["call pull 0"] * 12
+        super().__init__(f"whole connections of a {side}", f"{side} {limit} {piece} {words}", asked)
+        self.side, self.streams, self.limit = side, streams, limit
+
+    def items(self):
+        """the items up to the last, or the refusal of a delivery"""
+        for told in self.told[self.first:self.delivered]:
+            if told.startswith("refused Connection "):
+                return ["fault " + told.split(" ")[2]]
+        out = []
+        for told in self.told[self.delivered:]:
+            out.append(told)
+            if not told.startswith(("head", "interim", "body", "trailer")):
+                break
+        return out
+
+    def heads(self):
+        kind = "target" if self.side == "server" else "status"
+        heads = [item[4:] for item in self.items() if item.startswith("head ")]
+        return [line for words in heads[:1] for line in (f"head fields{words}", f"head {kind}{words}")]
+
+    def ours(self):
+        items = self.items()
+        head, body, ending = "", b"", "pending"
+        for item in items:
+            word = item.split(" ")[0]
+            if word == "head":
+                head = message("request" if self.side == "server" else "response", *self.told_later)
+                if head.startswith("head "):
+                    return "stream H3_MESSAGE_ERROR"
+            elif word == "body":
+                body += unescaped(item[5:])
+            else:
+                ending = item
+                if word == "trailer":
+                    break
+        ending = fault(ending)
+        return f"{head} | body {hexed(body)} | {ending}" if head else ending
+
+    def theirs(self, line):
+        return CAUSE.sub("", line)
+
+
+def fault(text):
+    if text.startswith("fault malformed"):
+        return "stream H3_MESSAGE_ERROR"
+    if text.startswith("fault "):
+        return "close " + text[6:]
+    return text
+
+
+def unescaped(text):
+    return re.sub(rb"%([0-9A-F]{2})", lambda found: bytes([int(found.group(1), 16)]), text.encode())
+
+
+# ---- bytes
+
+def number(value, length=0):
+    """an integer in its shortest form, or in that of so many bytes"""
+    if length == 0:
+        return qpack.varint(value)
+    tag = {1: 0, 2: 1, 4: 2, 8: 3}[length]
+    return (value | tag << (8 * length - 2)).to_bytes(length, "big")
+
+
+def frame_of(kind, payload, kind_length=0, length_length=0):
+    return number(kind, kind_length) + number(len(payload), length_length) + payload
+
+
+def rows():
+    """the rows of crates/h3_cases/stdin that h3 can answer too"""
+    made = []
+    with open(os.path.join(TOP, "crates", "h3_cases", "stdin"), encoding="utf-8") as file:
+        for line in file:
+            made += row(line.rstrip("\n").split(" "))
+    return made
+
+
+def data(word):
+    return b"" if word == "-" else bytes.fromhex(word)
+
+
+def row(words):
+    match words:
+        case ["varint", "read", word]:
+            return [varint(data(word))]
+        case ["varint", "write", word]:
+            return [varint_write(int(word))]
+        case ["frame", "read", word]:
+            return [frame(data(word))]
+        case ["frame", "two", word]:
+            return [two_frames(data(word))]
+        case ["settings", "read", word, *ids]:
+            return [settings(data(word), ids)]
+        case ["stream", "read", first, later, last, word]:
+            return [stream(first, later, last, data(word))]
+        case ["stream", "cuts", word]:
+            return [cuts(data(word))]
+        case ["section", "read", limit, word]:
+            return [Section(kind, int(limit), data(word)) for kind in ("request", "response", "trailer")]
+    return []
+
+
+def generated(rng, count):
+    makers = (some_varint, some_frame, some_settings, some_stream, some_section, some_connection)
+    return [case for make in makers for _ in range(count) for case in make(rng)]
+
+
+def some_number(rng):
+    return rng.choice([rng.randrange(64), rng.randrange(2**14), rng.randrange(2**30), rng.randrange(2**62), 63, 64, 2**14 - 1, 2**14, 2**30 - 1, 2**30, 2**62 - 1])
+
+
+def some_varint(rng):
+    value = some_number(rng)
+    form = rng.choice([length for length in (1, 2, 4, 8) if value < 1 << (8 * length - 2)])
+    whole = number(value, form) + rng.randbytes(rng.randrange(3))
+    return [varint(whole[:rng.randrange(len(whole) + 1)]), varint(whole), varint_write(rng.choice([value, 2**62, 2**64 - 1]))]
+
+
+def changed(rng, bytes_):
+    """the bytes as they are, or cut, or with some bits turned"""
+    out = bytearray(bytes_)
+    for _ in range(rng.choice([0, 0, 1, 2])):
+        if out:
+            out[rng.randrange(len(out))] ^= 1 << rng.randrange(8)
+    if rng.random() < 0.2:
+        del out[rng.randrange(len(out) + 1):]
+    return bytes(out)
+
+
+KINDS = [0, 1, 2, 3, 4, 5, 6, 7, 8, 9, 0xD, 0x21, 0x40, 0x41, 0x54, 0x5F]
+
+
+def any_frame(rng):
+    kind = rng.choice(KINDS) if rng.random() < 0.9 else some_number(rng)
+    if kind in (3, 7, 0xD) and rng.random() < 0.8:
+        payload = number(some_number(rng)) + rng.randbytes(rng.choice([0, 0, 0, 1]))
+    elif kind == 4:
+        payload = some_payload(rng)
+    else:
+        payload = rng.randbytes(rng.randrange(12))
+    forms = [0, 0, 0, 2, 4, 8] if kind < 2**14 else [0]
+    return frame_of(kind, payload, rng.choice(forms), rng.choice([0, 0, 0, 2, 4, 8]))
+
+
+def some_frame(rng):
+    whole = changed(rng, any_frame(rng))
+    return [frame(whole), frame(whole[:rng.randrange(len(whole) + 1)])]
+
+
+IDS = [1, 6, 7, 8, 0x33, 0x2B603742, 0x2B603743, 0, 2, 3, 4, 5, 9, 0x21, 0x40, 0x5F]
+
+
+def some_payload(rng):
+    out = b""
+    for _ in range(rng.randrange(6)):
+        id = rng.choice(IDS[:7]) if rng.random() < 0.8 else rng.choice(IDS)
+        out += number(id, rng.choice([0, 0, 4]) if id < 2**30 else 0) + number(some_number(rng))
+    return out
+
+
+def some_settings(rng):
+    whole = some_payload(rng)
+    return [settings(changed(rng, whole), IDS)]
+
+
+def some_stream(rng):
+    whole = b"".join(any_frame(rng) for _ in range(rng.randrange(1, 5)))
+    whole = changed(rng, whole)
+    last = rng.choice(["end", "end", "nothing", "reset"])
+    return [stream(rng.randrange(1, 9), rng.randrange(1, 9), last, whole), cuts(whole[:40])]
+
+
+# ---- sections and messages
+
+NAMES = [b"x-a", b"cookie", b"set-cookie", b"te", b"host", b"content-length", b"X-A", b"", b"a b", b"x\xff", b":foo", b"connection", b"a\"b", b"accept"]
+VALUES = [b"", b"a", b"1", b"www.example.com", b"a\nb", b" a", b"\xff", b"a:1", b"test.com", b"gzip, deflate"]
+PSEUDO = {
+    b":method": [b"GET", b"POST", b"CONNECT", b"", b"G T", b"get"], b":scheme": [b"https", b"http", b"ftp", b"", b"1a", b"a b"],
+    b":authority": [b"a", b"test.com", b"a:1", b"", b"u@h", b"a b", b"[::1]"], b":path": [b"/", b"/a?b#c", b"*", b"", b"a", b"/a b", b"/\xff"],
+    b":status": [b"200", b"404", b"103", b"99", b"1000", b"099", b"", b"2 0"], b":protocol": [b"webtransport", b"connect-udp", b"websocket"],
+}
+
+
+def some_fields(rng, kind):
+    pseudo = {"request": [b":method", b":scheme", b":authority", b":path"], "response": [b":status"], "trailer": []}[kind]
+    out = [(name, PSEUDO[name][0] if rng.random() < 0.7 else rng.choice(PSEUDO[name])) for name in pseudo if rng.random() < 0.92]
+    for _ in range(rng.choice([0, 0, 1, 2, 4])):
+        out.append((rng.choice(NAMES[:6]) if rng.random() < 0.8 else rng.choice(NAMES), rng.choice(VALUES)))
+    if rng.random() < 0.15:
+        name = rng.choice(list(PSEUDO))
+        out.insert(rng.randrange(len(out) + 1), (name, rng.choice(PSEUDO[name])))
+    if rng.random() < 0.1:
+        rng.shuffle(out)
+    return out
+
+
+STATIC = [qpack.static_entry(index) for index in range(99)]
+
+
+def literal(rng, bits, flags, text):
+    """a string behind flags, as it stands or by its Huffman encoding"""
+    if rng.random() < 0.5:
+        coded = qpack.huffman(text)
+        return qpack.integer(bits, flags << 1 | 1, len(coded)) + coded
+    return qpack.integer(bits, flags << 1, len(text)) + text
+
+
+def line_of(rng, name, value):
+    """a field line: static where it can be, or with a static name, or literal"""
+    if (name, value) in STATIC and rng.random() < 0.8:
+        return qpack.integer(6, 3, STATIC.index((name, value)))
+    named = [index for index, entry in enumerate(STATIC) if entry[0] == name]
+    never = rng.randrange(2)
+    if named and rng.random() < 0.7:
+        return qpack.integer(4, 5 | never << 1, rng.choice(named)) + literal(rng, 7, 0, value)
+    return literal(rng, 3, 2 | never, name) + literal(rng, 7, 0, value)
+
+
+def section_of(rng, fields):
+    return bytes(2) + b"".join(line_of(rng, name, value) for name, value in fields)
+
+
+def some_section(rng):
+    kind = rng.choice(["request", "response", "trailer"])
+    whole = section_of(rng, some_fields(rng, kind))
+    limit = rng.choice([10000, 10000, 10000, 200, 100])
+    made = [Section(kind, limit, whole)]
+    if rng.random() < 0.5:
+        made.append(Section(kind, 10000, changed(rng, whole)))
+    if rng.random() < 0.3:
+        made.append(Section(kind, 10000, whole[:rng.randrange(len(whole) + 1)]))
+    return made
+
+
+def some_connection(rng):
+    side = rng.choice(["server", "client"])
+    kind = "request" if side == "server" else "response"
+    own = 2 if side == "server" else 3
+    streams = []
+    if rng.random() < 0.6:
+        streams.append((own, b"\0" + control(rng), rng.choice(["nothing", "nothing", "nothing", "end", "reset"])))
+    if rng.random() < 0.25:
+        streams.append((own + 4, rng.choice([b"\2", b"\3", b"\0", b"\1\0", b"\x21", b"\x40", b"\x40\x21", b"\x54\0", b"\2\x3f\xe1\x1f", b"\3\x80"]), rng.choice(["nothing", "nothing", "end"])))
+    streams.append((0, messages(rng, kind), rng.choice(["end", "end", "end", "nothing", "reset"])))
+    return [Connection(side, rng.choice([10000, 10000, 150]), rng.choice([1, 3, 99999]), streams)]
+
+
+def control(rng):
+    first = frame_of(4, some_payload(rng) if rng.random() < 0.4 else b"\x06\x41\0")
+    rest = b"".join(control_frame(rng) for _ in range(rng.choice([0, 0, 1, 2])))
+    return changed(rng, first + rest) if rng.random() < 0.3 else rng.choice([first, first, first, b""]) + rest
+
+
+def control_frame(rng):
+    kind = rng.choice([7, 7, 7, 3, 0xD, 4, 0, 1, 2, 5, 0x21])
+    return frame_of(kind, number(rng.choice([0, 4, 8, 5, 2**62 - 4])) + (b"x" if rng.random() < 0.1 else b""))
+
+
+def messages(rng, kind):
+    head = frame_of(1, section_of(rng, good_fields(rng, kind) if rng.random() < 0.8 else some_fields(rng, kind)))
+    parts = [head] if rng.random() < 0.95 else []
+    for _ in range(rng.choice([0, 1, 1, 2])):
+        parts.append(frame_of(0, rng.randbytes(rng.randrange(5)), 0, rng.choice([0, 8])))
+    if rng.random() < 0.4:
+        parts.append(frame_of(1, section_of(rng, some_fields(rng, "trailer"))))
+    if rng.random() < 0.25:
+        parts.insert(rng.randrange(len(parts) + 1), any_frame(rng))
+    whole = b"".join(parts)
+    return changed(rng, whole) if rng.random() < 0.3 else whole
+
+
+def good_fields(rng, kind):
+    if kind == "response":
+        return [(b":status", rng.choice([b"200", b"404", b"103"]))] + [(b"x-a", rng.choice(VALUES[:4]))] * rng.randrange(2)
+    return [(name, PSEUDO[name][0]) for name in (b":method", b":scheme", b":authority", b":path")] + [(b"x-a", b"1")] * rng.randrange(2)
