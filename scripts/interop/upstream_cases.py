@@ -63,10 +63,8 @@ def cuts(data):
 
 # ---- sections: h3 is asked by a message, and ours by its parts
 
-def cause(line):
-    """what a refusal names as its cause, without what the parts of a cause hold"""
-    found = CAUSE.search(line)
-    return re.sub(r"(HuffmanDecoding|InvalidStaticIndex|InvalidBase|InvalidPrefix|UnknownPrefix)\(.*\)?: .*", r"\1", found.group(1)) if found else line
+HEAD_ERRORS = ("invalid header name: ", "invalid header value: ", "invalid request", "missing method", "missing status", "missing authority", "uri and")
+HEAD = bytes.fromhex("0000d1d7500161c1")
 
 
 class Section(Case):
@@ -75,105 +73,107 @@ class Section(Case):
     def __init__(self, kind, limit, data):
         head = frame_of(1, data)
         if kind == "trailer":
-            head = frame_of(1, bytes.fromhex("0000d1d7500161c1")) + head
+            head = frame_of(1, HEAD) + head
         side = "client" if kind == "response" else "server"
         super().__init__(f"sections of a {kind}", f"{side} {limit} 99999 0/{hexed(head)}/end", [f"section read {limit} {hexed(data)}"])
         self.kind, self.data = kind, data
 
     def heads(self):
-        read = self.told[0]
-        if not read.startswith("size "):
+        if not self.told[0].startswith("size "):
             return []
-        words = fields_of(self.data)
+        words = "".join(f" {escaped(name)}={escaped(value)}" for name, value in fields_of(self.data))
         more = {"request": "target", "response": "status", "trailer": "fields"}[self.kind]
         return [f"head fields{words}", f"head {more}{words}"]
 
     def ours(self):
         read = self.told[0]
-        if not self.later:
-            if read.startswith("HeaderTooLong("):
-                return f"too large {read[14:read.index(')')]}"
-            return "section " + re.sub(r"(HuffmanDecoding|InvalidStaticIndex).*", r"\1", read.split(" rest ")[0])
-        return message(self.kind, *self.told_later)
+        if self.later:
+            return message(self.kind, *self.told_later)
+        if read.startswith("HeaderTooLong("):
+            return f"too large {read[14:read.index(')')]}"
+        error = short(read.split(" rest ")[0])
+        if self.kind == "request":
+            # a server of h3 tells the code alone
+            return f"close QPACK_{'DECOMPRESSION_FAILED' if error == 'InvalidStaticIndex' else 'DECODER_STREAM_ERROR'}"
+        return "section " + error
 
     def theirs(self, line):
         found = CAUSE.search(line)
-        if not found:
-            return plain(line, self.kind)
-        return refusal(found.group(1))
+        if found:
+            return of_cause(found.group(1))
+        line = raw(line)
+        if self.kind == "trailer":
+            ending = line.split(" | ", 2)[-1]
+            return ending if ending.startswith(("trailer", "too large")) else line
+        return line.split(" | ", 1)[0]
+
+
+def of_cause(text):
+    """what h3 names as the cause of a refusal: a head's by its own text, a section's by its Debug text"""
+    for start in HEAD_ERRORS:
+        at = text.rfind(": " + start)
+        if at >= 0:
+            return "head invalid request" if start == "invalid request" else "head " + text[at + 2:]
+    return "section " + short(text.split(": ")[0])
+
+
+def short(text):
+    """a Debug text without what is in the innermost cause"""
+    return re.sub(r"(HuffmanDecoding|InvalidStaticIndex|InvalidBase).*", r"\1", text)
 
 
 def fields_of(section):
-    """the fields of a section that ours has read, as words; with both ends escapes"""
-    reader, words = qpack.Reader(section), ""
-    reader.integer(8), reader.integer(7)
+    """the fields of a section that ours has read"""
+    reader, fields = qpack.Reader(section), []
+    reader.integer(8)
+    reader.integer(7)
     while reader.left():
         first = reader.peek()
         if first >> 7:
-            name, value = STATIC[reader.integer(6)]
-        elif first >> 6:
-            name = STATIC[reader.integer(4)][0]
-            value = qpack.text(reader.string(8))
-        else:
-            name = qpack.text(reader.string(4))
-            value = qpack.text(reader.string(8))
-        words += f" {escaped(name)}={escaped(value)}"
-    return words
+            fields.append(STATIC[reader.integer(6)])
+            continue
+        name = STATIC[reader.integer(4)][0] if first >> 6 else qpack.text(reader.string(4))
+        fields.append((name, qpack.text(reader.string(8))))
+    return fields
 
 
 def escaped(data):
-    """bytes as both programs print them: what is no letter, digit or sign is an escape"""
+    """bytes as words of both programs: what is no letter, digit or sign is an escape"""
     return "".join(chr(byte) if 33 <= byte < 127 and byte != 37 else f"%{byte:02X}" for byte in data)
 
 
-def refusal(text):
-    """a cause, as its Debug text and its own"""
-    if re.match(r"(Invalid|Missing|Contradicted)[A-Za-z]*\b", text) and is_head(text):
-        own = text[text.index(": ") + 2:] if ": " in text else text
-        own = head_text(text)
-        return "head " + own
-    debug = text.split(": ")[0]
-    debug = re.sub(r"(HuffmanDecoding|InvalidStaticIndex).*", r"\1", debug)
-    return "section " + debug
+def raw(text):
+    """words without escapes, and `?` for what is no UTF-8, as `head fields` prints them"""
+    return " ".join("=".join(text_of(unescaped(part)) for part in word.split("=", 1)) for word in text.split(" "))
 
 
-HEAD_ERRORS = ("InvalidHeaderName(", "InvalidHeaderValue(", "InvalidRequest(", "MissingMethod", "MissingStatus", "MissingAuthority", "ContradictedAuthority")
+def unescaped(text):
+    return re.sub(rb"%([0-9A-F]{2})", lambda found: bytes([int(found.group(1), 16)]), text.encode())
 
 
-def is_head(text):
-    return text.startswith(HEAD_ERRORS)
-
-
-def head_text(text):
-    """the text of a HeaderError, which stands behind its Debug text"""
-    for start in ("invalid header name: ", "invalid header value: ", "invalid request", "missing method", "missing status", "missing authority", "uri and"):
-        at = text.rfind(start)
-        if at >= 0:
-            return "invalid request" if start == "invalid request" else text[at:]
-    return text
-
-
-def plain(line, kind):
-    """the head or the trailer of an answer that is no refusal"""
-    if kind == "trailer":
-        ending = line.rsplit(" | ", 1)[-1]
-        return ending if ending.startswith("trailer") else line
-    return line.split(" | ", 1)[0]
+def text_of(data):
+    try:
+        return data.decode()
+    except UnicodeDecodeError:
+        return "?"
 
 
 def message(kind, fields, more):
-    """what a head makes of its fields, in the words of the other program"""
+    """what a head makes of its fields: a request, a response or a trailer in the words of the other program, or a refusal"""
+    fields, more = (text.encode("latin-1").decode() for text in (fields, more))
     if not re.match(r"\d+ \d+:", fields):
         return "head " + fields
-    words = fields.split(":", 1)[1].split(" ")[1:]
-    pseudo = dict(word.split("=", 1) for word in words if word.startswith(":"))
-    rest = "".join(" " + word for word in words if not word.startswith(":"))
+    words, pseudo = fields.split(":", 1)[1], {}
+    while found := re.match(r" (:[a-z]+)=([^ ]*)", words):
+        pseudo[found.group(1)] = found.group(2)
+        words = words[found.end():]
     if kind == "trailer":
-        return "trailer" + rest
+        return "trailer" + words
+    if more.startswith(HEAD_ERRORS):
+        return "head " + more
     if kind == "response":
-        return f"response {pseudo[':status']};{rest}" if more[:1].isdigit() else "head " + more
-    refused = more in ("missing authority", "invalid request", "uri and authority field are in contradiction") or more.startswith("missing method")
-    return "head " + more if refused else f"request {pseudo[':method']} {escaped(more.encode('latin-1'))} {pseudo.get(':protocol', '')};{rest}"
+        return f"response {pseudo[':status']};{words}"
+    return f"request {pseudo[':method']} {more} {pseudo.get(':protocol', '')};{words}"
 
 
 # ---- whole connections
@@ -183,33 +183,29 @@ class Connection(Case):
 
     def __init__(self, side, limit, piece, streams):
         words = " ".join(f"{id}/{hexed(data)}/{last}" for id, data, last in streams)
-        asked = [f"call new {side[0]} {limit} 0 0"] if side == "client" else [f"call new s {limit} 0 0"]
-        if side == "client":
-            asked.append("call open")
+        asked = [f"call new {side[0]} {limit} 0 0"] + ["call open"] * (side == "client")
         self.first = len(asked)
         for id, data, last in streams:
-            for at in range(0, max(len(data), 1), piece):
-                asked.append(f"call deliver {id} {hexed(data[at:at + piece])}")
-            if last == "end":
-                asked.append(f"call end {id}")
-            if last == "reset":
-                asked.append(f"call gone {id} 268")
-        self.delivered = len(asked)
+            asked += [f"call deliver {id} {hexed(data[at:at + piece])}" for at in range(0, max(len(data), 1), piece)]
+            asked += {"end": [f"call end {id}"], "reset": ["call pull 0"] * 12 * (id == 0) + [f"call gone {id} {RESET}"], "nothing": []}[last]
         asked += ["call pull 0"] * 12
         super().__init__(f"whole connections of a {side}", f"{side} {limit} {piece} {words}", asked)
-        self.side, self.streams, self.limit = side, streams, limit
+        self.side, self.streams = side, streams
+        self.is_message = streams[0][1] == SETTINGS and streams[0][2] == "nothing" and len(streams) == 2
+        self.request = next(data for id, data, _ in streams if id == 0)
+        self.last = next(last for id, _, last in streams if id == 0)
 
     def items(self):
         """the items up to the last, or the refusal of a delivery"""
-        for told in self.told[self.first:self.delivered]:
-            if told.startswith("refused Connection "):
-                return ["fault " + told.split(" ")[2]]
         out = []
-        for told in self.told[self.delivered:]:
-            out.append(told)
-            if not told.startswith(("head", "interim", "body", "trailer")):
-                break
-        return out
+        for asked, told in zip(self.asked[self.first:], self.told[self.first:]):
+            if told.startswith("refused Connection "):
+                return out + ["fault " + told.split(" ")[2]]
+            if asked == "call pull 0" and told != "pending":
+                out.append(told)
+                if told == "end" or told.startswith("fault"):
+                    return out
+        return out + ["pending"]
 
     def heads(self):
         kind = "target" if self.side == "server" else "status"
@@ -217,9 +213,8 @@ class Connection(Case):
         return [line for words in heads[:1] for line in (f"head fields{words}", f"head {kind}{words}")]
 
     def ours(self):
-        items = self.items()
-        head, body, ending = "", b"", "pending"
-        for item in items:
+        head, body, trailer = "", b"", "end"
+        for item in self.items():
             word = item.split(" ")[0]
             if word == "head":
                 head = message("request" if self.side == "server" else "response", *self.told_later)
@@ -227,30 +222,68 @@ class Connection(Case):
                     return "stream H3_MESSAGE_ERROR"
             elif word == "body":
                 body += unescaped(item[5:])
+            elif word == "trailer":
+                trailer = raw(item)
+            elif word in ("interim", "too", "session", "raw"):
+                return item
             else:
-                ending = item
-                if word == "trailer":
-                    break
-        ending = fault(ending)
+                ending = trailer if item == "end" else fault(item)
         return f"{head} | body {hexed(body)} | {ending}" if head else ending
 
     def theirs(self, line):
-        return CAUSE.sub("", line)
+        return raw(CAUSE.sub("", line)).replace(f"close {RESET:#x}", "reset")
+
+
+RESET = 0x3E7
 
 
 def fault(text):
     if text.startswith("fault malformed"):
         return "stream H3_MESSAGE_ERROR"
-    if text.startswith("fault "):
-        return "close " + text[6:]
-    return text
-
-
-def unescaped(text):
-    return re.sub(rb"%([0-9A-F]{2})", lambda found: bytes([int(found.group(1), 16)]), text.encode())
+    if text.startswith("fault reset"):
+        return "reset"
+    return text.replace("fault ", "close ")
 
 
 # ---- bytes
+
+def is_varint(data):
+    """the length of the integer at the front, or 0 where none is whole"""
+    length = 1 << (data[0] >> 6) if data else 0
+    return length if length <= len(data) else 0
+
+
+def integer_of(data):
+    """the integer at the front and its length, or two zeros"""
+    length = is_varint(data)
+    return int.from_bytes(data[:length], "big") & ((1 << (8 * length - 2)) - 1) if length else 0, length
+
+
+def type_of(data):
+    """the type of a unidirectional stream, or none where it is not whole"""
+    kind, length = integer_of(data)
+    return kind if length else None
+
+
+def is_reserved(kind):
+    return kind >= 0x21 and (kind - 0x21) % 0x1F == 0
+
+
+def frames_of(data):
+    """kinds, payloads and whether they are whole, up to the first frame that is not or that has no length"""
+    out = []
+    while data:
+        kind, first = integer_of(data)
+        length, second = integer_of(data[first:]) if first else (0, 0)
+        if kind == 0x41 and first:
+            return out + [(kind, data[first:], second > 0)]
+        if not second:
+            return out
+        payload = data[first + second:][:length]
+        out.append((kind, payload, len(payload) == length))
+        data = data[first + second + length:]
+    return out
+
 
 def number(value, length=0):
     """an integer in its shortest form, or in that of so many bytes"""
@@ -294,7 +327,8 @@ def row(words):
         case ["stream", "cuts", word]:
             return [cuts(data(word))]
         case ["section", "read", limit, word]:
-            return [Section(kind, int(limit), data(word)) for kind in ("request", "response", "trailer")]
+            # the head before a trailer has 160 bytes
+            return [Section(kind, int(limit), data(word)) for kind in ("request", "response", "trailer") if kind != "trailer" or int(limit) > 160]
     return []
 
 
@@ -421,7 +455,7 @@ def section_of(rng, fields):
 def some_section(rng):
     kind = rng.choice(["request", "response", "trailer"])
     whole = section_of(rng, some_fields(rng, kind))
-    limit = rng.choice([10000, 10000, 10000, 200, 100])
+    limit = rng.choice([10000, 10000, 10000, 200, 170])
     made = [Section(kind, limit, whole)]
     if rng.random() < 0.5:
         made.append(Section(kind, 10000, changed(rng, whole)))
@@ -430,17 +464,25 @@ def some_section(rng):
     return made
 
 
+SETTINGS = bytes.fromhex("000403064100")
+
+
 def some_connection(rng):
     side = rng.choice(["server", "client"])
     kind = "request" if side == "server" else "response"
     own = 2 if side == "server" else 3
-    streams = []
-    if rng.random() < 0.6:
-        streams.append((own, b"\0" + control(rng), rng.choice(["nothing", "nothing", "nothing", "end", "reset"])))
-    if rng.random() < 0.25:
-        streams.append((own + 4, rng.choice([b"\2", b"\3", b"\0", b"\1\0", b"\x21", b"\x40", b"\x40\x21", b"\x54\0", b"\2\x3f\xe1\x1f", b"\3\x80"]), rng.choice(["nothing", "nothing", "end"])))
-    streams.append((0, messages(rng, kind), rng.choice(["end", "end", "end", "nothing", "reset"])))
-    return [Connection(side, rng.choice([10000, 10000, 150]), rng.choice([1, 3, 99999]), streams)]
+    if rng.random() < 0.5:
+        whole = messages(rng, kind)
+        last = rng.choice(["end", "end", "end", "nothing", "reset"])
+        return [Connection(side, rng.choice([10000, 10000, 150]), rng.choice([1, 3, 99999]), [(own, SETTINGS, "nothing"), (0, whole, last)])]
+    streams = [(own, b"\0" + control(rng), rng.choice(["nothing", "nothing", "nothing", "end", "reset"]))]
+    if rng.random() < 0.3:
+        streams.append((own + 4, rng.choice(OTHER_STREAMS), rng.choice(["nothing", "nothing", "end"])))
+    head = bytes.fromhex("0000d1d7500161c1") if side == "server" else bytes.fromhex("0000d9")
+    return [Connection(side, 10000, rng.choice([1, 3, 99999]), streams + [(0, frame_of(1, head), "end")])]
+
+
+OTHER_STREAMS = [bytes.fromhex(word) for word in ("", "40", "02", "03", "00", "0100", "21", "4040", "405f", "5400", "023fe11f", "0380", "0301", "0200")]
 
 
 def control(rng):

@@ -65,7 +65,7 @@ impl quic::RecvStream for Stream {
             return match self.last {
                 Last::End => Poll::Ready(Ok(None)),
                 Last::Nothing => Poll::Pending,
-                Last::Reset => Poll::Ready(Err(Gone(268))),
+                Last::Reset => Poll::Ready(Err(Gone(0x3e7))),
             };
         }
         let piece = self.bytes.split_to(self.bytes.len().min(self.first.max(1)));
