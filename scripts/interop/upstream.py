@@ -25,25 +25,18 @@ def answers(command, lines, marked=False):
     text = "".join(f"{line}\n{mark}\n" if marked else line + "\n" for line in lines)
     done = subprocess.run(shlex.split(command), input=text.encode(), capture_output=True)
     printed = done.stdout.decode("latin-1").split(f"\n{mark}\n" if marked else "\n")[:-1]
+    if os.environ.get("SIZES"):
+        print(len(lines), len(text), len(done.stdout), file=sys.stderr)
     if len(printed) != len(lines):
         sys.exit(f"{command}: {len(printed)} answers to {len(lines)} lines: {done.stderr[-2000:].decode('latin-1')}")
     return printed
 
 
 def ours(command, made):
-    """the answers to all cases, asked in two rounds: what a head makes of a request or a response is asked behind its fields"""
-    first = answers(command, [line for case in made for line in case.asked], True)
-    at, later = 0, []
+    """the answers to all cases"""
+    told = iter(answers(command, [line for case in made for line in case.asked], True))
     for case in made:
-        case.told = first[at:at + len(case.asked)]
-        at += len(case.asked)
-        case.later = case.heads()
-        later += case.later
-    second = answers(command, later, True)
-    at = 0
-    for case in made:
-        case.told_later = second[at:at + len(case.later)]
-        at += len(case.later)
+        case.told = [next(told) for _ in case.asked]
 
 
 def known(case, mine, theirs):
@@ -72,7 +65,7 @@ def main():
     upstream, mine = sys.argv[1:3]
     count = int(sys.argv[3]) if len(sys.argv) > 3 else 400
     seed = int(sys.argv[4]) if len(sys.argv) > 4 else 1
-    made = cases.rows() + cases.generated(random.Random(seed), count)
+    made = cases.rows() + cases.examples() + cases.generated(random.Random(seed), count)
     ours(mine, made)
     groups, met, listed, bad = compare(made, answers(upstream, [case.line for case in made]))
     failed = 0

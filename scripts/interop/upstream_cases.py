@@ -16,9 +16,6 @@ class Case:
     def __init__(self, group, line, asked):
         self.group, self.line, self.asked = group, line, asked
 
-    def heads(self):
-        return []
-
     def ours(self):
         return self.told[0]
 
@@ -75,20 +72,14 @@ class Section(Case):
         if kind == "trailer":
             head = frame_of(1, HEAD) + head
         side = "client" if kind == "response" else "server"
-        super().__init__(f"sections of a {kind}", f"{side} {limit} 99999 0/{hexed(head)}/end", [f"section read {limit} {hexed(data)}"])
+        asked = [f"section read {limit} {hexed(data)}"] + heads_of(kind, data)
+        super().__init__(f"sections of a {kind}", f"{side} {limit} 99999 0/{hexed(head)}/end", asked)
         self.kind, self.data = kind, data
-
-    def heads(self):
-        if not self.told[0].startswith("size "):
-            return []
-        words = "".join(f" {escaped(name)}={escaped(value)}" for name, value in fields_of(self.data))
-        more = {"request": "target", "response": "status", "trailer": "fields"}[self.kind]
-        return [f"head fields{words}", f"head {more}{words}"]
 
     def ours(self):
         read = self.told[0]
-        if self.later:
-            return message(self.kind, *self.told_later)
+        if read.startswith("size "):
+            return message(self.kind, *self.told[1:]) if len(self.told) > 1 else f"{read}, but not by the RFCs"
         if read.startswith("HeaderTooLong("):
             return f"too large {read[14:read.index(')')]}"
         error = short(read.split(" rest ")[0])
@@ -123,18 +114,43 @@ def short(text):
 
 
 def fields_of(section):
-    """the fields of a section that ours has read"""
+    """the fields of a section, by the RFCs; raises where it can not be read"""
     reader, fields = qpack.Reader(section), []
-    reader.integer(8)
+    count, sign = reader.integer(8), reader.peek() >> 7
     reader.integer(7)
+    if count or sign:
+        raise qpack.Bad("a base below zero, or entries of a table")
     while reader.left():
         first = reader.peek()
         if first >> 7:
-            fields.append(STATIC[reader.integer(6)])
+            if not first >> 6 & 1:
+                raise qpack.Bad("dynamic")
+            fields.append(qpack.static_entry(reader.integer(6)))
             continue
-        name = STATIC[reader.integer(4)][0] if first >> 6 else qpack.text(reader.string(4))
-        fields.append((name, qpack.text(reader.string(8))))
+        if first >> 6 and not first >> 4 & 1 or first < 32:
+            raise qpack.Bad("dynamic")
+        index, name = (reader.integer(4), None) if first >> 6 else (None, reader.string(4))
+        value = reader.string(8)
+        fields.append((qpack.static_entry(index)[0] if first >> 6 else qpack.text(name), qpack.text(value)))
     return fields
+
+
+def how_read(section):
+    """whether a section can be read, by the RFCs: `whole`, `bad` or `short`; and its fields, where it can"""
+    try:
+        return "whole", fields_of(section)
+    except qpack.Bad:
+        return "bad", []
+    except qpack.Short:
+        return "short", []
+
+
+def heads_of(kind, section):
+    """what is asked of ours about the head or the trailer that a section is"""
+    how, fields = how_read(section)
+    words = "".join(f" {escaped(name)}={escaped(value)}" for name, value in fields)
+    more = {"request": "target", "response": "status", "trailer": "fields"}[kind]
+    return [f"head fields{words}", f"head {more}{words}"] if how == "whole" else []
 
 
 def escaped(data):
@@ -185,20 +201,23 @@ class Connection(Case):
         words = " ".join(f"{id}/{hexed(data)}/{last}" for id, data, last in streams)
         asked = [f"call new {side[0]} {limit} 0 0"] + ["call open"] * (side == "client")
         self.first = len(asked)
+        self.request, self.last = next((data, last) for id, data, last in streams if id == 0)
+        pulls = ["call pull 0"] * (8 + len(self.request) // piece)
         for id, data, last in streams:
             asked += [f"call deliver {id} {hexed(data[at:at + piece])}" for at in range(0, max(len(data), 1), piece)]
-            asked += {"end": [f"call end {id}"], "reset": ["call pull 0"] * 12 * (id == 0) + [f"call gone {id} {RESET}"], "nothing": []}[last]
-        asked += ["call pull 0"] * 12
-        super().__init__(f"whole connections of a {side}", f"{side} {limit} {piece} {words}", asked)
-        self.side, self.streams = side, streams
+            asked += {"end": [f"call end {id}"], "reset": pulls * (id == 0) + [f"call gone {id} {RESET}"], "nothing": []}[last]
+        asked += pulls
+        self.behind = len(asked)
+        kind = "request" if side == "server" else "response"
+        sections = [payload for frame, payload, is_whole in frames_of(self.request) if frame == 1 and is_whole]
+        super().__init__(f"whole connections of a {side}", f"{side} {limit} {piece} {words}", asked + [line for section in sections[:1] for line in heads_of(kind, section)])
+        self.side, self.kind, self.streams = side, kind, streams
         self.is_message = streams[0][1] == SETTINGS and streams[0][2] == "nothing" and len(streams) == 2
-        self.request = next(data for id, data, _ in streams if id == 0)
-        self.last = next(last for id, _, last in streams if id == 0)
 
     def items(self):
         """the items up to the last, or the refusal of a delivery"""
         out = []
-        for asked, told in zip(self.asked[self.first:], self.told[self.first:]):
+        for asked, told in zip(self.asked[self.first:self.behind], self.told[self.first:]):
             if told.startswith("refused Connection "):
                 return out + ["fault " + told.split(" ")[2]]
             if asked == "call pull 0" and told != "pending":
@@ -207,17 +226,16 @@ class Connection(Case):
                     return out
         return out + ["pending"]
 
-    def heads(self):
-        kind = "target" if self.side == "server" else "status"
-        heads = [item[4:] for item in self.items() if item.startswith("head ")]
-        return [line for words in heads[:1] for line in (f"head fields{words}", f"head {kind}{words}")]
-
     def ours(self):
         head, body, trailer = "", b"", "end"
         for item in self.items():
             word = item.split(" ")[0]
             if word == "head":
-                head = message("request" if self.side == "server" else "response", *self.told_later)
+                if len(self.told) == self.behind:
+                    return f"{item}, but not by the RFCs"
+                head = message(self.kind, *self.told[self.behind:])
+                if not self.told[self.behind].split(":", 1)[-1].encode("latin-1").decode() == raw(item[4:]):
+                    return f"{head} and not {item}"
                 if head.startswith("head "):
                     return "stream H3_MESSAGE_ERROR"
             elif word == "body":
@@ -330,6 +348,26 @@ def row(words):
             # the head before a trailer has 160 bytes
             return [Section(kind, int(limit), data(word)) for kind in ("request", "response", "trailer") if kind != "trailer" or int(limit) > 160]
     return []
+
+
+def examples():
+    """what generated cases seldom show"""
+    head = frame_of(1, HEAD)
+    long = frame_of(1, bytes.fromhex("000023782d617f29") + b"a" * 168)
+    return [
+        Section("trailer", 10000, bytes.fromhex("000029ff")),
+        Connection("server", 170, 99, [(2, SETTINGS, "nothing"), (0, head + long, "end")]),
+        Connection("server", 10000, 99, [(2, SETTINGS, "nothing"), (0, b"", "end")]),
+        Connection("client", 10000, 99, [(3, SETTINGS, "nothing"), (0, b"", "end")]),
+        Connection("server", 10000, 99, [(2, SETTINGS, "nothing"), (0, bytes.fromhex("40410061"), "nothing")]),
+        Connection("server", 10000, 99, [(2, SETTINGS, "nothing"), (0, head + bytes.fromhex("01030000d1"), "end")]),
+        Connection("server", 10000, 99, [(2, SETTINGS, "nothing"), (0, head + bytes.fromhex("07020009"), "end")]),
+        Connection("client", 10000, 99, [(3, SETTINGS, "nothing"), (0, bytes.fromhex("01090000d9236122620161"), "end")]),
+        Connection("client", 10000, 99, [(3, SETTINGS, "nothing"), (0, bytes.fromhex("01040000d9d1"), "end")]),
+        Connection("client", 10000, 99, [(3, SETTINGS, "nothing"), (0, bytes.fromhex("01030000d905020000"), "end")]),
+        Connection("client", 10000, 99, [(3, SETTINGS, "nothing"), (7, bytes.fromhex("0100"), "nothing"), (0, bytes.fromhex("01030000d9"), "end")]),
+        Connection("server", 10000, 99, [(2, SETTINGS + b"\0\0", "nothing"), (6, b"\0", "nothing"), (0, head, "end")]),
+    ]
 
 
 def generated(rng, count):

@@ -1,6 +1,6 @@
 """The differences between h3 0.0.6 and ours that the cases of scripts/interop/upstream.py show. Each has a row in docs/DIFFERENCES.md: the
 name here, and a test of a case, our answer and theirs, that asks what the bytes hold too, so that no other difference passes for it."""
-from upstream_cases import Connection, Section, fields_of, frames_of, is_reserved, is_varint, qpack, type_of
+from upstream_cases import Connection, Section, frames_of, how_read, is_reserved, is_varint, type_of
 
 FRAME_ERROR, UNEXPECTED, CREATION, ID = "close H3_FRAME_ERROR", "close H3_FRAME_UNEXPECTED", "close H3_STREAM_CREATION_ERROR", "close H3_ID_ERROR"
 MISSING, CRITICAL, MALFORMED = "close H3_MISSING_SETTINGS", "close H3_CLOSED_CRITICAL_STREAM", "stream H3_MESSAGE_ERROR"
@@ -104,22 +104,12 @@ def cut_line(case, mine, theirs):
 
 
 def path(case, mine, theirs):
-    odd = [value for name, value in how_read(case.data)[1] if name == b":path" and value[:1] not in (b"/", b"")]
+    odd = [value for name, value in how_read(case.data)[1] if name == b":path" and value[:1] != b"/"]
     return mine.startswith('head invalid header value: ":path"') and len(odd) > 0
 
 
 def quote(case, mine, theirs):
     return mine.startswith("head invalid header name") and any(b'"' in name for name in names(case.data))
-
-
-def how_read(section):
-    """whether a section can be read, by the RFCs: `whole`, `bad` or `short`; and its fields, where it can"""
-    try:
-        return "whole", fields_of(section)
-    except qpack.Bad:
-        return "bad", []
-    except qpack.Short:
-        return "short", []
 
 
 def names(section):
@@ -151,7 +141,7 @@ def whole_size(case, mine, theirs):
 
 
 def trailer_too_large(case, mine, theirs):
-    return mine.startswith("too large ") and " | too large " in theirs
+    return mine.startswith("too large ") and (" | too large " in theirs or theirs.endswith("pending"))
 
 
 def empty_data(case, mine, theirs):
@@ -163,12 +153,20 @@ def cut_payload(case, mine, theirs):
 
 
 def before_a_reset(case, mine, theirs):
-    return case.last == "reset" and mine.endswith("reset") and theirs.endswith("reset")
+    return case.last == "reset" and theirs.endswith(("reset", "panic"))
 
 
 def pseudo_in_trailer(case, mine, theirs):
     trailers = sections(case)[1:]
     return mine.endswith("| " + MALFORMED) and "| trailer" in theirs and any(name[:1] == b":" for trailer in trailers for name in names(trailer))
+
+
+def behind_a_trailer(case, mine, theirs):
+    return len(sections(case)) > 1 and mine.endswith((MALFORMED, FAILED)) and theirs.endswith((UNEXPECTED, "pending"))
+
+
+def quote_in_message(case, mine, theirs):
+    return mine.endswith(MALFORMED) and any(b'"' in name for section in sections(case) for name in names(section))
 
 
 def no_head(case, mine, theirs):
@@ -184,7 +182,12 @@ def promise(case, mine, theirs):
 
 
 def session(case, mine, theirs):
-    return 0x41 in kinds(case) and theirs.endswith(UNEXPECTED)
+    return 0x41 in kinds(case) and theirs.endswith((UNEXPECTED, "panic"))
+
+
+def other_side(case, mine, theirs):
+    heads = sections(case)[:1]
+    return mine == MALFORMED and any(name[:1] == b":" and (name == b":status") != (case.side == "client") for head in heads for name in names(head))
 
 
 def lengths_in_messages(case, mine, theirs):
@@ -203,7 +206,11 @@ def unknown_type(case, mine, theirs):
 
 
 def no_type(case, mine, theirs):
-    return theirs == CREATION and any(type_of(data) is None and last == "end" for data, last in others(case))
+    return theirs == CREATION and any(type_of(data) in (None, 1, 0x54) and last == "end" for data, last in others(case))
+
+
+def order(case, mine, theirs):
+    return theirs == CREATION and sum(data[:1] == b"\0" for id, data, _ in case.streams if id % 4 >= 2) > 1
 
 
 def first_frame(case, mine, theirs):
@@ -211,7 +218,7 @@ def first_frame(case, mine, theirs):
 
 
 def cut_off(case, mine, theirs):
-    return theirs == "reset" and mine == CRITICAL
+    return theirs == "reset" and any(last == "reset" for id, _, last in case.streams if id % 4 >= 2)
 
 
 def unread(case, mine, theirs):
@@ -243,7 +250,7 @@ KNOWN = [
     ("sections: a Huffman string with other padding", of_sections(padding)),
     ("sections: an integer of 2^63 or more", of_sections(long_integer)),
     ("sections: a line that is cut short behind a bad string", of_sections(cut_line)),
-    ("heads: a path that begins with no /", of_sections(path)),
+    ("heads: a path that does not begin with /", of_sections(path)),
     ("heads: a name with a quote", of_sections(quote)),
     ("messages: the code for a section that can not be read", of_messages(code_of_sections)),
     ("messages: a string or an integer that is refused here", of_messages(strings_of_messages)),
@@ -253,6 +260,9 @@ KNOWN = [
     ("messages: a payload that is cut short, a panic of h3", of_messages(cut_payload)),
     ("messages: what came before a reset", of_messages(before_a_reset)),
     ("messages: pseudo-header fields in a trailer", of_messages(pseudo_in_trailer)),
+    ("messages: the frame behind a trailer is read before the trailer", of_messages(behind_a_trailer)),
+    ("messages: a name with a quote", of_messages(quote_in_message)),
+    ("messages: a pseudo-header field of the other side", of_messages(other_side)),
     ("messages: an end before the head", of_messages(no_head)),
     ("messages: interim responses", of_messages(interim)),
     ("messages: a push that was not allowed", of_messages(promise)),
@@ -260,6 +270,7 @@ KNOWN = [
     ("messages: a payload of another length than its frame", of_messages(lengths_in_messages)),
     ("streams: a type that is not known", of_control(unknown_type)),
     ("streams: an end before the type", of_control(no_type)),
+    ("streams: a second control stream behind another fault", of_control(order)),
     ("control: frames before SETTINGS", of_control(first_frame)),
     ("control: a control stream that is cut off", of_control(cut_off)),
     ("control: a frame that is cut short by the end", of_control(cut_frame)),
