@@ -114,12 +114,10 @@ def short(text):
 
 
 def fields_of(section):
-    """the fields of a section, by the RFCs; raises where it can not be read"""
+    """The fields of a section, by the RFCs; raises where it can not be read. With no table, count and base are not looked at (docs/RFC.md, 4.5.1.1)."""
     reader, fields = qpack.Reader(section), []
-    count, sign = reader.integer(8), reader.peek() >> 7
+    reader.integer(8)
     reader.integer(7)
-    if count or sign:
-        raise qpack.Bad("a base below zero, or entries of a table")
     while reader.left():
         first = reader.peek()
         if first >> 7:
@@ -242,8 +240,10 @@ class Connection(Case):
                 body += unescaped(item[5:])
             elif word == "trailer":
                 trailer = raw(item)
-            elif word in ("interim", "too", "session", "raw"):
+            elif word in ("interim", "session", "raw") or word == "too" and not head:
                 return item
+            elif word == "too":
+                trailer = item
             else:
                 ending = trailer if item == "end" else fault(item)
         return f"{head} | body {hexed(body)} | {ending}" if head else ending
@@ -355,7 +355,7 @@ def examples():
     head = frame_of(1, HEAD)
     long = frame_of(1, bytes.fromhex("000023782d617f29") + b"a" * 168)
     return [
-        Section("trailer", 10000, bytes.fromhex("000029ff")),
+        Section("trailer", 10000, bytes.fromhex("000029fe")),
         Connection("server", 170, 99, [(2, SETTINGS, "nothing"), (0, head + long, "end")]),
         Connection("server", 10000, 99, [(2, SETTINGS, "nothing"), (0, b"", "end")]),
         Connection("client", 10000, 99, [(3, SETTINGS, "nothing"), (0, b"", "end")]),

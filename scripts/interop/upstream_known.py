@@ -135,13 +135,8 @@ def strings_of_messages(case, mine, theirs):
 
 
 def whole_size(case, mine, theirs):
-    def size(text):
-        return int(text[10:]) if text.startswith("too large ") else -1
-    return 0 < size(theirs) < size(mine)
-
-
-def trailer_too_large(case, mine, theirs):
-    return mine.startswith("too large ") and (" | too large " in theirs or theirs.endswith("pending"))
+    (first, _, size), (second, _, part) = mine.rpartition("too large "), theirs.rpartition("too large ")
+    return first == second and size.isdigit() and part.isdigit() and 0 < int(part) < int(size)
 
 
 def empty_data(case, mine, theirs):
@@ -255,7 +250,6 @@ KNOWN = [
     ("messages: the code for a section that can not be read", of_messages(code_of_sections)),
     ("messages: a string or an integer that is refused here", of_messages(strings_of_messages)),
     ("messages: the size of a section that is too large", of_messages(whole_size)),
-    ("messages: a trailer that is too large", of_messages(trailer_too_large)),
     ("messages: a DATA frame without bytes ends the body", of_messages(empty_data)),
     ("messages: a payload that is cut short, a panic of h3", of_messages(cut_payload)),
     ("messages: what came before a reset", of_messages(before_a_reset)),
