@@ -356,6 +356,7 @@ def examples():
     long = frame_of(1, bytes.fromhex("000023782d617f29") + b"a" * 168)
     return [
         Section("trailer", 10000, bytes.fromhex("000029fe")),
+        Section("response", 10000, bytes.fromhex("0000d9ff8080808080808080807f")),
         Connection("server", 170, 99, [(2, SETTINGS, "nothing"), (0, head + long, "end")]),
         Connection("server", 10000, 99, [(2, SETTINGS, "nothing"), (0, b"", "end")]),
         Connection("client", 10000, 99, [(3, SETTINGS, "nothing"), (0, b"", "end")]),

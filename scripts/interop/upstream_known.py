@@ -96,7 +96,7 @@ def padding(case, mine, theirs):
 
 
 def long_integer(case, mine, theirs):
-    return "Overflow" in case.told[0]
+    return "Overflow" in case.told[0] and how_read(case.data)[0] == "bad"
 
 
 def cut_line(case, mine, theirs):
@@ -139,8 +139,14 @@ def whole_size(case, mine, theirs):
     return first == second and size.isdigit() and part.isdigit() and 0 < int(part) < int(size)
 
 
+def is_front(theirs, mine):
+    """the same head, and a body of which the other has more, or as much"""
+    (head, _, rest), (own, _, more) = theirs.partition(" | body "), mine.partition(" | body ")
+    return head == own and more.startswith(rest.split(" | ")[0].replace("-", ""))
+
+
 def empty_data(case, mine, theirs):
-    return any(kind == 0 and is_whole and not payload for kind, payload, is_whole in frames_of(case.request))
+    return is_front(theirs, mine) and any(kind == 0 and is_whole and not payload for kind, payload, is_whole in frames_of(case.request))
 
 
 def cut_payload(case, mine, theirs):
@@ -148,7 +154,7 @@ def cut_payload(case, mine, theirs):
 
 
 def before_a_reset(case, mine, theirs):
-    return case.last == "reset" and theirs.endswith(("reset", "panic"))
+    return case.last == "reset" and theirs.endswith("reset") and (theirs == "reset" or is_front(theirs, mine))
 
 
 def pseudo_in_trailer(case, mine, theirs):

@@ -51,11 +51,13 @@ pub fn server(words: &[&str]) -> String {
         Some(Ok(Some((request, mut stream)))) => {
             let mut told = request_text(&request);
             while let Some(part) = now(stream.recv_data()) {
-                if !tell_data(&mut told, part) {
-                    return behind_body(told, now(stream.recv_trailers()));
+                match tell_data(&mut told, part) {
+                    Step::More => {}
+                    Step::Over => return behind_body(told, now(stream.recv_trailers())),
+                    Step::Refused(how) => return told.ending(&how),
                 }
             }
-            told.pending()
+            told.ending("pending")
         }
     }
 }
@@ -81,11 +83,13 @@ pub fn client(words: &[&str]) -> String {
         Some(Ok(response)) => {
             let mut told = response_text(&response);
             while let Some(part) = now(stream.recv_data()) {
-                if !tell_data(&mut told, part) {
-                    return behind_body(told, now(stream.recv_trailers()));
+                match tell_data(&mut told, part) {
+                    Step::More => {}
+                    Step::Over => return behind_body(told, now(stream.recv_trailers())),
+                    Step::Refused(how) => return told.ending(&how),
                 }
             }
-            told.pending()
+            told.ending("pending")
         }
     }
 }
@@ -94,44 +98,41 @@ pub fn client(words: &[&str]) -> String {
 struct Told {
     head: String,
     body: Vec<u8>,
-    refusal: Option<String>,
 }
 
 impl Told {
     fn of(head: String) -> Self {
-        Told { head, body: Vec::new(), refusal: None }
+        Told { head, body: Vec::new() }
     }
 
     fn ending(self, how: &str) -> String {
-        let how = self.refusal.as_deref().unwrap_or(how);
         format!("{} | body {} | {how}", self.head, digits(&self.body))
-    }
-
-    fn pending(self) -> String {
-        self.ending("pending")
     }
 }
 
-/// Tells a piece of a body, and answers whether more may come.
-fn tell_data<B: Buf>(told: &mut Told, part: Result<Option<B>, Error>) -> bool {
+/// What is to be asked behind a piece of a body.
+enum Step {
+    More,
+    Over,
+    Refused(String),
+}
+
+fn tell_data<B: Buf>(told: &mut Told, part: Result<Option<B>, Error>) -> Step {
     match part {
         Ok(Some(mut piece)) => {
             while piece.has_remaining() {
                 told.body.push(piece.get_u8());
             }
-            true
+            Step::More
         }
-        Ok(None) => false,
-        Err(e) => {
-            told.refusal = Some(refused(&e));
-            false
-        }
+        Ok(None) => Step::Over,
+        Err(e) => Step::Refused(refused(&e)),
     }
 }
 
 fn behind_body(told: Told, trailer: Option<Result<Option<HeaderMap>, Error>>) -> String {
     match trailer {
-        None => told.pending(),
+        None => told.ending("pending"),
         Some(Ok(None)) => told.ending("end"),
         Some(Ok(Some(map))) => told.ending(&format!("trailer{}", fields(&map))),
         Some(Err(e)) => told.ending(&refused(&e)),
@@ -141,7 +142,7 @@ fn behind_body(told: Told, trailer: Option<Result<Option<HeaderMap>, Error>>) ->
 fn request_text(request: &Request<()>) -> Told {
     let protocol = request.extensions().get::<h3::ext::Protocol>().map_or("", |protocol| protocol.as_str());
     let (method, uri) = (request.method(), request.uri());
-    let target = format!("{}", escaped(uri.to_string().as_bytes()));
+    let target = escaped(uri.to_string().as_bytes());
     Told::of(format!("request {method} {target} {protocol};{}", fields(request.headers())))
 }
 
