@@ -355,8 +355,9 @@ def examples():
     head = frame_of(1, HEAD)
     long = frame_of(1, bytes.fromhex("000023782d617f29") + b"a" * 168)
     return [
-        Section("trailer", 10000, bytes.fromhex("000029fe")),
-        Section("response", 10000, bytes.fromhex("0000d9ff8080808080808080807f")),
+        Section("trailer", 10000, bytes.fromhex("00002918")),
+        Section("response", 10000, bytes.fromhex("0000d9ff80808080808080808002")),
+        Connection("client", 10000, 99, [(3, SETTINGS, "nothing"), (0, bytes.fromhex("01030000d90002"), "end")]),
         Connection("server", 170, 99, [(2, SETTINGS, "nothing"), (0, head + long, "end")]),
         Connection("server", 10000, 99, [(2, SETTINGS, "nothing"), (0, b"", "end")]),
         Connection("client", 10000, 99, [(3, SETTINGS, "nothing"), (0, b"", "end")]),
