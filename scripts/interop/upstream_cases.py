@@ -146,7 +146,7 @@ def how_read(section):
 def heads_of(kind, section):
     """what is asked of ours about the head or the trailer that a section is"""
     how, fields = how_read(section)
-    words = "".join(f" {escaped(name)}={escaped(value)}" for name, value in fields)
+    words = "".join(f" {escaped(name).replace('=', '%3D')}={escaped(value)}" for name, value in fields)
     more = {"request": "target", "response": "status", "trailer": "fields"}[kind]
     return [f"head fields{words}", f"head {more}{words}"] if how == "whole" else []
 
@@ -366,6 +366,8 @@ def examples():
         Connection("server", 10000, 99, [(2, SETTINGS, "nothing"), (0, head + bytes.fromhex("07020009"), "end")]),
         Connection("client", 10000, 99, [(3, SETTINGS, "nothing"), (0, bytes.fromhex("01090000d9236122620161"), "end")]),
         Connection("client", 10000, 99, [(3, SETTINGS, "nothing"), (0, bytes.fromhex("01040000d9d1"), "end")]),
+        Connection("client", 10000, 99, [(3, SETTINGS, "nothing"), (0, bytes.fromhex("01090000d933782d6181ff"), "end")]),
+        Connection("server", 10000, 99, [(2, SETTINGS, "nothing"), (0, bytes.fromhex("01090000d1d7500161510161"), "end")]),
         Connection("client", 10000, 99, [(3, SETTINGS, "nothing"), (0, bytes.fromhex("01030000d905020000"), "end")]),
         Connection("client", 10000, 99, [(3, SETTINGS, "nothing"), (7, bytes.fromhex("0100"), "nothing"), (0, bytes.fromhex("01030000d9"), "end")]),
         Connection("server", 10000, 99, [(2, SETTINGS + b"\0\0", "nothing"), (6, b"\0", "nothing"), (0, head, "end")]),

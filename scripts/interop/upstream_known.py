@@ -135,6 +135,8 @@ def strings_of_messages(case, mine, theirs):
 
 
 def whole_size(case, mine, theirs):
+    if mine.endswith(FAILED) and "too large " in theirs:
+        return any(how_read(section)[0] != "whole" for section in sections(case))
     (first, _, size), (second, _, part) = mine.rpartition("too large "), theirs.rpartition("too large ")
     return first == second and size.isdigit() and part.isdigit() and 0 < int(part) < int(size)
 
@@ -150,7 +152,8 @@ def empty_data(case, mine, theirs):
 
 
 def cut_payload(case, mine, theirs):
-    return ends_in_data(case) and mine.endswith((FRAME_ERROR, "reset")) and theirs == "panic"
+    same = theirs == "panic" or theirs.endswith(FRAME_ERROR) and theirs.split(" | ")[0] == mine.split(" | ")[0]
+    return same and ends_in_data(case) and mine.endswith((FRAME_ERROR, "reset"))
 
 
 def before_a_reset(case, mine, theirs):
@@ -168,6 +171,11 @@ def behind_a_trailer(case, mine, theirs):
 
 def quote_in_message(case, mine, theirs):
     return mine.endswith(MALFORMED) and any(b'"' in name for section in sections(case) for name in names(section))
+
+
+def path_in_message(case, mine, theirs):
+    fields = [field for section in sections(case)[:1] for field in how_read(section)[1]]
+    return mine == MALFORMED and any(name == b":path" and value[:1] != b"/" for name, value in fields)
 
 
 def no_head(case, mine, theirs):
@@ -257,10 +265,11 @@ KNOWN = [
     ("messages: a string or an integer that is refused here", of_messages(strings_of_messages)),
     ("messages: the size of a section that is too large", of_messages(whole_size)),
     ("messages: a DATA frame without bytes ends the body", of_messages(empty_data)),
-    ("messages: a payload that is cut short, a panic of h3", of_messages(cut_payload)),
+    ("messages: a payload that is cut short by the end", of_messages(cut_payload)),
     ("messages: what came before a reset", of_messages(before_a_reset)),
     ("messages: pseudo-header fields in a trailer", of_messages(pseudo_in_trailer)),
     ("messages: the frame behind a trailer is read before the trailer", of_messages(behind_a_trailer)),
+    ("messages: a path that does not begin with /", of_messages(path_in_message)),
     ("messages: a name with a quote", of_messages(quote_in_message)),
     ("messages: a pseudo-header field of the other side", of_messages(other_side)),
     ("messages: an end before the head", of_messages(no_head)),
