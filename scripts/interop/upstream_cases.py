@@ -367,7 +367,7 @@ def examples():
         Connection("client", 10000, 99, [(3, SETTINGS, "nothing"), (0, bytes.fromhex("01090000d9236122620161"), "end")]),
         Connection("client", 10000, 99, [(3, SETTINGS, "nothing"), (0, bytes.fromhex("01040000d9d1"), "end")]),
         Connection("client", 10000, 99, [(3, SETTINGS, "nothing"), (0, bytes.fromhex("01090000d933782d6181ff"), "end")]),
-        Connection("server", 10000, 99, [(2, SETTINGS, "nothing"), (0, bytes.fromhex("01090000d1d7500161510161"), "end")]),
+        Connection("server", 10000, 99, [(2, SETTINGS, "nothing"), (0, bytes.fromhex("010a0000d1d7500161510161"), "end")]),
         Connection("client", 10000, 99, [(3, SETTINGS, "nothing"), (0, bytes.fromhex("01030000d905020000"), "end")]),
         Connection("client", 10000, 99, [(3, SETTINGS, "nothing"), (7, bytes.fromhex("0100"), "nothing"), (0, bytes.fromhex("01030000d9"), "end")]),
         Connection("server", 10000, 99, [(2, SETTINGS + b"\0\0", "nothing"), (6, b"\0", "nothing"), (0, head, "end")]),
