@@ -1,7 +1,7 @@
 # The commands of this repository. `make help` lists them.
 SCRIPT ?= examples/first.talk
 
-.PHONY: help run build lib test test-c refused bench bench-build bench-page bench-exchange interop load
+.PHONY: help run build lib test test-c refused bench bench-build bench-page bench-exchange interop upstream-root load
 
 help: ## list the commands
 	@grep -hE '^[a-z-]+:.*## ' $(MAKEFILE_LIST) | sed -E 's/^([a-z-]+):.*## /make \1: /'
@@ -40,6 +40,9 @@ bench-exchange: ## of these the rows of whole exchanges alone, over the library 
 
 interop: ## show that nghttp3 reads what we write and we what it writes, and that the examples talk with HTTP/3 peers over QUIC
 	@bash scripts/interop.sh
+
+upstream-root: ## make in build/trixie, once and as root, a root of Debian 13 with the Rust crate h3, beside which `make interop` then runs ours
+	@bash scripts/interop/upstream.sh root
 
 load: ## print what the example servers carry under load, beside gtlsserver and Caddy, over the folder that `make lib` leaves
 	@bash scripts/load.sh

@@ -1,6 +1,7 @@
 #!/usr/bin/env bash
 # The library for C beside nghttp3, then the examples against HTTP/3 peers over QUIC, and then our encoder and decoder of QPACK against nghttp3's, which
-# want a second library (h3_bench) proved. The last line is 'N passed, M failed'.
+# want a second library (h3_bench) proved. Beside them the Rust crate h3, where `make upstream-root` made a root of Debian 13. The last line is
+# 'N passed, M failed', with ', 1 skipped' behind it where that root is not there.
 set -uo pipefail
 cd "$(dirname "$0")/.."
 
@@ -8,6 +9,7 @@ log=$(mktemp)
 trap 'rm -f "$log"' EXIT
 passed=0
 failed=0
+skipped=0
 
 # runs a command, and counts its lines 'ok ..' and 'failed ..'
 count() {
@@ -36,5 +38,11 @@ if bash scripts/driver.sh interop; then
 else
   failed=$((failed + 1))
 fi
-echo "$passed passed, $failed failed"
+if bash scripts/interop/upstream.sh there; then
+  count bash scripts/interop/upstream.sh
+else
+  echo "skipped: the comparison with the Rust crate h3 (make upstream-root)"
+  skipped=1
+fi
+echo "$passed passed, $failed failed$([ "$skipped" -eq 0 ] || echo ", $skipped skipped")"
 [ "$failed" -eq 0 ]

@@ -1,6 +1,7 @@
 #!/usr/bin/env bash
 # packages.sh SET..: are the Debian packages there that a command wants? Names all that are missing at once, with the line that installs them.
-# The sets: peer (what bench/ is built with), examples (what `make examples` is), interop (what `make interop` runs them against), load (`make load`).
+# The sets: peer (what bench/ is built with), examples (what `make examples` is), interop (what `make interop` runs them against), load (`make load`),
+# upstream (`make upstream-root`).
 set -uo pipefail
 
 missing=()
@@ -36,6 +37,9 @@ for set in "$@"; do
       need ngtcp2-client gtlsclient
       need caddy caddy
       need chromium chromium
+      ;;
+    upstream)
+      need debootstrap /usr/sbin/debootstrap
       ;;
     load)
       need python3 python3
