@@ -2,7 +2,7 @@
  *
  * The library is a proved core (crates/h3_session) behind C functions (crates/h3_c). It reads no socket, starts no thread, keeps no
  * clock, blocks nowhere, ends no process and prints nothing. It asks malloc and realloc for memory, and every call says where these
- * answer NULL. Link with libh3.a and libh3_shim.a (h3.pc names both).
+ * answer NULL. Link with libh3.a and libh3_shim.a (beanwhile-h3.pc names both).
  *
  * IN SHORT
  *

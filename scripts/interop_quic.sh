@@ -74,7 +74,7 @@ build make -s -C examples/go LIB="$lib" OUT="$work"
 build make -s -C examples/rust LIB="$lib" OUT="$work"
 # the Rust example once more, with each allocation to be refused
 build rustc --edition 2021 -O -o "$work/two_refusing" examples/rust/two_endpoints.rs -C link-arg="$work/refuse.o" \
-  -C link-arg=-Wl,--wrap=malloc,--wrap=calloc,--wrap=realloc $(pkg-config --libs h3 | sed 's/-[lL][^ ]*/-C link-arg=&/g')
+  -C link-arg=-Wl,--wrap=malloc,--wrap=calloc,--wrap=realloc $(pkg-config --libs beanwhile-h3 | sed 's/-[lL][^ ]*/-C link-arg=&/g')
 build go build -o "$work/peer" scripts/interop/peer.go
 build go build -o "$work/violate" scripts/interop/violate.go
 serve=$work/checked/serve

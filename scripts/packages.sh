@@ -1,7 +1,7 @@
 #!/usr/bin/env bash
 # packages.sh SET..: are the Debian packages there that a command wants? Names all that are missing at once, with the line that installs them.
-# The sets: peer (what bench/ is built with), examples (what `make examples` is), interop (what `make interop` runs them against), load (`make load`),
-# upstream (`make upstream-root`).
+# The sets: c (what `make test-c` is built with), peer (what bench/ is built with), examples-c, examples-go and examples-rust (what the programs of examples/ are), examples (all of these), interop
+# (what `make interop` runs them against), load (`make load`), upstream (`make upstream-root`).
 set -uo pipefail
 
 missing=()
@@ -10,7 +10,8 @@ need() { # PACKAGE, and a command or file of it
   [ -e "$2" ] || missing+=("$1")
 }
 GO_SOURCE=/usr/share/gocode/src/github.com/lucas-clemente/quic-go
-for set in "$@"; do
+sets=" $* "
+for set in ${sets// examples / examples-c examples-go examples-rust }; do
   case $set in
     peer)
       for name in nghttp3 nghttp2; do
@@ -18,15 +19,25 @@ for set in "$@"; do
         need "lib$name-dev" "$(gcc -print-file-name="lib$name.a" 2>/dev/null)"
       done
       ;;
-    examples)
+    c)
+      need gcc "${CC:-cc}"
+      need python3 python3
+      ;;
+    examples-*)
       need gcc gcc
       need make make
       need pkg-config pkg-config
-      need openssl openssl
+      ;;&
+    examples-rust)
       need rustc rustc
+      ;;
+    examples-c)
+      need openssl openssl
       need libgnutls28-dev /usr/include/gnutls/gnutls.h
       need libngtcp2-dev /usr/include/ngtcp2/ngtcp2.h
       need libngtcp2-crypto-gnutls-dev /usr/include/ngtcp2/ngtcp2_crypto_gnutls.h
+      ;;
+    examples-go)
       need golang-go go
       need golang-github-lucas-clemente-quic-go-dev $GO_SOURCE
       ;;

@@ -1,11 +1,15 @@
 #!/usr/bin/env bash
 # C programs over build/c (scripts/lib.sh), by the machine's C compiler alone: the calls of crates/h3_cases and hostile lists of calls through the header,
-# each allocation refused in turn, large input with none refused, two endpoints under random schedules, and wrong arguments. Once as they are,
-# and once with the sanitizers of addresses, leaks and undefined behaviour where the compiler has them (large input, memory: once). One line 'ok NAME' or 'failed NAME' for each; the last is the sum.
+# each allocation refused in turn, large input with none refused, two endpoints under random schedules, wrong arguments, and the program of docs/TUTORIAL.md. Once as
+# they are, and once with the sanitizers of addresses, leaks and undefined behaviour where the compiler has them (large input, memory: once). Then how programs find the
+# library (scripts/test-install.sh). One line 'ok NAME' or 'failed NAME' for each; the last is the sum. With LIB=FOLDER the library in that folder is
+# taken, as that of `make lib-unproved`, and none is built.
 set -uo pipefail
 cd "$(dirname "$0")/.."
 
-if ! bash scripts/lib.sh >&2; then
+lib=${LIB:-build/c}
+bash scripts/packages.sh c || exit 1
+if ! { [ -n "${LIB:-}" ] || bash scripts/lib.sh >&2; }; then
   echo "failed libh3.a: it was not built"
   echo "0 passed, 1 failed"
   exit 1
@@ -13,10 +17,10 @@ fi
 log=$(mktemp)
 trap 'rm -f "$log"' EXIT
 cc=${CC:-cc}
-out=build/c/tests
+out=$lib/tests
 mkdir -p "$out"
 bad=0
-libs=(-Ibuild/c -Lbuild/c -lh3 -lh3_shim)
+libs=("-I$lib" "-L$lib" -lh3 -lh3_shim)
 
 compile() { # NAME OUT FLAGS..
   local name=$1 to=$2
@@ -40,6 +44,16 @@ rows() { # PROGRAM
   fi
 }
 
+# the program of docs/TUTORIAL.md, by its stored lines
+tutorial() { # PROGRAM, NAME
+  if "$1" | cmp -s - tests/c/in_memory.stdout; then
+    echo "ok $2"
+  else
+    echo "failed $2: $("$1" | diff - tests/c/in_memory.stdout | head -n 6 | tr '\n' ' ')"
+    bad=1
+  fi
+}
+
 run() { # NAME PROGRAM ARGUMENTS..
   local name=$1
   shift
@@ -55,6 +69,7 @@ checks() {
   compile sizes sizes -Wl,--wrap=malloc,--wrap=realloc
   compile schedules schedules
   compile arguments arguments
+  compile in_memory in_memory
   if [ "$bad" -eq 0 ]; then
     rows "$out/calls" "rows"
     run "hostile calls" python3 scripts/hostile_calls.py "$out/calls" 400
@@ -62,18 +77,22 @@ checks() {
     run sizes "$out/sizes"
     run schedules "$out/schedules" 0 1000
     run arguments "$out/arguments"
+    tutorial "$out/in_memory" "in_memory: the lines of docs/TUTORIAL.md"
   fi
   if [ "$bad" -eq 0 ] && echo 'int main(void){return 0;}' | "$cc" -x c -fsanitize=address,undefined -o "$out/probe" - 2> "$out/probe.log"; then
     flags=(-fsanitize=address,undefined -fno-sanitize-recover=all)
     compile calls calls_checked "${flags[@]}"
     compile schedules schedules_checked "${flags[@]}"
     compile arguments arguments_checked "${flags[@]}"
+    compile in_memory in_memory_checked "${flags[@]}"
     if [ "$bad" -eq 0 ]; then
       rows "$out/calls_checked" "rows with sanitizers"
       run "schedules with sanitizers" "$out/schedules_checked" 1000 100
       run "arguments with sanitizers" "$out/arguments_checked"
+      tutorial "$out/in_memory_checked" "in_memory with sanitizers"
     fi
   fi
+  bash scripts/test-install.sh "$lib" || bad=1
   return "$bad"
 }
 

@@ -3,7 +3,7 @@ package main
 // An Endpoint over include/h3.h, by cgo.
 
 /*
-#cgo pkg-config: h3
+#cgo pkg-config: beanwhile-h3
 #include <h3.h>
 */
 import "C"

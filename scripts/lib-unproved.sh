@@ -1,0 +1,15 @@
+#!/usr/bin/env bash
+# Builds the library for C from the same sources without their proofs (scripts/unproved.py), into build/c-unproved, and marks it there: in the file UNPROVED and
+# in the package files. build/c, which `make lib` makes, is left alone.
+set -euo pipefail
+cd "$(dirname "$0")/.."
+bash scripts/need.sh rt
+
+room=$(mktemp -d)
+trap 'rm -rf "$room"' EXIT
+echo "compiling crates/h3_c and what it stands on, without their proofs: one or two minutes" >&2
+if ! bash scripts/watched.sh "$room/log" python3 scripts/unproved.py "$room/libh3.a"; then
+  echo "h3_c was not built" >&2
+  exit 1
+fi
+bash scripts/library_folder.sh "$room/libh3.a" build/c-unproved unproved

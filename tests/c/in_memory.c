@@ -1,0 +1,220 @@
+/* A client and a server in one program, with the bytes between them carried by hand in place of a QUIC library: docs/TUTORIAL.md goes through it. It prints what
+ * each side is told; tests/c/in_memory.stdout has these lines. */
+#include "h3.h"
+#include <stdio.h>
+#include <stdlib.h>
+#include <string.h>
+
+enum { REQUESTS = 4, PIECE = 100, FIELDS = 16 };
+
+static const uint64_t ANY_ID = (UINT64_C(1) << 62) - 4; /* the greatest id of a request */
+
+/* One side of the connection. */
+typedef struct {
+  h3_endpoint h3;
+  const char *name;
+  int is_server;
+  int is_waiting[REQUESTS]; /* its last pull answered H3_WAITING */
+  int has_ended[REQUESTS];  /* FIN or RESET_STREAM went out */
+} side;
+
+static void fail(const side *at, const char *call, uint32_t answer) {
+  printf("%s: %s answered %u\n", at->name, call, answer);
+  exit(1);
+}
+
+/* ---- an endpoint is made ---- */
+
+static void make(side *at) {
+  h3_config config;
+  h3_config_default(&config);
+  config.server = (uint32_t)at->is_server;
+  config.max_field_section_size = 65536; /* heads above this are passed over */
+  config.table = 4096;                   /* bytes of the dynamic table that the peer may fill */
+  config.blocked = 16;                   /* heads that may wait for it */
+  uint32_t answer = h3_new(&at->h3, &config, NULL);
+  if (answer != H3_OK) fail(at, "h3_new", answer);
+}
+
+/* ---- fields: the sizes of names and values, and all their bytes in one row ---- */
+
+typedef struct {
+  h3_field_size sizes[FIELDS];
+  size_t count, len;
+  char bytes[1024];
+} fields;
+
+static void add(fields *list, const char *name, const char *value) {
+  size_t n = strlen(name), v = strlen(value);
+  if (list->count == FIELDS || n + v > sizeof list->bytes - list->len) abort();
+  memcpy(list->bytes + list->len, name, n);
+  memcpy(list->bytes + list->len + n, value, v);
+  list->len += n + v;
+  list->sizes[list->count++] = (h3_field_size){(uint32_t)n, (uint32_t)v};
+}
+
+/* ---- the client asks ---- */
+
+static uint64_t ask(side *client, const char *path, const char *body) {
+  fields head = {.count = 0};
+  uint64_t id;
+  uint32_t answer = h3_open_request(&client->h3, &id, NULL); /* then QUIC opens its stream: both give 0, 4, 8, .. */
+  if (answer != H3_OK) fail(client, "h3_open_request", answer);
+  add(&head, ":method", body ? "POST" : "GET");
+  add(&head, ":scheme", "https");
+  add(&head, ":authority", "localhost");
+  add(&head, ":path", path);
+  answer = h3_send_head(&client->h3, id, head.sizes, head.count, head.bytes, head.len, NULL);
+  if (answer != H3_OK) fail(client, "h3_send_head", answer);
+  if (body) answer = h3_send_body(&client->h3, id, body, strlen(body), NULL);
+  if (answer != H3_OK) fail(client, "h3_send_body", answer);
+  answer = h3_finish(&client->h3, id, NULL);
+  if (answer != H3_OK) fail(client, "h3_finish", answer);
+  return id;
+}
+
+/* ---- the server answers ---- */
+
+static void respond(side *server, uint64_t id) {
+  static const char body[] = "hello\n";
+  fields head = {.count = 0};
+  add(&head, ":status", "200");
+  add(&head, "content-type", "text/plain");
+  uint32_t answer = h3_send_head(&server->h3, id, head.sizes, head.count, head.bytes, head.len, NULL);
+  if (answer == H3_OK) answer = h3_send_body(&server->h3, id, body, strlen(body), NULL);
+  if (answer == H3_OK) answer = h3_finish(&server->h3, id, NULL);
+  if (answer != H3_OK) fail(server, "a response", answer);
+}
+
+/* ---- what came is read ---- */
+
+static void print_fields(side *at, size_t count) {
+  char name[64], value[256];
+  size_t name_len, value_len;
+  for (size_t i = 0; i < count; i++) {
+    uint32_t answer = h3_item_field(&at->h3, i, name, sizeof name, &name_len, value, sizeof value, &value_len);
+    if (answer != H3_OK) fail(at, "h3_item_field", answer); /* H3_ROOM: longer than the buffers */
+    printf(" %.*s=%.*s", (int)name_len, name, (int)value_len, value);
+  }
+}
+
+static void print_bytes(side *at, size_t len) {
+  char bytes[PIECE];
+  size_t n;
+  for (size_t from = 0; from < len; from += n) {
+    uint32_t answer = h3_item_bytes(&at->h3, from, bytes, sizeof bytes, &n);
+    if (answer != H3_OK) fail(at, "h3_item_bytes", answer);
+    printf("%.*s", (int)n, bytes);
+  }
+}
+
+/* Takes all that is there of a message. */
+static void pull(side *at, uint64_t id) {
+  h3_item item;
+  for (;;) {
+    uint32_t answer = h3_pull(&at->h3, id, &item);
+    if (answer != H3_OK) fail(at, "h3_pull", answer);
+    at->is_waiting[id / 4] = item.kind == H3_WAITING;
+    if (item.kind == H3_PENDING || item.kind == H3_WAITING) return; /* more has to come first */
+    printf("%s, stream %u:", at->name, (unsigned)id);
+    switch (item.kind) {
+    case H3_HEAD: print_fields(at, item.fields); break;
+    case H3_BODY: printf(" %u bytes: ", (unsigned)item.len), print_bytes(at, item.len); break;
+    case H3_END: printf(" end\n"); return;
+    case H3_FAULT_RESET: printf(" reset with code 0x%x\n", (unsigned)item.number); return;
+    case H3_FAULT_CANCELED: printf(" given up\n"); return;
+    default: printf(" kind %u, %u\n", item.kind, (unsigned)item.number); return; /* the others: h3.h, enum h3_kind */
+    }
+    if (item.kind != H3_BODY) printf("\n"); /* these bodies end with one */
+  }
+}
+
+/* ---- bytes go over: what a QUIC library does ---- */
+
+/* Stream data came: hand it over, then pull. */
+static void received(side *at, uint64_t id, const uint8_t *bytes, size_t n, int fin) {
+  uint64_t code;
+  uint32_t answer = h3_deliver(&at->h3, id, bytes, n, &code);
+  if (fin && (answer == H3_OK || answer == H3_KEPT)) answer = h3_deliver_end(&at->h3, id, &code);
+  if (answer != H3_OK && answer != H3_KEPT) fail(at, "h3_deliver", answer); /* H3_CONNECTION: close with `code`; H3_MEMORY: deliver again */
+  if (id % 4 == 0) return pull(at, id);
+  for (uint64_t request = 0; request < 4 * REQUESTS; request += 4) /* the peer's encoder stream: heads may wait for it */
+    if (at->is_waiting[request / 4]) pull(at, request);
+}
+
+/* Sends what waits on a stream, and its end. */
+static void carry_stream(side *from, side *to, uint64_t id) {
+  uint8_t bytes[PIECE];
+  size_t n;
+  uint32_t fin;
+  for (;;) {
+    uint32_t answer = h3_outgoing(&from->h3, id, bytes, sizeof bytes, &n, &fin);
+    if (answer != H3_OK) fail(from, "h3_outgoing", answer);
+    if (n == 0 && !fin) return;
+    received(to, id, bytes, n, (int)fin);
+    h3_advance(&from->h3, id, n); /* these n bytes were taken */
+    if (!fin) continue;
+    from->has_ended[id / 4] = 1; /* h3_outgoing says fin again, so the caller remembers that FIN went out */
+    return;
+  }
+}
+
+static void carry(side *from, side *to) {
+  uint64_t own[] = {h3_control_id(from->is_server), h3_encoder_id(from->is_server), h3_decoder_id(from->is_server)};
+  for (int i = 0; i < 3; i++) carry_stream(from, to, own[i]); /* first: heads may wait for them */
+  for (uint64_t id = 0; id < 4 * REQUESTS; id += 4)
+    if (!from->has_ended[id / 4]) carry_stream(from, to, id);
+}
+
+/* ---- a request is given up: no further bytes go out on it, and nothing more of the answer is wanted ---- */
+
+static void give_up(side *at, side *other, uint64_t id) {
+  uint32_t answer = h3_cancel(&at->h3, id, NULL); /* QUIC: STOP_SENDING */
+  if (answer != H3_OK) fail(at, "h3_cancel", answer);
+  answer = h3_reset(&at->h3, id, NULL);
+  if (answer != H3_OK) fail(at, "h3_reset", answer);
+  at->has_ended[id / 4] = 1;
+  answer = h3_deliver_reset(&other->h3, id, H3_CODE_REQUEST_CANCELLED, NULL); /* QUIC: RESET_STREAM with this code */
+  if (answer != H3_OK && answer != H3_KEPT) fail(other, "h3_deliver_reset", answer);
+  pull(other, id);
+}
+
+/* ---- a server shuts down ---- */
+
+static void say_goaway(side *server, side *client, uint64_t id) {
+  uint32_t answer = h3_goaway(&server->h3, id, NULL);
+  if (answer != H3_OK) fail(server, "h3_goaway", answer);
+  carry(server, client);
+}
+
+int main(void) {
+  side client = {.h3 = H3_NONE_YET, .name = "client"}, server = {.h3 = H3_NONE_YET, .name = "server", .is_server = 1};
+  uint64_t id, detail;
+  make(&client);
+  make(&server);
+  carry(&client, &server); /* the settings of both */
+  carry(&server, &client);
+
+  id = ask(&client, "/hello", NULL);
+  carry(&client, &server);
+  respond(&server, id);
+  carry(&server, &client);
+
+  id = ask(&client, "/echo", "a body of a request\n");
+  carry_stream(&client, &server, id); /* before the encoder stream: the head may wait for it */
+  carry(&client, &server);
+  respond(&server, id);
+  carry(&server, &client);
+
+  id = ask(&client, "/never", NULL);
+  give_up(&client, &server, id);
+
+  say_goaway(&server, &client, ANY_ID); /* a notice: requests that are on their way are still taken */
+  say_goaway(&server, &client, id + 4); /* a round trip later: from here on none is */
+  if (h3_open_request(&client.h3, &id, &detail) != H3_GOING_AWAY) fail(&client, "h3_open_request", H3_OK);
+  printf("client: no request from stream %u on\n", (unsigned)detail);
+
+  h3_free(&client.h3);
+  h3_free(&server.h3);
+  return 0;
+}
