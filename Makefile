@@ -2,9 +2,11 @@
 SCRIPT ?= examples/first.talk
 # of `make examples` and `make load`: the folder that `make lib` or `make lib-unproved` leaves
 LIB ?= build/c
+# of `make bench-long`: how many exchanges go over the one connection
+EXCHANGES ?= 1000000
 PREFIX ?= /usr/local
 
-.PHONY: help run build lib lib-unproved install examples test test-c refused bench bench-build bench-page bench-exchange interop upstream-root load need-rt
+.PHONY: help run build lib lib-unproved install examples test test-c refused bench bench-build bench-page bench-exchange bench-long interop upstream-root load need-rt
 
 help: ## list the commands
 	@grep -hE '^[a-z-]+:.*## ' $(MAKEFILE_LIST) | sed -E 's/^([a-z-]+):.*## /make \1: /'
@@ -56,6 +58,11 @@ bench-page: ## measure what make bench-build left, and write the tables of docs/
 
 bench-exchange: need-rt ## of these the rows of whole exchanges alone, over the library for C
 	@bash scripts/bench.sh exchange
+
+bench-long: ## print what a connection that lives long costs, EXCHANGES=1000000 on it, over the folder that `make lib` leaves, or LIB=build/c-unproved
+	@bash scripts/need.sh library "$(LIB)"
+	@rm -f bench/out/long && $(MAKE) --no-print-directory -s -C bench out/long FOLDER="$(abspath $(LIB))"
+	@bench/out/long $(EXCHANGES)
 
 interop: need-rt ## show that nghttp3 reads what we write and we what it writes, and that the examples talk with HTTP/3 peers over QUIC
 	@bash scripts/interop.sh

@@ -38,7 +38,7 @@ build_bench() {
 build_exchange() {
   bash scripts/peer.sh
   bash scripts/lib.sh >&2
-  make --no-print-directory -s -C bench out/exchange
+  make --no-print-directory -s -C bench out/exchange out/long
 }
 
 measure_all() {
@@ -46,6 +46,8 @@ measure_all() {
   echo "a row is the median of five runs of $(awk "BEGIN { print $seconds / 5 }") s, on core $core"
   measure bench
   measure exchange
+  wait_for_quiet
+  taskset -c "$core" bench/out/long 100000 || status=1
   return "$status"
 }
 

@@ -1,0 +1,365 @@
+/* What a connection that lives long costs, through the C interface: what each stream that is over leaves, the longest single call, and calls whose
+ * cost may not grow with what came before. Each line is a row of a Markdown table; a star marks a figure above the greatest that is wanted.
+ * The program wants the library for C alone. Linked with --wrap for malloc, calloc, realloc and free, which count what is held. */
+#define _GNU_SOURCE
+#include "h3.h"
+#include <malloc.h>
+#include <stdio.h>
+#include <stdlib.h>
+#include <string.h>
+#include <time.h>
+
+enum { CLIENT, SERVER };
+enum { MOST_CARRIED = 1 << 16 };
+
+static double held;
+void *__real_malloc(size_t size);
+void *__real_calloc(size_t count, size_t size);
+void *__real_realloc(void *block, size_t size);
+void __real_free(void *block);
+void *__wrap_malloc(size_t size);
+void *__wrap_calloc(size_t count, size_t size);
+void *__wrap_realloc(void *block, size_t size);
+void __wrap_free(void *block);
+
+static void *gain(void *block) {
+  if (block) held += (double)malloc_usable_size(block);
+  return block;
+}
+static void lose(void *block) {
+  if (block) held -= (double)malloc_usable_size(block);
+}
+void *__wrap_malloc(size_t size) { return gain(__real_malloc(size)); }
+void *__wrap_calloc(size_t count, size_t size) { return gain(__real_calloc(count, size)); }
+void *__wrap_realloc(void *block, size_t size) {
+  lose(block);
+  return gain(__real_realloc(block, size));
+}
+void __wrap_free(void *block) {
+  lose(block);
+  __real_free(block);
+}
+
+static int below;
+static h3_endpoint ends[2];
+static uint8_t buffer[MOST_CARRIED];
+
+static double now(void) {
+  struct timespec time;
+  clock_gettime(CLOCK_THREAD_CPUTIME_ID, &time);
+  return (double)time.tv_sec + (double)time.tv_nsec * 1e-9;
+}
+
+static void stop(const char *what, uint64_t id, uint32_t answer) {
+  fprintf(stderr, "long: %s, stream %llu: %u\n", what, (unsigned long long)id, answer);
+  exit(2);
+}
+static void done(const char *what, uint64_t id, uint32_t answer) {
+  if (answer != H3_OK) stop(what, id, answer);
+}
+
+static void row(const char *what, const char *size, double figure, const char *unit, double most) {
+  int is_above = most > 0 && figure > most;
+  char wanted[48] = "";
+  if (most > 0) snprintf(wanted, sizeof wanted, "at most %g%s", most, is_above ? "*" : "");
+  printf("| %-58s | %-20s | %11.2f | %-16s | %-14s |\n", what, size, figure, unit, wanted);
+  fflush(stdout);
+  below += is_above;
+}
+
+static void make(uint64_t table, uint64_t blocked) {
+  for (int side = 0; side < 2; side++) {
+    h3_config c;
+    h3_config_default(&c);
+    c.server = (uint32_t)side;
+    c.table = table;
+    c.blocked = blocked;
+    done("h3_new", (uint64_t)side, h3_new(&ends[side], &c, NULL));
+  }
+}
+static void drop(void) {
+  h3_free(&ends[CLIENT]);
+  h3_free(&ends[SERVER]);
+}
+
+/* all that waits on a stream goes over, and its end */
+static void carry(int side, uint64_t id) {
+  size_t n;
+  uint32_t fin;
+  do {
+    done("h3_outgoing", id, h3_outgoing(&ends[side], id, buffer, sizeof buffer, &n, &fin));
+    if (n) done("h3_deliver", id, h3_deliver(&ends[!side], id, buffer, n, NULL));
+    done("h3_advance", id, h3_advance(&ends[side], id, n));
+  } while (n && !fin);
+  if (fin) done("h3_deliver_end", id, h3_deliver_end(&ends[!side], id, NULL));
+}
+static void carry_own(void) {
+  for (int side = 0; side < 2; side++) {
+    carry(side, h3_control_id(side));
+    carry(side, h3_encoder_id(side));
+    carry(side, h3_decoder_id(side));
+  }
+}
+
+static const h3_field_size REQUEST[] = {{7, 3}, {7, 5}, {10, 15}, {5, 12}}, RESPONSE[] = {{7, 3}, {12, 10}};
+static const char REQUEST_BYTES[] = ":methodGET:schemehttps:authoritywww.example.com:path/sample/path";
+static const char RESPONSE_BYTES[] = ":status200content-typetext/plain";
+
+static void send_request(uint64_t id) {
+  done("h3_send_head", id, h3_send_head(&ends[CLIENT], id, REQUEST, 4, REQUEST_BYTES, sizeof REQUEST_BYTES - 1, NULL));
+}
+
+static void pull_to_the_end(int side, uint64_t id) {
+  h3_item item;
+  do {
+    done("h3_pull", id, h3_pull(&ends[side], id, &item));
+    if (item.kind >= H3_PENDING) stop("an item of another kind", id, item.kind);
+  } while (item.kind != H3_END);
+}
+
+/* one request and its response; answers how long the opening took */
+static double exchange(void) {
+  uint64_t id;
+  double began = now(), opened;
+  done("h3_open_request", 0, h3_open_request(&ends[CLIENT], &id, NULL));
+  opened = now() - began;
+  send_request(id);
+  done("h3_finish", id, h3_finish(&ends[CLIENT], id, NULL));
+  carry(CLIENT, id);
+  pull_to_the_end(SERVER, id);
+  done("h3_send_head", id, h3_send_head(&ends[SERVER], id, RESPONSE, 2, RESPONSE_BYTES, sizeof RESPONSE_BYTES - 1, NULL));
+  done("h3_send_body", id, h3_send_body(&ends[SERVER], id, buffer, 100, NULL));
+  done("h3_finish", id, h3_finish(&ends[SERVER], id, NULL));
+  carry(SERVER, id);
+  pull_to_the_end(CLIENT, id);
+  return opened;
+}
+
+static void sized(char *text, size_t room, size_t count, const char *what) { snprintf(text, room, "%zu %s", count, what); }
+
+static void idle_row(void) {
+  double before = held;
+  make(0, 0);
+  carry_own();
+  row("an endpoint without any request", "settings exchanged", (held - before) / 2, "bytes an end", 3000);
+  drop();
+}
+
+/* so many exchanges on one connection: memory, the longest opening, the cost of the last ones beside that of the first */
+static void exchange_rows(size_t count) {
+  enum { FEW = 500, FIRST = 20 };
+  char size[32];
+  double longest = 0, few = 1e9, last = 1e9, before;
+  sized(size, sizeof size, count, "exchanges");
+  for (int turn = 0; turn < FIRST; turn++) {
+    make(0, 0);
+    carry_own();
+    double began = now();
+    for (size_t i = 0; i < FEW; i++) exchange();
+    if (now() - began < few) few = now() - began;
+    drop();
+  }
+  make(0, 0);
+  carry_own();
+  for (size_t i = 0; i < 1000; i++) exchange();
+  before = held;
+  for (size_t i = 1000; i < count; i++) {
+    double opened = exchange();
+    if (opened > longest) longest = opened;
+  }
+  row("a stream that is over", size, (held - before) / (double)(count - 1000) / 2, "bytes an end", 4);
+  row("the longest h3_open_request", size, longest * 1e6, "us", 1000);
+  for (int turn = 0; turn < FIRST; turn++) {
+    double began = now();
+    for (size_t i = 0; i < FEW; i++) exchange();
+    if (now() - began < last) last = now() - began;
+  }
+  row("one of these, of one of 500", size, last / few, "times", 1.1);
+  drop();
+}
+
+/* a client opens, sends its head and resets; the server reads the head, is told of the reset, and resets its own half */
+static void reset_rows(size_t count) {
+  char size[32];
+  double before;
+  h3_item item;
+  sized(size, sizeof size, count, "streams");
+  make(0, 0);
+  carry_own();
+  before = held;
+  for (size_t i = 0; i < count; i++) {
+    uint64_t id;
+    done("h3_open_request", 0, h3_open_request(&ends[CLIENT], &id, NULL));
+    send_request(id);
+    carry(CLIENT, id);
+    done("h3_pull", id, h3_pull(&ends[SERVER], id, &item));
+    done("h3_reset", id, h3_reset(&ends[CLIENT], id, NULL));
+    done("h3_deliver_reset", id, h3_deliver_reset(&ends[SERVER], id, H3_CODE_REQUEST_CANCELLED, NULL));
+    done("h3_pull", id, h3_pull(&ends[SERVER], id, &item));
+    done("h3_reset", id, h3_reset(&ends[SERVER], id, NULL));
+    done("h3_deliver_reset", id, h3_deliver_reset(&ends[CLIENT], id, H3_CODE_REQUEST_CANCELLED, NULL));
+    done("h3_pull", id, h3_pull(&ends[CLIENT], id, &item));
+    carry(SERVER, h3_decoder_id(SERVER));
+    carry(CLIENT, h3_decoder_id(CLIENT));
+  }
+  row("a stream that its client opens and resets", size, (held - before) / (double)count / 2, "bytes an end", 32);
+  drop();
+}
+
+/* unidirectional streams of a type that nobody knows, each with its end */
+static void unknown_rows(size_t count) {
+  char size[32];
+  double before;
+  sized(size, sizeof size, count, "streams");
+  make(0, 0);
+  carry_own();
+  before = held;
+  for (size_t i = 0; i < count; i++) {
+    uint64_t id = 14 + 4 * i;
+    done("h3_deliver", id, h3_deliver(&ends[SERVER], id, "\x21some bytes", 11, NULL));
+    done("h3_deliver_end", id, h3_deliver_end(&ends[SERVER], id, NULL));
+  }
+  row("a unidirectional stream of unknown type, ended", size, (held - before) / (double)count, "bytes", 4);
+  drop();
+}
+
+/* one turn over all streams that wait, none of which QUIC gives credit; and the same behind as many that were reset */
+static void sweep_rows(size_t count) {
+  enum { CALLS = 1000 };
+  char size[32];
+  uint64_t id;
+  size_t found = 0;
+  double began;
+  sized(size, sizeof size, count, "streams");
+  make(0, 0);
+  carry_own();
+  for (size_t i = 0; i < count; i++) {
+    done("h3_open_request", 0, h3_open_request(&ends[CLIENT], &id, NULL));
+    send_request(id);
+  }
+  began = now();
+  for (id = 0; h3_next_waiting(&ends[CLIENT], id, &id) == H3_OK; id++) found++;
+  row("h3_next_waiting in one turn over all that wait", size, (now() - began) / (double)count * 1e9, "ns a stream", 200);
+  if (found != count) stop("streams that wait", found, 0);
+  for (id = 0; id < 4 * count; id += 4) done("h3_reset", id, h3_reset(&ends[CLIENT], id, NULL));
+  began = now();
+  for (size_t i = 0; i < CALLS; i++) {
+    if (h3_next_waiting(&ends[CLIENT], 0, &id) != H3_NONE) stop("a stream that was reset waits", id, 0);
+  }
+  row("h3_next_waiting, where all were reset", size, (now() - began) / CALLS * 1e9, "ns", 200);
+  drop();
+}
+
+/* the own decoder stream has a backlog, and its bytes are taken one by one while more come */
+static double backlog_step(size_t cancellations) {
+  enum { STEPS = 2000 };
+  uint64_t id;
+  size_t n;
+  uint32_t fin;
+  make(4096, 100);
+  carry_own();
+  for (size_t i = 0; i < cancellations + STEPS; i++) {
+    done("h3_open_request", 0, h3_open_request(&ends[CLIENT], &id, NULL));
+    if (i < cancellations) done("h3_cancel", id, h3_cancel(&ends[CLIENT], id, NULL));
+  }
+  double began = now();
+  for (size_t i = cancellations; i < cancellations + STEPS; i++) {
+    done("h3_outgoing", 10, h3_outgoing(&ends[CLIENT], h3_decoder_id(CLIENT), buffer, 1, &n, &fin));
+    done("h3_advance", 10, h3_advance(&ends[CLIENT], h3_decoder_id(CLIENT), n));
+    done("h3_cancel", 4 * i, h3_cancel(&ends[CLIENT], 4 * i, NULL));
+  }
+  double each = (now() - began) / STEPS;
+  drop();
+  return each;
+}
+static void backlog_rows(void) {
+  const size_t few = 10000, many = 100000;
+  double small = backlog_step(few), large = backlog_step(many);
+  row("a step of a decoder stream with a backlog, byte by byte", "about 30 KB", small * 1e9, "ns", 0);
+  row("the same with ten times the backlog", "about 400 KB", large / small, "times", 1.5);
+}
+
+/* streams that each wait for one insertion more than the one before, released in order */
+static double released(size_t count) {
+  uint8_t frame[16], insertion[3] = {0xc0, 1, 'a'};
+  h3_item item;
+  double began, taken;
+  make(1 << 22, 65535);
+  carry_own();
+  carry_own(); /* the capacity, which the client's encoder set once the settings had come */
+  /* what the client's encoder wrote is its type and its capacity; what it would insert is written here */
+  for (size_t i = 0; i < count; i++) {
+    uint64_t id = 4 * i, residue = (i + 1) % (2 * ((1 << 22) / 32)) + 1;
+    size_t at = 2;
+    frame[0] = 1;
+    if (residue < 255) {
+      frame[at++] = (uint8_t)residue;
+    } else {
+      uint64_t rest = residue - 255;
+      frame[at++] = 255;
+      while (rest >= 128) {
+        frame[at++] = (uint8_t)(rest % 128 + 128);
+        rest /= 128;
+      }
+      frame[at++] = (uint8_t)rest;
+    }
+    frame[at++] = 0;    /* the base is that count */
+    frame[at++] = 0xd1; /* :method GET */
+    frame[at++] = 0xd7; /* :scheme https */
+    frame[at++] = 0x80; /* the newest entry */
+    frame[at++] = 0xc1; /* :path / */
+    frame[1] = (uint8_t)(at - 2);
+    done("h3_deliver", id, h3_deliver(&ends[SERVER], id, frame, at, NULL));
+    done("h3_pull", id, h3_pull(&ends[SERVER], id, &item));
+    if (item.kind != H3_WAITING) stop("a head that should wait", id, item.kind);
+  }
+  began = now();
+  for (size_t i = 0; i < count; i++) {
+    done("h3_deliver", 6, h3_deliver(&ends[SERVER], h3_encoder_id(CLIENT), insertion, sizeof insertion, NULL));
+    done("h3_pull", 4 * i, h3_pull(&ends[SERVER], 4 * i, &item));
+    if (item.kind != H3_HEAD) stop("a head that should come", 4 * i, item.kind);
+  }
+  taken = (now() - began) / (double)count;
+  drop();
+  return taken;
+}
+static void released_rows(void) {
+  const size_t few = 4000, many = 64000;
+  double small = released(few), large = released(many);
+  row("a blocked head released: insertion, and pull", "4000 wait", small * 1e9, "ns", 0);
+  row("the same, what it costs more where 64000 wait", "64000 wait", (large - small) * 1e9, "ns", 200);
+}
+
+static void goaway_rows(size_t count) {
+  char size[32];
+  double before;
+  sized(size, sizeof size, count, "frames");
+  make(0, 0);
+  carry_own();
+  done("h3_goaway", 0, h3_goaway(&ends[SERVER], 0, NULL));
+  carry(SERVER, h3_control_id(SERVER));
+  before = held;
+  for (size_t i = 0; i < count; i++) done("h3_deliver", 3, h3_deliver(&ends[CLIENT], h3_control_id(SERVER), "\x07\x01\x00", 3, NULL));
+  row("a GOAWAY frame of the peer", size, (held - before) / (double)count, "bytes", 0);
+  drop();
+}
+
+int main(int argc, char **argv) {
+  size_t count = argc > 1 ? (size_t)strtoull(argv[1], NULL, 10) : 100000;
+  if (count < 2000) {
+    fprintf(stderr, "long [EXCHANGES], at least 2000\n");
+    return 2;
+  }
+  printf("| What | At | Figure | Unit | Wanted |\n|---|---|---|---|---|\n");
+  idle_row();
+  exchange_rows(count);
+  reset_rows(100000);
+  unknown_rows(100000);
+  sweep_rows(10000);
+  sweep_rows(100000);
+  backlog_rows();
+  released_rows();
+  goaway_rows(100000);
+  printf("\n%d rows above what is wanted\n", below);
+  return below > 0;
+}
