@@ -74,4 +74,6 @@ else
   echo "failed scripts/draw.py:$missing"
   bad=1
 fi
+
+python3 scripts/pages.py || bad=1
 exit "$bad"
