@@ -6,7 +6,7 @@ LIB ?= build/c
 EXCHANGES ?= 1000000
 PREFIX ?= /usr/local
 
-.PHONY: help run build lib lib-unproved install examples test test-c refused bench bench-build bench-page bench-exchange bench-long interop upstream-root load need-rt
+.PHONY: help run draw build lib lib-unproved install examples test test-c refused bench bench-build bench-page bench-exchange bench-long interop upstream-root load need-rt
 
 help: ## list the commands
 	@grep -hE '^[a-z-]+:.*## ' $(MAKEFILE_LIST) | sed -E 's/^([a-z-]+):.*## /make \1: /'
@@ -18,6 +18,9 @@ need-rt:
 run: need-rt ## run the program on examples/first.talk, or SCRIPT=file, built without proof (rt try): the answers are printed
 	@log=$$(mktemp); cd crates/h3_talk && rt try < "$(abspath $(SCRIPT))" 2> "$$log"; status=$$?; \
 	if [ $$status -ne 0 ] && ! grep -q '^run=ended status=[12] ' "$$log"; then cat "$$log" >&2; fi; rm -f "$$log"; exit $$status
+
+draw: need-rt ## draw what examples/first.talk, or SCRIPT=file, does, as a sequence diagram (Mermaid; scripts/draw.py SCRIPT --svg FILE: a picture)
+	@python3 scripts/draw.py "$(SCRIPT)"
 
 build: need-rt ## prove and build the program, and say where it lies
 	@cd crates/h3_talk && rt run < stdin > out.log 2>&1 || { cat out.log; rm -f out.log; exit 1; }; rm -f out.log

@@ -26,6 +26,12 @@
  * fit into a buffer is not lost: outgoing bytes wait until h3_advance, and a pulled item stays until the next h3_pull.
  * Buffers and results of one call must not overlap each other, nor the h3_endpoint.
  *
+ * POINTERS
+ *
+ * NULL may stand for `detail`, for `fin`, for a buffer that is to be filled (it has no room then), and for bytes and sizes whose length or count
+ * is 0. NULL for an endpoint is an endpoint that holds none. Every other NULL answers H3_ARGUMENT, and nothing is done: bytes or sizes whose
+ * length or count is not 0, a configuration, and the place of any other result.
+ *
  * THREADS
  *
  * One call at a time on one endpoint (the caller's lock). Different endpoints are independent: nothing is shared between them, so
@@ -154,6 +160,42 @@ enum h3_answer {
   H3_ARGUMENT = 32,          /* an argument is out of the range that the call's comment gives; nothing was done */
   H3_NO_ENDPOINT = 33        /* the h3_endpoint holds none */
 };
+
+/* The name of an answer, for a log: "H3_OK" for 0 and so on, and "an unknown answer" for a number that is none. */
+static inline const char *h3_answer_text(uint32_t answer) {
+  switch (answer) {
+    case H3_OK: return "H3_OK";
+    case H3_CLOSED: return "H3_CLOSED";
+    case H3_CONNECTION: return "H3_CONNECTION";
+    case H3_NOT_RECEIVING: return "H3_NOT_RECEIVING";
+    case H3_AFTER_END: return "H3_AFTER_END";
+    case H3_KEPT: return "H3_KEPT";
+    case H3_NOT_CLIENT: return "H3_NOT_CLIENT";
+    case H3_GOING_AWAY: return "H3_GOING_AWAY";
+    case H3_IDS_USED_UP: return "H3_IDS_USED_UP";
+    case H3_NOT_OPEN: return "H3_NOT_OPEN";
+    case H3_OUT_OF_ORDER: return "H3_OUT_OF_ORDER";
+    case H3_WRONG_SIDE: return "H3_WRONG_SIDE";
+    case H3_PSEUDO_IN_TRAILER: return "H3_PSEUDO_IN_TRAILER";
+    case H3_TOO_LARGE: return "H3_TOO_LARGE";
+    case H3_CRITICAL: return "H3_CRITICAL";
+    case H3_ENDED: return "H3_ENDED";
+    case H3_NOT_REQUEST_ID: return "H3_NOT_REQUEST_ID";
+    case H3_RAISED: return "H3_RAISED";
+    case H3_MEMORY: return "H3_MEMORY";
+    case H3_TABLE_LIMIT: return "H3_TABLE_LIMIT";
+    case H3_BLOCKED_LIMIT: return "H3_BLOCKED_LIMIT";
+    case H3_SETTING: return "H3_SETTING";
+    case H3_FIELD_NAME: return "H3_FIELD_NAME";
+    case H3_FIELD_VALUE: return "H3_FIELD_VALUE";
+    case H3_FIELD_COUNT: return "H3_FIELD_COUNT";
+    case H3_NONE: return "H3_NONE";
+    case H3_ROOM: return "H3_ROOM";
+    case H3_ARGUMENT: return "H3_ARGUMENT";
+    case H3_NO_ENDPOINT: return "H3_NO_ENDPOINT";
+    default: return "an unknown answer";
+  }
+}
 
 /* Codes of faults that a program may want by name (RFC 9114, section 8.1). */
 #define H3_CODE_NO_ERROR UINT64_C(0x100)
@@ -286,6 +328,29 @@ enum h3_kind {
   H3_FAULT_MEMORY = 16      /* nothing is lost: pull again */
 };
 
+/* The name of a kind, for a log, and "an unknown kind" for a number that is none. */
+static inline const char *h3_kind_text(uint32_t kind) {
+  switch (kind) {
+    case H3_INTERIM: return "H3_INTERIM";
+    case H3_HEAD: return "H3_HEAD";
+    case H3_BODY: return "H3_BODY";
+    case H3_TRAILER: return "H3_TRAILER";
+    case H3_TOO_LARGE_HEAD: return "H3_TOO_LARGE_HEAD";
+    case H3_SESSION: return "H3_SESSION";
+    case H3_RAW: return "H3_RAW";
+    case H3_END: return "H3_END";
+    case H3_PENDING: return "H3_PENDING";
+    case H3_WAITING: return "H3_WAITING";
+    case H3_NO_MESSAGES: return "H3_NO_MESSAGES";
+    case H3_FAULT_CONNECTION: return "H3_FAULT_CONNECTION";
+    case H3_FAULT_MALFORMED: return "H3_FAULT_MALFORMED";
+    case H3_FAULT_RESET: return "H3_FAULT_RESET";
+    case H3_FAULT_CANCELED: return "H3_FAULT_CANCELED";
+    case H3_FAULT_MEMORY: return "H3_FAULT_MEMORY";
+    default: return "an unknown kind";
+  }
+}
+
 /* Why a message is none, in the order in which it is judged. */
 enum h3_malformation {
   H3_BAD_NAME = 0,
@@ -357,10 +422,9 @@ static inline uint64_t h3_decoder_id(int server) { return server ? 11 : 10; }
 
 /* ---- the exports of libh3.a ----
  *
- * Programs in C call the functions above, which hand the endpoint over and back. They test for none, and take NULL for `detail`, for `fin`, for
- * a buffer that is to be filled (it has no room then), and for bytes and sizes where their length or count is 0. Every other pointer has to be
- * there: no call tests it. A program in another language may call these: each takes the handle by value and writes the handle for the next call through its last argument, on every answer. The handle
- * must hold an endpoint. No pointer may be NULL, also beside a length of 0. */
+ * Programs in C call the functions above, which hand the endpoint over and back, and test pointers (POINTERS). A program in another language may
+ * call these: each takes the handle by value and writes the handle for the next call through its last argument, on every answer. The handle
+ * must hold an endpoint. No pointer may be NULL, also beside a length of 0: these test none. */
 uint32_t h3_raw_new(const h3_config *config, uint64_t *detail, h3_endpoint *out); /* *out is written on H3_OK alone */
 void h3_raw_free(h3_endpoint endpoint);
 uint32_t h3_raw_open_request(h3_endpoint endpoint, uint64_t *id, uint64_t *detail, h3_endpoint *out);
@@ -393,112 +457,128 @@ static inline const uint8_t *h3_in_(const void *bytes) { return bytes ? (const u
 
 static inline uint32_t h3_new(h3_endpoint *endpoint, const h3_config *config, uint64_t *detail) {
   uint64_t none;
+  if (!endpoint) return H3_ARGUMENT;
   endpoint->at = NULL;
+  if (!config) return H3_ARGUMENT;
   return h3_raw_new(config, detail ? detail : &none, endpoint);
 }
 static inline void h3_free(h3_endpoint *endpoint) {
+  if (!endpoint) return;
   if (endpoint->at) h3_raw_free(*endpoint);
   endpoint->at = NULL;
 }
 static inline uint32_t h3_open_request(h3_endpoint *endpoint, uint64_t *id, uint64_t *detail) {
   uint64_t none;
-  if (!endpoint->at) return H3_NO_ENDPOINT;
+  if (!endpoint || !endpoint->at) return H3_NO_ENDPOINT;
+  if (!id) return H3_ARGUMENT;
   return h3_raw_open_request(*endpoint, id, detail ? detail : &none, endpoint);
 }
 static inline uint32_t h3_send_head(h3_endpoint *endpoint, uint64_t id, const h3_field_size *sizes, size_t count, const void *bytes, size_t len,
                                     uint64_t *detail) {
   uint64_t none;
   h3_field_size no_size = {0, 0};
-  if (!endpoint->at) return H3_NO_ENDPOINT;
+  if (!endpoint || !endpoint->at) return H3_NO_ENDPOINT;
+  if ((!sizes && count) || (!bytes && len)) return H3_ARGUMENT;
   return h3_raw_send_head(*endpoint, id, sizes ? sizes : &no_size, count, h3_in_(bytes), len, detail ? detail : &none, endpoint);
 }
 static inline uint32_t h3_send_trailer(h3_endpoint *endpoint, uint64_t id, const h3_field_size *sizes, size_t count, const void *bytes, size_t len,
                                        uint64_t *detail) {
   uint64_t none;
   h3_field_size no_size = {0, 0};
-  if (!endpoint->at) return H3_NO_ENDPOINT;
+  if (!endpoint || !endpoint->at) return H3_NO_ENDPOINT;
+  if ((!sizes && count) || (!bytes && len)) return H3_ARGUMENT;
   return h3_raw_send_trailer(*endpoint, id, sizes ? sizes : &no_size, count, h3_in_(bytes), len, detail ? detail : &none, endpoint);
 }
 static inline uint32_t h3_send_body(h3_endpoint *endpoint, uint64_t id, const void *bytes, size_t len, uint64_t *detail) {
   uint64_t none;
-  if (!endpoint->at) return H3_NO_ENDPOINT;
+  if (!endpoint || !endpoint->at) return H3_NO_ENDPOINT;
+  if (!bytes && len) return H3_ARGUMENT;
   return h3_raw_send_body(*endpoint, id, h3_in_(bytes), len, detail ? detail : &none, endpoint);
 }
 static inline uint32_t h3_finish(h3_endpoint *endpoint, uint64_t id, uint64_t *detail) {
   uint64_t none;
-  if (!endpoint->at) return H3_NO_ENDPOINT;
+  if (!endpoint || !endpoint->at) return H3_NO_ENDPOINT;
   return h3_raw_finish(*endpoint, id, detail ? detail : &none, endpoint);
 }
 static inline uint32_t h3_reset(h3_endpoint *endpoint, uint64_t id, uint64_t *detail) {
   uint64_t none;
-  if (!endpoint->at) return H3_NO_ENDPOINT;
+  if (!endpoint || !endpoint->at) return H3_NO_ENDPOINT;
   return h3_raw_reset(*endpoint, id, detail ? detail : &none, endpoint);
 }
 static inline uint32_t h3_cancel(h3_endpoint *endpoint, uint64_t id, uint64_t *detail) {
   uint64_t none;
-  if (!endpoint->at) return H3_NO_ENDPOINT;
+  if (!endpoint || !endpoint->at) return H3_NO_ENDPOINT;
   return h3_raw_cancel(*endpoint, id, detail ? detail : &none, endpoint);
 }
 static inline uint32_t h3_goaway(h3_endpoint *endpoint, uint64_t id, uint64_t *detail) {
   uint64_t none;
-  if (!endpoint->at) return H3_NO_ENDPOINT;
+  if (!endpoint || !endpoint->at) return H3_NO_ENDPOINT;
   return h3_raw_goaway(*endpoint, id, detail ? detail : &none, endpoint);
 }
 static inline uint32_t h3_next_waiting(h3_endpoint *endpoint, uint64_t from, uint64_t *id) {
-  if (!endpoint->at) return H3_NO_ENDPOINT;
+  if (!endpoint || !endpoint->at) return H3_NO_ENDPOINT;
+  if (!id) return H3_ARGUMENT;
   return h3_raw_next_waiting(*endpoint, from, id, endpoint);
 }
 static inline uint32_t h3_outgoing(h3_endpoint *endpoint, uint64_t id, void *buffer, size_t room, size_t *n, uint32_t *fin) {
   uint8_t nothing;
   uint32_t none;
-  if (!endpoint->at) return H3_NO_ENDPOINT;
+  if (!endpoint || !endpoint->at) return H3_NO_ENDPOINT;
+  if (!n) return H3_ARGUMENT;
   return h3_raw_outgoing(*endpoint, id, buffer ? (uint8_t *)buffer : &nothing, buffer ? room : 0, n, fin ? fin : &none, endpoint);
 }
 static inline uint32_t h3_advance(h3_endpoint *endpoint, uint64_t id, size_t n) {
-  if (!endpoint->at) return H3_NO_ENDPOINT;
+  if (!endpoint || !endpoint->at) return H3_NO_ENDPOINT;
   return h3_raw_advance(*endpoint, id, n, endpoint);
 }
 static inline uint32_t h3_deliver(h3_endpoint *endpoint, uint64_t id, const void *bytes, size_t len, uint64_t *detail) {
   uint64_t none;
-  if (!endpoint->at) return H3_NO_ENDPOINT;
+  if (!endpoint || !endpoint->at) return H3_NO_ENDPOINT;
+  if (!bytes && len) return H3_ARGUMENT;
   return h3_raw_deliver(*endpoint, id, h3_in_(bytes), len, detail ? detail : &none, endpoint);
 }
 static inline uint32_t h3_deliver_end(h3_endpoint *endpoint, uint64_t id, uint64_t *detail) {
   uint64_t none;
-  if (!endpoint->at) return H3_NO_ENDPOINT;
+  if (!endpoint || !endpoint->at) return H3_NO_ENDPOINT;
   return h3_raw_deliver_end(*endpoint, id, detail ? detail : &none, endpoint);
 }
 static inline uint32_t h3_deliver_reset(h3_endpoint *endpoint, uint64_t id, uint64_t code, uint64_t *detail) {
   uint64_t none;
-  if (!endpoint->at) return H3_NO_ENDPOINT;
+  if (!endpoint || !endpoint->at) return H3_NO_ENDPOINT;
   return h3_raw_deliver_reset(*endpoint, id, code, detail ? detail : &none, endpoint);
 }
 static inline uint32_t h3_pull(h3_endpoint *endpoint, uint64_t id, h3_item *item) {
-  if (!endpoint->at) return H3_NO_ENDPOINT;
+  if (!endpoint || !endpoint->at) return H3_NO_ENDPOINT;
+  if (!item) return H3_ARGUMENT;
   return h3_raw_pull(*endpoint, id, item, endpoint);
 }
 static inline uint32_t h3_item_field(h3_endpoint *endpoint, size_t index, void *name, size_t name_room, size_t *name_len, void *value,
                                      size_t value_room, size_t *value_len) {
   uint8_t no_name, no_value;
-  if (!endpoint->at) return H3_NO_ENDPOINT;
+  if (!endpoint || !endpoint->at) return H3_NO_ENDPOINT;
+  if (!name_len || !value_len) return H3_ARGUMENT;
   return h3_raw_item_field(*endpoint, index, name ? (uint8_t *)name : &no_name, name ? name_room : 0, name_len,
       value ? (uint8_t *)value : &no_value, value ? value_room : 0, value_len, endpoint);
 }
 static inline uint32_t h3_item_bytes(h3_endpoint *endpoint, size_t from, void *buffer, size_t room, size_t *n) {
   uint8_t nothing;
-  if (!endpoint->at) return H3_NO_ENDPOINT;
+  if (!endpoint || !endpoint->at) return H3_NO_ENDPOINT;
+  if (!n) return H3_ARGUMENT;
   return h3_raw_item_bytes(*endpoint, from, buffer ? (uint8_t *)buffer : &nothing, buffer ? room : 0, n, endpoint);
 }
 static inline uint32_t h3_stream(h3_endpoint *endpoint, uint64_t id, h3_stream_state *state) {
-  if (!endpoint->at) return H3_NO_ENDPOINT;
+  if (!endpoint || !endpoint->at) return H3_NO_ENDPOINT;
+  if (!state) return H3_ARGUMENT;
   return h3_raw_stream(*endpoint, id, state, endpoint);
 }
 static inline uint32_t h3_connection(h3_endpoint *endpoint, h3_state *state) {
-  if (!endpoint->at) return H3_NO_ENDPOINT;
+  if (!endpoint || !endpoint->at) return H3_NO_ENDPOINT;
+  if (!state) return H3_ARGUMENT;
   return h3_raw_connection(*endpoint, state, endpoint);
 }
 static inline uint32_t h3_peer_setting(h3_endpoint *endpoint, uint64_t setting, uint64_t *value) {
-  if (!endpoint->at) return H3_NO_ENDPOINT;
+  if (!endpoint || !endpoint->at) return H3_NO_ENDPOINT;
+  if (!value) return H3_ARGUMENT;
   return h3_raw_peer_setting(*endpoint, setting, value, endpoint);
 }
 #ifdef __cplusplus

@@ -54,4 +54,26 @@ else
   echo "failed $page:$missing"
   bad=1
 fi
+
+# the drawing of a script, and that each can be drawn as a picture
+room=$(mktemp -d)
+trap 'rm -rf "$words" "$room"' EXIT
+missing=""
+count=0
+python3 scripts/draw.py examples/blocked.talk examples/blocked.stdout | cmp -s - examples/blocked.mmd || missing=" examples/blocked.mmd is not what draw.py writes;"
+for script in examples/*.talk; do
+  answers=${script%.talk}.stdout
+  if grep -q '^line ' "$answers"; then continue; fi
+  count=$((count + 1))
+  python3 scripts/draw.py "$script" "$answers" --svg "$room/svg" 2> "$room/log" && python3 -c 'import sys, xml.dom.minidom as dom; dom.parse(sys.argv[1])' "$room/svg" ||
+    missing="$missing $script;"
+done
+if [ -z "$missing" ]; then
+  echo "ok scripts/draw.py: $count examples are drawn, and blocked as examples/blocked.mmd has it"
+else
+  echo "failed scripts/draw.py:$missing"
+  bad=1
+fi
+
+python3 scripts/pages.py || bad=1
 exit "$bad"

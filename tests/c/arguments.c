@@ -51,6 +51,46 @@ static void of_none(h3_endpoint *e) {
   h3_free(e);
 }
 
+/* what may not be NULL is tested, and what may be is taken */
+static void of_pointers(h3_endpoint *e, uint64_t id) {
+  uint8_t b[4];
+  size_t n = 7, m = 8;
+  uint32_t fin;
+  h3_field_size f = {7, 3};
+  h3_config c;
+  h3_endpoint none = H3_NONE_YET;
+  h3_config_default(&c);
+  IS(h3_new(NULL, &c, NULL), H3_ARGUMENT);
+  IS(h3_new(&none, NULL, NULL), H3_ARGUMENT);
+  HOLDS(!none.at);
+  h3_free(NULL);
+  IS(h3_pull(NULL, id, NULL), H3_NO_ENDPOINT);
+  IS(h3_finish(NULL, id, NULL), H3_NO_ENDPOINT);
+  IS(h3_open_request(e, NULL, NULL), H3_ARGUMENT);
+  IS(h3_send_head(e, id, NULL, 1, ":methodGET", 10, NULL), H3_ARGUMENT);
+  IS(h3_send_head(e, id, &f, 1, NULL, 10, NULL), H3_ARGUMENT);
+  IS(h3_send_trailer(e, id, NULL, 1, ":methodGET", 10, NULL), H3_ARGUMENT);
+  IS(h3_send_trailer(e, id, &f, 1, NULL, 10, NULL), H3_ARGUMENT);
+  IS(h3_send_body(e, id, NULL, 64, NULL), H3_ARGUMENT);
+  IS(h3_deliver(e, id, NULL, 64, NULL), H3_ARGUMENT);
+  IS(h3_deliver(e, id, NULL, 0, NULL), H3_OK);
+  IS(h3_next_waiting(e, 0, NULL), H3_ARGUMENT);
+  IS(h3_outgoing(e, id, b, 4, NULL, &fin), H3_ARGUMENT);
+  IS(h3_outgoing(e, id, NULL, 4, &n, NULL), H3_OK);
+  HOLDS(n == 0);
+  IS(h3_pull(e, id, NULL), H3_ARGUMENT);
+  IS(h3_item_field(e, 0, b, 4, NULL, b, 4, &m), H3_ARGUMENT);
+  IS(h3_item_field(e, 0, b, 4, &n, b, 4, NULL), H3_ARGUMENT);
+  IS(h3_item_bytes(e, 0, b, 4, NULL), H3_ARGUMENT);
+  IS(h3_stream(e, id, NULL), H3_ARGUMENT);
+  IS(h3_connection(e, NULL), H3_ARGUMENT);
+  IS(h3_peer_setting(e, 6, NULL), H3_ARGUMENT);
+  HOLDS(n == 0 && m == 8);
+  HOLDS(!strcmp(h3_answer_text(H3_OK), "H3_OK") && !strcmp(h3_answer_text(H3_NO_ENDPOINT), "H3_NO_ENDPOINT"));
+  HOLDS(!strcmp(h3_kind_text(H3_INTERIM), "H3_INTERIM") && !strcmp(h3_kind_text(H3_FAULT_MEMORY), "H3_FAULT_MEMORY"));
+  HOLDS(!strcmp(h3_answer_text(99), "an unknown answer") && !strcmp(h3_kind_text(0), "an unknown kind"));
+}
+
 static void of_new(void) {
   h3_endpoint e = H3_NONE_YET;
   h3_config c;
@@ -306,6 +346,7 @@ int main(void) {
   IS(h3_open_request(&e, &id, NULL), H3_OK);
   of_fields(&e, id);
   of_counts(&e, id);
+  of_pointers(&e, id);
   h3_free(&e);
   of_none(&e);
   of_items();
