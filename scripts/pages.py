@@ -11,7 +11,8 @@ import re
 import sys
 
 ROOT = os.path.dirname(os.path.dirname(os.path.realpath(__file__)))
-SHORT_LINES = ["README.md", "CHANGELOG.md", "CONTRIBUTING.md", "docs/PERFORMANCE.md", "docs/TUTORIAL.md", "scripts/README.md"]
+SHORT_LINES = ["README.md", "CHANGELOG.md", "CONTRIBUTING.md", "bench/README.md", "docs/PERFORMANCE.md", "docs/TUTORIAL.md", "examples/c/README.md",
+               "examples/go/README.md", "examples/rust/README.md", "scripts/README.md"]
 LONGEST = 140
 MOST_LINES = {"README.md": 110, "docs/TUTORIAL.md": 300}
 SNIPPETS = ["README.md", "docs/TUTORIAL.md"]
