@@ -55,7 +55,7 @@ bench: need-rt ## print our figures beside nghttp3's and plain C's, measured in 
 bench-build: need-rt ## build what make bench measures, and measure nothing
 	@BUILD_ONLY=1 bash scripts/bench.sh
 
-bench-page: ## measure what make bench-build left, and write the tables of docs/PERFORMANCE.md
+bench-page: ## measure what make bench-build left, and write the tables of bench/RESULTS.md and docs/PERFORMANCE.md
 	@bash scripts/need.sh bench
 	@bash scripts/bench.sh page
 

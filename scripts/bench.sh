@@ -1,7 +1,7 @@
 #!/usr/bin/env bash
 # Measures on one core: the rows of h3_bench, and whole exchanges over the library for C; with the argument `exchange` these alone, which wants no
 # proof of h3_bench. With the argument `page` it builds nothing, measures with what an earlier run built, and writes the tables of
-# docs/PERFORMANCE.md. BUILD_ONLY=1: it builds and does not measure. CORE says which core (default: the last one), SECONDS_A_ROW how long each row
+# bench/RESULTS.md and docs/PERFORMANCE.md. BUILD_ONLY=1: it builds and does not measure. CORE says which core (default: the last one), SECONDS_A_ROW how long each row
 # takes (default 0.5), QUIET how many seconds to wait at most for a load below one (default 120). It installs nothing, and ends with an error where
 # a row misses its target.
 set -euo pipefail

@@ -61,6 +61,8 @@ trap 'rm -rf "$words" "$room"' EXIT
 missing=""
 count=0
 python3 scripts/draw.py examples/blocked.talk examples/blocked.stdout | cmp -s - examples/blocked.mmd || missing=" examples/blocked.mmd is not what draw.py writes;"
+python3 scripts/draw.py examples/blocked.talk examples/blocked.stdout --svg "$room/svg"
+cmp -s "$room/svg" docs/blocked.svg || missing="$missing docs/blocked.svg is not what draw.py writes;"
 for script in examples/*.talk; do
   answers=${script%.talk}.stdout
   if grep -q '^line ' "$answers"; then continue; fi
@@ -69,11 +71,12 @@ for script in examples/*.talk; do
     missing="$missing $script;"
 done
 if [ -z "$missing" ]; then
-  echo "ok scripts/draw.py: $count examples are drawn, and blocked as examples/blocked.mmd has it"
+  echo "ok scripts/draw.py: $count examples are drawn, and blocked as examples/blocked.mmd and docs/blocked.svg have it"
 else
   echo "failed scripts/draw.py:$missing"
   bad=1
 fi
 
+python3 scripts/bench_page.py --check || bad=1
 python3 scripts/pages.py || bad=1
 exit "$bad"

@@ -2,18 +2,20 @@
 """Are the pages of this repository as a reader needs them? One line 'ok ..' or 'failed ..' for each of these:
 
 - No link of a page is dead: neither its file nor its heading.
-- No line of the pages in SHORT_LINES is longer than 140 characters, targets of links aside, and README has at most 110 lines.
+- No line of the pages in SHORT_LINES is longer than 140 characters (of the rows of tables targets of links are not counted), and README has at most 110 lines.
 - A block of code behind a line `<!-- from PATH -->` stands in that file, line by line; in the pages SNIPPETS every block of C, Rust, Go and Mermaid has such a line.
-- scripts/README.md has each file of scripts/."""
+- scripts/README.md has each file of scripts/.
+- README says how many edits must be refused, and how many of them a reader judged."""
 import os
 import re
 import sys
 
 ROOT = os.path.dirname(os.path.dirname(os.path.realpath(__file__)))
-SHORT_LINES = ["scripts/README.md"]
+SHORT_LINES = ["README.md", "CHANGELOG.md", "CONTRIBUTING.md", "bench/README.md", "docs/PERFORMANCE.md", "docs/TUTORIAL.md", "examples/c/README.md",
+               "examples/go/README.md", "examples/rust/README.md", "scripts/README.md"]
 LONGEST = 140
-MOST_LINES = {}
-SNIPPETS = []
+MOST_LINES = {"README.md": 110, "docs/TUTORIAL.md": 300}
+SNIPPETS = ["README.md", "docs/TUTORIAL.md"]
 LANGUAGES = {"c", "rust", "go", "mermaid"}
 INDEX = "scripts/README.md"
 LINK = re.compile(r"\[((?:[^\[\]]|\[[^\]]*\])*)\]\(([^()\s]+)\)")
@@ -65,7 +67,7 @@ def count_of_links(text):
 
 def long_lines(page):
     for number, line in enumerate(read(page).split("\n"), 1):
-        shown = LINK.sub(r"[\1]", line)
+        shown = LINK.sub(r"[\1]", line) if line.startswith("|") else line
         if len(shown) > LONGEST:
             yield f"{page}:{number} has {len(shown)} characters"
 
@@ -106,6 +108,17 @@ def not_in_index():
             yield path
 
 
+def miscounted():
+    """where README says another number of edits than there are"""
+    edits = [it for it in files("crates") if "/refused/" in it and it.endswith(".edit")]
+    judged = [it for it in edits if re.search(r"^judged:", read(it), re.M)]
+    text = " ".join(read("README.md").split())
+    for count, form in ((len(edits), r"attacked\W+: (\d+) edits"), (len(edits), r"of the (\d+) edits of"), (len(judged), r"(\d+) of the edits have such a line")):
+        said = re.search(form, text)
+        if said is None or int(said[1]) != count:
+            yield f"'{form}' is {said and said[1]}, and there are {count}"
+
+
 def say(wrong, good, what):
     for it in wrong:
         print(f"failed {what}: {it}")
@@ -124,6 +137,7 @@ def main():
     found = [snippets(page) for page in pages]
     wrong = [it for _, them in found for it in them]
     fine &= say(wrong, f"pages: {sum(count for count, _ in found)} snippets stand in their files", "pages, a snippet")
+    fine &= say(list(miscounted()), "README.md counts the edits", "README.md")
     fine &= say(list(not_in_index()), f"{INDEX} has each file of scripts", INDEX)
     sys.exit(0 if fine else 1)
 

@@ -1,5 +1,5 @@
-/* A client and a server in one program, with the bytes between them carried by hand in place of a QUIC library: docs/TUTORIAL.md goes through it. It prints what
- * each side is told; tests/c/in_memory.stdout has these lines. */
+/* A client and a server in one program, with the bytes between them carried by hand in place of a QUIC library: docs/TUTORIAL.md goes through it.
+ * It prints what each side is told; tests/c/in_memory.stdout has these lines. */
 #include "h3.h"
 #include <stdio.h>
 #include <stdlib.h>
@@ -65,11 +65,9 @@ static uint64_t ask(side *client, const char *path, const char *body) {
   add(&head, ":authority", "localhost");
   add(&head, ":path", path);
   answer = h3_send_head(&client->h3, id, head.sizes, head.count, head.bytes, head.len, NULL);
-  if (answer != H3_OK) fail(client, "h3_send_head", answer);
-  if (body) answer = h3_send_body(&client->h3, id, body, strlen(body), NULL);
-  if (answer != H3_OK) fail(client, "h3_send_body", answer);
-  answer = h3_finish(&client->h3, id, NULL);
-  if (answer != H3_OK) fail(client, "h3_finish", answer);
+  if (answer == H3_OK && body) answer = h3_send_body(&client->h3, id, body, strlen(body), NULL);
+  if (answer == H3_OK) answer = h3_finish(&client->h3, id, NULL);
+  if (answer != H3_OK) fail(client, "a request", answer);
   return id;
 }
 
@@ -123,7 +121,7 @@ static void pull(side *at, uint64_t id) {
     case H3_END: printf(" end\n"); return;
     case H3_FAULT_RESET: printf(" reset with code 0x%x\n", (unsigned)item.number); return;
     case H3_FAULT_CANCELED: printf(" given up\n"); return;
-    default: printf(" kind %u, %u\n", item.kind, (unsigned)item.number); return; /* the others: h3.h, enum h3_kind */
+    default: printf(" kind %u, %u\n", item.kind, (unsigned)item.number); return; /* enum h3_kind has the others */
     }
     if (item.kind != H3_BODY) printf("\n"); /* these bodies end with one */
   }
@@ -136,9 +134,11 @@ static void received(side *at, uint64_t id, const uint8_t *bytes, size_t n, int 
   uint64_t code;
   uint32_t answer = h3_deliver(&at->h3, id, bytes, n, &code);
   if (fin && (answer == H3_OK || answer == H3_KEPT)) answer = h3_deliver_end(&at->h3, id, &code);
-  if (answer != H3_OK && answer != H3_KEPT) fail(at, "h3_deliver", answer); /* H3_CONNECTION: close with `code`; H3_MEMORY: deliver again */
+  /* H3_CONNECTION: close the connection with `code`; H3_MEMORY: nothing was taken, so deliver it again */
+  if (answer != H3_OK && answer != H3_KEPT) fail(at, "h3_deliver", answer);
   if (id % 4 == 0) return pull(at, id);
-  for (uint64_t request = 0; request < 4 * REQUESTS; request += 4) /* the peer's encoder stream: heads may wait for it */
+  /* the peer's encoder stream: heads may wait for it */
+  for (uint64_t request = 0; request < 4 * REQUESTS; request += 4)
     if (at->is_waiting[request / 4]) pull(at, request);
 }
 
