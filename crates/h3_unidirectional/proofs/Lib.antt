@@ -6,3 +6,4 @@ mod Listened
 mod Waits
 mod Unfinished
 mod Heads
+mod Behind

@@ -7,3 +7,4 @@ pub mod Rows
 pub mod Learned
 pub mod OwnLaws
 pub mod PeerLaws
+pub mod WaitingLaws

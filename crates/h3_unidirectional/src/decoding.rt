@@ -1,5 +1,5 @@
 //! The peer's encoder stream (RFC 9204, section 4.3), and the dynamic table that it fills.
-ghost use Rattle.std.specs.Prelude.{◌≡◌, ◌-◌, ◌<◌, ◌≤◌, ◌^◌, ◌++◌, ℕ, [], Some, None, nat_lt, length, drop, vec_len, IfOk, IfErr, OnOk, OnErr};
+ghost use Rattle.std.specs.Prelude.{◌≡◌, ◌-◌, ◌<◌, ◌^◌, ◌++◌, [], Some, None, IfOk, IfErr, OnOk, OnErr};
 ghost use Rattle.h3_qpack.specs.Increments.{increment_for};
 ghost use Rattle.h3_qpack.specs.DecoderState.{announcing};
 ghost use Rattle.h3_qpack.specs.SectionAnswers.{IsReasonFor};
@@ -8,7 +8,7 @@ ghost use Rattle.h3_connection.specs.Listeners.{Decoding as Heard, Hears};
 ghost use Rattle.h3_unidirectional.specs.Faults.{IsFaultOf};
 ghost use Rattle.h3_unidirectional.specs.Fronts.{HearsFront, StopsHearing};
 
-use crate::waiting::WaitingBytes;
+use crate::waiting::{WaitingBytes, drop_front};
 use h3_field::waiting::{Wait, encoder_wait};
 use h3_proto::error::Code;
 use h3_qpack::{Decoder, DecoderError, SliceCursor};
@@ -102,7 +102,7 @@ impl Decoding {
         ensures increment { out.new ≡ out.old ++ increment_for (self.new.decoder.table.inserted - self.old.decoder.table.inserted) }
         ensures refused { OnErr result (StopsHearing self.old self.new) }
     {
-        self.read_into(&mut out.bytes)
+        self.read_into(out.behind_mut())
     }
 
     /// Reads what is unread, up to the first instruction that is bad or not whole, and writes one increment where something
@@ -129,12 +129,4 @@ fn fault_of(e: DecoderError) -> Result<Option<Code>, AllocError>
         DecoderError::OutOfMemory => Err(AllocError),
         _ => Ok(Some(Code::QPACK_ENCODER_STREAM_ERROR)),
     }
-}
-
-/// Drops the first bytes.
-pub(crate) fn drop_front(bytes: &mut Vec<u8>, count: usize)
-    requires { count ≤ vec_len bytes.old }
-    ensures { bytes.new.items ≡ drop count bytes.old.items }
-{
-    bytes.drain(..count);
 }

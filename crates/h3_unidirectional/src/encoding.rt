@@ -11,8 +11,7 @@ ghost use Rattle.h3_unidirectional.specs.Faults.{IsReplyFaultOf, UnlessMemory};
 ghost use Rattle.h3_unidirectional.specs.Fronts.{StopsListening};
 ghost use Rattle.h3_unidirectional.specs.Learned.{having_learned, usable_capacity};
 
-use crate::decoding::drop_front;
-use crate::waiting::WaitingBytes;
+use crate::waiting::{WaitingBytes, drop_front};
 use h3_field::HeaderField;
 use h3_field::waiting::{Wait, decoder_wait};
 use h3_proto::error::Code;
@@ -117,7 +116,7 @@ impl Encoding {
     {
         let Ok(count) = self
             .encoder
-            .encode(stream.into_inner(), block, out.bytes_mut(), fields)
+            .encode(stream.into_inner(), block, out.behind_mut(), fields)
         else {
             return Err(AllocError);
         };

@@ -141,7 +141,7 @@ impl OwnStreams {
         ensures ok { OnOk result (self.new ≡ record self.old { decoder = self.old.decoder ++ decoder_bytes (Acknowledge stream) }) }
         ensures err { OnErr result (self.new ≡ self.old) }
     {
-        ack_header(stream.into_inner(), &mut self.decoder.bytes)
+        ack_header(stream.into_inner(), self.decoder.behind_mut())
     }
 
     /// Writes the cancellation of a stream on the decoder stream (RFC 9204, section 4.4.2). A refusal changes nothing.
@@ -149,7 +149,7 @@ impl OwnStreams {
         ensures ok { OnOk result (self.new ≡ record self.old { decoder = self.old.decoder ++ decoder_bytes (CancelStream stream) }) }
         ensures err { OnErr result (self.new ≡ self.old) }
     {
-        stream_canceled(stream.into_inner(), &mut self.decoder.bytes)
+        stream_canceled(stream.into_inner(), self.decoder.behind_mut())
     }
 
     /// The bytes that wait on the stream of this id, none where it is no own stream.
