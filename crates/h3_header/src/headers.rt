@@ -18,6 +18,7 @@ use http_header::HeaderMap;
 use http_uri::Uri;
 pub use iter::HeaderIter;
 use iter::RegularIter;
+pub use judge::{BadPart, first_bad_part};
 pub use kind::FieldKind;
 use pseudo::Pseudo;
 use std::alloc::{AllocError, Global};
@@ -26,6 +27,7 @@ use std::marker::Model;
 mod authority;
 mod error;
 mod iter;
+mod judge;
 mod kind;
 mod pseudo;
 mod read;
@@ -263,8 +265,17 @@ impl Header {
         ensures ok { IfOk result (IsHeadOf fields.items) }
         ensures err { IfErr result (RefusesOne (trailer_head []) fields.items) }
     {
+        Header::of_fields(alloc, fields.as_slice())
+    }
+
+    /// The same of fields that stay where they are: what is malformed of a list that was refused for want of memory can still be told
+    /// (`first_bad_part`).
+    pub fn of_fields(alloc: Global, fields: &[HeaderField]) -> Result<Header, HeaderError>
+        ensures ok { IfOk result (IsHeadOf fields.now) }
+        ensures err { IfErr result (RefusesOne (trailer_head []) fields.now) }
+    {
         let mut pseudo = Pseudo::none();
-        let mut map = store::map_for(alloc, &fields);
+        let mut map = store::map_for(alloc, fields);
         match read::read_fields(alloc, &mut pseudo, &mut map, fields) {
             Ok(()) => Ok(Header {
                 pseudo,

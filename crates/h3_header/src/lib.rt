@@ -3,8 +3,9 @@
 #![tactic(auto)]
 
 pub mod ext;
+pub mod grammar;
 pub mod headers;
 pub mod laws;
 
 pub use ext::{InvalidProtocol, Protocol};
-pub use headers::{FieldKind, Header, HeaderError, HeaderIter};
+pub use headers::{BadPart, FieldKind, Header, HeaderError, HeaderIter, first_bad_part};

@@ -26,7 +26,7 @@ use Rattle.h3_qpack.specs.declared.within.DecodedWithin.{DecodedWithin}
 use Rattle.h3_qpack.specs.declared.within.DecodedWithin.TheVariants as within
 use Rattle.h3_field.specs.declared.decoder.Decoded.{Decoded}
 use Rattle.h3_incoming.specs.declared.judge.Judged.{Judged}
-use Rattle.h3_incoming.specs.Judging.{judged_as}
+use Rattle.h3_incoming.specs.Judging.{Tells, judged_as}
 use Rattle.h3_connection.specs.Pulling.{Pulled, is_memory, malformed, malformation_of, next_place, head_or_trailer, judged, read_section, decoded, at_section}
 
 -- a refusal that tells no malformation is for want of memory
@@ -46,6 +46,11 @@ unfolding RefusesOne
 wants_memory h [] e why none = absurd why
 wants_memory h (f ∷ fields) e (inl here) none = inl (memory_at (kind_of f.name) h f e here none)
 wants_memory h (f ∷ fields) e (inr later) none = inr (later.0, wants_memory (with_field h f) fields e later.1 none)
+
+-- a list is no head where its reading told so, or where it says so itself
+pub tells_none : (fields : List Field) (e : HeaderError) (why : HeadRefusal) → (told e ≡ Some why → head_of fields ≡ IsNone why) → Tells fields e why → head_of fields ≡ IsNone why
+tells_none fields e why law (inl here) = law here
+tells_none fields e why law (inr is) = is
 
 -- what is said of the fields that are kept is said of the section
 pub judged_within : {E : Type 0} (result : Result Judged E) (side : Side) (place : Place) (d : Decoded) (w : DecodedWithin) → w ≡ within.Fields d

@@ -2,6 +2,7 @@
 ghost use Rattle.std.specs.Prelude.{◌≡◌, ◌<◌, ◌≤◌, ℕ, Bool, List, [], Some, None, IfOk, OnErr, option_map, codes};
 ghost use Rattle.h3_field.specs.Instruction.{DecoderInstruction};
 ghost use Rattle.h3_qpack.specs.DecoderState.{DecoderState};
+ghost use Rattle.h3_header.specs.BadPart.{AreGood, refusal_of};
 ghost use Rattle.h3_header.specs.Head.{trailer_head};
 ghost use Rattle.h3_header.specs.HeadRead.{HeadRefusal, told};
 ghost use Rattle.h3_header.specs.Reads.{RefusesOne};
@@ -11,11 +12,11 @@ ghost use Rattle.h3_connection.specs.declared.setup.Announced.{Announced};
 ghost use Rattle.h3_connection.specs.Announcing.{section_of};
 ghost use Rattle.h3_connection.specs.Pulling.{read_section, whole_head, whole_trailer, head_or_trailer, next_place, is_interim_text, is_interim, malformation_of, is_for, is_client};
 ghost use Rattle.h3_field.specs.Field.{Field};
-ghost use Rattle.h3_incoming.specs.Judging.{judged_as};
+ghost use Rattle.h3_incoming.specs.Judging.{Tells, judged_as};
 
 use h3_connection::event::{Item, Malformation};
 use h3_connection::place::Place;
-use h3_header::{Header, HeaderError};
+use h3_header::{BadPart, Header, HeaderError, first_bad_part};
 use h3_proto::stream::Side;
 use h3_qpack::{DecodedWithin, HeaderField, LargeSection};
 use std::alloc::{AllocError, Global};
@@ -64,7 +65,8 @@ fn judge_large(side: Side, place: Place, large: LargeSection) -> Judged
     Judged::HandsOut(Item::TooLarge(large.mem_size), behind)
 }
 
-// A section that is not. Want of memory is told only of a list of which a front is good, and whose next field may ask for memory.
+// A section that is not. Want of memory is told only of a list of which a front is good, and whose next field may ask for memory; and of
+// which no field is malformed by itself, among as many as a map has names for.
 fn judge_fields(
     alloc: Global,
     side: Side,
@@ -74,22 +76,39 @@ fn judge_fields(
     ensures ok { IfOk result (λ j. (own : Announced) (id : ℕ) (r : DecoderState) (i : Incoming) (replies : List DecoderInstruction)
         → told_size fields.items ≤ section_of own → i.place ≡ place → read_section side own id r i replies fields.items ≡ judged_as id i replies j) }
     ensures memory { OnErr result (RefusesOne (trailer_head []) fields.items HeaderError.OutOfMemory) }
+    ensures good { OnErr result (AreGood fields.items) }
 {
     h3_header::laws::lists_are_their_value();
-    match Header::try_from(alloc, fields) {
+    let list = fields.as_slice();
+    match Header::of_fields(alloc, list) {
         Ok(header) => Ok(judge_header(side, place, header)),
-        Err(e) => judge_refusal(e),
+        Err(e) => judge_refusal(list, e),
     }
 }
 
-// A list that is no head is malformed. Want of memory is told where it was told, and of no list that was told to be malformed.
-fn judge_refusal(error: HeaderError) -> Result<Judged, AllocError>
-    ensures ok { IfOk result (λ j. (why : HeadRefusal) × (told error ≡ Some why) × (j ≡ Judged.Malformed (malformation_of why))) }
+// A list that is no head is malformed. Want of memory is told where it was told, and of no list of which a field is malformed by itself: that
+// is judged without memory.
+fn judge_refusal(fields: &[HeaderField], error: HeaderError) -> Result<Judged, AllocError>
+    ensures ok { IfOk result (λ j. (why : HeadRefusal) × Tells fields.now error why × (j ≡ Judged.Malformed (malformation_of why))) }
     ensures memory { OnErr result (told error ≡ None) }
+    ensures good { OnErr result (AreGood fields.now) }
 {
-    match malformation(error) {
-        Some(why) => Ok(Judged::Malformed(why)),
+    if let Some(why) = malformation(error) {
+        return Ok(Judged::Malformed(why));
+    }
+    match first_bad_part(fields) {
+        Some(part) => Ok(Judged::Malformed(malformation_by(part))),
         None => Err(AllocError),
+    }
+}
+
+// Why a list is malformed of which a field is by itself.
+fn malformation_by(part: BadPart) -> Malformation
+    ensures { result ≡ malformation_of (refusal_of part) }
+{
+    match part {
+        BadPart::Name => Malformation::Name,
+        BadPart::Value => Malformation::Value,
     }
 }
 

@@ -1,4 +1,3 @@
-pub mod AuthorityTests
 pub mod ContentRows
 pub mod RequestRows
 pub mod ResponseRows

@@ -3,12 +3,10 @@ ghost use Rattle.std.specs.Prelude.{◌≡◌, codes};
 ghost use Rattle.h3_header.specs.HeadTests.{is_authority};
 ghost use Rattle.h3_messages.specs.Messages.{is_plain_host, is_host, values_pass, is_host_wrong, are_alike};
 
-use crate::authority::is_authority;
 use crate::fields::{has_name, holds, repeats, value_of};
 use crate::text::byte_at;
 use h3_field::HeaderField;
-
-// As in `[FEDC:BA98:7654:3210:FEDC:BA98:7654:3210]:80`.
+use h3_header::grammar::is_authority;
 
 /// Whether the text has no userinfo, and a host that is not empty.
 pub(crate) fn is_plain_host(text: &[u8]) -> bool

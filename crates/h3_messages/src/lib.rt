@@ -5,7 +5,6 @@
 //! Nothing here takes memory, and no list is refused for its length.
 #![tactic(auto)]
 
-mod authority;
 pub mod content;
 mod fields;
 mod host;

@@ -2,5 +2,7 @@
 #![tactic(auto)]
 
 pub mod outgoing;
+mod room;
 
 pub use outgoing::OutgoingStream;
+pub use room::FrameRoom;

@@ -7,6 +7,7 @@ ghost use Rattle.h3_connection.specs.State.{nothing_waits};
 ghost use Rattle.h3_outgoing.specs.Copied.{put};
 ghost use Rattle.h3_outgoing.specs.Sent.{has_section, has_body, has_ended, was_cut_off, taken_from, takes_head, takes_body, takes_end, is_sent_off};
 
+use crate::room::FrameRoom;
 use bytes::{Buf, Bytes};
 use h3_connection::place::SendPlace;
 use h3_wire::stream::MessageBuf;
@@ -82,10 +83,13 @@ impl OutgoingStream {
     }
 
     /// Room for one more frame, so that sending it needs no memory (`take_place`).
-    pub fn reserve(&mut self) -> Result<(), AllocError>
+    pub fn reserve(&mut self) -> Result<FrameRoom, AllocError>
         ensures { self.new ≡ self.old }
     {
-        take_place(&mut self.pieces)
+        let Ok(()) = take_place(&mut self.pieces) else {
+            return Err(AllocError);
+        };
+        Ok(FrameRoom::of(&self.pieces))
     }
 
     // No queue of 2^62 bytes fits into memory: a longer one is refused as such, and no other.
@@ -96,10 +100,15 @@ impl OutgoingStream {
         payload < 1 << 61 && self.waiting < 1 << 61
     }
 
-    /// The HEADERS frame of an encoded field section goes out, and the message is at that place then. An `Err` changes nothing, and
-    /// hands the section back.
+    /// The HEADERS frame of an encoded field section goes out, for which room was taken, and the message is at that place then. An `Err`
+    /// changes nothing, and hands the section back.
     #[tactic(auto, using(crate::proofs::Waiting::headers_some))]
-    pub fn send_section(&mut self, section: Bytes, place: SendPlace) -> Result<(), Bytes>
+    pub fn send_section(
+        &mut self,
+        _room: FrameRoom,
+        section: Bytes,
+        place: SendPlace,
+    ) -> Result<(), Bytes>
         ensures ok { OnOk result (self.new ≡ has_section self.old section place) }
         ensures err { IfErr result (λ b. (b ≡ section) × (self.new ≡ self.old)) }
     {

@@ -175,14 +175,14 @@ pub(crate) fn read_fields(
     alloc: Global,
     pseudo: &mut Pseudo,
     map: &mut HeaderMap,
-    fields: Vec<HeaderField>,
+    fields: &[HeaderField],
 ) -> Result<(), HeaderError>
-    ensures ok { OnOk result (AcceptsAll (head_of_parts pseudo.old map.old) fields.items
-        × (head_of_parts pseudo.new map.new ≡ fold with_field (head_of_parts pseudo.old map.old) fields.items)) }
-    ensures err { IfErr result (RefusesOne (head_of_parts pseudo.old map.old) fields.items) }
+    ensures ok { OnOk result (AcceptsAll (head_of_parts pseudo.old map.old) fields.now
+        × (head_of_parts pseudo.new map.new ≡ fold with_field (head_of_parts pseudo.old map.old) fields.now)) }
+    ensures err { IfErr result (RefusesOne (head_of_parts pseudo.old map.old) fields.now) }
 {
-    let mut store = Store::of(alloc, &fields);
-    for field in fields {
+    let mut store = Store::of(alloc, fields);
+    'fields: for field in fields {
         read_field(alloc, pseudo, map, &mut store, field)?;
     }
     Ok(())
@@ -194,11 +194,11 @@ fn read_field(
     pseudo: &mut Pseudo,
     map: &mut HeaderMap,
     store: &mut Store,
-    field: HeaderField,
+    field: &HeaderField,
 ) -> Result<(), HeaderError>
-    ensures ok { OnOk result (Accepts (head_of_parts pseudo.old map.old) field
-        × (head_of_parts pseudo.new map.new ≡ with_field (head_of_parts pseudo.old map.old) field)) }
-    ensures err { IfErr result (Refuses (head_of_parts pseudo.old map.old) field) }
+    ensures ok { OnOk result (Accepts (head_of_parts pseudo.old map.old) field.now
+        × (head_of_parts pseudo.new map.new ≡ with_field (head_of_parts pseudo.old map.old) field.now)) }
+    ensures err { IfErr result (Refuses (head_of_parts pseudo.old map.old) field.now) }
 {
     let kind = FieldKind::of(field.name());
     let value = field.value_part();

@@ -1,21 +1,34 @@
-use Rattle.std.proofs.Common.{[], ◌∙◌, ap, sym}
+use Rattle.std.proofs.Common.{◌≡◌, [], ◌∙◌, ap, sym, subst}
 use Rattle.std.proofs.lemmas.Result.{IfOk-weaker, IfErr-weaker}
+use Rattle.h3_header.specs.BadPart.{AreGood}
 use Rattle.h3_header.specs.Head.{trailer_head}
+use Rattle.h3_header.specs.HeadRead.{IsHead, IsNone, head_of}
+use Rattle.h3_header.specs.Reads.{RefusesOne}
+use Rattle.h3_header.specs.declared.headers.error.HeaderError.TheVariants as error
 use Rattle.h3_incoming.specs.Judging.{judged_as}
-use Rattle.h3_incoming.proofs.JudgeLaws.{read_head, read_none, wants_memory}
+use Rattle.h3_incoming.proofs.JudgeLaws.{read_head, read_none, wants_memory, tells_none}
 use Rattle.h3_incoming.proofs.judge.judge_fields.Goals as goal
 
 pub returns-in-Ok-clause-ok : goal.returns-in-Ok-clause-ok
 returns-in-Ok-clause-ok c = λ own id r i replies few at.
-    read_head c.args.side own id r i replies c.args.fields.items c.args.place c.in-Ok.header few (c.lists_are_their_value.ensures.head _ _ c.in-Ok.ensures.ok) at
+    read_head c.args.side own id r i replies c.args.fields.items c.args.place c.in-Ok.header few
+    (subst (λ l. head_of l ≡ IsHead c.in-Ok.header) c.as_slice-list.ensures.value (c.lists_are_their_value.ensures.head _ _ c.in-Ok.ensures.ok)) at
     ∙ c.judge_header.ensures id i replies at
 
-pub returns-in-Err-clause-ok : goal.returns-in-Err-clause-ok
-returns-in-Err-clause-ok c =
+pub returns-clause-ok : goal.returns-clause-ok
+returns-clause-ok c =
+    let list = c.as_slice-list.result.now in
     IfOk-weaker c.judge_refusal.result _ _
     (λ j why own id r i replies few at.
-    read_none c.args.side own id r i replies c.args.fields.items why.0 few (c.lists_are_their_value.ensures.refused _ _ why.0 c.in-Err.ensures.err why.1) ∙ ap (judged_as id i replies) (sym why.2))
+    let none = tells_none list c.in-Err.e why.0 (c.lists_are_their_value.ensures.refused _ _ why.0 c.in-Err.ensures.err) why.1 in
+    read_none c.args.side own id r i replies c.args.fields.items why.0 few (subst (λ l. head_of l ≡ IsNone why.0) c.as_slice-list.ensures.value none) ∙ ap (judged_as id i replies) (sym why.2))
     c.judge_refusal.ensures.ok
 
-pub returns-in-Err-clause-memory : goal.returns-in-Err-clause-memory
-returns-in-Err-clause-memory c = IfErr-weaker c.judge_refusal.result _ _ (λ e none. wants_memory (trailer_head []) c.args.fields.items c.in-Err.e c.in-Err.ensures.err none) c.judge_refusal.ensures.memory
+pub returns-clause-memory : goal.returns-clause-memory
+returns-clause-memory c =
+    IfErr-weaker c.judge_refusal.result _ _
+    (λ e none. subst (λ l. RefusesOne (trailer_head []) l error.OutOfMemory) c.as_slice-list.ensures.value (wants_memory (trailer_head []) c.as_slice-list.result.now c.in-Err.e c.in-Err.ensures.err none))
+    c.judge_refusal.ensures.memory
+
+pub returns-clause-good : goal.returns-clause-good
+returns-clause-good c = IfErr-weaker c.judge_refusal.result _ _ (λ e good. subst AreGood c.as_slice-list.ensures.value good) c.judge_refusal.ensures.good

@@ -1,6 +1,7 @@
+use Rattle.std.specs.Prelude.{drop}
 use Rattle.h3_header.specs.Parts.{head_of_parts}
 use Rattle.h3_header.proofs.ReadLemmas.{Rest}
 use Rattle.h3_header.proofs.headers.read.read_fields.Given as goal
 
-abbrev pub invariant-loop-field : goal.invariant-loop-field
-invariant-loop-field l = Rest (head_of_parts l.initial.pseudo l.initial.map) l.fn.fields.items l.field-iterator.rest.items (head_of_parts l.pseudo l.map)
+abbrev pub invariant-fields : goal.invariant-fields
+invariant-fields l = Rest (head_of_parts l.initial.pseudo l.initial.map) l.fields (drop l.field-index l.fields) (head_of_parts l.pseudo l.map)

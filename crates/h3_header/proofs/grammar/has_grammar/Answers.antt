@@ -1,7 +1,7 @@
 use Rattle.std.proofs.Common.{sym, arith, below_more}
 use Rattle.http_uri.proofs.AuthorityLemmas.{Step, step_percent, step_colon, step_opening, step_closing, step_at, step_other}
-use Rattle.h3_messages.proofs.authority.has_grammar.Goals.{in-37, in-58+else-colons-ge-MOST_COLONS, in-91+else-percent+else-opened, in-93+else-not-opened+else-closed, in-64, in_default}
-use Rattle.h3_messages.proofs.authority.has_grammar.Goals as goal
+use Rattle.h3_header.proofs.grammar.has_grammar.Goals.{in-37, in-58+else-colons-ge-MOST_COLONS, in-91+else-percent+else-opened, in-93+else-not-opened+else-closed, in-64, in_default}
+use Rattle.h3_header.proofs.grammar.has_grammar.Goals as goal
 
 pub bytes-preserved : goal.bytes-preserved
 bytes-preserved c =

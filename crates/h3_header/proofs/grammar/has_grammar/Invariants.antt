@@ -1,7 +1,7 @@
 use Rattle.std.proofs.Common.{ℕ, ◌<◌, take, get_or}
 use Rattle.http_uri.specs.Grammar.{MayFollow}
 use Rattle.http_uri.proofs.AuthorityLemmas.{Tracks}
-use Rattle.h3_messages.proofs.authority.has_grammar.Given as goal
+use Rattle.h3_header.proofs.grammar.has_grammar.Given as goal
 
 abbrev pub invariant-bytes : goal.invariant-bytes
 invariant-bytes l =

@@ -1,0 +1,101 @@
+//! What is malformed of a field list, told without memory.
+ghost use Rattle.std.specs.Prelude.{◌≡◌, take, IfSome, IfNone};
+ghost use Rattle.h3_header.specs.BadPart.{bad_part, refusal_of, AreGood};
+ghost use Rattle.h3_header.specs.HeadRead.{IsNone, head_of, is_name_at, is_value_at};
+ghost use Rattle.h3_header.specs.HeadTests.{is_code_text, is_protocol_text};
+
+use super::kind::FieldKind;
+use crate::ext::Protocol;
+use crate::grammar::{
+    is_authority, is_field_value, is_header_name, is_path_input, is_scheme, is_token,
+};
+use h3_field::HeaderField;
+use http::StatusCode;
+
+// So many names a `HeaderMap` has room for: a list of no more fields is not refused for want of it.
+const MOST_NAMES: usize = 24576;
+
+/// What is malformed of a field by itself (RFC 9114, 4.2 and 4.3).
+#[derive(Clone, Copy, Debug, PartialEq, Eq)]
+pub enum BadPart {
+    Name,
+    Value,
+}
+
+/// What is malformed of a list, by the first of its first 24,576 fields of which anything is: `Header::try_from` refuses the list for that,
+/// unless memory is refused first. It takes no memory, and makes no text. None: each of these fields is good by itself.
+pub fn first_bad_part(fields: &[HeaderField]) -> Option<BadPart>
+    ensures some { IfSome result (λ part. head_of fields.now ≡ IsNone (refusal_of part)) }
+    ensures none { IfNone result (AreGood fields.now) }
+{
+    let few = front(fields, MOST_NAMES);
+    'fields: for field in few {
+        if let Some(part) = bad_part(field) {
+            return Some(part);
+        }
+    }
+    None
+}
+
+// The first fields, at most all.
+fn front(fields: &[HeaderField], count: usize) -> &[HeaderField]
+    ensures { result.now ≡ take count fields.now }
+{
+    if count < fields.len() {
+        return &fields[..count];
+    }
+    fields
+}
+
+// What is malformed of a field: its name, else its value.
+fn bad_part(field: &HeaderField) -> Option<BadPart>
+    ensures { result ≡ bad_part field.now }
+{
+    let kind = FieldKind::of(field.name());
+    if !is_name_at(kind, field.name()) {
+        return Some(BadPart::Name);
+    }
+    if !is_value_at(kind, field.value()) {
+        return Some(BadPart::Value);
+    }
+    None
+}
+
+// Whether a name may stand there.
+fn is_name_at(kind: FieldKind, name: &[u8]) -> bool
+    ensures { result ≡ is_name_at kind name.now }
+{
+    match kind {
+        FieldKind::Regular => is_header_name(name),
+        _ => true,
+    }
+}
+
+// Whether a value may stand there.
+fn is_value_at(kind: FieldKind, value: &[u8]) -> bool
+    ensures { result ≡ is_value_at kind value.now }
+{
+    match kind {
+        FieldKind::Method => is_token(value),
+        FieldKind::Scheme => is_scheme(value),
+        FieldKind::Authority => is_authority(value),
+        FieldKind::Path => is_path_input(value),
+        FieldKind::Status => is_code_text(value),
+        FieldKind::Protocol => is_protocol_text(value),
+        FieldKind::Regular => is_field_value(value),
+    }
+}
+
+#[tactic(auto, using(crate::proofs::HeadTestLaws::decided, crate::proofs::HeadTestLaws::code_text))]
+fn is_code_text(text: &[u8]) -> bool
+    ensures { result ≡ is_code_text text.now }
+{
+    StatusCode::from_bytes(text).is_ok()
+}
+
+#[tactic(auto, using(crate::proofs::HeadTestLaws::decided, crate::proofs::HeadTestLaws::protocol_text))]
+fn is_protocol_text(text: &[u8]) -> bool
+    ensures { result ≡ is_protocol_text text.now }
+{
+    Protocol::from_bytes(text).is_ok()
+}
