@@ -1,6 +1,6 @@
 #!/usr/bin/env bash
 # C programs over build/c (scripts/lib.sh), by the machine's C compiler alone: the calls of crates/h3_cases and hostile lists of calls through the header,
-# each allocation refused in turn, large input with none refused, two endpoints under random schedules, and wrong arguments. Once as they are,
+# each allocation refused in turn, large input with none refused, two endpoints under random schedules, what is held of a stream, and wrong arguments. Once as they are,
 # and once with the sanitizers of addresses, leaks and undefined behaviour where the compiler has them (large input, memory: once). One line 'ok NAME' or 'failed NAME' for each; the last is the sum.
 set -uo pipefail
 cd "$(dirname "$0")/.."
@@ -54,6 +54,7 @@ checks() {
   compile memory memory -Wl,--wrap=malloc,--wrap=realloc,--wrap=free
   compile sizes sizes -Wl,--wrap=malloc,--wrap=realloc
   compile schedules schedules
+  compile unread unread
   compile arguments arguments
   if [ "$bad" -eq 0 ]; then
     rows "$out/calls" "rows"
@@ -61,6 +62,7 @@ checks() {
     run memory "$out/memory"
     run sizes "$out/sizes"
     run schedules "$out/schedules" 0 1000
+    run unread "$out/unread"
     run arguments "$out/arguments"
   fi
   if [ "$bad" -eq 0 ] && echo 'int main(void){return 0;}' | "$cc" -x c -fsanitize=address,undefined -o "$out/probe" - 2> "$out/probe.log"; then
