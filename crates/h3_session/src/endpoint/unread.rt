@@ -1,7 +1,10 @@
 //! How much of what came is still held.
 ghost use Rattle.std.specs.Prelude.{◌≡◌};
 ghost use Rattle.std.specs.List.{sum_by};
-ghost use Rattle.h3_connection.specs.Unread.{ShowsUnread, held_in, counted};
+ghost use Rattle.h3_connection.specs.Delivering.{incoming_at};
+ghost use Rattle.h3_connection.specs.Endpoint.{EndpointHistory, kind_of};
+ghost use Rattle.h3_connection.specs.State.{StandsFor};
+ghost use Rattle.h3_connection.specs.Unread.{ShowsUnread, held_at, held_of_request, held_of_peer, held_in, counted};
 
 use super::Endpoint;
 use h3_connection::arrival::Arrival;
@@ -43,19 +46,42 @@ impl Endpoint {
     /// those behind the last whole frame or instruction; of its other unidirectional streams a type that is not whole and what was not pulled of a
     /// session; and what was kept of the stream because memory was refused. 0 of a stream that is not there or was given up. At most the greatest
     /// `u64`. It takes no memory, and one look-up; behind a `Kept` also a pass over what is kept.
+    #[tactic(auto, using(crate::proofs::Unread::shows_unread))]
     pub fn unread(&self, id: StreamId) -> u64
         ensures { ShowsUnread self.now id result }
     {
-        let held = match StreamKind::of(self.side, id) {
-            StreamKind::Request => self.requests.held(id),
-            StreamKind::PeerUnidirectional => self.streams.held(id),
-            StreamKind::ServerOpened => 0,
-            StreamKind::OwnUnidirectional => 0,
-        };
+        let held = self.held(id);
         held.saturating_add(self.held_in_kept(id)) as u64
     }
 
+    // What is held of a stream, what is kept aside.
+    #[tactic(auto, using(crate::proofs::Unread::held_by_kind))]
+    fn held(&self, id: StreamId) -> usize
+        ensures { (e : EndpointHistory) → StandsFor self.now e → result ≡ counted (held_at e id (kind_of e.side id)) }
+    {
+        match StreamKind::of(self.side, id) {
+            StreamKind::Request => self.held_of_request(id),
+            StreamKind::PeerUnidirectional => self.held_of_peer(id),
+            StreamKind::ServerOpened => 0,
+            StreamKind::OwnUnidirectional => 0,
+        }
+    }
+
+    #[tactic(auto, using(crate::proofs::Unread::held_request))]
+    fn held_of_request(&self, id: StreamId) -> usize
+        ensures { (e : EndpointHistory) → StandsFor self.now e → result ≡ counted (held_of_request (incoming_at e id)) }
+    {
+        self.requests.held(id)
+    }
+
+    fn held_of_peer(&self, id: StreamId) -> usize
+        ensures { (e : EndpointHistory) → StandsFor self.now e → result ≡ counted (held_of_peer e id) }
+    {
+        self.streams.held(id)
+    }
+
     // What is kept of the stream because memory was refused.
+    #[tactic(auto, using(crate::proofs::Unread::counted_sum))]
     fn held_in_kept(&self, id: StreamId) -> usize
         ensures { result ≡ counted (sum_by (held_in id) self.now.kept) }
     {
