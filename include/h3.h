@@ -70,6 +70,7 @@
  *   STOP_SENDING came        h3_reset(id), and RESET_STREAM goes out (RFC 9000, section 3.5)
  *   data can be sent         h3_outgoing(id, buffer, ..): hand these bytes to QUIC, and call h3_advance(id, n) with the n bytes that
  *                            QUIC took. Where `fin` came as 1 and all n bytes were taken, send FIN with them.
+ *   credit (MAX_STREAM_DATA) below: for what is no longer held, and not for what came
  *   data is acknowledged     nothing to call. The library forgets bytes at h3_advance. A QUIC library that keeps no copy of what it
  *                            sends (ngtcp2, msquic) needs the bytes until they are acknowledged: keep the buffer that h3_outgoing
  *                            filled until then. One that copies (quic-go) needs nothing.
@@ -77,6 +78,14 @@
  *   the connection closes    h3_free
  *
  * Each pull asks the same way for a client and for a server. A server learns of a request by data on a new stream with id % 4 == 0.
+ *
+ * HOW A CALLER GRANTS CREDIT (RFC 9000, section 4.1)
+ *
+ * What was delivered is kept until it is pulled or read, an unfinished frame or instruction whole, whatever length it says: QUIC's windows bound it.
+ * For each stream of the peer's add up `owed`, the bytes that were delivered and for which no credit was granted. Behind each delivery and its pulls:
+ *   h3_stream_state s; h3_stream(&e, id, &s); if (owed > s.unread) { grant(id, owed - s.unread); owed = s.unread; }
+ * in QUIC, for the stream and for the connection; and for all streams on which some is owed behind a delivery on a unidirectional stream or behind
+ * H3_KEPT. Then no stream keeps more than its window. A frame that is larger than the window never becomes whole: give that stream up.
  *
  * WHICH CALL CAN FILL WHICH STREAM (so that the caller knows where to look; h3_next_waiting finds them all)
  *
@@ -221,11 +230,9 @@ typedef struct {
   uint32_t datagram;                  /* RFC 9297 */
 } h3_config;
 
-/* A client that takes field sections of any size and has no dynamic table. */
-static inline void h3_config_default(h3_config *config) {
-  h3_config c = {(UINT64_C(1) << 62) - 1, 0, 0, 0, 0, 0, 0, 0, 0, 0};
-  *config = c;
-}
+/* A client whose limits are fit for a peer that is not trusted: it takes field sections of at most 65,536 bytes, and has a dynamic table of 4,096
+ * bytes, for which 16 streams may wait. All else is 0. SECURITY.md says what each limit bounds. */
+static inline void h3_config_default(h3_config *config);
 
 /* Makes an endpoint in *endpoint, which is overwritten: what it held before is not freed. Its control stream begins with the settings.
  * Refused, in this order: H3_ARGUMENT (grease out of range), H3_TABLE_LIMIT, H3_BLOCKED_LIMIT, H3_SETTING, H3_MEMORY. On a refusal
@@ -387,6 +394,7 @@ static inline uint32_t h3_item_bytes(h3_endpoint *endpoint, size_t from, void *b
 
 typedef struct {
   uint64_t waiting;      /* bytes that wait to be sent */
+  uint64_t unread;       /* bytes that were delivered and are still held: not handed out, and not read. 0 of a stream that was given up */
   uint32_t has_outgoing; /* 1 where something can be sent: an own unidirectional stream, or a request stream that was opened */
   uint32_t is_finished;  /* 1 where its message was finished */
   uint32_t is_reset;     /* 1 where sending was cut off */
@@ -425,6 +433,7 @@ static inline uint64_t h3_decoder_id(int server) { return server ? 11 : 10; }
  * Programs in C call the functions above, which hand the endpoint over and back, and test pointers (POINTERS). A program in another language may
  * call these: each takes the handle by value and writes the handle for the next call through its last argument, on every answer. The handle
  * must hold an endpoint. No pointer may be NULL, also beside a length of 0: these test none. */
+void h3_raw_config_default(h3_config *config);
 uint32_t h3_raw_new(const h3_config *config, uint64_t *detail, h3_endpoint *out); /* *out is written on H3_OK alone */
 void h3_raw_free(h3_endpoint endpoint);
 uint32_t h3_raw_open_request(h3_endpoint endpoint, uint64_t *id, uint64_t *detail, h3_endpoint *out);
@@ -455,6 +464,9 @@ uint32_t h3_raw_peer_setting(h3_endpoint endpoint, uint64_t setting, uint64_t *v
 
 static inline const uint8_t *h3_in_(const void *bytes) { return bytes ? (const uint8_t *)bytes : (const uint8_t *)""; }
 
+static inline void h3_config_default(h3_config *config) {
+  if (config) h3_raw_config_default(config);
+}
 static inline uint32_t h3_new(h3_endpoint *endpoint, const h3_config *config, uint64_t *detail) {
   uint64_t none;
   if (!endpoint) return H3_ARGUMENT;

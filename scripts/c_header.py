@@ -72,6 +72,7 @@ def snake(name):
 
 
 NAMES = {"H3_OUT_OF_MEMORY": "H3_MEMORY"}
+WITHOUT = ("h3_config_default", "h3_new")  # are called where there is no endpoint
 bad = 0
 
 
@@ -103,7 +104,7 @@ def main():
     for name in sorted(declared):
         short = name.replace("h3_raw_", "h3_", 1)
         calls = re.findall(r"^static inline \w+ %s\([^;{]*\{(.*?)^\}" % short, header, re.M | re.S)
-        is_well = len(calls) == 1 and len(re.findall(r"\b%s\(" % name, calls[0])) == 1 and (short == "h3_new" or "endpoint->at" in calls[0])
+        is_well = len(calls) == 1 and len(re.findall(r"\b%s\(" % name, calls[0])) == 1 and (short in WITHOUT or "endpoint->at" in calls[0])
         if not is_well:
             tell(False, f"{short} calls {name} where there is an endpoint", calls)
     path = "crates/h3_c/proofs/handle/Handle/TheSendSync/Send.antt"

@@ -77,6 +77,7 @@ build rustc --edition 2021 -O -o "$work/two_refusing" examples/rust/two_endpoint
   -C link-arg=-Wl,--wrap=malloc,--wrap=calloc,--wrap=realloc $(pkg-config --libs beanwhile-h3 | sed 's/-[lL][^ ]*/-C link-arg=&/g')
 build go build -o "$work/peer" scripts/interop/peer.go
 build go build -o "$work/violate" scripts/interop/violate.go
+build go build -o "$work/flood" scripts/interop/flood.go
 serve=$work/checked/serve
 peer=$work/peer
 
@@ -202,19 +203,35 @@ second_signal() { # PORT, PROCESS of the server
   [ $(($(date +%s%N) - begun)) -le 1000000000 ] || return 1
   ! wait "$client"
 }
+# the most memory that a server had, in KiB
+peak() { # its PROCESS, and not that of `timeout`, whose child it is
+  sed -n 's/^VmHWM:[^0-9]*\([0-9]*\) kB/\1/p' "/proc/$1/status"
+}
 # 10,000 requests that are reset behind their heads: a bound for the processor time of the server, in hundredths of a second, and for the memory
 # that it grows by, in KiB.
 resets() { # PORT, PROCESS of the server, which is a child of `timeout`
   local server before after
   read -r server < "/proc/$2/task/$2/children"
   used() { echo $(($(cut -d' ' -f14,15 "/proc/$server/stat" | tr ' ' '+'))); }
-  peak() { sed -n 's/^VmHWM:[^0-9]*\([0-9]*\) kB/\1/p' "/proc/$server/status"; }
   works "$peer" resets "$cert" 1 "localhost:$1" || return 1
-  before=($(used) $(peak))
+  before=($(used) $(peak "$server"))
   works "$peer" resets "$cert" 10000 "localhost:$1" && grep -q "^10000 reset, then [1-9]" "$work/got" || return 1
-  after=($(used) $(peak))
+  after=($(used) $(peak "$server"))
   echo "$((after[0] - before[0])) hundredths of a second, $((after[1] - before[1])) KiB" | tee "$work/log" > "$work/measured"
   [ $((after[0] - before[0])) -le 200 ] && [ $((after[1] - before[1])) -le 16384 ]
+}
+# Frames and instructions that never end, each on a connection of its own: of none more than 1 MiB goes out, since there is no credit for what is held,
+# and the server grows by 16 MiB at most.
+floods() { # PORT, PROCESS of the server, which is a child of `timeout`
+  local server before after
+  read -r server < "/proc/$2/task/$2/children"
+  works "$peer" resets "$cert" 1 "localhost:$1" || return 1
+  before=$(peak "$server")
+  works "$work/flood" "$cert" "localhost:$1" 40000000 || return 1
+  after=$(peak "$server")
+  cp "$work/got" "$work/log"
+  echo "$((after - before)) KiB" >> "$work/log"
+  [ "$(wc -l < "$work/got")" -eq 7 ] && [ $((after - before)) -le 16384 ] && awk '$1 > 1048576 { exit 1 }' "$work/got"
 }
 # A request whose head has a field of so many bytes is answered with this status.
 head_gives() { # STATUS, BYTES, PORT
@@ -304,6 +321,7 @@ limits serve "${ports[0]}" "$last"
 check "serve: no leak and no error of memory behind its limits" is_silent serve2.log
 start "${ports[13]}" serve3.log "$work/plain/serve" 127.0.0.1 "${ports[13]}" "$cert" "$key" "$folder"
 check "serve: 10,000 resets within 2 s of processor and 16 MiB" resets "${ports[13]}" "$last"
+check "serve: frames and instructions that never end, within 16 MiB" floods "${ports[13]}" "$last"
 check "serve: the second signal ends it at once" second_signal "${ports[13]}" "$last"
 
 start "${ports[1]}" h3go.log "$work/h3go" serve "127.0.0.1:${ports[1]}" "$cert" "$key" "$folder"
@@ -319,6 +337,7 @@ limits "Go server" "${ports[1]}" "$last"
 check "Go server: no panic behind its limits" is_silent h3go2.log
 start "${ports[14]}" h3go3.log "$work/h3go" serve "127.0.0.1:${ports[14]}" "$cert" "$key" "$folder"
 check "Go server: 10,000 resets within 2 s of processor and 16 MiB" resets "${ports[14]}" "$last"
+check "Go server: frames and instructions that never end, within 16 MiB" floods "${ports[14]}" "$last"
 check "Go server: the second signal ends it at once" second_signal "${ports[14]}" "$last"
 
 # ---- our clients ----

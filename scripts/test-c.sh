@@ -1,6 +1,6 @@
 #!/usr/bin/env bash
 # C programs over build/c (scripts/lib.sh), by the machine's C compiler alone: the calls of crates/h3_cases and hostile lists of calls through the header,
-# each allocation refused in turn, large input with none refused, two endpoints under random schedules, wrong arguments, and the program of docs/TUTORIAL.md. Once as
+# each allocation refused in turn, large input with none refused, two endpoints under random schedules, what is held of a stream, wrong arguments, and the program of docs/TUTORIAL.md. Once as
 # they are, and once with the sanitizers of addresses, leaks and undefined behaviour where the compiler has them (large input, memory: once). Then how programs find the
 # library (scripts/test-install.sh). One line 'ok NAME' or 'failed NAME' for each; the last is the sum. With LIB=FOLDER the library in that folder is
 # taken, as that of `make lib-unproved`, and none is built.
@@ -68,6 +68,7 @@ checks() {
   compile memory memory -Wl,--wrap=malloc,--wrap=realloc,--wrap=free
   compile sizes sizes -Wl,--wrap=malloc,--wrap=realloc
   compile schedules schedules
+  compile unread unread
   compile arguments arguments
   compile in_memory in_memory
   if [ "$bad" -eq 0 ]; then
@@ -76,6 +77,7 @@ checks() {
     run memory "$out/memory"
     run sizes "$out/sizes"
     run schedules "$out/schedules" 0 1000
+    run unread "$out/unread"
     run arguments "$out/arguments"
     tutorial "$out/in_memory" "in_memory: the lines of docs/TUTORIAL.md"
   fi

@@ -123,7 +123,10 @@ static void on_body(http3_request *request, const uint8_t *bytes, size_t count) 
 static void on_end(http3_request *request) { end(request->data); }
 
 static void on_failed(http3_request *request, const h3_item *item) {
-  fail(item->kind == H3_FAULT_RESET ? "the server reset the request with code" : "the response is malformed, reason", item->number);
+  const char *why = item->kind == H3_FAULT_RESET      ? "the server reset the request with code"
+                    : item->kind == H3_FAULT_CANCELED ? "a frame of the response is too large, given up with code"
+                                                      : "the response is malformed, reason";
+  fail(why, item->number);
   end(request->data);
 }
 

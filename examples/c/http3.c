@@ -6,21 +6,27 @@
 enum {
   PIECE = 16 * 1024,         /* bytes that are moved at once */
   WAITING_LIMIT = 64 * 1024, /* bytes of a body that may wait in the endpoint */
-  TABLE = 4096,              /* bytes of the dynamic table that the peer may fill */
-  BLOCKED = 16,              /* streams that may wait for it */
-  SECTION = 64 * 1024,       /* the greatest field section that is taken */
+  HELD_LIMIT = 128 * 1024,   /* bytes of a request that the endpoint may hold: more is no frame that is taken */
   FIELDS = 16,
   LINGER = 5,                /* seconds of silence behind which a connection that takes no more requests is closed */
   NOTICE = 1                 /* seconds between the first GOAWAY and the last: requests that were on their way come */
 };
 
 static const uint64_t ANY_ID = (UINT64_C(1) << 62) - 4;
+static const uint64_t EXCESSIVE_LOAD = 0x107; /* RFC 9114, section 8.1 */
+
+/* One of the peer's unidirectional streams, while some is owed for it. */
+typedef struct {
+  uint64_t id;
+  size_t owed; /* as of a request */
+} other;
 
 struct http3 {
   quic_connection *quic;
   const http3_setup *setup;
   h3_endpoint endpoint;
   http3_request *requests;
+  other others[QUIC_OTHERS];
   uint64_t next_id;  /* behind the last request that came */
   uint64_t end_id;   /* requests from here on are not taken */
   bool leaving;      /* the peer was told by GOAWAY to open no more */
@@ -42,11 +48,30 @@ static http3_request *add(http3 *h, uint64_t id) {
   return *end = request;
 }
 
+/* Grants the peer credit for what came on a stream and is no longer held. */
+static void grant(http3 *h, uint64_t id, size_t *owed) {
+  h3_stream_state state;
+  if (*owed == 0 || h3_stream(&h->endpoint, id, &state) != H3_OK || state.unread >= *owed) return;
+  quic_consumed(h->quic, (int64_t)id, *owed - (size_t)state.unread);
+  *owed = (size_t)state.unread;
+}
+
+/* What is owed for a unidirectional stream. NULL: QUIC has opened more of them than it may. */
+static size_t *owed_for(http3 *h, uint64_t id) {
+  other *free_one = NULL;
+  for (other *at = h->others; at < h->others + QUIC_OTHERS; at++)
+    if (at->owed == 0) free_one = at;
+    else if (at->id == id) return &at->owed;
+  if (!free_one) return NULL;
+  free_one->id = id;
+  return &free_one->owed;
+}
+
 /* Frees a request, the first of the list from `at` on. */
 static void drop(http3 *h, http3_request **at) {
   http3_request *request = *at;
   *at = request->next;
-  if (request->unread) quic_consumed(h->quic, (int64_t)request->id, request->unread);
+  grant(h, request->id, &request->owed);
   h->setup->events->freed(request);
   free(request);
 }
@@ -108,7 +133,8 @@ static bool tell(http3_request *request, const h3_item *item) {
   }
 }
 
-/* Pulls a request until it pauses or ends. Where all was read the peer gets credit for it. */
+/* Pulls a request until it pauses or ends. The peer gets credit for what was read; of a frame that is larger than any that is taken nothing more
+ * is wanted. */
 static void pull(http3_request *request) {
   http3 *h = request->connection;
   h3_item item;
@@ -116,9 +142,11 @@ static void pull(http3_request *request) {
   do
     if (request->settled || h3_pull(&h->endpoint, request->id, &item) != H3_OK) break;
   while (tell(request, &item));
-  if (request->waiting || request->unread == 0) return;
-  quic_consumed(h->quic, (int64_t)request->id, request->unread);
-  request->unread = 0;
+  grant(h, request->id, &request->owed);
+  if (request->settled || request->waiting || request->owed <= HELD_LIMIT) return;
+  http3_give_up(request, EXCESSIVE_LOAD);
+  h->setup->events->failed(request, &(h3_item){.kind = H3_FAULT_CANCELED, .number = EXCESSIVE_LOAD});
+  grant(h, request->id, &request->owed);
 }
 
 /* A stream of the peer's was read: no messages are expected on it, and those heads may be there that waited for it. */
@@ -126,6 +154,7 @@ static void pull_others(http3 *h, uint64_t id) {
   h3_item item;
   while (h3_pull(&h->endpoint, id, &item) == H3_OK && item.kind < H3_END) continue;
   if (item.kind == H3_FAULT_CONNECTION) return quic_close(h->quic, item.number);
+  for (other *at = h->others; at < h->others + QUIC_OTHERS; at++) grant(h, at->id, &at->owed);
   for (http3_request *request = h->requests; request; request = request->next)
     if (request->waiting) pull(request);
 }
@@ -162,9 +191,9 @@ static void received(void *owner, int64_t stream, const uint8_t *bytes, size_t c
   http3 *h = owner;
   uint64_t id = (uint64_t)stream, code = 0;
   http3_request *request = is_request(id) ? take(h, id) : NULL;
-  if (request) request->unread += count;
-  else quic_consumed(h->quic, stream, count);
-  if (is_request(id) && !request) return;
+  size_t *owed = request ? &request->owed : is_request(id) ? NULL : owed_for(h, id);
+  if (!owed) return quic_consumed(h->quic, stream, count); /* it is not taken */
+  *owed += count;
   uint32_t answer = h3_deliver(&h->endpoint, id, bytes, count, &code);
   if (end && (answer == H3_OK || answer == H3_KEPT)) answer = h3_deliver_end(&h->endpoint, id, &code);
   if (answer != H3_OK && answer != H3_KEPT) return refuse(h, answer, code);
@@ -192,8 +221,11 @@ static void was_stopped(void *owner, int64_t stream) {
 }
 
 static void stream_closed(void *owner, int64_t stream) {
-  http3_request *request = find(owner, (uint64_t)stream);
+  http3 *h = owner;
+  http3_request *request = find(h, (uint64_t)stream);
   if (request) request->closed = true;
+  for (other *at = h->others; !request && at < h->others + QUIC_OTHERS; at++)
+    if (at->id == (uint64_t)stream) at->owed = 0; /* what is still held of it gets no credit */
 }
 
 /* ---- what goes out ---- */
@@ -259,9 +291,6 @@ static void *opened(quic_connection *quic, void *user) {
   h->end_id = setup->requests > 0 && setup->requests < ANY_ID / 4 ? 4 * setup->requests : UINT64_MAX;
   h3_config_default(&config);
   config.server = setup->server;
-  config.table = TABLE;
-  config.blocked = BLOCKED;
-  config.max_field_section_size = SECTION;
   bool made = h3_new(&h->endpoint, &config, NULL) == H3_OK;
   for (int i = 0; made && i < 3; i++) made = quic_open(quic, true) == (int64_t)h3_control_id(setup->server) + 4 * i;
   if (!made) {

@@ -13,7 +13,7 @@ typedef struct http3_request {
   http3 *connection;
   uint64_t id;
   void *data;
-  size_t unread;  /* bytes that came, for which the peer has got no further credit */
+  size_t owed;    /* bytes that came, for which the peer has got no further credit: the endpoint holds them */
   bool waiting;   /* its head needs what the peer's encoder stream has not brought yet */
   bool sending;   /* the head was sent, the end was not */
   bool finishing; /* FIN goes behind what waits */

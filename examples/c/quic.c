@@ -411,7 +411,7 @@ static void settle(ngtcp2_settings *settings, ngtcp2_transport_params *params, b
   params->initial_max_stream_data_bidi_local = params->initial_max_stream_data_bidi_remote = KEPT_LIMIT;
   params->initial_max_stream_data_uni = KEPT_LIMIT;
   params->initial_max_streams_bidi = server ? QUIC_STREAMS : 0;
-  params->initial_max_streams_uni = 16;
+  params->initial_max_streams_uni = QUIC_OTHERS;
   params->max_idle_timeout = 30 * NGTCP2_SECONDS;
   params->active_connection_id_limit = 7;
 }

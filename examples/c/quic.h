@@ -7,7 +7,10 @@
 #include <stddef.h>
 #include <stdint.h>
 
-enum { QUIC_STREAMS = 100 }; /* requests that a client may have at once */
+enum {
+  QUIC_STREAMS = 100, /* requests that a client may have at once */
+  QUIC_OTHERS = 16    /* unidirectional streams that a peer may have at once */
+};
 
 typedef struct quic_socket quic_socket;
 typedef struct quic_connection quic_connection;

@@ -13,13 +13,11 @@ import (
 )
 
 const (
-	table        = 4096      // bytes of the dynamic table that the peer may fill
-	blocked      = 16        // streams that may wait for it
-	section      = 64 * 1024 // the greatest field section that is taken
-	piece        = 16 * 1024 // bytes that are moved at once
-	waitingLimit = 64 * 1024 // bytes of a body that may wait in the endpoint
-	streams      = 100       // requests that a client may have at once
-	anyID        = 1<<62 - 4 // the greatest id of a request
+	piece        = 16 * 1024  // bytes that are moved at once
+	waitingLimit = 64 * 1024  // bytes of a body that may wait in the endpoint
+	heldLimit    = 128 * 1024 // bytes of a stream that the endpoint may hold: more is no frame that is taken
+	streams      = 100        // requests that a client may have at once
+	anyID        = 1<<62 - 4  // the greatest id of a request
 
 	notice = time.Second // between the first GOAWAY and the last: requests that were on their way come
 )
@@ -64,7 +62,7 @@ type Request struct {
 
 // NewConnection opens the three own streams, and reads the peer's. A server has a trace, and takes so many requests (0: no limit).
 func NewConnection(connection quic.Connection, trace *trace, requests uint64) (*Connection, error) {
-	endpoint, err := NewEndpoint(trace != nil, section, table, blocked)
+	endpoint, err := NewEndpoint(trace != nil)
 	if err != nil {
 		return nil, err
 	}
@@ -234,6 +232,9 @@ func (c *Connection) readOther(stream quic.ReceiveStream) {
 			if item, err = c.pull(id); item.Kind >= End {
 				break
 			}
+		}
+		if err == nil && c.endpoint.State(id).Unread > heldLimit {
+			err = c.fail(Refusal{Detail: ExcessiveLoad})
 		}
 		c.inserted.Broadcast()
 		c.lock.Unlock()
@@ -444,7 +445,8 @@ func (r *Request) Ignore() {
 	r.stream.CancelRead(NoError)
 }
 
-// Next waits for the next item of the peer's message. A fault of the message is an error. What came before the connection was over is handed
+// Next waits for the next item of the peer's message. quic-go grants credit for what is read, so no more is read of a stream of which the endpoint
+// holds so much: a frame that is larger is a fault. A fault of the message is an error. What came before the connection was over is handed
 // out all the same.
 func (r *Request) Next() (Item, error) {
 	c := r.connection
@@ -462,6 +464,8 @@ func (r *Request) Next() (Item, error) {
 			return Item{}, c.broken
 		case item.Kind == Pending && unreadable != nil:
 			return Item{}, unreadable
+		case item.Kind == Pending && c.endpoint.State(r.id).Unread > heldLimit:
+			return Item{}, Fault{Kind: TooLarge}
 		case item.Kind == Pending:
 			if unreadable, err = r.read(); err != nil {
 				return Item{}, err

@@ -61,8 +61,12 @@ const (
 	FaultMemory     = C.H3_FAULT_MEMORY
 )
 
+// TooLarge is the kind of a fault that no pull answers: a frame is larger than any that is taken.
+const TooLarge = 0
+
 // Codes of RFC 9114, section 8.1.
 const (
+	ExcessiveLoad     = 0x107
 	NoError           = C.H3_CODE_NO_ERROR
 	InternalError     = C.H3_CODE_INTERNAL_ERROR
 	RequestRejected   = C.H3_CODE_REQUEST_REJECTED
@@ -71,7 +75,7 @@ const (
 	MessageError      = C.H3_CODE_MESSAGE_ERROR
 )
 
-// Fault is the fault of a message: an item of a kind from FaultMalformed on.
+// Fault is the fault of a message: an item of a kind from FaultMalformed on, or TooLarge.
 type Fault struct {
 	Kind   uint32
 	Number uint64
@@ -88,6 +92,8 @@ func (f Fault) Code(server bool) uint64 {
 		return RequestIncomplete
 	case f.Kind == FaultMalformed:
 		return MessageError
+	case f.Kind == TooLarge:
+		return ExcessiveLoad
 	}
 	return RequestCancelled
 }
@@ -99,14 +105,13 @@ func number(yes bool) C.uint32_t {
 	return 0
 }
 
-// NewEndpoint makes an endpoint that takes heads and trailers of at most `section` bytes (RFC 9114, section 4.2.2), with a dynamic table of
-// `table` bytes, for which so many streams may wait.
-func NewEndpoint(server bool, section, table, blocked uint64) (*Endpoint, error) {
+// NewEndpoint makes an endpoint with the limits of h3_config_default: heads and trailers of at most 65,536 bytes (RFC 9114, section 4.2.2), and a
+// dynamic table of 4,096 bytes, for which 16 streams may wait.
+func NewEndpoint(server bool) (*Endpoint, error) {
 	var config C.h3_config
 	var detail C.uint64_t
 	C.h3_config_default(&config)
-	config.server, config.max_field_section_size = number(server), C.uint64_t(section)
-	config.table, config.blocked = C.uint64_t(table), C.uint64_t(blocked)
+	config.server = number(server)
 	endpoint := &Endpoint{}
 	return endpoint, refusal(C.h3_new(&endpoint.raw, &config, &detail), detail)
 }
@@ -186,17 +191,18 @@ func (e *Endpoint) Advance(id uint64, count int) error {
 	return refusal(C.h3_advance(&e.raw, C.uint64_t(id), C.size_t(count)), 0)
 }
 
-// State is what an endpoint tells of a stream's own half.
+// State is what an endpoint tells of a stream.
 type State struct {
 	Waiting         uint64 // bytes that wait to be sent
+	Unread          uint64 // bytes that came and are still held: not handed out, and not read
 	Finished, Reset bool
 }
 
-// State tells of a stream's own half.
+// State tells of a stream.
 func (e *Endpoint) State(id uint64) State {
 	var state C.h3_stream_state
 	C.h3_stream(&e.raw, C.uint64_t(id), &state)
-	return State{uint64(state.waiting), state.is_finished == 1, state.is_reset == 1}
+	return State{uint64(state.waiting), uint64(state.unread), state.is_finished == 1, state.is_reset == 1}
 }
 
 // taken is the refusal of a delivery, of which there is none where the bytes were taken and are read later.

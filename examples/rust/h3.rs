@@ -35,20 +35,25 @@ pub struct Config {
 }
 
 impl Config {
-    /// A client, or a server, that takes field sections of 64 KiB (RFC 9114, section 4.2.2) and has no dynamic table.
+    /// A client, or a server, with the limits of `h3_config_default`: field sections of 65,536 bytes (RFC 9114, section 4.2.2), and a
+    /// dynamic table of 4,096 bytes, for which 16 streams may wait.
     pub fn of(server: bool) -> Config {
-        Config {
-            max_field_section_size: 65_536,
+        let mut config = Config {
+            max_field_section_size: 0,
             max_webtransport_sessions: 0,
             table: 0,
             blocked: 0,
             grease: 0,
-            server: server as u32,
+            server: 0,
             send_grease: 0,
             webtransport: 0,
             extended_connect: 0,
             datagram: 0,
-        }
+        };
+        // SAFETY: it writes the numbers of the config, and nothing else.
+        unsafe { h3_raw_config_default(&mut config) };
+        config.server = server as u32;
+        config
     }
 }
 
@@ -64,6 +69,7 @@ struct RawItem {
 
 #[rustfmt::skip]
 extern "C" {
+    fn h3_raw_config_default(config: *mut Config);
     fn h3_raw_new(config: *const Config, detail: *mut u64, out: *mut Raw) -> u32;
     fn h3_raw_free(endpoint: Raw);
     fn h3_raw_open_request(endpoint: Raw, id: *mut u64, detail: *mut u64, out: *mut Raw) -> u32;

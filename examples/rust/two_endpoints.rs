@@ -100,9 +100,8 @@ fn answer(server: &mut Endpoint, id: u64) -> Result<String, String> {
 
 fn exchange(piece: usize) -> Result<(), String> {
     let refused = |refusal: Refusal| refusal.to_string();
-    let config = |server| Config { table: 4096, blocked: 16, ..Config::of(server) };
-    let mut client = Endpoint::new(&config(false)).map_err(refused)?;
-    let mut server = Endpoint::new(&config(true)).map_err(refused)?;
+    let mut client = Endpoint::new(&Config::of(false)).map_err(refused)?;
+    let mut server = Endpoint::new(&Config::of(true)).map_err(refused)?;
     let (mut to_server, mut to_client) = (Way::default(), Way::default());
     to_client.carry(&mut server, &mut client, piece).map_err(refused)?;
     let id = request(&mut client).map_err(refused)?;

@@ -199,6 +199,24 @@ static void of_counts(h3_endpoint *e, uint64_t id) {
   HOLDS(n == m - 3 && !memcmp(b, c + 3, n));
 }
 
+/* the limits of a default endpoint, and what it announces: a control stream with one SETTINGS frame (RFC 9114, sections 6.2.1 and 7.2.4) */
+static void of_default(void) {
+  static const uint8_t announced[] = {0, 4, 24, 6, 0x80, 1, 0, 0, 8, 0, 0xab, 0x60, 0x37, 0x42, 0, 0x33, 0, 0xab, 0x60, 0x37, 0x43, 0, 1, 0x50, 0, 7, 16};
+  h3_endpoint e = H3_NONE_YET;
+  h3_config c;
+  uint8_t b[64];
+  size_t n = 0;
+  memset(&c, 0xee, sizeof c);
+  h3_config_default(&c);
+  HOLDS(c.max_field_section_size == 65536 && c.table == 4096 && c.blocked == 16);
+  HOLDS(c.max_webtransport_sessions == 0 && c.grease == 0 && c.server == 0 && c.send_grease == 0 && c.webtransport == 0);
+  HOLDS(c.extended_connect == 0 && c.datagram == 0);
+  IS(h3_new(&e, &c, NULL), H3_OK);
+  IS(h3_outgoing(&e, h3_control_id(0), b, sizeof b, &n, NULL), H3_OK);
+  HOLDS(n == sizeof announced && !memcmp(b, announced, n));
+  h3_free(&e);
+}
+
 static void of_items(void) {
   h3_endpoint e = H3_NONE_YET;
   h3_config config;
@@ -349,6 +367,7 @@ int main(void) {
   of_pointers(&e, id);
   h3_free(&e);
   of_none(&e);
+  of_default();
   of_items();
   of_waiting();
   if (!bad) puts("ok arguments: wrong arguments of every kind are answered, and nothing is done");

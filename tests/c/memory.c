@@ -1,6 +1,6 @@
 /* Each allocation of an exchange between two endpoints is refused in turn: the call says so, is made again, and in the end the same items come
  * out. Nothing is left allocated. And once more with a head that waits for two insertions, where each call has to give what was worked out
- * beforehand. Linked with --wrap for malloc, realloc and free. */
+ * beforehand; and a delivery, of which h3_stream says what is held of it. Linked with --wrap for malloc, realloc and free. */
 #include "h3.h"
 #include <stdio.h>
 #include <stdlib.h>
@@ -272,6 +272,37 @@ static long waiting_heads(void) {
   }
 }
 
+static uint64_t unread(uint64_t id) {
+  h3_stream_state state;
+  if (h3_stream(&ends[1], id, &state)) fail("stream", 0);
+  return state.unread;
+}
+
+/* Bytes that memory was refused for: refused ones are not held, and those that were taken are, of the control stream without its type once that was
+ * read. Answers how many were taken so, and were not all read. */
+static long kept(void) {
+  long before = live, count = 0;
+  for (run_number = 0;; run_number++) {
+    h3_config c;
+    uint32_t answer;
+    h3_config_default(&c);
+    c.server = 1;
+    if (h3_new(&ends[1], &c, NULL)) fail("new", 0);
+    left = run_number;
+    answer = h3_deliver(&ends[1], 2, "\x00\x04", 2, NULL);
+    int all = left >= 0;
+    left = -1;
+    if (answer == H3_MEMORY && unread(2)) fail("what was refused is held", (uint32_t)unread(2));
+    if (answer == H3_KEPT && unread(2) != 2 && unread(2) != 1) fail("what was kept is not held", (uint32_t)unread(2));
+    if (answer == H3_OK && unread(2) != 1) fail("another count is held", (uint32_t)unread(2));
+    count += answer == H3_KEPT;
+    if (answer == H3_KEPT && (h3_deliver(&ends[1], 2, "", 0, NULL) || unread(2) != 1)) fail("what was kept is not read", (uint32_t)unread(2));
+    h3_free(&ends[1]);
+    if (live != before) fail("something is left allocated", (uint32_t)(live - before));
+    if (all) return count;
+  }
+}
+
 int main(void) {
   static char expected[sizeof story];
   long before = live;
@@ -293,5 +324,8 @@ int main(void) {
   if (run_number < 100) fail("there were too few allocations", (uint32_t)run_number);
   printf("ok memory: %ld allocations refused in turn, each call made again, the same items came out, nothing left allocated\n", run_number);
   printf("ok memory, a head that waits: %ld allocations refused in turn, each call made again and answered as with memory\n", waiting_heads());
+  long times = kept();
+  if (times < 1) fail("no delivery was kept", 0);
+  printf("ok memory, what is kept: %ld deliveries were kept, and are held until they are read\n", times);
   return 0;
 }

@@ -16,6 +16,23 @@ use Rattle.h3_c.specs.declared.numbers.Told.{Told}
 use Rattle.h3_c.specs.Numbers.{ok, new_told}
 use Rattle.h3_c.specs.Seen.{Seen}
 
+-- `h3_config_default`: a client, whose numbers bound what a stranger can make it hold: a field section of 64 KiB, and a table of 4,096 bytes for
+-- which 16 streams may wait
+abbrev pub default_config : GivenConfig
+default_config =
+    record {
+      max_field_section_size = 65536;
+      max_webtransport_sessions = 0;
+      table = 4096;
+      blocked = 16;
+      grease = 0;
+      server = 0;
+      send_grease = 0;
+      webtransport = 0;
+      extended_connect = 0;
+      datagram = 0;
+    }
+
 -- a number other than 0 means yes
 abbrev pub is_on : ℕ → Bool
 is_on n = not (n == 0)

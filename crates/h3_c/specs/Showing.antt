@@ -5,6 +5,7 @@ use Rattle.h3_connection.specs.Endpoint.{EndpointHistory, bytes_waiting}
 use Rattle.h3_connection.specs.Lasts.{last_id}
 use Rattle.h3_connection.specs.Shown.{has_outgoing, is_finished, is_reset, peer_limits, table_sizes, waiting_heads, block_tries}
 use Rattle.h3_connection.specs.State.{StandsFor}
+use Rattle.h3_connection.specs.Unread.{unread, counted}
 use Rattle.h3_connection.specs.declared.event.PeerLimits.{PeerLimits}
 use Rattle.h3_c.specs.declared.numbers.Told.{Told}
 use Rattle.h3_c.specs.declared.state.ConnectionState.{ConnectionState}
@@ -19,6 +20,7 @@ bit false = 0
 -- `h3_stream_state`
 pub record IsStream (e : EndpointHistory) (id : ℕ) (s : StreamState) : Type 0 where
   pub waiting : s.waiting ≡ length (bytes_waiting e id)
+  pub unread : s.unread ≡ counted (unread e id)
   pub has_outgoing : s.has_outgoing ≡ bit (has_outgoing e id)
   pub is_finished : s.is_finished ≡ bit (is_finished e id)
   pub is_reset : s.is_reset ≡ bit (is_reset e id)

@@ -1,7 +1,7 @@
 //! What an endpoint is made of: `h3_config` of the header.
 ghost use Rattle.std.specs.Prelude.{◌≡◌, ◌≤◌, ◌<◌};
 ghost use Rattle.h3_connection.specs.SendingContracts.{Creates};
-ghost use Rattle.h3_c.specs.Configs.{side_of, config_of, limits_of, announced_of};
+ghost use Rattle.h3_c.specs.Configs.{default_config, side_of, config_of, limits_of, announced_of};
 
 use h3_connection::setup::{Limits, NewError};
 use h3_proto::config::Config;
@@ -23,6 +23,25 @@ pub struct GivenConfig {
     pub webtransport: u32,
     pub extended_connect: u32,
     pub datagram: u32,
+}
+
+impl Default for GivenConfig {
+    ghost is_default = { λ c. c ≡ default_config };
+
+    fn default() -> Self {
+        GivenConfig {
+            max_field_section_size: 1 << 16,
+            max_webtransport_sessions: 0,
+            table: 4096,
+            blocked: 16,
+            grease: 0,
+            server: 0,
+            send_grease: 0,
+            webtransport: 0,
+            extended_connect: 0,
+            datagram: 0,
+        }
+    }
 }
 
 fn side_of(given: &GivenConfig) -> Side

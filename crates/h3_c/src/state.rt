@@ -5,6 +5,7 @@
 #[derive(Copy, Clone)]
 pub struct StreamState {
     pub waiting: u64,
+    pub unread: u64,
     pub has_outgoing: u32,
     pub is_finished: u32,
     pub is_reset: u32,

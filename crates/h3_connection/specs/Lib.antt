@@ -39,6 +39,7 @@ pub mod HandedOut
 pub mod SendingContracts
 pub mod ReceivingContracts
 pub mod ReadingContracts
+pub mod Unread
 pub mod NextWaiting
 pub mod NextWaitingLaws
 pub mod CallLists

@@ -1,5 +1,6 @@
 pub mod Worked
 pub mod KeptRows
+pub mod UnreadRows
 pub mod MessageRows
 pub mod FaultRows
 pub mod TableRows

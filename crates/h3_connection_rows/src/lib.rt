@@ -18,3 +18,4 @@ pub mod server_cases_4;
 pub mod server_cases_5;
 pub mod server_cases_6;
 pub mod table_rows;
+pub mod unread_rows;

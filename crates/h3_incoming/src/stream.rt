@@ -20,6 +20,7 @@ mod frames;
 mod front;
 mod pull;
 mod sections;
+mod unread;
 
 /// What came on a request stream, and how far its message was handed out. A contract sees it as the definitions' `Incoming`.
 #[derive(Drop)]

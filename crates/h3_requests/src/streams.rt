@@ -17,6 +17,7 @@ mod judged;
 mod pulling;
 mod receiving;
 mod sending;
+mod unread;
 
 /// The request streams of a connection, by their ids. A contract sees the list of them, and finds one by `kept_at`.
 #[derive(Drop)]

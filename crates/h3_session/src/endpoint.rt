@@ -26,6 +26,7 @@ mod reading;
 mod receiving;
 mod sending;
 mod showing;
+mod unread;
 
 /// One endpoint of a connection: what was sent and what came on all its streams. It reads no socket: the caller delivers what
 /// comes, and takes what waits to be sent. A contract sees it as the definitions' `EndpointState`.

@@ -12,3 +12,4 @@ mod FirstFrames
 mod EarlyReads
 mod Told
 mod ArrivedBytes
+pub mod Unread

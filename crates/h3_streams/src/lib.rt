@@ -10,3 +10,4 @@ mod map;
 mod readers;
 mod roles;
 pub mod streams;
+mod unread;

@@ -58,6 +58,13 @@ impl Decoding {
         &self.decoder
     }
 
+    /// How many bytes of the stream are not read.
+    pub fn unread_len(&self) -> usize
+        ensures { result ≡ length self.now.unread }
+    {
+        self.unread.len()
+    }
+
     /// More of the stream, which is kept until it is read. A refusal changes nothing.
     pub fn push(&mut self, bytes: &[u8]) -> Result<(), AllocError>
         ensures ok { OnOk result (self.new ≡ record self.old { unread = self.old.unread ++ bytes.now }) }

@@ -1,5 +1,5 @@
 //! The own encoder, and the peer's decoder stream that tells it what was received (RFC 9204, section 4.4).
-ghost use Rattle.std.specs.Prelude.{◌≡◌, ◌<◌, ◌^◌, ◌++◌, [], Some, None, IfOk, IfErr, OnOk, OnErr};
+ghost use Rattle.std.specs.Prelude.{◌≡◌, ◌<◌, ◌^◌, ◌++◌, [], length, Some, None, IfOk, IfErr, OnOk, OnErr};
 ghost use Rattle.h3_field.specs.Field.{section_size};
 ghost use Rattle.h3_qpack.specs.Drafting.{IsSent, IsCutOff};
 ghost use Rattle.h3_qpack.specs.EncoderHistory.{EncoderHistory, no_table, withdrawn, writing_on};
@@ -54,6 +54,13 @@ impl Encoding {
             unread: Vec::new(alloc),
             wait: Wait::Unknown,
         }
+    }
+
+    /// How many bytes of the stream are not read.
+    pub fn unread_len(&self) -> usize
+        ensures { result ≡ length self.now.unread }
+    {
+        self.unread.len()
     }
 
     /// More of the stream, which is kept until it is read. A refusal changes nothing.

@@ -15,6 +15,8 @@ use h3_wire::buf::BufList;
 use std::alloc::Global;
 use std::marker::Model;
 
+mod unread;
+
 /// What it is read as.
 #[derive(Clone, Copy)]
 pub enum Kind {

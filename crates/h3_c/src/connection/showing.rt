@@ -21,6 +21,7 @@ impl Connection {
         };
         *state = StreamState {
             waiting: self.endpoint.waiting(id) as u64,
+            unread: self.endpoint.unread(id),
             has_outgoing: self.endpoint.has_outgoing(id) as u32,
             is_finished: self.endpoint.is_finished(id) as u32,
             is_reset: self.endpoint.is_reset(id) as u32,

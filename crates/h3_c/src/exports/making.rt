@@ -1,6 +1,6 @@
 //! What C calls: making and freeing.
 ghost use Rattle.std.specs.Prelude.{◌≡◌, ◌<◌, ◌≤◌, IsSome};
-ghost use Rattle.h3_c.specs.Configs.{Makes};
+ghost use Rattle.h3_c.specs.Configs.{Makes, default_config};
 ghost use Rattle.h3_c.specs.Numbers.{number, argument};
 
 use crate::config::GivenConfig;
@@ -8,6 +8,14 @@ use crate::connection::made;
 use crate::handle::{Handle, kept, opened};
 use crate::numbers::OK;
 use std::alloc::Global;
+
+/// A client whose limits are fit for a peer that is not trusted.
+#[unsafe(no_mangle)]
+pub extern "C" fn h3_raw_config_default(config: &mut GivenConfig)
+    ensures { config.new ≡ default_config }
+{
+    *config = GivenConfig::default();
+}
 
 /// Makes an endpoint. The handle is written where `H3_OK` is answered.
 #[tactic(auto, using(crate::proofs::Making::made, crate::proofs::Making::unmade))]
