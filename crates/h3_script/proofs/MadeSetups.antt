@@ -1,7 +1,8 @@
 -- The setup of a script is one that `Setup::new` makes.
 use Rattle.std.proofs.Common.{◌≡◌, ℕ, Bool, true, false, List, [], ◌∷◌, codes, bytes_eq, nat_le, nat_lt, ◌^◌, Option, Some, None, Result, Ok, Err, sym, ap, subst, arith, if◌then◌else◌}
 use Rattle.std.specs.Result.{result_ok}
-use Rattle.h3_proto.specs.Config.{announced}
+use Rattle.h3_proto.specs.Config.{announced, no_choices}
+use Rattle.h3_proto.specs.declared.config.Choices.{Choices}
 use Rattle.h3_proto.specs.declared.frame.SettingsError.{SettingsError}
 use Rattle.h3_connection.specs.Announcing.{announced_by, with_limits}
 use Rattle.h3_connection.specs.declared.setup.Announced.{Announced}
@@ -15,21 +16,21 @@ use Rattle.h3_script.specs.Words.{words_of, number_of}
 use Rattle.h3_script.specs.ScriptLine.{config_of, setup_by, setup_of}
 use Rattle.h3_script.specs.Script.{lines_of, said, SaysSoFar, IsScript}
 
-limits_of : (b d : Bool) (r : Result (List (ℕ × ℕ)) SettingsError) (limits : Limits) (a : Announced)
-    → (if b then Err TableLimit else (if d then Err BlockedLimit else with_limits r limits)) ≡ Ok a → a.limits ≡ limits
-limits_of true d r limits a h = cc
-limits_of false true r limits a h = cc
-limits_of false false (Err e) limits a h = cc
-limits_of false false (Ok pairs) limits a h = cc
+limits_of : (b d : Bool) (r : Result (List (ℕ × ℕ)) SettingsError) (limits : Limits) (choices : Choices) (a : Announced)
+    → (if b then Err TableLimit else (if d then Err BlockedLimit else with_limits r limits choices)) ≡ Ok a → a.limits ≡ limits
+limits_of true d r limits choices a h = cc
+limits_of false true r limits choices a h = cc
+limits_of false false (Err e) limits choices a h = cc
+limits_of false false (Ok pairs) limits choices a h = cc
 
-made_by : (section : ℕ) (limits : Limits) (a : Announced) → announced_by (announced (config_of section) 0) limits ≡ Ok a → IsMade a
+made_by : (section : ℕ) (limits : Limits) (a : Announced) → announced_by (announced (config_of section) 0) limits no_choices ≡ Ok a → IsMade a
 made_by section limits a h =
-    let same : a.limits ≡ limits = limits_of (nat_le (2 ^ 30) limits.table) (nat_lt 65535 limits.blocked) (announced (config_of section) 0) limits a h in
+    let same : a.limits ≡ limits = limits_of (nat_le (2 ^ 30) limits.table) (nat_lt 65535 limits.blocked) (announced (config_of section) 0) limits no_choices a h in
     record {
       config = config_of section;
       grease = 0;
       small = omega arith;
-      made = subst (λ l. announced_by (announced (config_of section) 0) l ≡ Ok a) (sym same) h;
+      made = subst (λ l. announced_by (announced (config_of section) 0) l no_choices ≡ Ok a) (sym same) h;
     }
 
 both_made : (x y : Result Announced NewError) (setup : Setup) → result_ok (both x y) ≡ Some setup → (x ≡ Ok setup.client) × (y ≡ Ok setup.server)
@@ -49,7 +50,7 @@ setup_made (Some a) (Some b) (Some c) (Some d) (Some e) None setup h = cc
 setup_made (Some a) (Some b) (Some c) (Some d) (Some e) (Some f) setup h =
     let client : Limits = record { table = b; blocked = c } in
     let server : Limits = record { table = e; blocked = f } in
-    let sides = both_made (announced_by (announced (config_of a) 0) client) (announced_by (announced (config_of d) 0) server) setup h in
+    let sides = both_made (announced_by (announced (config_of a) 0) client no_choices) (announced_by (announced (config_of d) 0) server no_choices) setup h in
     record { client = made_by a client setup.client sides.0; server = made_by d server setup.server sides.1 }
 
 if_setup : (b : Bool) (found : Option Setup) (setup : Setup) → (if b then found else None) ≡ Some setup → found ≡ Some setup

@@ -30,7 +30,7 @@ pub record IsMade (a : Announced) : Type 0 where
   pub config : Config
   pub grease : ℕ
   pub small : grease < 0x210842108421083
-  pub made : announced_by (announced config grease) a.limits ≡ Ok a
+  pub made : announced_by (announced config grease) a.limits config.choices ≡ Ok a
 
 -- what `Setup::new` makes
 pub record IsMadeSetup (setup : Setup) : Type 0 where
