@@ -34,7 +34,7 @@ config_of given =
         enable_datagram = is_on given.datagram;
         max_webtransport_sessions = given.max_webtransport_sessions;
       };
-      choices = no_choices;
+      choices = record no_choices { strict_messages = is_on given.strict };
     }
 
 abbrev pub limits_of : GivenConfig → Limits

@@ -1,5 +1,6 @@
 -- What an endpoint announces (RFC 9114, section 7.2.4; RFC 9204, section 5).
-use Rattle.std.specs.Prelude.{ℕ, ◌-◌, ◌^◌, List, [], ◌∷◌, ◌++◌, nat_le, nat_lt, if◌then◌else◌, unwrap_or, Result, Ok, Err}
+use Rattle.std.specs.Prelude.{ℕ, Bool, ◌-◌, ◌^◌, List, [], ◌∷◌, ◌++◌, nat_le, nat_lt, if◌then◌else◌, unwrap_or, Result, Ok, Err}
+use Rattle.h3_proto.specs.Config.{is_enabled}
 use Rattle.h3_proto.specs.Settings.{value_of}
 use Rattle.h3_proto.specs.declared.config.Choices.{Choices}
 use Rattle.h3_proto.specs.declared.frame.SettingsError.{SettingsError}
@@ -21,3 +22,7 @@ announced_by settings limits choices =
 -- the greatest size of a field section that the endpoint takes
 abbrev pub section_of : Announced → ℕ
 section_of a = unwrap_or (value_of 6 a.settings) (2 ^ 62 - 1)
+
+-- it takes requests of extended CONNECT (RFC 9220, section 3)
+abbrev pub connects : Announced → Bool
+connects a = is_enabled 8 a.settings

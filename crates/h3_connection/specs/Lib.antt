@@ -1,6 +1,7 @@
 pub mod Hearing
 pub mod DecodedSection
 pub mod Announcing
+pub mod StrictMessages
 pub mod Codes
 pub mod MalformationCodes
 pub mod FaultTexts

@@ -1,7 +1,7 @@
 //! What an endpoint announces.
 ghost use Rattle.std.specs.Prelude.{◌≡◌, ◌<◌, ◌≤◌, ◌^◌, IfOk, IfErr};
 ghost use Rattle.h3_proto.specs.Config.{announced};
-ghost use Rattle.h3_connection.specs.Announcing.{announced_by, section_of};
+ghost use Rattle.h3_connection.specs.Announcing.{announced_by, connects, section_of};
 
 use h3_coding::varint::VarInt;
 use h3_proto::config::{Choices, Config};
@@ -71,5 +71,15 @@ impl Announced {
         self.settings
             .get(SettingId::MAX_HEADER_LIST_SIZE)
             .unwrap_or(VarInt::MAX.into_inner())
+    }
+
+    /// Whether it takes requests of extended CONNECT (RFC 9220, section 3).
+    pub fn extended_connect(&self) -> bool
+        ensures { result ≡ connects self.now }
+    {
+        self.settings
+            .get(SettingId::ENABLE_CONNECT_PROTOCOL)
+            .unwrap_or(0)
+            != 0
     }
 }

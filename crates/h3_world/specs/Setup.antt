@@ -1,5 +1,5 @@
 -- What a client and a server announce (RFC 9114, section 7.2.4, and RFC 9204, section 5).
-use Rattle.std.specs.Prelude.{◌≡◌, ℕ, ◌<◌, Bool, Result, Ok, Err}
+use Rattle.std.specs.Prelude.{◌≡◌, ℕ, ◌<◌, Bool, false, Result, Ok, Err}
 use Rattle.h3_proto.specs.declared.config.Config.{Config}
 use Rattle.h3_proto.specs.Config.{announced}
 use Rattle.h3_proto.specs.declared.stream.Side.{Side}
@@ -20,6 +20,14 @@ both (Ok client) (Err e) = Err e
 abbrev pub announced_at : Setup → Side → Announced
 announced_at setup Client = setup.client
 announced_at setup Server = setup.server
+
+-- it asks for no strict messages
+abbrev pub IsPlain : Announced → Type 0
+IsPlain a = a.choices.strict_messages ≡ false
+
+-- and neither side does
+abbrev pub JudgesPlainly : Setup → Type 0
+JudgesPlainly setup = (side : Side) → IsPlain (announced_at setup side)
 
 -- An encoder uses the table of a peer that announces such limits (RFC 9204, section 3.2.3).
 abbrev pub has_table : Limits → Bool
