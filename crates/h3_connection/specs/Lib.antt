@@ -17,6 +17,7 @@ pub mod SkippingLaws
 pub mod PeerReadingLaws
 pub mod Incoming
 pub mod Pulling
+pub mod StrictPulls
 pub mod Unidirectional
 pub mod Outgoing
 pub mod WaitingPieces

@@ -30,10 +30,14 @@ malformation_by violation.ContentLength = malformation.ContentLength
 malformation_by violation.TrailerField = malformation.TrailerField
 malformation_by violation.Value = malformation.Value
 
--- a head at a server is that of a request, and at a client that of a response; behind it comes a trailer
+-- a server reads requests, and a client responses
+abbrev pub violation_of_head : Side → Announced → List Field → Option Violation
+violation_of_head Client own fields = violation_of_response fields
+violation_of_head Server own fields = violation_of_request (connects own) fields
+
+-- behind the head comes a trailer
 abbrev pub violation_at : Side → Announced → Place → List Field → Option Violation
-violation_at Server own BeforeHead fields = violation_of_request (connects own) fields
-violation_at Client own BeforeHead fields = violation_of_response fields
+violation_at side own BeforeHead fields = violation_of_head side own fields
 violation_at side own _ fields = violation_of_trailer fields
 
 abbrev pub broken_rule : Side → Announced → Place → List Field → Option Malformation

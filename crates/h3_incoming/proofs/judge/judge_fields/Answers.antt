@@ -2,6 +2,7 @@ use Rattle.std.proofs.Common.{[], ◌∙◌, ap, sym}
 use Rattle.std.proofs.lemmas.Result.{IfOk-weaker, IfErr-weaker}
 use Rattle.h3_header.specs.Head.{trailer_head}
 use Rattle.h3_connection.specs.Pulling.{head_or_trailer}
+use Rattle.h3_connection.specs.StrictMessages.{broken_rule}
 use Rattle.h3_incoming.specs.Judging.{judged_as}
 use Rattle.h3_incoming.proofs.JudgeLaws.{read_head, read_none, wants_memory}
 use Rattle.h3_incoming.proofs.judge.judge_fields.Goals as goal
@@ -9,7 +10,8 @@ use Rattle.h3_incoming.proofs.judge.judge_fields.Goals as goal
 pub returns-in-Ok-clause-ok : goal.returns-in-Ok-clause-ok
 returns-in-Ok-clause-ok c = λ id r i replies few at.
     read_head c.args.side c.args.announced.now id r i replies c.args.fields.items c.args.place c.in-Ok.header few (c.lists_are_their_value.ensures.head _ _ c.in-Ok.ensures.ok) at
-    ∙ ap (λ b. head_or_trailer c.args.side id i replies b c.args.place c.in-Ok.header) (sym c.broken_rule-broken.ensures)
+    ∙ ap (λ b. head_or_trailer c.args.side id i replies b c.args.place c.in-Ok.header)
+        (ap (broken_rule c.args.side c.args.announced.now c.args.place) (sym c.as_slice.ensures) ∙ sym c.broken_rule-broken.ensures)
     ∙ c.judge_header.ensures id i replies at
 
 pub returns-in-Err-clause-ok : goal.returns-in-Err-clause-ok
