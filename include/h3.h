@@ -228,6 +228,7 @@ typedef struct {
   uint32_t webtransport;
   uint32_t extended_connect;          /* RFC 9220 */
   uint32_t datagram;                  /* RFC 9297 */
+  uint32_t strict;                    /* whether heads and trailers are judged by all of RFC 9114, sections 4.2 to 4.5: see h3_malformation */
 } h3_config;
 
 /* A client whose limits are fit for a peer that is not trusted: it takes field sections of at most 65,536 bytes, and has a dynamic table of 4,096
@@ -358,14 +359,27 @@ static inline const char *h3_kind_text(uint32_t kind) {
   }
 }
 
-/* Why a message is none, in the order in which it is judged. */
+/* Why a message is none. Each endpoint tells the first six, in the order in which it judges; those from 6 on are told where `strict` is set. */
 enum h3_malformation {
   H3_BAD_NAME = 0,
-  H3_BAD_VALUE = 1,
+  H3_BAD_VALUE = 1, /* where `strict` is set also: white space stands around a value */
   H3_TOO_MANY = 2,
   H3_HEAD_OF_WRONG_SIDE = 3,
   H3_PSEUDO_FIELD_IN_TRAILER = 4,
-  H3_NO_HEAD = 5
+  H3_NO_HEAD = 5,
+  H3_LATE_PSEUDO_FIELD = 6,     /* a pseudo-header field stands behind a regular field (RFC 9114, section 4.3) */
+  H3_WRONG_PSEUDO_FIELD = 7,    /* a pseudo-header field is not of this side (4.3) */
+  H3_REPEATED_PSEUDO_FIELD = 8, /* a pseudo-header field comes twice (4.3) */
+  H3_CONNECTION_FIELD = 9,      /* a connection-specific field, or a te that is not "trailers" in a request (4.2) */
+  H3_BAD_CONTENT_LENGTH = 10,   /* no number, twice, or not with this status (RFC 9110, section 8.6) */
+  H3_BAD_PROTOCOL = 11,         /* :protocol without CONNECT, or where `extended_connect` is not set (RFC 8441, section 4; RFC 9220, section 3) */
+  H3_BAD_CONNECT = 12,          /* CONNECT without :authority, or plain CONNECT with :scheme or :path (4.4) */
+  H3_MISSING_PSEUDO_FIELD = 13, /* a request without :method, :scheme or :path, a response without :status (4.3.1, 4.3.2) */
+  H3_BAD_SCHEME = 14,           /* empty, or does not begin with a letter (RFC 3986, section 3.1) */
+  H3_BAD_AUTHORITY = 15,        /* missing, empty, with userinfo; host twice, no authority, or unlike :authority (4.3.1; RFC 9110, section 7.2) */
+  H3_BAD_PATH = 16,             /* does not begin with '/' and is not "*" for OPTIONS, or has a fragment (4.3.1) */
+  H3_BAD_STATUS = 17,           /* 101 (4.5) */
+  H3_NO_TRAILER_FIELD = 18      /* content-length or host in a trailer (RFC 9110, section 6.5.1) */
 };
 
 typedef struct {

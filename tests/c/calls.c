@@ -26,7 +26,9 @@ static const char *code_name(uint64_t code) {
 static const char *const refusals[] = {"ok", "Closed", "Connection", "NotReceiving", "AfterEnd", "Kept", "NotClient", "GoingAway", "IdsUsedUp", "NotOpen",
                                        "OutOfOrder", "WrongSide", "PseudoInTrailer", "TooLarge", "Critical", "Ended", "NotRequestId", "Raised",
                                        "OutOfMemory", "TableLimit", "BlockedLimit", "Settings"};
-static const char *const malformations[] = {"Name", "Value", "TooMany", "WrongSide", "PseudoInTrailer", "NoHead"};
+static const char *const malformations[] = {"Name", "Value", "TooMany", "WrongSide", "PseudoInTrailer", "NoHead",
+                                            "PseudoOrder", "WrongPseudo", "RepeatedPseudo", "ConnectionField", "ContentLength", "Protocol", "Connect",
+                                            "MissingPseudo", "Scheme", "Authority", "Path", "Status", "TrailerField"};
 
 static void answer(uint32_t n, uint64_t detail) {
   if (n == H3_OK)
@@ -161,7 +163,7 @@ static void show(void) {
   printf(" %llu %llu %llu\n", (unsigned long long)s.sending_table, (unsigned long long)s.receiving_table, (unsigned long long)s.waiting_heads);
 }
 
-static void begin(char **words) {
+static void begin(char **words, size_t count) {
   h3_config c;
   uint64_t detail;
   h3_config_default(&c);
@@ -169,6 +171,10 @@ static void begin(char **words) {
   c.max_field_section_size = strtoull(words[2], NULL, 10);
   c.table = strtoull(words[3], NULL, 10);
   c.blocked = strtoull(words[4], NULL, 10);
+  for (size_t i = 5; i < count; i++) {
+    c.strict |= !strcmp(words[i], "strict");
+    c.extended_connect |= !strcmp(words[i], "connect");
+  }
   h3_endpoint made = H3_NONE_YET;
   uint32_t n = h3_new(&made, &c, &detail);
   answer(n, detail);
@@ -275,7 +281,7 @@ static void call(char *line) {
   }
   for (char *word = strtok(line + 5, " "); word && count < 600; word = strtok(NULL, " ")) words[count++] = word;
   uint64_t id, detail;
-  if (!strcmp(words[0], "new") && count == 5) begin(words);
+  if (!strcmp(words[0], "new") && count >= 5) begin(words, count);
   else if (!strcmp(words[0], "open")) {
     uint32_t n = h3_open_request(&endpoint, &id, &detail);
     if (n) answer(n, detail);

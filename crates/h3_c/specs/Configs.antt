@@ -1,6 +1,6 @@
 -- What an endpoint is made of.
 use Rattle.std.specs.Prelude.{◌≡◌, ℕ, Bool, not, ◌==◌, if◌then◌else◌, Option, Some, Result, Ok, Err}
-use Rattle.h3_proto.specs.Config.{announced}
+use Rattle.h3_proto.specs.Config.{announced, no_choices}
 use Rattle.h3_proto.specs.declared.config.Config.{Config}
 use Rattle.h3_proto.specs.declared.stream.Side.{Side}
 use Rattle.h3_proto.specs.declared.stream.Side.TheVariants.{Client, Server}
@@ -51,6 +51,7 @@ config_of given =
         enable_datagram = is_on given.datagram;
         max_webtransport_sessions = given.max_webtransport_sessions;
       };
+      choices = record no_choices { strict_messages = is_on given.strict };
     }
 
 abbrev pub limits_of : GivenConfig → Limits
@@ -58,7 +59,7 @@ limits_of given = record { table = given.table; blocked = given.blocked }
 
 -- what is announced, or the first refusal
 abbrev pub announced_of : GivenConfig → Result Announced NewError
-announced_of given = announced_by (announced (config_of given) given.grease) (limits_of given)
+announced_of given = announced_by (announced (config_of given) given.grease) (limits_of given) (config_of given).choices
 
 abbrev pub made_told : Result EndpointState NewError → Told
 made_told (Ok s) = ok

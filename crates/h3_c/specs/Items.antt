@@ -51,6 +51,19 @@ malformation_number malformation.TooMany = 2
 malformation_number malformation.WrongSide = 3
 malformation_number malformation.PseudoInTrailer = 4
 malformation_number malformation.NoHead = 5
+malformation_number malformation.PseudoOrder = 6
+malformation_number malformation.WrongPseudo = 7
+malformation_number malformation.RepeatedPseudo = 8
+malformation_number malformation.ConnectionField = 9
+malformation_number malformation.ContentLength = 10
+malformation_number malformation.Protocol = 11
+malformation_number malformation.Connect = 12
+malformation_number malformation.MissingPseudo = 13
+malformation_number malformation.Scheme = 14
+malformation_number malformation.Authority = 15
+malformation_number malformation.Path = 16
+malformation_number malformation.Status = 17
+malformation_number malformation.TrailerField = 18
 
 abbrev pub fault_shown : StreamFault → PulledItem
 fault_shown (stream_fault.Malformed why) = numbered 13 (malformation_number why)

@@ -75,6 +75,19 @@ fn malformation_number(why: Malformation) -> u64
         Malformation::WrongSide => 3,
         Malformation::PseudoInTrailer => 4,
         Malformation::NoHead => 5,
+        Malformation::PseudoOrder => 6,
+        Malformation::WrongPseudo => 7,
+        Malformation::RepeatedPseudo => 8,
+        Malformation::ConnectionField => 9,
+        Malformation::ContentLength => 10,
+        Malformation::Protocol => 11,
+        Malformation::Connect => 12,
+        Malformation::MissingPseudo => 13,
+        Malformation::Scheme => 14,
+        Malformation::Authority => 15,
+        Malformation::Path => 16,
+        Malformation::Status => 17,
+        Malformation::TrailerField => 18,
     }
 }
 

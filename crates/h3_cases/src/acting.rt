@@ -26,9 +26,7 @@ pub fn answer(told: &mut Told, endpoint: &mut Option<Endpoint>, words: &[&str]) 
 /// Makes a call of the endpoint, where there is one, or makes a new one.
 fn perform(told: &mut Told, endpoint: &mut Option<Endpoint>, call: Call) {
     match call {
-        Call::New(side, section, table, blocked) => {
-            begin(told, endpoint, (side, section), Limits { table, blocked });
-        }
+        Call::New(side, config, limits) => begin(told, endpoint, (side, config), limits),
         call => match endpoint {
             Some(endpoint) => act(told, endpoint, call),
             None => {
@@ -40,11 +38,8 @@ fn perform(told: &mut Told, endpoint: &mut Option<Endpoint>, call: Call) {
 }
 
 /// A new endpoint takes the place of the one before.
-fn begin(told: &mut Told, endpoint: &mut Option<Endpoint>, asked: (Side, u64), limits: Limits) {
-    let (side, section) = asked;
-    let config = Config::default()
-        .with_grease(false)
-        .with_max_field_section_size(section);
+fn begin(told: &mut Told, endpoint: &mut Option<Endpoint>, asked: (Side, Config), limits: Limits) {
+    let (side, config) = asked;
     match Endpoint::new(told.alloc(), side, config, limits, 0) {
         Ok(made) => {
             if let Some(before) = endpoint.replace(made) {
@@ -62,7 +57,7 @@ fn begin(told: &mut Told, endpoint: &mut Option<Endpoint>, asked: (Side, u64), l
 /// What a call answers.
 fn act(told: &mut Told, endpoint: &mut Endpoint, call: Call) {
     match call {
-        Call::New(_, _, _, _) => told.unreadable(),
+        Call::New(_, _, _) => told.unreadable(),
         Call::Open => opened(told, endpoint.open_request()),
         Call::Head(id, head) => send_head(told, endpoint, id, head),
         Call::Body(id, body) => sent(told, endpoint.send_body(id, body)),

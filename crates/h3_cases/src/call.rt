@@ -1,14 +1,16 @@
 //! What a line asks of an endpoint.
 use bytes::Bytes;
 use h3_coding::varint::VarInt;
+use h3_connection::setup::Limits;
 use h3_header::Header;
+use h3_proto::config::Config;
 use h3_proto::stream::{Side, StreamId};
 
 /// What a line asks of an endpoint.
 #[derive(Drop)]
 pub enum Call {
-    /// A new endpoint in place of the one before, with its section size, its table and how many streams may wait.
-    New(Side, u64, u64, u64),
+    /// A new endpoint in place of the one before.
+    New(Side, Config, Limits),
     Open,
     Head(StreamId, Header),
     Body(StreamId, Bytes),

@@ -4,7 +4,9 @@ use crate::case::Told;
 use crate::ids;
 use crate::sections::fields;
 use h3_coding::varint::VarInt;
+use h3_connection::setup::Limits;
 use h3_header::Header;
+use h3_proto::config::Config;
 use h3_proto::stream::{Side, StreamId};
 use http_header::HeaderMap;
 
@@ -53,13 +55,35 @@ fn side(told: &mut Told, word: &str) -> Side {
     }
 }
 
-fn new(told: &mut Told, side_word: &str, limits: &[&str]) -> Call {
-    let [section, table, blocked] = limits else {
+fn new(told: &mut Told, side_word: &str, words: &[&str]) -> Call {
+    let [section, table, blocked, choices @ ..] = words else {
         return unreadable(told);
     };
     let side = side(told, side_word);
-    let (section, table) = (told.number(*section), told.number(*table));
-    Call::New(side, section, table, told.number(*blocked))
+    let section = told.number(*section);
+    let limits = Limits {
+        table: told.number(*table),
+        blocked: told.number(*blocked),
+    };
+    Call::New(side, config(told, section, choices), limits)
+}
+
+/// A setup with this section size and these choices.
+fn config(told: &mut Told, section: u64, choices: &[&str]) -> Config {
+    let mut config = Config::default()
+        .with_grease(false)
+        .with_max_field_section_size(section);
+    for choice in choices {
+        config = match *choice {
+            "strict" => config.with_strict_messages(true),
+            "connect" => config.with_extended_connect(true),
+            _ => {
+                told.unreadable();
+                config
+            }
+        };
+    }
+    config
 }
 
 /// A call on a stream.

@@ -36,3 +36,4 @@ pub mod CallCuts
 pub mod UnknownStreams
 pub mod EndedWell
 pub mod EndOverLists
+pub mod WellFormed

@@ -21,7 +21,8 @@ use Rattle.h3_connection.specs.Announcing.{section_of}
 use Rattle.h3_qpack.specs.DecodedSection.{DecodedSection, Fields, Missing, BadSection, decode_section}
 use Rattle.h3_connection.specs.Incoming.{Incoming, is_body}
 use Rattle.h3_connection.specs.Skipping.{skipped}
-use Rattle.h3_connection.specs.Pulling.{Pulled, just, connection_fault, malformed, whole_head, whole_trailer, head_or_trailer, judged, read_section, decoded, at_section, new_section, at_end, at_frame, framed, next_frame, between_frames, in_message, next_item, pull_stream, in_payload, body_of, raw_of, raw, tried, past_section, begun_section, begun_payload, left_with, is_for, is_client, is_interim, told_size}
+use Rattle.h3_connection.specs.StrictMessages.{broken_rule}
+use Rattle.h3_connection.specs.Pulling.{Pulled, just, connection_fault, malformed, unless_broken, whole_head, whole_trailer, head_or_trailer, judged, read_section, decoded, at_section, new_section, at_end, at_frame, framed, next_frame, between_frames, in_message, next_item, pull_stream, in_payload, body_of, raw_of, raw, tried, past_section, begun_section, begun_payload, left_with, is_for, is_client, is_interim, told_size}
 use Rattle.h3_connection.specs.declared.setup.Announced.{Announced}
 use Rattle.h3_connection.specs.declared.event.Malformation.{Malformation}
 use Rattle.h3_connection.specs.declared.event.Pull.{Pull}
@@ -81,21 +82,28 @@ raw_good : (i : Incoming) (found : Option (List ℕ) × List (List ℕ)) → Rea
 raw_good i (None, pieces) h = raw_none i.ended i pieces h
 raw_good i (Some bytes, pieces) h = good _ (ready_as i _ (refl, refl) h)
 
-head_good : (side : Side) (id : ℕ) (i : Incoming) (replies : List DecoderInstruction) (h : Head) → Ready i → Good (whole_head side id i replies h)
-head_good side id i replies h r = either (not (is_for side h)) _ _ (gives_up id _ i replies r) (either (is_client side && is_interim h.status) _ _ (good _ r) (good _ (ready_as i _ (refl, refl) r)))
+unbroken_good : (id : ℕ) (i : Incoming) (replies : List DecoderInstruction) (broken : Option Malformation) (p : Pulled) → Ready i → Good p → Good (unless_broken id i replies broken p)
+unbroken_good id i replies None p r g = g
+unbroken_good id i replies (Some why) p r g = gives_up id why i replies r
 
-trailer_good : (id : ℕ) (i : Incoming) (replies : List DecoderInstruction) (h : Head) → Ready i → Good (whole_trailer id i replies h)
-trailer_good id i replies h r = either (has_pseudo h) _ _ (gives_up id _ i replies r) (good _ (ready_as i _ (refl, refl) r))
+head_good : (side : Side) (id : ℕ) (i : Incoming) (replies : List DecoderInstruction) (broken : Option Malformation) (h : Head) → Ready i → Good (whole_head side id i replies broken h)
+head_good side id i replies broken h r =
+    either (not (is_for side h)) _ _ (gives_up id _ i replies r)
+    (unbroken_good id i replies broken _ r (either (is_client side && is_interim h.status) _ _ (good _ r) (good _ (ready_as i _ (refl, refl) r))))
 
-section_good : (side : Side) (id : ℕ) (i : Incoming) (replies : List DecoderInstruction) (place : Place) (h : Head) → Ready i → Good (head_or_trailer side id i replies place h)
-section_good side id i replies BeforeHead h r = head_good side id i replies h r
-section_good side id i replies InBody h r = trailer_good id i replies h r
-section_good side id i replies AfterTrailer h r = trailer_good id i replies h r
-section_good side id i replies InSession h r = trailer_good id i replies h r
+trailer_good : (id : ℕ) (i : Incoming) (replies : List DecoderInstruction) (broken : Option Malformation) (h : Head) → Ready i → Good (whole_trailer id i replies broken h)
+trailer_good id i replies broken h r = either (has_pseudo h) _ _ (gives_up id _ i replies r) (unbroken_good id i replies broken _ r (good _ (ready_as i _ (refl, refl) r)))
 
-judged_good : (side : Side) (id : ℕ) (i : Incoming) (replies : List DecoderInstruction) (read : HeadRead) → Ready i → Good (judged side id i replies read)
-judged_good side id i replies (IsNone why) r = gives_up id _ i replies r
-judged_good side id i replies (IsHead h) r = section_good side id i replies i.place h r
+section_good : (side : Side) (id : ℕ) (i : Incoming) (replies : List DecoderInstruction) (broken : Option Malformation) (place : Place) (h : Head) → Ready i
+    → Good (head_or_trailer side id i replies broken place h)
+section_good side id i replies broken BeforeHead h r = head_good side id i replies broken h r
+section_good side id i replies broken InBody h r = trailer_good id i replies broken h r
+section_good side id i replies broken AfterTrailer h r = trailer_good id i replies broken h r
+section_good side id i replies broken InSession h r = trailer_good id i replies broken h r
+
+judged_good : (side : Side) (id : ℕ) (i : Incoming) (replies : List DecoderInstruction) (broken : Option Malformation) (read : HeadRead) → Ready i → Good (judged side id i replies broken read)
+judged_good side id i replies broken (IsNone why) r = gives_up id _ i replies r
+judged_good side id i replies broken (IsHead h) r = section_good side id i replies broken i.place h r
 
 tried_twice : (i : Incoming) → WaitsOnce i → TriesTwice (tried i)
 tried_twice i once = elim (cases_eq i.waits_for 0) [
@@ -111,7 +119,7 @@ tried_first i is = rw is refl
 
 module _ (side : Side) (own : Announced) (id : ℕ) (r : DecoderState) where
   read_good : (i : Incoming) (replies : List DecoderInstruction) (fields : List Field) → Ready i → Good (read_section side own id r i replies fields)
-  read_good i replies fields h = either (nat_lt (section_of own) (told_size fields)) _ _ (good _ (ready_as i _ (refl, refl) h)) (judged_good side id i replies (head_of fields) h)
+  read_good i replies fields h = either (nat_lt (section_of own) (told_size fields)) _ _ (good _ (ready_as i _ (refl, refl) h)) (judged_good side id i replies (broken_rule side own i.place fields) (head_of fields) h)
 
   missing_good : (i : Incoming) (count : ℕ) (first : Bool) → (i.waits_for == 0) ≡ first → Ready i
       → Good (if first then just (pull.Waiting count) (record (tried i) { waits_for = count }) else connection_fault 0x200 (past_section i))

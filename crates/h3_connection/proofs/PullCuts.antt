@@ -25,7 +25,8 @@ use Rattle.h3_connection.specs.Delivering.{kept}
 use Rattle.h3_connection.specs.Incoming.{Incoming, is_body}
 use Rattle.h3_connection.specs.Skipping.{is_empty_data, skipped}
 use Rattle.h3_connection.specs.SkippingLaws.{found_not_empty}
-use Rattle.h3_connection.specs.Pulling.{Pulled, just, connection_fault, malformed, whole_head, whole_trailer, head_or_trailer, judged, read_section, decoded, at_section, new_section, at_end, at_frame, framed, next_frame, between_frames, in_message, next_item, pull_stream, in_payload, body_of, raw_of, raw, past_section, begun_section, begun_payload, left_with, is_for, is_client, is_interim, told_size}
+use Rattle.h3_connection.specs.StrictMessages.{broken_rule}
+use Rattle.h3_connection.specs.Pulling.{Pulled, just, connection_fault, malformed, unless_broken, whole_head, whole_trailer, head_or_trailer, judged, read_section, decoded, at_section, new_section, at_end, at_frame, framed, next_frame, between_frames, in_message, next_item, pull_stream, in_payload, body_of, raw_of, raw, past_section, begun_section, begun_payload, left_with, is_for, is_client, is_interim, told_size}
 use Rattle.h3_connection.specs.declared.setup.Announced.{Announced}
 use Rattle.h3_connection.specs.declared.event.Malformation.{Malformation}
 use Rattle.h3_connection.specs.declared.event.Pull.{Pull}
@@ -210,24 +211,33 @@ payload_alike size i u some message none g = by_test (i.ended && nat_lt (length 
 gives_up : (size id : ℕ) (m : Malformation) (i : Incoming) (u : List (List ℕ)) (replies : List DecoderInstruction) → Pulls size (malformed id m i replies) (malformed id m (with_pieces i u) replies)
 gives_up size id m i u replies = emptied size (malformed id m i replies) refl tt
 
-head_alike : (size : ℕ) (side : Side) (id : ℕ) (i : Incoming) (u : List (List ℕ)) (replies : List DecoderInstruction) (h : Head) → Cuts i.unread u → Pulls size (whole_head side id i replies h) (whole_head side id (with_pieces i u) replies h)
-head_alike size side id i u replies h c =
-    either size (not (is_for side h)) _ _ _ _ (gives_up size id _ i u replies)
-    (either size (is_client side && is_interim h.status) _ _ _ _ (leaf size _ i u replies refl c) (leaf size _ (record i { place = InBody }) u replies refl c))
+unbroken_alike : (size id : ℕ) (i : Incoming) (u : List (List ℕ)) (replies : List DecoderInstruction) (broken : Option Malformation) (p q : Pulled) → Pulls size p q
+    → Pulls size (unless_broken id i replies broken p) (unless_broken id (with_pieces i u) replies broken q)
+unbroken_alike size id i u replies None p q h = h
+unbroken_alike size id i u replies (Some why) p q h = gives_up size id why i u replies
 
-trailer_alike : (size id : ℕ) (i : Incoming) (u : List (List ℕ)) (replies : List DecoderInstruction) (h : Head) → Cuts i.unread u → Pulls size (whole_trailer id i replies h) (whole_trailer id (with_pieces i u) replies h)
-trailer_alike size id i u replies h c = either size (has_pseudo h) _ _ _ _ (gives_up size id _ i u replies) (leaf size _ (record i { place = AfterTrailer }) u replies refl c)
+head_alike : (size : ℕ) (side : Side) (id : ℕ) (i : Incoming) (u : List (List ℕ)) (replies : List DecoderInstruction) (broken : Option Malformation) (h : Head) → Cuts i.unread u
+    → Pulls size (whole_head side id i replies broken h) (whole_head side id (with_pieces i u) replies broken h)
+head_alike size side id i u replies broken h c =
+    either size (not (is_for side h)) _ _ _ _ (gives_up size id _ i u replies) (unbroken_alike size id i u replies broken _ _
+    (either size (is_client side && is_interim h.status) _ _ _ _ (leaf size _ i u replies refl c) (leaf size _ (record i { place = InBody }) u replies refl c)))
 
-either_alike : (size : ℕ) (side : Side) (id : ℕ) (i : Incoming) (u : List (List ℕ)) (replies : List DecoderInstruction) (place : Place) (h : Head) → Cuts i.unread u
-    → Pulls size (head_or_trailer side id i replies place h) (head_or_trailer side id (with_pieces i u) replies place h)
-either_alike size side id i u replies BeforeHead h c = head_alike size side id i u replies h c
-either_alike size side id i u replies InBody h c = trailer_alike size id i u replies h c
-either_alike size side id i u replies AfterTrailer h c = trailer_alike size id i u replies h c
-either_alike size side id i u replies InSession h c = trailer_alike size id i u replies h c
+trailer_alike : (size id : ℕ) (i : Incoming) (u : List (List ℕ)) (replies : List DecoderInstruction) (broken : Option Malformation) (h : Head) → Cuts i.unread u
+    → Pulls size (whole_trailer id i replies broken h) (whole_trailer id (with_pieces i u) replies broken h)
+trailer_alike size id i u replies broken h c =
+    either size (has_pseudo h) _ _ _ _ (gives_up size id _ i u replies) (unbroken_alike size id i u replies broken _ _ (leaf size _ (record i { place = AfterTrailer }) u replies refl c))
 
-judged_alike : (size : ℕ) (side : Side) (id : ℕ) (i : Incoming) (u : List (List ℕ)) (replies : List DecoderInstruction) (read : HeadRead) → Cuts i.unread u → Pulls size (judged side id i replies read) (judged side id (with_pieces i u) replies read)
-judged_alike size side id i u replies (IsNone why) c = gives_up size id _ i u replies
-judged_alike size side id i u replies (IsHead h) c = either_alike size side id i u replies i.place h c
+either_alike : (size : ℕ) (side : Side) (id : ℕ) (i : Incoming) (u : List (List ℕ)) (replies : List DecoderInstruction) (broken : Option Malformation) (place : Place) (h : Head) → Cuts i.unread u
+    → Pulls size (head_or_trailer side id i replies broken place h) (head_or_trailer side id (with_pieces i u) replies broken place h)
+either_alike size side id i u replies broken BeforeHead h c = head_alike size side id i u replies broken h c
+either_alike size side id i u replies broken InBody h c = trailer_alike size id i u replies broken h c
+either_alike size side id i u replies broken AfterTrailer h c = trailer_alike size id i u replies broken h c
+either_alike size side id i u replies broken InSession h c = trailer_alike size id i u replies broken h c
+
+judged_alike : (size : ℕ) (side : Side) (id : ℕ) (i : Incoming) (u : List (List ℕ)) (replies : List DecoderInstruction) (broken : Option Malformation) (read : HeadRead) → Cuts i.unread u
+    → Pulls size (judged side id i replies broken read) (judged side id (with_pieces i u) replies broken read)
+judged_alike size side id i u replies broken (IsNone why) c = gives_up size id _ i u replies
+judged_alike size side id i u replies broken (IsHead h) c = either_alike size side id i u replies broken i.place h c
 
 above_none : (n : ℕ) → (n == 0) ≡ false → 0 < n
 above_none zero e = absurd (cc)
@@ -245,7 +255,7 @@ goes_ending i u n g =
 
 module _ (size : ℕ) (side : Side) (own : Announced) (id : ℕ) (r : DecoderState) where
   read_alike : (i : Incoming) (u : List (List ℕ)) (replies : List DecoderInstruction) (fields : List Field) → Cuts i.unread u → Pulls size (read_section side own id r i replies fields) (read_section side own id r (with_pieces i u) replies fields)
-  read_alike i u replies fields c = either size (nat_lt (section_of own) (told_size fields)) _ _ _ _ (leaf size _ _ u replies refl c) (judged_alike size side id i u replies (head_of fields) c)
+  read_alike i u replies fields c = either size (nat_lt (section_of own) (told_size fields)) _ _ _ _ (leaf size _ _ u replies refl c) (judged_alike size side id i u replies (broken_rule side own i.place fields) (head_of fields) c)
 
   decoded_alike : (i : Incoming) (u : List (List ℕ)) (d : DecodedSection) → Cuts i.unread u → Pulls size (decoded side own id r i d) (decoded side own id r (with_pieces i u) d)
   decoded_alike i u (Fields fields count) c = read_alike (past_section i) u _ fields c

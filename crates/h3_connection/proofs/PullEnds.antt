@@ -19,8 +19,10 @@ use Rattle.h3_connection.specs.Announcing.{section_of}
 use Rattle.h3_connection.specs.HandedOut.{IsOver}
 use Rattle.h3_connection.specs.Incoming.{Incoming, is_body}
 use Rattle.h3_connection.specs.Skipping.{skipped}
-use Rattle.h3_connection.specs.Pulling.{Pulled, just, connection_fault, whole_head, whole_trailer, head_or_trailer, judged, read_section, decoded, at_section, new_section, at_end, at_frame, framed, next_frame, in_message, next_item, pull_stream, in_payload, body_of, raw_of, tried, begun_section, begun_payload, left_with, is_for, is_client, is_interim, told_size}
+use Rattle.h3_connection.specs.StrictMessages.{broken_rule}
+use Rattle.h3_connection.specs.Pulling.{Pulled, just, connection_fault, unless_broken, whole_head, whole_trailer, head_or_trailer, judged, read_section, decoded, at_section, new_section, at_end, at_frame, framed, next_frame, in_message, next_item, pull_stream, in_payload, body_of, raw_of, tried, begun_section, begun_payload, left_with, is_for, is_client, is_interim, told_size}
 use Rattle.h3_connection.specs.declared.setup.Announced.{Announced}
+use Rattle.h3_connection.specs.declared.event.Malformation.{Malformation}
 use Rattle.h3_connection.specs.declared.event.Pull.{Pull}
 use Rattle.h3_connection.specs.declared.event.Pull.TheVariants as pull
 use Rattle.h3_connection.specs.declared.event.StreamFault.{StreamFault}
@@ -71,25 +73,32 @@ raw_ends : (i : Incoming) (found : Option (List ℕ) × List (List ℕ)) → i.f
 raw_ends i (None, pieces) no_fault n = given i.ended (just (pull.Item item.End) (record i { is_over = true })) (just pull.Pending i) (λ ended. over (just (pull.Item item.End) (record i { is_over = true })) no_fault ended refl) (goes (λ x. cc) n)
 raw_ends i (Some bytes, pieces) no_fault n = goes (λ x. cc) n
 
-head_ends : (side : Side) (id : ℕ) (i : Incoming) (replies : List DecoderInstruction) (h : Head) → i.is_over ≡ false → Ends (whole_head side id i replies h)
-head_ends side id i replies h n = either (not (is_for side h)) _ _ (goes (λ x. cc) n) (either (is_client side && is_interim h.status) _ _ (goes (λ x. cc) n) (goes (λ x. cc) n))
+unbroken_ends : (id : ℕ) (i : Incoming) (replies : List DecoderInstruction) (broken : Option Malformation) (p : Pulled) → i.is_over ≡ false → Ends p → Ends (unless_broken id i replies broken p)
+unbroken_ends id i replies None p n h = h
+unbroken_ends id i replies (Some why) p n h = goes (λ x. cc) n
 
-trailer_ends : (id : ℕ) (i : Incoming) (replies : List DecoderInstruction) (h : Head) → i.is_over ≡ false → Ends (whole_trailer id i replies h)
-trailer_ends id i replies h n = either (has_pseudo h) _ _ (goes (λ x. cc) n) (goes (λ x. cc) n)
+head_ends : (side : Side) (id : ℕ) (i : Incoming) (replies : List DecoderInstruction) (broken : Option Malformation) (h : Head) → i.is_over ≡ false → Ends (whole_head side id i replies broken h)
+head_ends side id i replies broken h n =
+    either (not (is_for side h)) _ _ (goes (λ x. cc) n)
+    (unbroken_ends id i replies broken _ n (either (is_client side && is_interim h.status) _ _ (goes (λ x. cc) n) (goes (λ x. cc) n)))
 
-section_ends : (side : Side) (id : ℕ) (i : Incoming) (replies : List DecoderInstruction) (place : Place) (h : Head) → i.is_over ≡ false → Ends (head_or_trailer side id i replies place h)
-section_ends side id i replies BeforeHead h n = head_ends side id i replies h n
-section_ends side id i replies InBody h n = trailer_ends id i replies h n
-section_ends side id i replies AfterTrailer h n = trailer_ends id i replies h n
-section_ends side id i replies InSession h n = trailer_ends id i replies h n
+trailer_ends : (id : ℕ) (i : Incoming) (replies : List DecoderInstruction) (broken : Option Malformation) (h : Head) → i.is_over ≡ false → Ends (whole_trailer id i replies broken h)
+trailer_ends id i replies broken h n = either (has_pseudo h) _ _ (goes (λ x. cc) n) (unbroken_ends id i replies broken _ n (goes (λ x. cc) n))
 
-judged_ends : (side : Side) (id : ℕ) (i : Incoming) (replies : List DecoderInstruction) (read : HeadRead) → i.is_over ≡ false → Ends (judged side id i replies read)
-judged_ends side id i replies (IsNone why) n = goes (λ x. cc) n
-judged_ends side id i replies (IsHead h) n = section_ends side id i replies i.place h n
+section_ends : (side : Side) (id : ℕ) (i : Incoming) (replies : List DecoderInstruction) (broken : Option Malformation) (place : Place) (h : Head) → i.is_over ≡ false
+    → Ends (head_or_trailer side id i replies broken place h)
+section_ends side id i replies broken BeforeHead h n = head_ends side id i replies broken h n
+section_ends side id i replies broken InBody h n = trailer_ends id i replies broken h n
+section_ends side id i replies broken AfterTrailer h n = trailer_ends id i replies broken h n
+section_ends side id i replies broken InSession h n = trailer_ends id i replies broken h n
+
+judged_ends : (side : Side) (id : ℕ) (i : Incoming) (replies : List DecoderInstruction) (broken : Option Malformation) (read : HeadRead) → i.is_over ≡ false → Ends (judged side id i replies broken read)
+judged_ends side id i replies broken (IsNone why) n = goes (λ x. cc) n
+judged_ends side id i replies broken (IsHead h) n = section_ends side id i replies broken i.place h n
 
 module _ (side : Side) (own : Announced) (id : ℕ) (r : DecoderState) where
   read_ends : (i : Incoming) (replies : List DecoderInstruction) (fields : List Field) → i.is_over ≡ false → Ends (read_section side own id r i replies fields)
-  read_ends i replies fields n = either (nat_lt (section_of own) (told_size fields)) _ _ (goes (λ x. cc) n) (judged_ends side id i replies (head_of fields) n)
+  read_ends i replies fields n = either (nat_lt (section_of own) (told_size fields)) _ _ (goes (λ x. cc) n) (judged_ends side id i replies (broken_rule side own i.place fields) (head_of fields) n)
 
   decoded_ends : (i : Incoming) (d : DecodedSection) → i.is_over ≡ false → Ends (decoded side own id r i d)
   decoded_ends i (Fields fields count) n = read_ends _ _ fields n

@@ -1,6 +1,7 @@
 pub mod Hearing
 pub mod DecodedSection
 pub mod Announcing
+pub mod StrictMessages
 pub mod Codes
 pub mod MalformationCodes
 pub mod FaultTexts
@@ -16,6 +17,7 @@ pub mod SkippingLaws
 pub mod PeerReadingLaws
 pub mod Incoming
 pub mod Pulling
+pub mod StrictPulls
 pub mod Unidirectional
 pub mod Outgoing
 pub mod WaitingPieces

@@ -23,6 +23,7 @@ use Rattle.h3_connection.specs.Incoming.{Incoming, given_up, is_body}
 use Rattle.h3_connection.specs.declared.place.Place.{Place}
 use Rattle.h3_connection.specs.declared.place.Place.TheVariants.{BeforeHead, InBody, AfterTrailer, InSession}
 use Rattle.h3_connection.specs.Skipping.{skipped}
+use Rattle.h3_connection.specs.StrictMessages.{broken_rule}
 use Rattle.h3_connection.specs.declared.setup.Announced.{Announced}
 use Rattle.h3_connection.specs.declared.event.Item.TheVariants as item
 use Rattle.h3_connection.specs.declared.event.Pull.{Pull}
@@ -92,24 +93,29 @@ next_place Server BeforeHead fields = InBody
 next_place side InBody fields = AfterTrailer
 next_place side place fields = place
 
-abbrev pub whole_head : Side → ℕ → Incoming → List DecoderInstruction → Head → Pulled
-whole_head side id i replies h =
-    if not (is_for side h) then malformed id malformation.WrongSide i replies else (
+-- the rule that a list breaks comes behind what no endpoint takes
+abbrev pub unless_broken : ℕ → Incoming → List DecoderInstruction → Option Malformation → Pulled → Pulled
+unless_broken id i replies None p = p
+unless_broken id i replies (Some why) p = malformed id why i replies
+
+abbrev pub whole_head : Side → ℕ → Incoming → List DecoderInstruction → Option Malformation → Head → Pulled
+whole_head side id i replies broken h =
+    if not (is_for side h) then malformed id malformation.WrongSide i replies else unless_broken id i replies broken (
     if is_client side && is_interim h.status then record { answer = pull.Item (item.Interim h); incoming = i; replies = replies } else
     record { answer = pull.Item (item.Head h); incoming = record i { place = InBody }; replies = replies })
 
-abbrev pub whole_trailer : ℕ → Incoming → List DecoderInstruction → Head → Pulled
-whole_trailer id i replies h =
-    if has_pseudo h then malformed id malformation.PseudoInTrailer i replies else
-    record { answer = pull.Item (item.Trailer h); incoming = record i { place = AfterTrailer }; replies = replies }
+abbrev pub whole_trailer : ℕ → Incoming → List DecoderInstruction → Option Malformation → Head → Pulled
+whole_trailer id i replies broken h =
+    if has_pseudo h then malformed id malformation.PseudoInTrailer i replies else unless_broken id i replies broken
+    (record { answer = pull.Item (item.Trailer h); incoming = record i { place = AfterTrailer }; replies = replies })
 
-abbrev pub head_or_trailer : Side → ℕ → Incoming → List DecoderInstruction → Place → Head → Pulled
-head_or_trailer side id i replies BeforeHead h = whole_head side id i replies h
-head_or_trailer side id i replies _ h = whole_trailer id i replies h
+abbrev pub head_or_trailer : Side → ℕ → Incoming → List DecoderInstruction → Option Malformation → Place → Head → Pulled
+head_or_trailer side id i replies broken BeforeHead h = whole_head side id i replies broken h
+head_or_trailer side id i replies broken _ h = whole_trailer id i replies broken h
 
-abbrev pub judged : Side → ℕ → Incoming → List DecoderInstruction → HeadRead → Pulled
-judged side id i replies (IsNone why) = malformed id (malformation_of why) i replies
-judged side id i replies (IsHead h) = head_or_trailer side id i replies i.place h
+abbrev pub judged : Side → ℕ → Incoming → List DecoderInstruction → Option Malformation → HeadRead → Pulled
+judged side id i replies broken (IsNone why) = malformed id (malformation_of why) i replies
+judged side id i replies broken (IsHead h) = head_or_trailer side id i replies broken i.place h
 
 abbrev pub acknowledgment : ℕ → ℕ → List DecoderInstruction
 acknowledgment id count = if count == 0 then [] else Acknowledge id ∷ []
@@ -157,7 +163,7 @@ module _ (side : Side) (own : Announced) (id : ℕ) (r : DecoderState) where
   read_section i replies fields =
       if nat_lt (section_of own) (told_size fields)
       then record { answer = pull.Item (item.TooLarge (told_size fields)); incoming = record i { place = next_place side i.place fields }; replies = replies }
-      else judged side id i replies (head_of fields)
+      else judged side id i replies (broken_rule side own i.place fields) (head_of fields)
 
   -- A section was tried. One that is bad, or that misses entries a second time, is a fault of the connection, and no more tried.
   abbrev pub decoded : Incoming → DecodedSection → Pulled

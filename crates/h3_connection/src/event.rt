@@ -51,15 +51,44 @@ pub enum Refusal {
     OutOfMemory,
 }
 
-/// Why a message is none (RFC 9114, section 4.1.2), in the order in which it is judged.
+/// Why a message is none (RFC 9114, section 4.1.2). Each endpoint tells the first six, in the order in which it judges. What stands behind is
+/// told where the setup asks for strict messages: the rules of `h3_messages::Violation`, behind those six.
 #[derive(Clone, Copy, Debug, PartialEq, Eq)]
 pub enum Malformation {
     Name,
+    /// A value has a character that may not stand there. Where messages are strict also: white space stands around it.
     Value,
     TooMany,
     WrongSide,
     PseudoInTrailer,
     NoHead,
+    /// A pseudo-header field stands behind a regular field (RFC 9114, section 4.3).
+    PseudoOrder,
+    /// A pseudo-header field is not of this side (RFC 9114, section 4.3).
+    WrongPseudo,
+    /// A pseudo-header field comes twice (RFC 9114, section 4.3).
+    RepeatedPseudo,
+    /// A connection-specific field, or a `te` that is not `trailers` in a request (RFC 9114, section 4.2).
+    ConnectionField,
+    /// `content-length` is no number, comes twice, or may not come with this status (RFC 9110, section 8.6).
+    ContentLength,
+    /// `:protocol` without CONNECT, or where extended CONNECT was not announced (RFC 8441, section 4; RFC 9220, section 3).
+    Protocol,
+    /// CONNECT without `:authority`, or plain CONNECT with `:scheme` or `:path` (RFC 9114, section 4.4).
+    Connect,
+    /// `:method`, `:scheme` or `:path` is missing in a request, or `:status` in a response (RFC 9114, sections 4.3.1 and 4.3.2).
+    MissingPseudo,
+    /// `:scheme` is empty, or does not begin with a letter (RFC 3986, section 3.1).
+    Scheme,
+    /// The authority is missing, empty or has userinfo; `host` is no authority, comes twice, or is unlike `:authority` (RFC 9114, section
+    /// 4.3.1; RFC 9110, section 7.2).
+    Authority,
+    /// `:path` does not begin with `/` and is not `*` for OPTIONS, or has a fragment (RFC 9114, section 4.3.1).
+    Path,
+    /// Status 101, which HTTP/3 does not support (RFC 9114, section 4.5).
+    Status,
+    /// A field that is not for trailers (RFC 9110, section 6.5.1).
+    TrailerField,
 }
 
 impl Malformation {
@@ -77,7 +106,20 @@ impl Malformation {
             | Malformation::Value
             | Malformation::TooMany
             | Malformation::WrongSide
-            | Malformation::PseudoInTrailer => Code::H3_MESSAGE_ERROR,
+            | Malformation::PseudoInTrailer
+            | Malformation::PseudoOrder
+            | Malformation::WrongPseudo
+            | Malformation::RepeatedPseudo
+            | Malformation::ConnectionField
+            | Malformation::ContentLength
+            | Malformation::Protocol
+            | Malformation::Connect
+            | Malformation::MissingPseudo
+            | Malformation::Scheme
+            | Malformation::Authority
+            | Malformation::Path
+            | Malformation::Status
+            | Malformation::TrailerField => Code::H3_MESSAGE_ERROR,
         }
     }
 
@@ -92,6 +134,19 @@ impl Malformation {
             Malformation::WrongSide => "WrongSide",
             Malformation::PseudoInTrailer => "PseudoInTrailer",
             Malformation::NoHead => "NoHead",
+            Malformation::PseudoOrder => "PseudoOrder",
+            Malformation::WrongPseudo => "WrongPseudo",
+            Malformation::RepeatedPseudo => "RepeatedPseudo",
+            Malformation::ConnectionField => "ConnectionField",
+            Malformation::ContentLength => "ContentLength",
+            Malformation::Protocol => "Protocol",
+            Malformation::Connect => "Connect",
+            Malformation::MissingPseudo => "MissingPseudo",
+            Malformation::Scheme => "Scheme",
+            Malformation::Authority => "Authority",
+            Malformation::Path => "Path",
+            Malformation::Status => "Status",
+            Malformation::TrailerField => "TrailerField",
         }
     }
 }

@@ -209,3 +209,11 @@ pub fn cut_calls_are_answered_alike()
     h3_qpack::laws::encoder_bytes_are_their_value();
     h3_qpack::laws::decoder_bytes_are_their_value();
 }
+
+ghost use Rattle.h3_connection.specs.StrictPulls.{PullsWellFormed};
+
+/// Where an endpoint asks for strict messages, each head and trailer that a pull hands out was read from a field list, as it came, that breaks no
+/// rule of well-formed messages (RFC 9114, sections 4.1.2 and 4.2 to 4.5).
+pub fn strict_endpoints_hand_out_no_broken_list()
+    ensures { PullsWellFormed }
+{}

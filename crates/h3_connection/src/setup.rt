@@ -1,10 +1,10 @@
 //! What an endpoint announces.
 ghost use Rattle.std.specs.Prelude.{◌≡◌, ◌<◌, ◌≤◌, ◌^◌, IfOk, IfErr};
 ghost use Rattle.h3_proto.specs.Config.{announced};
-ghost use Rattle.h3_connection.specs.Announcing.{announced_by, section_of};
+ghost use Rattle.h3_connection.specs.Announcing.{announced_by, connects, section_of};
 
 use h3_coding::varint::VarInt;
-use h3_proto::config::Config;
+use h3_proto::config::{Choices, Config};
 use h3_proto::frame::{SettingId, Settings, SettingsError};
 
 /// The limits of an endpoint's decoder: the capacity of its table in bytes, and how many streams may wait.
@@ -25,18 +25,20 @@ pub enum NewError {
     OutOfMemory,
 }
 
-/// What an endpoint announces: its settings, those of QPACK among them, and its decoder's limits.
+/// What an endpoint announces: its settings, those of QPACK among them, and its decoder's limits. Beside these stands what it chooses
+/// for itself, which announces nothing.
 #[derive(Drop)]
 pub struct Announced {
     pub settings: Settings,
     pub limits: Limits,
+    pub choices: Choices,
 }
 
 impl Announced {
     /// The settings of a configuration, then the limits as settings 1 and 7 (RFC 9204, section 5).
     pub fn new(config: Config, limits: Limits, grease: u64) -> Result<Announced, NewError>
         requires { grease < 0x210842108421083 }
-        ensures { result ≡ announced_by (announced config grease) limits }
+        ensures { result ≡ announced_by (announced config grease) limits config.choices }
     {
         if limits.table >= 1 << 30 {
             return Err(NewError::TableLimit);
@@ -44,6 +46,7 @@ impl Announced {
         if limits.blocked > 65535 {
             return Err(NewError::BlockedLimit);
         }
+        let choices = config.choices();
         let mut settings = match config.into_settings(grease) {
             Ok(settings) => settings,
             Err(e) => return Err(NewError::Settings(e)),
@@ -54,7 +57,11 @@ impl Announced {
         if let Err(e) = settings.insert(SettingId::QPACK_MAX_BLOCKED_STREAMS, limits.blocked) {
             return Err(NewError::Settings(e));
         }
-        Ok(Announced { settings, limits })
+        Ok(Announced {
+            settings,
+            limits,
+            choices,
+        })
     }
 
     /// The greatest size of a field section that it takes (RFC 9114, section 4.2.2), in bytes.
@@ -64,5 +71,15 @@ impl Announced {
         self.settings
             .get(SettingId::MAX_HEADER_LIST_SIZE)
             .unwrap_or(VarInt::MAX.into_inner())
+    }
+
+    /// Whether it takes requests of extended CONNECT (RFC 9220, section 3).
+    pub fn extended_connect(&self) -> bool
+        ensures { result ≡ connects self.now }
+    {
+        self.settings
+            .get(SettingId::ENABLE_CONNECT_PROTOCOL)
+            .unwrap_or(0)
+            != 0
     }
 }

@@ -13,6 +13,7 @@ use Rattle.h3_proto.specs.Ids.{reserved}
 use Rattle.h3_proto.specs.Pairs.{payload_of}
 use Rattle.h3_proto.specs.ReceivedLaws.{announced_received_with_table}
 use Rattle.h3_proto.specs.Settings.{is_known, value_of, settings_of}
+use Rattle.h3_proto.specs.declared.config.Choices.{Choices}
 use Rattle.h3_proto.specs.declared.config.Config.{Config}
 use Rattle.h3_proto.specs.declared.config.Settings.{Settings}
 use Rattle.h3_proto.specs.declared.frame.SettingsError.{SettingsError}
@@ -72,20 +73,20 @@ record WithLimits (settings : Result (List (ℕ × ℕ)) SettingsError) (a : Ann
   pub is : settings ≡ Ok pairs
   pub settings_are : a.settings ≡ pairs ++ table_pairs a.limits.table a.limits.blocked
 
-with_limits_of : (settings : Result (List (ℕ × ℕ)) SettingsError) (a : Announced) → with_limits settings a.limits ≡ Ok a → WithLimits settings a
-with_limits_of (Ok pairs) a h =
-    record { pairs = pairs; is = refl; settings_are = ap (λ (x : Announced). x.settings) (sym (same_ok (record { settings = pairs ++ (1, a.limits.table) ∷ (7, a.limits.blocked) ∷ []; limits = a.limits }) a h)) }
-with_limits_of (Err e) a h = absurd (cc)
+with_limits_of : (settings : Result (List (ℕ × ℕ)) SettingsError) (choices : Choices) (a : Announced) → with_limits settings a.limits choices ≡ Ok a → WithLimits settings a
+with_limits_of (Ok pairs) choices a h =
+    record { pairs = pairs; is = refl; settings_are = ap (λ (x : Announced). x.settings) (sym (same_ok (record { settings = pairs ++ (1, a.limits.table) ∷ (7, a.limits.blocked) ∷ []; limits = a.limits; choices = choices }) a h)) }
+with_limits_of (Err e) choices a h = absurd (cc)
 
 parts_of : (a : Announced) → IsMade a → Parts a
 parts_of a made = by_tests (nat_le (2 ^ 30) a.limits.table) refl (nat_lt 65535 a.limits.blocked) refl made.made
   where
     by_tests : (x : Bool) → nat_le (2 ^ 30) a.limits.table ≡ x → (y : Bool) → nat_lt 65535 a.limits.blocked ≡ y
-        → ◌≡◌ {A = Result Announced NewError} (if x then Err TableLimit else (if y then Err BlockedLimit else with_limits (announced made.config made.grease) a.limits)) (Ok a) → Parts a
+        → ◌≡◌ {A = Result Announced NewError} (if x then Err TableLimit else (if y then Err BlockedLimit else with_limits (announced made.config made.grease) a.limits made.config.choices)) (Ok a) → Parts a
     by_tests true e y f h = absurd (cc)
     by_tests false e true f h = absurd (cc)
     by_tests false e false f h =
-        let l = with_limits_of (announced made.config made.grease) a h in
+        let l = with_limits_of (announced made.config made.grease) made.config.choices a h in
         let c = configured made.config made.grease l.pairs l.is in
         let few = not_below 65535 a.limits.blocked f in
         record {

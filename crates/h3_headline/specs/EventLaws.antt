@@ -8,7 +8,7 @@ use Rattle.h3_world.specs.declared.event.Event.{Event}
 use Rattle.h3_world.specs.declared.event.Event.TheVariants as event
 use Rattle.h3_world.specs.Ends.{Ends, new_ends}
 use Rattle.h3_world.specs.Sendable.{IsSendable}
-use Rattle.h3_world.specs.Setup.{IsMadeSetup}
+use Rattle.h3_world.specs.Setup.{IsMadeSetup, JudgesPlainly}
 use Rattle.h3_world.specs.World.{World, empty_world}
 use Rattle.h3_headline.specs.BeginningLaws.{begins}
 use Rattle.h3_headline.specs.DeliverEventLaws.{deliver_on, end_on, gone_on}
@@ -24,25 +24,25 @@ by_test true own other = own refl
 by_test false own other = other refl
 
 -- A delivery is on a stream of the writer's own, or on a request stream.
-pub every_event : (laws : Laws) (setup : Setup) → IsMadeSetup setup → (w : World) (ends : Ends) (e : Event) → IsSendable e → Stands setup w ends → StandsOn setup w ends e
-every_event laws setup made w ends (event.OpenRequest side) sendable h = opened_on laws setup w ends side sendable h
-every_event laws setup made w ends (event.Head side id head) sendable h = head_on laws setup w ends side id head sendable h
-every_event laws setup made w ends (event.Body side id bytes) sendable h = body_on laws setup w ends side id bytes sendable h
-every_event laws setup made w ends (event.Trailer side id trailer) sendable h = trailer_on laws setup w ends side id trailer sendable h
-every_event laws setup made w ends (event.Finish side id) sendable h = finish_on laws setup w ends side id sendable h
-every_event laws setup made w ends (event.Reset side id) sendable h = reset_on laws setup w ends side id sendable h
-every_event laws setup made w ends (event.Cancel side id) sendable h = cancel_on laws setup w ends side id sendable h
-every_event laws setup made w ends (event.Goaway side id) sendable h = goaway_on laws setup w ends side id sendable h
-every_event laws setup made w ends (event.Deliver writer id count) sendable h =
+pub every_event : (laws : Laws) (setup : Setup) → IsMadeSetup setup → JudgesPlainly setup → (w : World) (ends : Ends) (e : Event) → IsSendable e → Stands setup w ends → StandsOn setup w ends e
+every_event laws setup made plain w ends (event.OpenRequest side) sendable h = opened_on laws setup w ends side sendable h
+every_event laws setup made plain w ends (event.Head side id head) sendable h = head_on laws setup w ends side id head sendable h
+every_event laws setup made plain w ends (event.Body side id bytes) sendable h = body_on laws setup w ends side id bytes sendable h
+every_event laws setup made plain w ends (event.Trailer side id trailer) sendable h = trailer_on laws setup w ends side id trailer sendable h
+every_event laws setup made plain w ends (event.Finish side id) sendable h = finish_on laws setup w ends side id sendable h
+every_event laws setup made plain w ends (event.Reset side id) sendable h = reset_on laws setup w ends side id sendable h
+every_event laws setup made plain w ends (event.Cancel side id) sendable h = cancel_on laws setup w ends side id sendable h
+every_event laws setup made plain w ends (event.Goaway side id) sendable h = goaway_on laws setup w ends side id sendable h
+every_event laws setup made plain w ends (event.Deliver writer id count) sendable h =
     by_test (is_own writer id) (λ own. own_deliver_on laws setup w ends writer id count made h own) (λ request. deliver_on laws setup w ends writer id count h request)
-every_event laws setup made w ends (event.DeliverEnd writer id) sendable h =
+every_event laws setup made plain w ends (event.DeliverEnd writer id) sendable h =
     by_test (is_own writer id) (λ own. own_end_on laws setup w ends writer id h own) (λ request. end_on laws setup w ends writer id h request)
-every_event laws setup made w ends (event.DeliverReset writer id) sendable h =
+every_event laws setup made plain w ends (event.DeliverReset writer id) sendable h =
     by_test (is_own writer id) (λ own. own_reset_on laws setup w ends writer id h own) (λ request. gone_on laws setup w ends writer id h request)
-every_event laws setup made w ends (event.Pull side id) sendable h = pull_on laws setup w ends side id made h
-every_event laws setup made w ends (event.Show side) sendable h = show_on laws setup w ends side sendable h
+every_event laws setup made plain w ends (event.Pull side id) sendable h = pull_on laws setup w ends side id made plain h
+every_event laws setup made plain w ends (event.Show side) sendable h = show_on laws setup w ends side sendable h
 
--- **Two new endpoints run in a world over every schedule.**
-pub two_ends_run : (laws : Laws) (setup : Setup) (events : List Event) → IsMadeSetup setup → AllByRecursion IsSendable events → RunsOn setup empty_world (new_ends setup) events
-two_ends_run laws setup events made sendable =
-    runs_on setup (λ w ends e. every_event laws setup made w ends e) empty_world (new_ends setup) events sendable (begins setup (laws.worlds.begins setup))
+-- **Two new endpoints that judge plainly run in a world over every schedule.**
+pub two_ends_run : (laws : Laws) (setup : Setup) (events : List Event) → IsMadeSetup setup → JudgesPlainly setup → AllByRecursion IsSendable events → RunsOn setup empty_world (new_ends setup) events
+two_ends_run laws setup events made plain sendable =
+    runs_on setup (λ w ends e. every_event laws setup made plain w ends e) empty_world (new_ends setup) events sendable (begins setup (laws.worlds.begins setup))

@@ -38,7 +38,7 @@ use Rattle.h3_world.specs.Machine.{served, pull_settled, pull_next, item_there, 
 use Rattle.h3_world.specs.Order.{next_part, is_over}
 use Rattle.h3_world.specs.Pauses.{PauseAllowed, pause_before, pause_of, paused}
 use Rattle.h3_world.specs.Pulling.{settled, pull_unidirectional, pull_unopened, fault_or, PullsNext, Pulls, PausesExactly}
-use Rattle.h3_world.specs.Setup.{IsMadeSetup, announced_at}
+use Rattle.h3_world.specs.Setup.{IsMadeSetup, JudgesPlainly, announced_at}
 use Rattle.h3_world.specs.Shown.{limits_shown, sizes_shown, streams_waiting}
 use Rattle.h3_world.specs.Sound.{IsSoundWorld}
 use Rattle.h3_world.specs.Step.{Step, IsExact, IsWithinLimits}
@@ -219,15 +219,15 @@ next_kept setup w side id e after a h request is =
     ap (λ (x : Pull × EndpointHistory). x.1.next_id) (sym is ∙ plain_pull setup w side id e h ∙ ap (pull_at e id) (kind_is side id request)) ∙ request_keeps e id (stream_at e.incoming id)
 
 -- An open stream that was not given up and is not over.
-open_on : (laws : Laws) (setup : Setup) (w : World) (ends : Ends) (side : Side) (id : ℕ) → IsMadeSetup setup → Stands setup w ends → is_open w side id ≡ true → (flow w (other side) id).fault ≡ None
+open_on : (laws : Laws) (setup : Setup) (w : World) (ends : Ends) (side : Side) (id : ℕ) → IsMadeSetup setup → JudgesPlainly setup → Stands setup w ends → is_open w side id ≡ true → (flow w (other side) id).fault ≡ None
     → is_over (flow w (other side) id) ≡ false → StandsOn setup w ends (event.Pull side id)
-open_on laws setup w ends side id made h there alive more =
+open_on laws setup w ends side id made plain h there alive more =
     let e = end_at ends side in
     let f = end_at ends (other side) in
     let b = both_of setup w side ends h in
     let own = (party w side).own in
     let none = none_settled w side id there alive more in
-    let p = pull_stands laws.lists setup w side id e f b.here b.there h.sound there alive more
+    let p = pull_stands laws.lists setup w side id e f (plain side) b.here b.there h.sound there alive more
     (insertions_read setup w side e b.here)
     (endpoint_decodes laws.streams laws.lists setup w side id e made b.here h.sound there alive)
     (next_readable laws.lists side (announced_at setup side) id (insertions_came (party w (other side))) e.decoding.decoder (flow w (other side) id) (b.sends_there id))
@@ -264,8 +264,8 @@ settled_is w side id is_peer request opened fault over a b c d e =
     ∙ ap (λ x. settled_by w side id is_peer request opened fault x) e
 
 -- **A pull.**
-pub pull_on : (laws : Laws) (setup : Setup) (w : World) (ends : Ends) (side : Side) (id : ℕ) → IsMadeSetup setup → Stands setup w ends → StandsOn setup w ends (event.Pull side id)
-pull_on laws setup w ends side id made h =
+pub pull_on : (laws : Laws) (setup : Setup) (w : World) (ends : Ends) (side : Side) (id : ℕ) → IsMadeSetup setup → JudgesPlainly setup → Stands setup w ends → StandsOn setup w ends (event.Pull side id)
+pull_on laws setup w ends side id made plain h =
     by_tests (id % 4 == control_id (other side)) refl (is_request id) refl (is_open w side id) refl (flow w (other side) id).fault refl (is_over (flow w (other side) id)) refl
   where
     by_tests : (is_peer : Bool) → (id % 4 == control_id (other side)) ≡ is_peer → (request : Bool) → is_request id ≡ request → (opened : Bool) → is_open w side id ≡ opened → (fault : Option StreamFault)
@@ -285,4 +285,4 @@ pull_on laws setup w ends side id made h =
     by_tests false a true b true c None d true e =
         settled_on laws setup w ends side id (pull.Item item.End) h (settled_is w side id false true true None true a b c d e)
         (over_pull laws.lists setup w side id (end_at ends side) (both_of setup w side ends h).here c (ends_within laws setup w ends side h) d e)
-    by_tests false a true b true c None d false e = open_on laws setup w ends side id made h c d e
+    by_tests false a true b true c None d false e = open_on laws setup w ends side id made plain h c d e

@@ -19,7 +19,7 @@ use Rattle.h3_connection.specs.declared.event.Item.TheVariants as item
 use Rattle.h3_connection.specs.declared.event.Pull.{Pull}
 use Rattle.h3_connection.specs.declared.event.Pull.TheVariants as pull
 use Rattle.h3_world.specs.declared.setup.Setup.{Setup}
-use Rattle.h3_world.specs.Setup.{announced_at}
+use Rattle.h3_world.specs.Setup.{announced_at, IsPlain}
 use Rattle.h3_world.specs.Flow.{Flow, Part, Section}
 use Rattle.h3_world.specs.Flow.Part.{Interim, Head, Body, Trailer, End}
 use Rattle.h3_world.specs.World.{World, Party, party, with_party}
@@ -152,9 +152,9 @@ item_leaves f (Some (Body bytes own)) (item.Body piece) = by_size (f.body_out + 
     by_size false = (refl, refl, refl)
 item_leaves f (Some (Body bytes own)) _ = (refl, refl, refl)
 
--- **The pull of an open stream that was not given up and is not over.** The premises from the session of QPACK: what the decoder makes
+-- **The pull of an open stream that was not given up and is not over,** at a side that judges plainly. The premises from the session of QPACK: what the decoder makes
 -- of the next section, how many insertions it read, and that no more streams wait than allowed.
-pub pull_stands : (lists : ListsAreTheirValue) (setup : Setup) (w : World) (side : Side) (id : ℕ) (er ew : EndpointHistory) → StandsAt setup w side er → StandsAt setup w (other side) ew → IsSoundWorld setup w
+pub pull_stands : (lists : ListsAreTheirValue) (setup : Setup) (w : World) (side : Side) (id : ℕ) (er ew : EndpointHistory) → IsPlain (announced_at setup side) → StandsAt setup w side er → StandsAt setup w (other side) ew → IsSoundWorld setup w
     → is_open w side id ≡ true → (flow w (other side) id).fault ≡ None → is_over (flow w (other side) id) ≡ false
     → er.decoding.decoder.table.inserted ≡ insertions_came (party w (other side))
     → DecodesNext lists side (announced_at setup side) id er.decoding.decoder (insertions_came (party w (other side))) (next_part (flow w (other side) id))
@@ -164,7 +164,7 @@ pub pull_stands : (lists : ListsAreTheirValue) (setup : Setup) (w : World) (side
     → ((more : List DecoderInstruction) → HasDecoderStreamOf setup (other side) (saying (party w side).own more) ew)
     → ((a : Pull) (new : World) → Pulls setup w side id a new → PausesExactly w side id a → streams_waiting new side ≤ er.announced.limits.blocked)
     → PullStands setup w side id er ew
-pull_stands lists setup w side id er ew hr hw sound there alive more inserted decodes readable allowed heard limits =
+pull_stands lists setup w side id er ew plain hr hw sound there alive more inserted decodes readable allowed heard limits =
     let f = flow w (other side) id in
     let came = insertions_came (party w (other side)) in
     let i = incoming_there setup w side id er hr there in
@@ -177,7 +177,7 @@ pull_stands lists setup w side id er ew hr hw sound there alive more inserted de
     ∙ ap (pull_at er id) (kind_is er.side id is.request) ∙ ap (pull_request er id) i.1
     ∙ ap (λ q. pulled er id (if_too_many (nat_lt er.announced.limits.blocked (heads_waiting er.decoding.decoder (set_stream er.incoming id q.incoming))) q)) same
     ∙ ap (λ b. pulled er id (if_too_many b p)) few in
-    by_answer p called (stream_comes lists side (announced_at setup side) id er.decoding.decoder came (party w (other side)) f i.0 (sound_flow setup w (other side) id sound is) i.2 alive more inserted decodes readable)
+    by_answer p called (stream_comes lists side (announced_at setup side) id er.decoding.decoder came plain (party w (other side)) f i.0 (sound_flow setup w (other side) id sound is) i.2 alive more inserted decodes readable)
   where
     fits : (q : Pull) (new : World) (after : EndpointHistory) → StandsAt setup new side after → after.decoding ≡ er.decoding → party new (other side) ≡ party w (other side) → Pulls setup w side id q new → PausesExactly w side id q
         → nat_lt er.announced.limits.blocked (heads_waiting er.decoding.decoder after.incoming) ≡ false

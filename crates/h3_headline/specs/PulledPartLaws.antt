@@ -30,6 +30,7 @@ use Rattle.h3_world.specs.World.{Party}
 use Rattle.h3_world.specs.Items.{body_there}
 use Rattle.h3_world.specs.Order.{next_part, is_over, is_end, last_part}
 use Rattle.h3_world.specs.Pauses.{section_pause}
+use Rattle.h3_world.specs.Setup.{IsPlain}
 use Rattle.h3_world.specs.Sound.{IsSentSection}
 use Rattle.h3_headline.specs.FrontLaws.{short_front, long_front, left_behind, without_pieces, unfinished_section, unfinished_data, data_front}
 use Rattle.h3_headline.specs.PartLaws.{IsPartAt, part_at, flow_parts, none_left, ended_over, IsPlaceOf}
@@ -228,26 +229,26 @@ module _ (lists : ListsAreTheirValue) (side : Side) (announced : Announced) (id 
   IsReadableNext (Some part) = IsReadable side part
 
   -- **In front of a part.**
-  pub before_comes : (p : Party) (f : Flow) (part : Option Part) (i : Incoming) → IsBefore p f i → next_part f ≡ part → DecodesNext part → IsReadableNext part
+  pub before_comes : IsPlain announced → (p : Party) (f : Flow) (part : Option Part) (i : Incoming) → IsBefore p f i → next_part f ≡ part → DecodesNext part → IsReadableNext part
       → ComesTo (section_of announced) id f came part (between_frames side announced id r i)
-  before_comes p f None i h next decodes readable = none_comes p f i h next
-  before_comes p f (Some (Interim s)) i h next decodes readable =
+  before_comes plain p f None i h next decodes readable = none_comes p f i h next
+  before_comes plain p f (Some (Interim s)) i h next decodes readable =
       let at = part_at p f (Interim s) h.sound next in
       let place = h.place ∙ at.place_is in
       section_comes item.Interim p f (Interim s) s i h at next (interim_part s) refl at.sent.0 at.sent.1
       (λ j. ap (λ q. at_frame side announced id r side j q (frame.Headers s.encoded)) place ∙ headers_before_head side j s.encoded) decodes
-      (λ x same. reads_interim lists side announced id r s x (acknowledgment id s.count) at.sent.0.reads_back at.sent.0.small readable (same ∙ place))
-  before_comes p f (Some (Head s)) i h next decodes readable =
+      (λ x same. reads_interim lists side announced plain id r s x (acknowledgment id s.count) at.sent.0.reads_back at.sent.0.small readable (same ∙ place))
+  before_comes plain p f (Some (Head s)) i h next decodes readable =
       let at = part_at p f (Head s) h.sound next in
       let place = h.place ∙ at.place_is in
       section_comes item.Head p f (Head s) s i h at next (head_part s) refl at.sent.0 at.sent.1
       (λ j. ap (λ q. at_frame side announced id r side j q (frame.Headers s.encoded)) place ∙ headers_before_head side j s.encoded) decodes
-      (λ x same. reads_head lists side announced id r s x (acknowledgment id s.count) at.sent.0.reads_back at.sent.0.small readable (same ∙ place))
-  before_comes p f (Some (Body bytes own)) i h next decodes readable = body_comes p f bytes own i h (part_at p f (Body bytes own) h.sound next) next
-  before_comes p f (Some (Trailer s)) i h next decodes readable =
+      (λ x same. reads_head lists side announced plain id r s x (acknowledgment id s.count) at.sent.0.reads_back at.sent.0.small readable (same ∙ place))
+  before_comes plain p f (Some (Body bytes own)) i h next decodes readable = body_comes p f bytes own i h (part_at p f (Body bytes own) h.sound next) next
+  before_comes plain p f (Some (Trailer s)) i h next decodes readable =
       let at = part_at p f (Trailer s) h.sound next in
       let place = h.place ∙ at.place_is in
       section_comes item.Trailer p f (Trailer s) s i h at next (trailer_part s) refl at.sent.0 at.sent.1
       (λ j. ap (λ q. at_frame side announced id r side j q (frame.Headers s.encoded)) place ∙ headers_in_body side j s.encoded) decodes
-      (λ x same. reads_trailer lists side announced id r s x (acknowledgment id s.count) at.sent.0.reads_back at.sent.0.small readable (same ∙ place))
-  before_comes p f (Some End) i h next decodes readable = end_comes p f i h (part_at p f End h.sound next) next
+      (λ x same. reads_trailer lists side announced plain id r s x (acknowledgment id s.count) at.sent.0.reads_back at.sent.0.small readable (same ∙ place))
+  before_comes plain p f (Some End) i h next decodes readable = end_comes p f i h (part_at p f End h.sound next) next

@@ -2,7 +2,7 @@
 use Rattle.std.proofs.Common.{◌≡◌, ℕ, ◌+◌, ◌-◌, ◌≤◌, ◌<◌, ◌^◌, Bool, true, false, List, ◌++◌, take, drop, refl, sym, ap, ◌∙◌, subst, arith, nat_lt, if◌then◌else◌, Some, None, append_assoc}
 use Rattle.std.specs.List.{AllByRecursion, concat, flat_map}
 use Rattle.std.proofs.lemmas.Bool.{lt-ltb, le-ltb, le-leb}
-use Rattle.std.specs.Prelude.{not, ◌&&◌, ◌==◌, nat_le, slice_get}
+use Rattle.std.specs.Prelude.{not, ◌&&◌, ◌==◌, nat_le, slice_get, Option, option_map}
 use Rattle.std.proofs.lemmas.Grind.{common_steps}
 use Rattle.h3_field.specs.Field.{Field, section_size}
 use Rattle.h3_field.specs.Instruction.{DecoderInstruction}
@@ -19,8 +19,10 @@ use Rattle.h3_proto.specs.declared.stream.Side.{Side}
 use Rattle.h3_proto.specs.declared.stream.Side.TheVariants.{Client, Server}
 use Rattle.h3_connection.specs.Announcing.{section_of}
 use Rattle.h3_connection.specs.Incoming.{Incoming}
+use Rattle.h3_connection.specs.StrictMessages.{broken_rule, malformation_by, violation_at}
 use Rattle.h3_connection.specs.Pulling.{Pulled, just, is_client, is_interim, next_place, judged, read_section, decoded, at_section, acknowledgment, past_section, tried, connection_fault, malformed, head_or_trailer}
 use Rattle.h3_connection.specs.Codes.{decompression_failed}
+use Rattle.h3_connection.specs.declared.event.Malformation.{Malformation}
 use Rattle.h3_connection.specs.declared.event.Malformation.TheVariants as malformation
 use Rattle.h3_connection.specs.declared.event.Item.{Item}
 use Rattle.h3_connection.specs.declared.event.Item.TheVariants as item
@@ -33,6 +35,7 @@ use Rattle.h3_world.specs.Flow.Part.{Interim, Head, Trailer}
 use Rattle.h3_world.specs.Items.{IsSectionItem, SectionHasCome, HasCome, acknowledgment_of, after_item}
 use Rattle.h3_world.specs.Order.{next_part, is_end}
 use Rattle.h3_world.specs.Pauses.{pause_before, section_pause}
+use Rattle.h3_world.specs.Setup.{IsPlain}
 use Rattle.h3_headline.specs.PulledLaws.{ComesTo, Pauses, HandsOut, GoesOn, stands_at, receives_on}
 use Rattle.h3_headline.specs.Standing.{IsReadable, WaitsIn, HasBytes, ReceivesFlow, place_after, place_behind, section_frame, section_of_part}
 use Rattle.h3_headline.specs.StatusLaws.{interim_by_last}
@@ -120,11 +123,16 @@ pub record IsReadAs (side : Side) (announced : Announced) (id : ℕ) (r : Decode
   pub reads : read_section side announced id r x replies s.fields ≡ record { answer = pull.Item item_is; incoming = record x { place = place_behind x.place part }; replies = replies }
   pub of_fields : IsSectionItem kind (section_of announced) s.fields item_is
 
-module _ (lists : ListsAreTheirValue) (side : Side) (announced : Announced) (id : ℕ) (r : DecoderState) where
+module _ (lists : ListsAreTheirValue) (side : Side) (announced : Announced) (plain : IsPlain announced) (id : ℕ) (r : DecoderState) where
+  -- no rule is asked for
+  none_broken : (place : Place) (fields : List Field) → broken_rule side announced place fields ≡ None
+  none_broken place fields = ap (λ b. let rule : Option Malformation = if b then option_map malformation_by (violation_at side announced place fields) else None in rule) plain
+
   -- a list that reads back is judged by its head
   judged_is : (x : Incoming) (replies : List DecoderInstruction) (fields : List Field) → ReadsBack fields
-      → judged side id x replies (head_of fields) ≡ head_or_trailer side id x replies x.place (head_of_fields fields)
-  judged_is x replies fields back = ap (judged side id x replies) (lists fields (head_of_fields fields) (back.0, refl))
+      → judged side id x replies (broken_rule side announced x.place fields) (head_of fields) ≡ head_or_trailer side id x replies None x.place (head_of_fields fields)
+  judged_is x replies fields back =
+      ap (λ b. judged side id x replies b (head_of fields)) (none_broken x.place fields) ∙ ap (judged side id x replies None) (lists fields (head_of_fields fields) (back.0, refl))
 
   above : (a b : ℕ) → nat_lt a b ≡ true → a < b
   above a b e = grind (arith, common_steps, e)
@@ -134,7 +142,7 @@ module _ (lists : ListsAreTheirValue) (side : Side) (announced : Announced) (id 
 
   read_by : (kind : header.Head → Item) (part : Part) (s : Section) (x : Incoming) (replies : List DecoderInstruction) → ReadsBack s.fields → section_size s.fields < 2 ^ 56
       → next_place side x.place s.fields ≡ place_behind x.place part
-      → head_or_trailer side id x replies x.place (head_of_fields s.fields) ≡ record { answer = pull.Item (kind (head_of_fields s.fields)); incoming = record x { place = place_behind x.place part }; replies = replies }
+      → head_or_trailer side id x replies None x.place (head_of_fields s.fields) ≡ record { answer = pull.Item (kind (head_of_fields s.fields)); incoming = record x { place = place_behind x.place part }; replies = replies }
       → ((size : ℕ) → size ≡ section_size s.fields → section_of announced < section_size s.fields → IsSectionItem kind (section_of announced) s.fields (item.TooLarge size))
       → (section_size s.fields ≤ section_of announced → IsSectionItem kind (section_of announced) s.fields (kind (head_of_fields s.fields)))
       → IsReadAs side announced id r kind part s x replies
@@ -146,13 +154,13 @@ module _ (lists : ListsAreTheirValue) (side : Side) (announced : Announced) (id 
       by_size : (b : Bool) → nat_lt (section_of announced) (told_size s.fields) ≡ b → IsReadAs side announced id r kind part s x replies
       by_size true e = record {
         item_is = item.TooLarge (told_size s.fields);
-        reads = ap (λ b. if b then answer_at (item.TooLarge (told_size s.fields)) (next_place side x.place s.fields) else judged side id x replies (head_of s.fields)) e
+        reads = ap (λ b. if b then answer_at (item.TooLarge (told_size s.fields)) (next_place side x.place s.fields) else judged side id x replies (broken_rule side announced x.place s.fields) (head_of s.fields)) e
             ∙ ap (answer_at (item.TooLarge (told_size s.fields))) place;
         of_fields = large (told_size s.fields) (told_is s.fields small) (omega (arith, above _ _ e, told_is s.fields small));
       }
       by_size false e = record {
         item_is = kind (head_of_fields s.fields);
-        reads = ap (λ b. if b then answer_at (item.TooLarge (told_size s.fields)) (next_place side x.place s.fields) else judged side id x replies (head_of s.fields)) e
+        reads = ap (λ b. if b then answer_at (item.TooLarge (told_size s.fields)) (next_place side x.place s.fields) else judged side id x replies (broken_rule side announced x.place s.fields) (head_of s.fields)) e
             ∙ judged_is x replies s.fields back ∙ head;
         of_fields = whole (omega (arith, at_most _ _ e, told_is s.fields small));
       }
@@ -169,7 +177,7 @@ module _ (lists : ListsAreTheirValue) (side : Side) (announced : Announced) (id 
       read_by item.Interim (Interim s) s x replies back small
       (ap (λ p. next_place side p s.fields) at ∙ ap (λ d. next_place d BeforeHead s.fields) is
       ∙ ap (λ b. if b then BeforeHead else InBody) (interim_by_last s.fields back.0 ∙ readable.2) ∙ sym at)
-      (ap (λ p. head_or_trailer side id x replies p h) at
+      (ap (λ p. head_or_trailer side id x replies None p h) at
       ∙ ap (λ b. if not b then malformed id malformation.WrongSide x replies else (if is_client side && is_interim h.status then item_at (item.Interim h) x else item_at (item.Head h) (record x { place = InBody }))) readable.1
       ∙ ap (λ b. if b && is_interim h.status then item_at (item.Interim h) x else item_at (item.Head h) (record x { place = InBody })) readable.0
       ∙ ap (λ b. if b then item_at (item.Interim h) x else item_at (item.Head h) (record x { place = InBody })) readable.2)
@@ -185,7 +193,7 @@ module _ (lists : ListsAreTheirValue) (side : Side) (announced : Announced) (id 
       let h = head_of_fields s.fields in
       read_by item.Head (Head s) s x replies back small
       (ap (λ p. next_place side p s.fields) at ∙ by_side side readable.1)
-      (ap (λ p. head_or_trailer side id x replies p h) at
+      (ap (λ p. head_or_trailer side id x replies None p h) at
       ∙ ap (λ b. if not b then malformed id malformation.WrongSide x replies else (if is_client side && is_interim h.status then item_at (item.Interim h) x else item_at (item.Head h) (record x { place = InBody }))) readable.0
       ∙ ap (λ b. if b then item_at (item.Interim h) x else item_at (item.Head h) (record x { place = InBody })) readable.1)
       (λ size e large. (e, large))
@@ -204,7 +212,7 @@ module _ (lists : ListsAreTheirValue) (side : Side) (announced : Announced) (id 
       let h = head_of_fields s.fields in
       read_by item.Trailer (Trailer s) s x replies back small
       (ap (λ p. next_place side p s.fields) at ∙ by_side side)
-      (ap (λ p. head_or_trailer side id x replies p h) at
+      (ap (λ p. head_or_trailer side id x replies None p h) at
       ∙ ap (λ b. if b then malformed id malformation.PseudoInTrailer x replies else item_at (item.Trailer h) (record x { place = AfterTrailer })) readable)
       (λ size e large. (e, large))
       (λ fits. (h, refl, back.1, fits, refl))

@@ -23,6 +23,7 @@ use Rattle.h3_world.specs.Flow.{Flow, Part, Section, part_bytes, flow_bytes}
 use Rattle.h3_world.specs.Flow.Part.{Interim, Head, Body, Trailer, End}
 use Rattle.h3_world.specs.World.{Party}
 use Rattle.h3_world.specs.Order.{next_part, is_over}
+use Rattle.h3_world.specs.Setup.{IsPlain}
 use Rattle.h3_world.specs.Sound.{IsSentSection, IsSoundFlow, WaitsBefore, WaitsForNext}
 use Rattle.h3_headline.specs.PartLaws.{part_at, flow_parts}
 use Rattle.h3_headline.specs.PulledBodyLaws.{payload_comes}
@@ -78,9 +79,9 @@ module _ (lists : ListsAreTheirValue) (side : Side) (announced : Announced) (id 
   ]) e ∙ ap (λ b. if b then just (pull.Item item.End) i else next_item side announced id r i i.place) over
 
   -- no section is there
-  no_section_comes : (p : Party) (f : Flow) (part : Option Part) (i : Incoming) → IsSoundFlow p f → GoesOn f i → ReceivesFlow f i → ReadsFlow f i → next_part f ≡ part → i.section ≡ None → DecodesNext lists side announced id r came part → IsReadableNext lists side announced id r came part
+  no_section_comes : IsPlain announced → (p : Party) (f : Flow) (part : Option Part) (i : Incoming) → IsSoundFlow p f → GoesOn f i → ReceivesFlow f i → ReadsFlow f i → next_part f ≡ part → i.section ≡ None → DecodesNext lists side announced id r came part → IsReadableNext lists side announced id r came part
       → ComesTo (section_of announced) id f came part (if nat_lt 0 i.body_left then in_payload i else between_frames side announced id r i)
-  no_section_comes p f part i sound on same reads next none decodes readable = by_left i.body_left refl (subst (λ o. StandsBefore f i.body_left o (unread_of i.section)) next reads.unread) (subst (λ o. WaitsIn f i o (section_of_part (next_part f))) none reads.waits)
+  no_section_comes plain p f part i sound on same reads next none decodes readable = by_left i.body_left refl (subst (λ o. StandsBefore f i.body_left o (unread_of i.section)) next reads.unread) (subst (λ o. WaitsIn f i o (section_of_part (next_part f))) none reads.waits)
     where
       unread_of : Option (List ℕ) → List ℕ
       unread_of o = section_frame o ++ concat i.unread ++ drop f.delivered (flow_bytes f)
@@ -90,7 +91,7 @@ module _ (lists : ListsAreTheirValue) (side : Side) (announced : Announced) (id 
       by_left zero e at waits =
           let front = subst (λ n. StandsBefore f n part (unread_of i.section)) e at in
           subst (ComesTo (section_of announced) id f came part) (sym (ap (λ b. if b then in_payload i else between_frames side announced id r i) (le-ltb 0 i.body_left (omega (arith, e)))))
-          (before_comes lists side announced id r came p f part i (record {
+          (before_comes lists side announced id r came plain p f part i (record {
             on = on;
             sound = sound;
             section = none;
@@ -197,31 +198,31 @@ module _ (lists : ListsAreTheirValue) (side : Side) (announced : Announced) (id 
   own_came f s e some (inl none) = absurd (omega (arith, e, some, none))
   own_came f s e some (inr h) = h.1
 
-  section_comes : (p : Party) (f : Flow) (part : Option Part) (i : Incoming) (bytes : List ℕ) → IsSoundFlow p f → GoesOn f i → ReceivesFlow f i → ReadsFlow f i → next_part f ≡ part → i.section ≡ Some bytes
+  section_comes : IsPlain announced → (p : Party) (f : Flow) (part : Option Part) (i : Incoming) (bytes : List ℕ) → IsSoundFlow p f → GoesOn f i → ReceivesFlow f i → ReadsFlow f i → next_part f ≡ part → i.section ≡ Some bytes
       → r.table.inserted ≡ came → DecodesNext lists side announced id r came part → IsReadableNext lists side announced id r came part
       → WaitsIn f i (Some bytes) (section_of_part part) → (f.waits_for ≡ 0) ⊎ WaitsForNext f part
       → ComesTo (section_of announced) id f came part (at_section side announced id r i bytes)
-  section_comes p f None i bytes sound on same reads next there inserted decodes readable h w = absurd h
-  section_comes p f (Some (Body x own)) i bytes sound on same reads next there inserted decodes readable h w = absurd h
-  section_comes p f (Some End) i bytes sound on same reads next there inserted decodes readable h w = absurd h
-  section_comes p f (Some (Interim s)) i bytes sound on same reads next there inserted decodes readable h w =
+  section_comes plain p f None i bytes sound on same reads next there inserted decodes readable h w = absurd h
+  section_comes plain p f (Some (Body x own)) i bytes sound on same reads next there inserted decodes readable h w = absurd h
+  section_comes plain p f (Some End) i bytes sound on same reads next there inserted decodes readable h w = absurd h
+  section_comes plain p f (Some (Interim s)) i bytes sound on same reads next there inserted decodes readable h w =
       let at = part_at p f (Interim s) sound next in
       waited item.Interim p f (Interim s) s i bytes sound on same reads next (interim_part s) refl at.sent.0 (own_came f s h.0 h.1 w) there h (λ n left k. k) inserted decodes
-      (reads_interim lists side announced id r s (past_section i) (acknowledgment id s.count) at.sent.0.reads_back at.sent.0.small readable (reads.place ∙ at.place_is))
-  section_comes p f (Some (Head s)) i bytes sound on same reads next there inserted decodes readable h w =
+      (reads_interim lists side announced plain id r s (past_section i) (acknowledgment id s.count) at.sent.0.reads_back at.sent.0.small readable (reads.place ∙ at.place_is))
+  section_comes plain p f (Some (Head s)) i bytes sound on same reads next there inserted decodes readable h w =
       let at = part_at p f (Head s) sound next in
       waited item.Head p f (Head s) s i bytes sound on same reads next (head_part s) refl at.sent.0 (own_came f s h.0 h.1 w) there h (λ n left k. k) inserted decodes
-      (reads_head lists side announced id r s (past_section i) (acknowledgment id s.count) at.sent.0.reads_back at.sent.0.small readable (reads.place ∙ at.place_is))
-  section_comes p f (Some (Trailer s)) i bytes sound on same reads next there inserted decodes readable h w =
+      (reads_head lists side announced plain id r s (past_section i) (acknowledgment id s.count) at.sent.0.reads_back at.sent.0.small readable (reads.place ∙ at.place_is))
+  section_comes plain p f (Some (Trailer s)) i bytes sound on same reads next there inserted decodes readable h w =
       let at = part_at p f (Trailer s) sound next in
       waited item.Trailer p f (Trailer s) s i bytes sound on same reads next (trailer_part s) refl at.sent.0 (own_came f s h.0 h.1 w) there h (λ n left k. k) inserted decodes
-      (reads_trailer lists side announced id r s (past_section i) (acknowledgment id s.count) at.sent.0.reads_back at.sent.0.small readable (reads.place ∙ at.place_is))
+      (reads_trailer lists side announced plain id r s (past_section i) (acknowledgment id s.count) at.sent.0.reads_back at.sent.0.small readable (reads.place ∙ at.place_is))
 
   -- **A stream that was not given up and whose end was not handed out.**
-  pub stream_comes : (p : Party) (f : Flow) (i : Incoming) → IsSoundFlow p f → ReceivesFlow f i → f.fault ≡ None → is_over f ≡ false → r.table.inserted ≡ came
+  pub stream_comes : IsPlain announced → (p : Party) (f : Flow) (i : Incoming) → IsSoundFlow p f → ReceivesFlow f i → f.fault ≡ None → is_over f ≡ false → r.table.inserted ≡ came
       → DecodesNext lists side announced id r came (next_part f) → IsReadableNext lists side announced id r came (next_part f)
       → ComesTo (section_of announced) id f came (next_part f) (pull_stream side announced id r i)
-  stream_comes p f i sound same alive more inserted decodes readable =
+  stream_comes plain p f i sound same alive more inserted decodes readable =
       let reads = same.reads alive in
       let on : GoesOn f i = record { alive = alive; fault = same.fault ∙ alive; ended = same.ended; was_reset = same.was_reset; goes_on = same.is_over ∙ more; not_over = more } in
       subst (ComesTo (section_of announced) id f came (next_part f))
@@ -233,12 +234,12 @@ module _ (lists : ListsAreTheirValue) (side : Side) (announced : Announced) (id 
           let reads = same.reads alive in
           let on : GoesOn f i = record { alive = alive; fault = same.fault ∙ alive; ended = same.ended; was_reset = same.was_reset; goes_on = same.is_over ∙ more; not_over = more } in
           subst (λ o. ComesTo (section_of announced) id f came (next_part f) (in_message side announced id r i o)) (sym e)
-          (no_section_comes p f (next_part f) i sound on same reads refl e decodes readable)
+          (no_section_comes plain p f (next_part f) i sound on same reads refl e decodes readable)
       by_section (Some bytes) e =
           let reads = same.reads alive in
           let on : GoesOn f i = record { alive = alive; fault = same.fault ∙ alive; ended = same.ended; was_reset = same.was_reset; goes_on = same.is_over ∙ more; not_over = more } in
           subst (λ o. ComesTo (section_of announced) id f came (next_part f) (in_message side announced id r i o)) (sym e)
-          (section_comes p f (next_part f) i bytes sound on same reads refl e inserted decodes readable (subst (λ o. WaitsIn f i o (section_of_part (next_part f))) e reads.waits) sound.waits)
+          (section_comes plain p f (next_part f) i bytes sound on same reads refl e inserted decodes readable (subst (λ o. WaitsIn f i o (section_of_part (next_part f))) e reads.waits) sound.waits)
 
   -- A stream that was given up, or whose end was handed out: nothing changes.
   pub given_up_stays : (f : Flow) (i : Incoming) (fault : StreamFault) → ReceivesFlow f i → f.fault ≡ Some fault → pull_stream side announced id r i ≡ just (pull.Fault (Stream fault)) i

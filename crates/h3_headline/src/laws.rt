@@ -12,7 +12,7 @@ ghost use Rattle.h3_world.specs.Headline.{Happens};
 ghost use Rattle.h3_world.specs.Order.{next_part};
 ghost use Rattle.h3_world.specs.Run.{Run};
 ghost use Rattle.h3_world.specs.Sendable.{IsSendable};
-ghost use Rattle.h3_world.specs.Setup.{IsMadeSetup, announced_at};
+ghost use Rattle.h3_world.specs.Setup.{IsMadeSetup, JudgesPlainly, announced_at};
 ghost use Rattle.h3_world.specs.Sound.{IsSoundWorld};
 ghost use Rattle.h3_world.specs.Streams.{flow, is_open};
 ghost use Rattle.h3_world.specs.World.{World, empty_world, party};
@@ -50,9 +50,10 @@ pub fn endpoints_decode_what_was_sent()
 }
 
 /// Two endpoints with the bytes carried between them run in a world: over every schedule of events that may be sent, the answers of both
-/// are those of a run of the world, of which all holds that is said of each step, and both stand in the world that it leads to.
+/// are those of a run of the world, of which all holds that is said of each step, and both stand in the world that it leads to. Neither end
+/// asks for strict messages.
 pub fn two_endpoints_run_in_a_world()
-    ensures { (setup : Setup) (events : List Event) → IsMadeSetup setup → AllByRecursion IsSendable events →
+    ensures { (setup : Setup) (events : List Event) → IsMadeSetup setup → JudgesPlainly setup → AllByRecursion IsSendable events →
         (w : World) × Run (Happens setup) empty_world events (answers_of_ends (new_ends setup) events) w × Stands setup w (ends_after (new_ends setup) events) }
 {
     what_is_cited_holds();

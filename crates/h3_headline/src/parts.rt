@@ -21,7 +21,7 @@ ghost use Rattle.h3_world.specs.Pauses.{pause_of};
 ghost use Rattle.h3_world.specs.Pulling.{settled};
 ghost use Rattle.h3_world.specs.Run.{Run};
 ghost use Rattle.h3_world.specs.Sendable.{IsSendable};
-ghost use Rattle.h3_world.specs.Setup.{IsMadeSetup, announced_at};
+ghost use Rattle.h3_world.specs.Setup.{IsMadeSetup, JudgesPlainly, announced_at};
 ghost use Rattle.h3_world.specs.Streams.{flow};
 ghost use Rattle.h3_world.specs.World.{World, empty_world, party};
 ghost use Rattle.h3_headline.specs.InOrder.{IsInOrder};
@@ -107,12 +107,12 @@ pub fn no_instruction_is_refused()
 
 /// The same of two endpoints with the bytes carried between them, by their own answers: over every schedule of events that may be sent no
 /// answer tells of a connection fault, what a side is handed out of a stream is a front of what the other side sent on it, and all of that
-/// with the end.
+/// with the end. Neither end asks for strict messages.
 pub fn endpoints_hand_out_what_was_sent()
-    ensures fault { (setup : Setup) (events : List Event) → IsMadeSetup setup → AllByRecursion IsSendable events → list_any is_connection_fault (answers_of_ends (new_ends setup) events) ≡ false }
-    ensures front { (setup : Setup) (events : List Event) (side : Side) (id : ℕ) → IsMadeSetup setup → AllByRecursion IsSendable events →
+    ensures fault { (setup : Setup) (events : List Event) → IsMadeSetup setup → JudgesPlainly setup → AllByRecursion IsSendable events → list_any is_connection_fault (answers_of_ends (new_ends setup) events) ≡ false }
+    ensures front { (setup : Setup) (events : List Event) (side : Side) (id : ℕ) → IsMadeSetup setup → JudgesPlainly setup → AllByRecursion IsSendable events →
         IsFrontOf (pulled side id events (answers_of_ends (new_ends setup) events)) (map (at_reader (section_of (announced_at setup side))) (sent (other side) id events (answers_of_ends (new_ends setup) events))) }
-    ensures end { (setup : Setup) (events : List Event) (side : Side) (id : ℕ) → IsMadeSetup setup → AllByRecursion IsSendable events →
+    ensures end { (setup : Setup) (events : List Event) (side : Side) (id : ℕ) → IsMadeSetup setup → JudgesPlainly setup → AllByRecursion IsSendable events →
         has_pulled_end side id events (answers_of_ends (new_ends setup) events) ≡ true →
         (pulled side id events (answers_of_ends (new_ends setup) events) ≡ map (at_reader (section_of (announced_at setup side))) (sent (other side) id events (answers_of_ends (new_ends setup) events)))
         × (has_finished (other side) id events (answers_of_ends (new_ends setup) events) ≡ true) }

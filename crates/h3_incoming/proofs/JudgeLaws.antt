@@ -18,6 +18,7 @@ use Rattle.h3_connection.specs.declared.event.Pull.TheVariants as pull
 use Rattle.h3_connection.specs.declared.place.Place.{Place}
 use Rattle.h3_connection.specs.declared.setup.Announced.{Announced}
 use Rattle.h3_connection.specs.Announcing.{section_of}
+use Rattle.h3_connection.specs.StrictMessages.{broken_rule}
 use Rattle.h3_qpack.specs.DecodedSection.{DecodedSection, decode_section}
 use Rattle.h3_connection.specs.Incoming.{Incoming}
 use Rattle.h3_incoming.specs.Gives.{Gives}
@@ -53,15 +54,15 @@ tells_none fields e why law (inl here) = law here
 tells_none fields e why law (inr is) = is
 
 -- what is said of the fields that are kept is said of the section
-pub judged_within : {E : Type 0} (result : Result Judged E) (side : Side) (place : Place) (d : Decoded) (w : DecodedWithin) → w ≡ within.Fields d
-    → IfOk result (λ j. (own : Announced) (id : ℕ) (r : DecoderState) (i : Incoming) (replies : List DecoderInstruction) → told_size d.fields.items ≤ section_of own → i.place ≡ place
+pub judged_within : {E : Type 0} (result : Result Judged E) (side : Side) (own : Announced) (place : Place) (d : Decoded) (w : DecodedWithin) → w ≡ within.Fields d
+    → IfOk result (λ j. (id : ℕ) (r : DecoderState) (i : Incoming) (replies : List DecoderInstruction) → told_size d.fields.items ≤ section_of own → i.place ≡ place
     → read_section side own id r i replies d.fields.items ≡ judged_as id i replies j)
-    → IfOk result (λ j. (own : Announced) (id : ℕ) (r : DecoderState) (i : Incoming) (replies : List DecoderInstruction) (dyn_ref : Bool) (fields : List Field)
+    → IfOk result (λ j. (id : ℕ) (r : DecoderState) (i : Incoming) (replies : List DecoderInstruction) (dyn_ref : Bool) (fields : List Field)
     → IsWithin (section_of own) (codes ":status") dyn_ref fields w → i.place ≡ place → read_section side own id r i replies fields ≡ judged_as id i replies j)
-judged_within (Err e) side place d w is h = h
-judged_within (Ok j) side place d w is h = λ own id r i replies dyn_ref fields k at.
+judged_within (Err e) side own place d w is h = h
+judged_within (Ok j) side own place d w is h = λ id r i replies dyn_ref fields k at.
     let size = subst (λ x. IsWithin (section_of own) (codes ":status") dyn_ref fields x) is k in
-    subst (λ fs. read_section side own id r i replies fs ≡ judged_as id i replies j) size.1 (h own id r i replies (subst (λ fs. told_size fs ≤ section_of own) (sym size.1) size.0) at)
+    subst (λ fs. read_section side own id r i replies fs ≡ judged_as id i replies j) size.1 (h id r i replies (subst (λ fs. told_size fs ≤ section_of own) (sym size.1) size.0) at)
 
 module _ (side : Side) (own : Announced) (id : ℕ) (r : DecoderState) where
   -- a section that is too large
@@ -69,20 +70,21 @@ module _ (side : Side) (own : Announced) (id : ℕ) (r : DecoderState) where
       → size ≡ told_size fields → i.place ≡ place → behind ≡ next_place side place fields
       → read_section side own id r i replies fields ≡ record { answer = pull.Item (item.TooLarge size); incoming = record i { place = behind }; replies = replies }
   read_large i replies fields place behind size large is at next =
-      ap (λ b. if b then record { answer = pull.Item (item.TooLarge (told_size fields)); incoming = record i { place = next_place side i.place fields }; replies = replies } else judged side id i replies (head_of fields)) (lt-ltb (section_of own) (told_size fields) large)
+      ap (λ b. if b then record { answer = pull.Item (item.TooLarge (told_size fields)); incoming = record i { place = next_place side i.place fields }; replies = replies } else judged side id i replies (broken_rule side own i.place fields) (head_of fields)) (lt-ltb (section_of own) (told_size fields) large)
       ∙ ap (λ n. let p : Pulled = record { answer = pull.Item (item.TooLarge n); incoming = record i { place = next_place side i.place fields }; replies = replies } in p) (sym is)
       ∙ ap (λ q. let p : Pulled = record { answer = pull.Item (item.TooLarge size); incoming = record i { place = q }; replies = replies } in p) (ap (λ q. next_place side q fields) at ∙ sym next)
 
   -- one that is not, and that is no head
   pub read_none : (i : Incoming) (replies : List DecoderInstruction) (fields : List Field) (why : HeadRefusal) → told_size fields ≤ section_of own → head_of fields ≡ IsNone why
       → read_section side own id r i replies fields ≡ malformed id (malformation_of why) i replies
-  read_none i replies fields why few e = rw (le-ltb (section_of own) (told_size fields) few) (ap (judged side id i replies) e)
+  read_none i replies fields why few e = rw (le-ltb (section_of own) (told_size fields) few) (ap (judged side id i replies (broken_rule side own i.place fields)) e)
 
   -- a section that is small enough, and a head
   pub read_head : (i : Incoming) (replies : List DecoderInstruction) (fields : List Field) (place : Place) (h : Head) → told_size fields ≤ section_of own
-      → head_of fields ≡ IsHead h → i.place ≡ place → read_section side own id r i replies fields ≡ head_or_trailer side id i replies place h
+      → head_of fields ≡ IsHead h → i.place ≡ place → read_section side own id r i replies fields ≡ head_or_trailer side id i replies (broken_rule side own place fields) place h
   read_head i replies fields place h few e at =
-      rw (le-ltb (section_of own) (told_size fields) few) (ap (judged side id i replies) e ∙ ap (λ q. head_or_trailer side id i replies q h) at)
+      rw (le-ltb (section_of own) (told_size fields) few)
+      (ap (judged side id i replies (broken_rule side own i.place fields)) e ∙ ap (λ q. head_or_trailer side id i replies (broken_rule side own q fields) q h) at)
 
   pub tried_section : (i : Incoming) (bytes : List ℕ) (section : DecodedSection) → nat_lt r.table.inserted i.waits_for ≡ false → decode_section r bytes ≡ section
       → at_section side own id r i bytes ≡ decoded side own id r i section

@@ -8,14 +8,15 @@ ghost use Rattle.h3_header.specs.HeadRead.{HeadRefusal, told};
 ghost use Rattle.h3_header.specs.Reads.{RefusesOne};
 ghost use Rattle.h3_connection.specs.Incoming.{Incoming};
 ghost use Rattle.h3_qpack.specs.Sizes.{IsLarge, IsWithin, last_value, told_size};
-ghost use Rattle.h3_connection.specs.declared.setup.Announced.{Announced};
 ghost use Rattle.h3_connection.specs.Announcing.{section_of};
 ghost use Rattle.h3_connection.specs.Pulling.{read_section, whole_head, whole_trailer, head_or_trailer, next_place, is_interim_text, is_interim, malformation_of, is_for, is_client};
 ghost use Rattle.h3_field.specs.Field.{Field};
 ghost use Rattle.h3_incoming.specs.Judging.{Tells, judged_as};
 
+use crate::strict::broken_rule;
 use h3_connection::event::{Item, Malformation};
 use h3_connection::place::Place;
+use h3_connection::setup::Announced;
 use h3_header::{BadPart, Header, HeaderError, first_bad_part};
 use h3_proto::stream::Side;
 use h3_qpack::{DecodedWithin, HeaderField, LargeSection};
@@ -43,14 +44,17 @@ pub(crate) fn names_entries(decoded: &DecodedWithin) -> bool
 pub(crate) fn judge(
     alloc: Global,
     side: Side,
+    announced: &Announced,
     place: Place,
     decoded: DecodedWithin,
 ) -> Result<Judged, AllocError>
-    ensures { IfOk result (λ j. (own : Announced) (id : ℕ) (r : DecoderState) (i : Incoming) (replies : List DecoderInstruction) (dyn_ref : Bool) (fields : List Field)
-        → IsWithin (section_of own) (codes ":status") dyn_ref fields decoded → i.place ≡ place → read_section side own id r i replies fields ≡ judged_as id i replies j) }
+    ensures { IfOk result (λ j. (id : ℕ) (r : DecoderState) (i : Incoming) (replies : List DecoderInstruction) (dyn_ref : Bool) (fields : List Field)
+        → IsWithin (section_of announced.now) (codes ":status") dyn_ref fields decoded → i.place ≡ place → read_section side announced.now id r i replies fields ≡ judged_as id i replies j) }
 {
     match decoded {
-        DecodedWithin::Fields(decoded) => judge_fields(alloc, side, place, decoded.fields),
+        DecodedWithin::Fields(decoded) => {
+            judge_fields(alloc, side, announced, place, decoded.fields)
+        }
         DecodedWithin::TooLarge(large) => Ok(judge_large(side, place, large)),
     }
 }
@@ -70,18 +74,20 @@ fn judge_large(side: Side, place: Place, large: LargeSection) -> Judged
 fn judge_fields(
     alloc: Global,
     side: Side,
+    announced: &Announced,
     place: Place,
     fields: Vec<HeaderField>,
 ) -> Result<Judged, AllocError>
-    ensures ok { IfOk result (λ j. (own : Announced) (id : ℕ) (r : DecoderState) (i : Incoming) (replies : List DecoderInstruction)
-        → told_size fields.items ≤ section_of own → i.place ≡ place → read_section side own id r i replies fields.items ≡ judged_as id i replies j) }
+    ensures ok { IfOk result (λ j. (id : ℕ) (r : DecoderState) (i : Incoming) (replies : List DecoderInstruction)
+        → told_size fields.items ≤ section_of announced.now → i.place ≡ place → read_section side announced.now id r i replies fields.items ≡ judged_as id i replies j) }
     ensures memory { OnErr result (RefusesOne (trailer_head []) fields.items HeaderError.OutOfMemory) }
     ensures good { OnErr result (AreGood fields.items) }
 {
     h3_header::laws::lists_are_their_value();
     let list = fields.as_slice();
+    let broken = broken_rule(side, announced, place, list);
     match Header::of_fields(alloc, list) {
-        Ok(header) => Ok(judge_header(side, place, header)),
+        Ok(header) => Ok(judge_header(side, place, broken, header)),
         Err(e) => judge_refusal(list, e),
     }
 }
@@ -112,25 +118,28 @@ fn malformation_by(part: BadPart) -> Malformation
     }
 }
 
-// A head or a trailer.
-fn judge_header(side: Side, place: Place, header: Header) -> Judged
+// A head or a trailer, whose list breaks this rule or none.
+fn judge_header(side: Side, place: Place, broken: Option<Malformation>, header: Header) -> Judged
     ensures { (id : ℕ) (i : Incoming) (replies : List DecoderInstruction) → i.place ≡ place
-        → head_or_trailer side id i replies place header ≡ judged_as id i replies result }
+        → head_or_trailer side id i replies broken place header ≡ judged_as id i replies result }
 {
     match place {
-        Place::BeforeHead => judge_head(side, header),
-        Place::InBody | Place::AfterTrailer | Place::InSession => judge_trailer(header),
+        Place::BeforeHead => judge_head(side, broken, header),
+        Place::InBody | Place::AfterTrailer | Place::InSession => judge_trailer(broken, header),
     }
 }
 
 // A head: a client reads responses, interim ones among them, and a server requests.
-fn judge_head(side: Side, header: Header) -> Judged
+fn judge_head(side: Side, broken: Option<Malformation>, header: Header) -> Judged
     ensures { (id : ℕ) (i : Incoming) (replies : List DecoderInstruction) → i.place ≡ Place.BeforeHead
-        → whole_head side id i replies header ≡ judged_as id i replies result }
+        → whole_head side id i replies broken header ≡ judged_as id i replies result }
 {
     if !is_for(side, &header) {
         drop(header);
         Judged::Malformed(Malformation::WrongSide)
+    } else if let Some(why) = broken {
+        drop(header);
+        Judged::Malformed(why)
     } else if is_client(side) && is_interim(&header) {
         Judged::HandsOut(Item::Interim(header), Place::BeforeHead)
     } else {
@@ -158,11 +167,14 @@ fn is_client(side: Side) -> bool
 }
 
 // A trailer, which has no pseudo-header field (RFC 9114, section 4.3).
-fn judge_trailer(header: Header) -> Judged
-    ensures { (id : ℕ) (i : Incoming) (replies : List DecoderInstruction) → whole_trailer id i replies header ≡ judged_as id i replies result }
+fn judge_trailer(broken: Option<Malformation>, header: Header) -> Judged
+    ensures { (id : ℕ) (i : Incoming) (replies : List DecoderInstruction) → whole_trailer id i replies broken header ≡ judged_as id i replies result }
 {
     if header.has_pseudo() {
         return Judged::Malformed(Malformation::PseudoInTrailer);
+    }
+    if let Some(why) = broken {
+        return Judged::Malformed(why);
     }
     Judged::HandsOut(Item::Trailer(header), Place::AfterTrailer)
 }

@@ -7,5 +7,6 @@ mod judge;
 mod replies;
 mod section;
 pub mod stream;
+mod strict;
 
 pub use stream::IncomingStream;

@@ -4,6 +4,7 @@ use Rattle.h3_proto.specs.Ids.{reserved}
 use Rattle.h3_proto.specs.Settings.{value_of}
 use Rattle.h3_proto.specs.declared.config.Settings.{Settings}
 use Rattle.h3_proto.specs.declared.config.Config.{Config}
+use Rattle.h3_proto.specs.declared.config.Choices.{Choices}
 use Rattle.h3_proto.specs.declared.frame.SettingsError.{SettingsError}
 use Rattle.h3_proto.specs.declared.frame.SettingsError.TheVariants.{InvalidSettingValue}
 
@@ -16,6 +17,10 @@ default_settings = record {
   enable_datagram = false;
   max_webtransport_sessions = 0;
 }
+
+-- what an end chooses that chooses nothing
+abbrev pub no_choices : Choices
+no_choices = record { strict_messages = false; acknowledgments_counted = false }
 
 -- the setting is there with a value other than 0
 abbrev pub is_enabled : ℕ → List (ℕ × ℕ) → Bool

@@ -1,6 +1,6 @@
 //! What an end of a connection announces of itself, and what its peer announced.
 ghost use Rattle.std.specs.Prelude.{◌≡◌, ℕ, ◌-◌, ◌^◌, ◌<◌, true, false};
-ghost use Rattle.h3_proto.specs.Config.{announced, default_settings, peer_settings};
+ghost use Rattle.h3_proto.specs.Config.{announced, default_settings, no_choices, peer_settings};
 
 use crate::frame;
 use crate::frame::{SettingId, SettingsError};
@@ -75,21 +75,43 @@ impl From<&frame::Settings> for Settings {
     }
 }
 
+/// What an end chooses for itself beyond what it announces. None of it is sent to the peer, and all of it is off by default.
+#[derive(Clone, Copy, Debug)]
+pub struct Choices {
+    /// Messages are judged by all of RFC 9114, sections 4.1.2 and 4.2 to 4.5.
+    pub strict_messages: bool,
+    /// An acknowledgment of a section raises the known received count (RFC 9204, section 2.1.4).
+    pub acknowledgments_counted: bool,
+}
+
+impl Default for Choices {
+    ghost is_default = { λ c. c ≡ no_choices };
+
+    fn default() -> Self {
+        Choices {
+            strict_messages: false,
+            acknowledgments_counted: false,
+        }
+    }
+}
+
 /// How an end of a connection is set up.
 #[derive(Clone, Copy, Debug)]
 pub struct Config {
     // Whether a setting without meaning is sent (RFC 9114, section 7.2.4.1).
     send_grease: bool,
     settings: Settings,
+    choices: Choices,
 }
 
 impl Default for Config {
-    ghost is_default = { λ c. c ≡ record { send_grease = true; settings = default_settings } };
+    ghost is_default = { λ c. c ≡ record { send_grease = true; settings = default_settings; choices = no_choices } };
 
     fn default() -> Self {
         Config {
             send_grease: true,
             settings: Settings::default(),
+            choices: Choices::default(),
         }
     }
 }
@@ -152,6 +174,29 @@ impl Config {
     {
         self.settings.max_webtransport_sessions = sessions;
         self
+    }
+
+    /// Whether messages are judged by all rules of RFC 9114, sections 4.1.2 and 4.2 to 4.5. Off by default.
+    pub fn with_strict_messages(mut self, strict: bool) -> Self
+        ensures { result ≡ record self { choices = record self.choices { strict_messages = strict } } }
+    {
+        self.choices.strict_messages = strict;
+        self
+    }
+
+    /// Whether an acknowledgment of a section raises the known received count, as RFC 9204, section 2.1.4, has it. Off by default.
+    pub fn with_acknowledgments_counted(mut self, counted: bool) -> Self
+        ensures { result ≡ record self { choices = record self.choices { acknowledgments_counted = counted } } }
+    {
+        self.choices.acknowledgments_counted = counted;
+        self
+    }
+
+    /// What the end chooses for itself.
+    pub fn choices(&self) -> Choices
+        ensures { result ≡ self.now.choices }
+    {
+        self.choices
     }
 
     /// The settings to send: where it greases the reserved one of the number `grease` with value 0,

@@ -1,36 +1,53 @@
--- The setup of a script is one that `Setup::new` makes.
+-- The setup of a script is one that `Setup::new` makes, and asks for no strict messages.
 use Rattle.std.proofs.Common.{◌≡◌, ℕ, Bool, true, false, List, [], ◌∷◌, codes, bytes_eq, nat_le, nat_lt, ◌^◌, Option, Some, None, Result, Ok, Err, sym, ap, subst, arith, if◌then◌else◌}
 use Rattle.std.specs.Result.{result_ok}
-use Rattle.h3_proto.specs.Config.{announced}
+use Rattle.h3_proto.specs.Config.{announced, no_choices}
+use Rattle.h3_proto.specs.declared.config.Choices.{Choices}
 use Rattle.h3_proto.specs.declared.frame.SettingsError.{SettingsError}
+use Rattle.h3_proto.specs.declared.stream.Side.{Side}
+use Rattle.h3_proto.specs.declared.stream.Side.TheVariants.{Client, Server}
 use Rattle.h3_connection.specs.Announcing.{announced_by, with_limits}
 use Rattle.h3_connection.specs.declared.setup.Announced.{Announced}
 use Rattle.h3_connection.specs.declared.setup.Limits.{Limits}
 use Rattle.h3_connection.specs.declared.setup.NewError.{NewError}
 use Rattle.h3_connection.specs.declared.setup.NewError.TheVariants.{TableLimit, BlockedLimit}
-use Rattle.h3_world.specs.Setup.{both, IsMade, IsMadeSetup}
+use Rattle.h3_world.specs.Setup.{both, announced_at, IsMade, IsMadeSetup, IsPlain, JudgesPlainly}
 use Rattle.h3_world.specs.declared.setup.Setup.{Setup}
 use Rattle.h3_world.specs.declared.event.Event.{Event}
 use Rattle.h3_script.specs.Words.{words_of, number_of}
 use Rattle.h3_script.specs.ScriptLine.{config_of, setup_by, setup_of}
 use Rattle.h3_script.specs.Script.{lines_of, said, SaysSoFar, IsScript}
 
-limits_of : (b d : Bool) (r : Result (List (ℕ × ℕ)) SettingsError) (limits : Limits) (a : Announced)
-    → (if b then Err TableLimit else (if d then Err BlockedLimit else with_limits r limits)) ≡ Ok a → a.limits ≡ limits
-limits_of true d r limits a h = cc
-limits_of false true r limits a h = cc
-limits_of false false (Err e) limits a h = cc
-limits_of false false (Ok pairs) limits a h = cc
+limits_of : (b d : Bool) (r : Result (List (ℕ × ℕ)) SettingsError) (limits : Limits) (choices : Choices) (a : Announced)
+    → (if b then Err TableLimit else (if d then Err BlockedLimit else with_limits r limits choices)) ≡ Ok a → a.limits ≡ limits
+limits_of true d r limits choices a h = cc
+limits_of false true r limits choices a h = cc
+limits_of false false (Err e) limits choices a h = cc
+limits_of false false (Ok pairs) limits choices a h = cc
 
-made_by : (section : ℕ) (limits : Limits) (a : Announced) → announced_by (announced (config_of section) 0) limits ≡ Ok a → IsMade a
-made_by section limits a h =
-    let same : a.limits ≡ limits = limits_of (nat_le (2 ^ 30) limits.table) (nat_lt 65535 limits.blocked) (announced (config_of section) 0) limits a h in
-    record {
-      config = config_of section;
-      grease = 0;
-      small = omega arith;
-      made = subst (λ l. announced_by (announced (config_of section) 0) l ≡ Ok a) (sym same) h;
-    }
+choices_of : (b d : Bool) (r : Result (List (ℕ × ℕ)) SettingsError) (limits : Limits) (choices : Choices) (a : Announced)
+    → (if b then Err TableLimit else (if d then Err BlockedLimit else with_limits r limits choices)) ≡ Ok a → a.choices ≡ choices
+choices_of true d r limits choices a h = cc
+choices_of false true r limits choices a h = cc
+choices_of false false (Err e) limits choices a h = cc
+choices_of false false (Ok pairs) limits choices a h = cc
+
+-- a side of a script: some configuration announces it, and it asks for no strict messages
+abbrev IsSide : Announced → Type 0
+IsSide a = IsMade a × IsPlain a
+
+side_by : (section : ℕ) (limits : Limits) (a : Announced) → announced_by (announced (config_of section) 0) limits no_choices ≡ Ok a → IsSide a
+side_by section limits a h =
+    let same : a.limits ≡ limits = limits_of (nat_le (2 ^ 30) limits.table) (nat_lt 65535 limits.blocked) (announced (config_of section) 0) limits no_choices a h in
+    let chosen : a.choices ≡ no_choices = choices_of (nat_le (2 ^ 30) limits.table) (nat_lt 65535 limits.blocked) (announced (config_of section) 0) limits no_choices a h in (
+      record {
+        config = config_of section;
+        grease = 0;
+        small = omega arith;
+        made = subst (λ l. announced_by (announced (config_of section) 0) l no_choices ≡ Ok a) (sym same) h;
+      },
+      ap (λ (c : Choices). c.strict_messages) chosen,
+    )
 
 both_made : (x y : Result Announced NewError) (setup : Setup) → result_ok (both x y) ≡ Some setup → (x ≡ Ok setup.client) × (y ≡ Ok setup.server)
 both_made (Ok client) (Ok server) setup h =
@@ -39,39 +56,55 @@ both_made (Ok client) (Ok server) setup h =
 both_made (Err e) y setup h = cc
 both_made (Ok client) (Err e) setup h = cc
 
-setup_made : (a b c d e f : Option ℕ) (setup : Setup) → setup_by a b c d e f ≡ Some setup → IsMadeSetup setup
-setup_made None b c d e f setup h = cc
-setup_made (Some a) None c d e f setup h = cc
-setup_made (Some a) (Some b) None d e f setup h = cc
-setup_made (Some a) (Some b) (Some c) None e f setup h = cc
-setup_made (Some a) (Some b) (Some c) (Some d) None f setup h = cc
-setup_made (Some a) (Some b) (Some c) (Some d) (Some e) None setup h = cc
-setup_made (Some a) (Some b) (Some c) (Some d) (Some e) (Some f) setup h =
+-- both sides
+abbrev AreSides : Setup → Type 0
+AreSides setup = IsSide setup.client × IsSide setup.server
+
+setup_sides : (a b c d e f : Option ℕ) (setup : Setup) → setup_by a b c d e f ≡ Some setup → AreSides setup
+setup_sides None b c d e f setup h = cc
+setup_sides (Some a) None c d e f setup h = cc
+setup_sides (Some a) (Some b) None d e f setup h = cc
+setup_sides (Some a) (Some b) (Some c) None e f setup h = cc
+setup_sides (Some a) (Some b) (Some c) (Some d) None f setup h = cc
+setup_sides (Some a) (Some b) (Some c) (Some d) (Some e) None setup h = cc
+setup_sides (Some a) (Some b) (Some c) (Some d) (Some e) (Some f) setup h =
     let client : Limits = record { table = b; blocked = c } in
     let server : Limits = record { table = e; blocked = f } in
-    let sides = both_made (announced_by (announced (config_of a) 0) client) (announced_by (announced (config_of d) 0) server) setup h in
-    record { client = made_by a client setup.client sides.0; server = made_by d server setup.server sides.1 }
+    let sides = both_made (announced_by (announced (config_of a) 0) client no_choices) (announced_by (announced (config_of d) 0) server no_choices) setup h in
+    (side_by a client setup.client sides.0, side_by d server setup.server sides.1)
 
 if_setup : (b : Bool) (found : Option Setup) (setup : Setup) → (if b then found else None) ≡ Some setup → found ≡ Some setup
 if_setup true found setup h = h
 if_setup false found setup h = cc
 
-words_made : (words : List (List ℕ)) (setup : Setup) → setup_of words ≡ Some setup → IsMadeSetup setup
-words_made [] setup h = cc
-words_made (w ∷ []) setup h = cc
-words_made (w ∷ a ∷ []) setup h = cc
-words_made (w ∷ a ∷ b ∷ []) setup h = cc
-words_made (w ∷ a ∷ b ∷ c ∷ []) setup h = cc
-words_made (w ∷ a ∷ b ∷ c ∷ d ∷ []) setup h = cc
-words_made (w ∷ a ∷ b ∷ c ∷ d ∷ e ∷ []) setup h = cc
-words_made (w ∷ a ∷ b ∷ c ∷ d ∷ e ∷ f ∷ []) setup h =
-    setup_made (number_of a) (number_of b) (number_of c) (number_of d) (number_of e) (number_of f) setup
+words_sides : (words : List (List ℕ)) (setup : Setup) → setup_of words ≡ Some setup → AreSides setup
+words_sides [] setup h = cc
+words_sides (w ∷ []) setup h = cc
+words_sides (w ∷ a ∷ []) setup h = cc
+words_sides (w ∷ a ∷ b ∷ []) setup h = cc
+words_sides (w ∷ a ∷ b ∷ c ∷ []) setup h = cc
+words_sides (w ∷ a ∷ b ∷ c ∷ d ∷ []) setup h = cc
+words_sides (w ∷ a ∷ b ∷ c ∷ d ∷ e ∷ []) setup h = cc
+words_sides (w ∷ a ∷ b ∷ c ∷ d ∷ e ∷ f ∷ []) setup h =
+    setup_sides (number_of a) (number_of b) (number_of c) (number_of d) (number_of e) (number_of f) setup
     (if_setup (bytes_eq w (codes "config")) (setup_by (number_of a) (number_of b) (number_of c) (number_of d) (number_of e) (number_of f)) setup h)
-words_made (w ∷ a ∷ b ∷ c ∷ d ∷ e ∷ f ∷ g ∷ words) setup h = cc
+words_sides (w ∷ a ∷ b ∷ c ∷ d ∷ e ∷ f ∷ g ∷ words) setup h = cc
 
-so_far_made : (lines : List (List ℕ)) (setup : Setup) (events : List Event) → SaysSoFar lines (Some setup) events → IsMadeSetup setup
-so_far_made [] setup events h = absurd h
-so_far_made (first ∷ rest) setup events h = words_made (words_of first) setup h.0
+so_far_sides : (lines : List (List ℕ)) (setup : Setup) (events : List Event) → SaysSoFar lines (Some setup) events → AreSides setup
+so_far_sides [] setup events h = absurd h
+so_far_sides (first ∷ rest) setup events h = words_sides (words_of first) setup h.0
+
+sides : (most : ℕ) (text : List ℕ) (setup : Setup) (events : List Event) → IsScript most text setup events → AreSides setup
+sides most text setup events h = so_far_sides (said (lines_of text)) setup events h.says
 
 pub script_made : (most : ℕ) (text : List ℕ) (setup : Setup) (events : List Event) → IsScript most text setup events → IsMadeSetup setup
-script_made most text setup events h = so_far_made (said (lines_of text)) setup events h.says
+script_made most text setup events h =
+    let made = sides most text setup events h in
+    record { client = made.0.0; server = made.1.0 }
+
+plain_at : (setup : Setup) (side : Side) → AreSides setup → IsPlain (announced_at setup side)
+plain_at setup Client made = made.0.1
+plain_at setup Server made = made.1.1
+
+pub script_plain : (most : ℕ) (text : List ℕ) (setup : Setup) (events : List Event) → IsScript most text setup events → JudgesPlainly setup
+script_plain most text setup events h = λ side. plain_at setup side (sides most text setup events h)

@@ -1,7 +1,7 @@
 -- The lines of a script.
 use Rattle.std.specs.Prelude.{◌≡◌, ℕ, Bool, true, false, ◌==◌, List, [], ◌∷◌, ◌++◌, codes, bytes_eq, if◌then◌else◌, Option, Some, None, option_and_then}
 use Rattle.std.specs.Result.{result_ok}
-use Rattle.h3_proto.specs.Config.{announced, default_settings}
+use Rattle.h3_proto.specs.Config.{announced, default_settings, no_choices}
 use Rattle.h3_proto.specs.declared.config.Config.{Config}
 use Rattle.h3_proto.specs.declared.stream.Side.{Side}
 use Rattle.h3_header.specs.Head.{Head as Fields}
@@ -22,12 +22,12 @@ is_skipped (first ∷ rest) = first == 35
 
 -- a configuration with this section size, without a reserved setting, and with the other defaults
 abbrev pub config_of : ℕ → Config
-config_of section = record { send_grease = false; settings = record default_settings { max_field_section_size = section } }
+config_of section = record { send_grease = false; settings = record default_settings { max_field_section_size = section }; choices = no_choices }
 
 -- section size, table and blocked of the client, and then of the server
 abbrev pub setup_by : Option ℕ → Option ℕ → Option ℕ → Option ℕ → Option ℕ → Option ℕ → Option Setup
 setup_by (Some a) (Some b) (Some c) (Some d) (Some e) (Some f) =
-    result_ok (both (announced_by (announced (config_of a) 0) (record { table = b; blocked = c })) (announced_by (announced (config_of d) 0) (record { table = e; blocked = f })))
+    result_ok (both (announced_by (announced (config_of a) 0) (record { table = b; blocked = c }) no_choices) (announced_by (announced (config_of d) 0) (record { table = e; blocked = f }) no_choices))
 setup_by _ _ _ _ _ _ = None
 
 -- `config` and six numbers

@@ -1,7 +1,7 @@
 //! What holds of scripts. These functions do nothing: their contracts are the laws.
 ghost use Rattle.std.specs.Prelude.{◌≡◌, ℕ, ◌^◌, List};
 ghost use Rattle.h3_script.specs.Few.{AreFew};
-ghost use Rattle.h3_world.specs.Setup.{IsMadeSetup};
+ghost use Rattle.h3_world.specs.Setup.{IsMadeSetup, JudgesPlainly};
 ghost use Rattle.h3_script.specs.Script.{IsScript, RefusesLine};
 ghost use Rattle.h3_world.specs.declared.event.Event.{Event as Does};
 ghost use Rattle.h3_world.specs.declared.setup.Setup.{Setup as Made};
@@ -31,4 +31,9 @@ pub fn a_script_has_few_events()
 /// The setup of a script is one that `Setup::new` makes.
 pub fn a_script_has_a_made_setup()
     ensures { (most : ℕ) (text : List ℕ) (setup : Made) (events : List Does) → IsScript most text setup events → IsMadeSetup setup }
+{}
+
+/// A script asks for no strict messages.
+pub fn a_script_judges_plainly()
+    ensures { (most : ℕ) (text : List ℕ) (setup : Made) (events : List Does) → IsScript most text setup events → JudgesPlainly setup }
 {}

@@ -81,7 +81,7 @@ impl Endpoint {
         grease: u64,
     ) -> Result<Endpoint, NewError>
         requires { grease < 0x210842108421083 }
-        ensures { Creates side (announced_by (announced config grease) limits) result }
+        ensures { Creates side (announced_by (announced config grease) limits config.choices) result }
     {
         let announced = match Announced::new(config, limits, grease) {
             Ok(announced) => announced,

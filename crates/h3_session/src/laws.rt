@@ -5,6 +5,8 @@
 //! - Cuts: where bytes are cut into deliveries doesn't count (`cut_deliveries_are_answered_alike`, `cut_pulls_are_answered_alike`,
 //!   `cut_calls_are_answered_alike`).
 //! - Bounds: no section is tried more than twice, and no more streams wait than were announced (`tries_and_waiting_streams_are_bounded`).
+//! - Well-formed messages: where an endpoint asks for strict messages it hands out no head and no trailer whose list breaks a rule
+//!   (`strict_endpoints_hand_out_no_broken_list`).
 //! - What stays: a connection fault (`a_connection_fault_stays`), and the end of a stream once it was handed out (`the_end_stays`). Where nothing is
 //!   kept, calls are the plain ones (`nothing_kept_is_plain`).
 //! - Two endpoints: a schedule's answers are those of a run of the world of a connection (`two_endpoints_run_in_a_world`), in which each endpoint
@@ -14,7 +16,8 @@
 //! - What `Setup::new` answers may be given to `run` (`setups_are_made`).
 pub use h3_connection::laws::{
     a_connection_fault_stays, cut_calls_are_answered_alike, cut_deliveries_are_answered_alike,
-    cut_pulls_are_answered_alike, each_stream_is_isolated, nothing_kept_is_plain, the_end_stays,
+    cut_pulls_are_answered_alike, each_stream_is_isolated, nothing_kept_is_plain,
+    strict_endpoints_hand_out_no_broken_list, the_end_stays,
     tries_and_waiting_streams_are_bounded, unknown_frames_give_nothing,
     unknown_streams_change_nothing_else,
 };

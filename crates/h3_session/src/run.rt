@@ -4,7 +4,7 @@ ghost use Rattle.std.specs.List.{list_any};
 ghost use Rattle.h3_world.specs.Ends.{new_ends};
 ghost use Rattle.h3_world.specs.Few.{AreFew};
 ghost use Rattle.h3_world.specs.Headline.{is_memory};
-ghost use Rattle.h3_world.specs.Setup.{IsMadeSetup};
+ghost use Rattle.h3_world.specs.Setup.{IsMadeSetup, JudgesPlainly};
 ghost use Rattle.h3_session.specs.Headlines.{RunsInWorld, RunsUntilMemory};
 ghost use Rattle.h3_session.specs.Acting.{ActsEach, RunsByCalls};
 ghost use Rattle.h3_session.specs.Running.{AnswersEach, RunsTo};
@@ -84,8 +84,8 @@ fn beside<A: Drop, B: Drop>(first: A, second: Result<B, AllocError>) -> Result<(
 /// Where no answer tells of refused memory:
 /// - `runs`: the answers are those of two endpoints of the definitions with the bytes carried between them, and the endpoints
 ///   handed back stand for these.
-/// - `headline`: with fewer than 2^48 events, of which each side is handed less than 2^56 bytes to send, the answers are a run of
-///   the world of a connection, and the endpoints handed back stand in its last world. In each of its steps no connection fault
+/// - `headline`: with fewer than 2^48 events, of which each side is handed less than 2^56 bytes to send, and where neither side asks for
+///   strict messages, the answers are a run of the world of a connection, and the endpoints handed back stand in its last world. In each of its steps no connection fault
 ///   arises, a send that is in order and within the known limit is accepted, a pull hands out what was sent or pauses just where
 ///   that isn't there, with everything delivered everything comes out, and no more heads wait than were announced.
 ///
@@ -94,10 +94,10 @@ pub fn run(alloc: Global, setup: Setup, events: &[Event]) -> Result<Outcome, All
     requires { IsMadeSetup setup }
     ensures calls { IfOk result (λ out. RunsByCalls (new_ends setup) events.now out.answers.items out.client out.server) }
     ensures each { IfOk result (λ out. AnswersEach (new_ends setup) events.now out.answers.items) }
-    ensures front { IfOk result (λ out. AreFew events.now → RunsUntilMemory setup events.now out.answers.items) }
+    ensures front { IfOk result (λ out. AreFew events.now → JudgesPlainly setup → RunsUntilMemory setup events.now out.answers.items) }
     ensures runs { IfOk result (λ out. list_any is_memory out.answers.items ≡ false →
         RunsTo (new_ends setup) events.now out.answers.items out.client out.server) }
-    ensures headline { IfOk result (λ out. list_any is_memory out.answers.items ≡ false → AreFew events.now →
+    ensures headline { IfOk result (λ out. list_any is_memory out.answers.items ≡ false → AreFew events.now → JudgesPlainly setup →
         RunsInWorld setup events.now out.answers.items out.client out.server) }
 {
     two_endpoints_run_in_a_world();

@@ -2,6 +2,7 @@
 use Rattle.std.proofs.Common.{◌≡◌, ℕ, ◌<◌, ◌^◌, Bool, true, false, List, sym, ap, ◌∙◌, if◌then◌else◌, nat_lt, nat_le}
 use Rattle.std.specs.Prelude.{Result, Ok, Err}
 use Rattle.h3_proto.specs.Config.{announced}
+use Rattle.h3_proto.specs.declared.config.Choices.{Choices}
 use Rattle.h3_proto.specs.declared.config.Config.{Config}
 use Rattle.h3_proto.specs.declared.frame.SettingsError.{SettingsError}
 use Rattle.h3_connection.specs.Announcing.{announced_by, with_limits}
@@ -17,23 +18,23 @@ limits_or limits (Ok a) = a.limits
 limits_or limits (Err e) = limits
 
 -- what is announced has these limits
-keeps_limits : (settings : Result (List (ℕ × ℕ)) SettingsError) (limits : Limits) (a : Announced) → announced_by settings limits ≡ Ok a → a.limits ≡ limits
-keeps_limits settings limits a e = by_tests (nat_le (2 ^ 30) limits.table) (nat_lt 65535 limits.blocked) settings e
+keeps_limits : (settings : Result (List (ℕ × ℕ)) SettingsError) (limits : Limits) (choices : Choices) (a : Announced) → announced_by settings limits choices ≡ Ok a → a.limits ≡ limits
+keeps_limits settings limits choices a e = by_tests (nat_le (2 ^ 30) limits.table) (nat_lt 65535 limits.blocked) settings e
   where
     by_tests : (b c : Bool) (settings : Result (List (ℕ × ℕ)) SettingsError)
-        → ◌≡◌ {A = Result Announced NewError} (if b then Err TableLimit else (if c then Err BlockedLimit else with_limits settings limits)) (Ok a) → a.limits ≡ limits
+        → ◌≡◌ {A = Result Announced NewError} (if b then Err TableLimit else (if c then Err BlockedLimit else with_limits settings limits choices)) (Ok a) → a.limits ≡ limits
     by_tests true c settings e = cc
     by_tests false true settings e = cc
     by_tests false false (Ok pairs) e = sym (ap (limits_or limits) e)
     by_tests false false (Err why) e = cc
 
-side_made : (config : Config) (limits : Limits) (grease : ℕ) (a : Announced) → grease < 0x210842108421083 → announced_by (announced config grease) limits ≡ Ok a → IsMade a
+side_made : (config : Config) (limits : Limits) (grease : ℕ) (a : Announced) → grease < 0x210842108421083 → announced_by (announced config grease) limits config.choices ≡ Ok a → IsMade a
 side_made config limits grease a small e =
     record {
       config = config;
       grease = grease;
       small = small;
-      made = ap (announced_by (announced config grease)) (keeps_limits (announced config grease) limits a e) ∙ e;
+      made = ap (λ l. announced_by (announced config grease) l config.choices) (keeps_limits (announced config grease) limits config.choices a e) ∙ e;
     }
 
 both_made : (client server : Result Announced NewError) (setup : Setup) → both client server ≡ Ok setup → (client ≡ Ok setup.client) × (server ≡ Ok setup.server)
@@ -50,7 +51,7 @@ both_made (Ok client) (Err why) setup e = cc
 both_made (Err why) server setup e = cc
 
 pub setup_is_made : (client server : Config) (client_limits server_limits : Limits) (client_grease server_grease : ℕ) (setup : Setup) → client_grease < 0x210842108421083 → server_grease < 0x210842108421083
-    → both (announced_by (announced client client_grease) client_limits) (announced_by (announced server server_grease) server_limits) ≡ Ok setup → IsMadeSetup setup
+    → both (announced_by (announced client client_grease) client_limits client.choices) (announced_by (announced server server_grease) server_limits server.choices) ≡ Ok setup → IsMadeSetup setup
 setup_is_made client server client_limits server_limits client_grease server_grease setup small_client small_server e =
-    let b = both_made (announced_by (announced client client_grease) client_limits) (announced_by (announced server server_grease) server_limits) setup e in
+    let b = both_made (announced_by (announced client client_grease) client_limits client.choices) (announced_by (announced server server_grease) server_limits server.choices) setup e in
     record { client = side_made client client_limits client_grease setup.client small_client b.0; server = side_made server server_limits server_grease setup.server small_server b.1 }

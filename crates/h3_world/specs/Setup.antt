@@ -1,5 +1,5 @@
 -- What a client and a server announce (RFC 9114, section 7.2.4, and RFC 9204, section 5).
-use Rattle.std.specs.Prelude.{◌≡◌, ℕ, ◌<◌, Bool, Result, Ok, Err}
+use Rattle.std.specs.Prelude.{◌≡◌, ℕ, ◌<◌, Bool, false, Result, Ok, Err}
 use Rattle.h3_proto.specs.declared.config.Config.{Config}
 use Rattle.h3_proto.specs.Config.{announced}
 use Rattle.h3_proto.specs.declared.stream.Side.{Side}
@@ -21,6 +21,14 @@ abbrev pub announced_at : Setup → Side → Announced
 announced_at setup Client = setup.client
 announced_at setup Server = setup.server
 
+-- it asks for no strict messages
+abbrev pub IsPlain : Announced → Type 0
+IsPlain a = a.choices.strict_messages ≡ false
+
+-- and neither side does
+abbrev pub JudgesPlainly : Setup → Type 0
+JudgesPlainly setup = (side : Side) → IsPlain (announced_at setup side)
+
 -- An encoder uses the table of a peer that announces such limits (RFC 9204, section 3.2.3).
 abbrev pub has_table : Limits → Bool
 has_table limits = is_usable limits.table limits.blocked
@@ -30,7 +38,7 @@ pub record IsMade (a : Announced) : Type 0 where
   pub config : Config
   pub grease : ℕ
   pub small : grease < 0x210842108421083
-  pub made : announced_by (announced config grease) a.limits ≡ Ok a
+  pub made : announced_by (announced config grease) a.limits config.choices ≡ Ok a
 
 -- what `Setup::new` makes
 pub record IsMadeSetup (setup : Setup) : Type 0 where

@@ -30,7 +30,7 @@ impl Setup {
     ) -> Result<Setup, NewError>
         requires client_number { client_grease < 0x210842108421083 }
         requires server_number { server_grease < 0x210842108421083 }
-        ensures { result ≡ both (announced_by (announced client client_grease) client_limits) (announced_by (announced server server_grease) server_limits) }
+        ensures { result ≡ both (announced_by (announced client client_grease) client_limits client.choices) (announced_by (announced server server_grease) server_limits server.choices) }
     {
         let client = Announced::new(client, client_limits, client_grease)?;
         let server = Announced::new(server, server_limits, server_grease)?;

@@ -53,7 +53,9 @@ impl IncomingStream {
             None => unreachable!(),
         };
         match tried {
-            Tried::Decoded(decoded) => self.finish_section(alloc, side, id, decoded, replies, out),
+            Tried::Decoded(decoded) => {
+                self.finish_section(alloc, side, announced, id, decoded, replies, out)
+            }
             Tried::Missing(count) => self.miss_entries(count, out),
             Tried::Bad => self.fail_section(out),
             Tried::OutOfMemory => fail(out, Fault::Memory),
@@ -65,19 +67,20 @@ impl IncomingStream {
         &mut self,
         alloc: Global,
         side: Side,
+        announced: &Announced,
         id: StreamId,
         decoded: DecodedWithin,
         replies: &mut Vec<u8>,
         out: &mut Pull,
     )
         requires { is_some self.old.section ≡ true }
-        ensures answer { (own : Announced) (r : DecoderState) (count : ℕ) (fields : List Field) → IsWithin (section_of own) (codes ":status") (nat_lt 0 count) fields decoded
+        ensures answer { (r : DecoderState) (count : ℕ) (fields : List Field) → IsWithin (section_of announced.now) (codes ":status") (nat_lt 0 count) fields decoded
             → is_memory out.new ≡ false
-            → Gives (read_section side own id r (past_section self.old) (acknowledgment id count) fields) out.new self.new replies.old.items replies.new.items }
+            → Gives (read_section side announced.now id r (past_section self.old) (acknowledgment id count) fields) out.new self.new replies.old.items replies.new.items }
         ensures memory { is_memory out.new ≡ true → (self.new ≡ self.old) × (replies.new.items ≡ replies.old.items) }
     {
         let acknowledges = names_entries(&decoded);
-        match judge(alloc, side, self.place, decoded) {
+        match judge(alloc, side, announced, self.place, decoded) {
             Err(_) => fail(out, Fault::Memory),
             Ok(judged) => self.answer_section(alloc, id, acknowledges, judged, replies, out),
         }

@@ -15,11 +15,11 @@ returns-clause-each c =
     answers_each (new_ends c.args.setup) c.args.events.now c.in_ok-client-2.answers.items _ _ calls
 
 pub returns-clause-front : goal.returns-clause-front
-returns-clause-front c = λ few.
+returns-clause-front c = λ few plain.
     let calls = ran (λ v. v.items) (new_ends c.args.setup) c.args.events.now c.announcing-client.result c.announcing-server.result c.run_between-answers.result _ _ _ _ _ c.in_ok-client-2.answers
     c.announcing-client.ensures c.announcing-server.ensures c.in_ok-client.ensures.0 c.in_ok-client.ensures.1 c.run_between-answers.ensures c.in_ok-client-2.ensures.0 c.in_ok-client-2.ensures.1 in
     runs_until_memory c.args.setup c.args.events.now c.in_ok-client-2.answers.items
-    (λ front. c.two_endpoints_run_in_a_world.ensures c.args.setup front c.requires) c.events_are_typed.ensures
+    (λ front. c.two_endpoints_run_in_a_world.ensures c.args.setup front c.requires plain) c.events_are_typed.ensures
     (answers_each (new_ends c.args.setup) c.args.events.now c.in_ok-client-2.answers.items _ _ calls) few
 
 pub returns-clause-runs : goal.returns-clause-runs
@@ -29,9 +29,9 @@ returns-clause-runs c =
     runs_to (new_ends c.args.setup) c.args.events.now c.in_ok-client-2.answers.items _ _ calls
 
 pub returns-clause-headline : goal.returns-clause-headline
-returns-clause-headline c = λ whole few.
+returns-clause-headline c = λ whole few plain.
     let calls = ran (λ v. v.items) (new_ends c.args.setup) c.args.events.now c.announcing-client.result c.announcing-server.result c.run_between-answers.result _ _ _ _ _ c.in_ok-client-2.answers
     c.announcing-client.ensures c.announcing-server.ensures c.in_ok-client.ensures.0 c.in_ok-client.ensures.1 c.run_between-answers.ensures c.in_ok-client-2.ensures.0 c.in_ok-client-2.ensures.1 in
     runs_in_world c.args.setup c.args.events.now c.in_ok-client-2.answers.items _ _
-    (c.two_endpoints_run_in_a_world.ensures c.args.setup c.args.events.now c.requires) c.events_are_typed.ensures
+    (c.two_endpoints_run_in_a_world.ensures c.args.setup c.args.events.now c.requires plain) c.events_are_typed.ensures
     (runs_to (new_ends c.args.setup) c.args.events.now c.in_ok-client-2.answers.items _ _ calls whole) few

@@ -16,7 +16,7 @@ returns-in-Decoded-clause-answer c =
     let there : nat_lt r.table.inserted i.waits_for ≡ false = le-ltb r.table.inserted i.waits_for (omega (arith, waits, c.inserted.ensures.value, c.if-inserted-self.false)) in
     let tried = ap (decode_section r) (sym c.as_slice.ensures) ∙ h.2 in
     section_gives c.args.side c.args.announced.now c.args.id r i _ c.in-Some.section _ _ _ _ next
-    (λ given. gives_as _ _ _ _ _ _ (tried_section c.args.side c.args.announced.now c.args.id r i _ _ there tried) (c.finish_section.ensures.answer c.args.announced.now r h.1 h.0 (rw c.section.ensures at h.3) given))
+    (λ given. gives_as _ _ _ _ _ _ (tried_section c.args.side c.args.announced.now c.args.id r i _ _ there tried) (c.finish_section.ensures.answer r h.1 h.0 (rw c.section.ensures at h.3) given))
 
 pub returns-in-Missing-clause-answer : goal.returns-in-Missing-clause-answer
 returns-in-Missing-clause-answer c =

@@ -1,0 +1,45 @@
+-- Which rule of well-formed messages a field list breaks at an endpoint that asks for them (RFC 9114, sections 4.1.2 and 4.2 to 4.5). One that
+-- does not asks for none.
+use Rattle.std.specs.Prelude.{Bool, List, if◌then◌else◌, option_map, Option, None}
+use Rattle.h3_field.specs.Field.{Field}
+use Rattle.h3_messages.specs.Messages.{violation_of_request, violation_of_response, violation_of_trailer}
+use Rattle.h3_messages.specs.declared.violation.Violation.{Violation}
+use Rattle.h3_messages.specs.declared.violation.Violation.TheVariants as violation
+use Rattle.h3_proto.specs.declared.stream.Side.{Side}
+use Rattle.h3_proto.specs.declared.stream.Side.TheVariants.{Client, Server}
+use Rattle.h3_connection.specs.Announcing.{connects}
+use Rattle.h3_connection.specs.declared.event.Malformation.{Malformation}
+use Rattle.h3_connection.specs.declared.event.Malformation.TheVariants as malformation
+use Rattle.h3_connection.specs.declared.place.Place.{Place}
+use Rattle.h3_connection.specs.declared.place.Place.TheVariants.{BeforeHead}
+use Rattle.h3_connection.specs.declared.setup.Announced.{Announced}
+
+abbrev pub malformation_by : Violation → Malformation
+malformation_by violation.PseudoOrder = malformation.PseudoOrder
+malformation_by violation.RepeatedPseudo = malformation.RepeatedPseudo
+malformation_by violation.WrongPseudo = malformation.WrongPseudo
+malformation_by violation.MissingPseudo = malformation.MissingPseudo
+malformation_by violation.ConnectionField = malformation.ConnectionField
+malformation_by violation.Protocol = malformation.Protocol
+malformation_by violation.Connect = malformation.Connect
+malformation_by violation.Scheme = malformation.Scheme
+malformation_by violation.Authority = malformation.Authority
+malformation_by violation.Path = malformation.Path
+malformation_by violation.Status = malformation.Status
+malformation_by violation.ContentLength = malformation.ContentLength
+malformation_by violation.TrailerField = malformation.TrailerField
+malformation_by violation.Value = malformation.Value
+
+-- a server reads requests, and a client responses
+abbrev pub violation_of_head : Side → Announced → List Field → Option Violation
+violation_of_head Client own fields = violation_of_response fields
+violation_of_head Server own fields = violation_of_request (connects own) fields
+
+-- behind the head comes a trailer
+abbrev pub violation_at : Side → Announced → Place → List Field → Option Violation
+violation_at side own BeforeHead fields = violation_of_head side own fields
+violation_at side own _ fields = violation_of_trailer fields
+
+abbrev pub broken_rule : Side → Announced → Place → List Field → Option Malformation
+broken_rule side own place fields =
+    if own.choices.strict_messages then option_map malformation_by (violation_at side own place fields) else None

@@ -1,0 +1,67 @@
+//! Which rule of well-formed messages a field list breaks, where the endpoint asks for them (RFC 9114, sections 4.1.2 and 4.2 to 4.5).
+ghost use Rattle.std.specs.Prelude.{◌≡◌};
+ghost use Rattle.h3_connection.specs.StrictMessages.{broken_rule, malformation_by, violation_at};
+
+use h3_connection::event::Malformation;
+use h3_connection::place::Place;
+use h3_connection::setup::Announced;
+use h3_messages::{Violation, request_violation, response_violation, trailer_violation};
+use h3_proto::stream::Side;
+use h3_qpack::HeaderField;
+
+/// The rule that a field list breaks at its place. An endpoint that asks for none looks at no field.
+pub(crate) fn broken_rule(
+    side: Side,
+    announced: &Announced,
+    place: Place,
+    fields: &[HeaderField],
+) -> Option<Malformation>
+    ensures { result ≡ broken_rule side announced.now place fields.now }
+{
+    if !announced.choices.strict_messages {
+        return None;
+    }
+    match violation_at(side, announced, place, fields) {
+        Some(violation) => Some(malformation_by(violation)),
+        None => None,
+    }
+}
+
+// The rule that the list breaks as the head of a request or of a response, or as a trailer.
+fn violation_at(
+    side: Side,
+    announced: &Announced,
+    place: Place,
+    fields: &[HeaderField],
+) -> Option<Violation>
+    ensures { result ≡ violation_at side announced.now place fields.now }
+{
+    match place {
+        Place::BeforeHead => match side {
+            Side::Client => response_violation(fields),
+            Side::Server => request_violation(fields, announced.extended_connect()),
+        },
+        Place::InBody | Place::AfterTrailer | Place::InSession => trailer_violation(fields),
+    }
+}
+
+fn malformation_by(violation: Violation) -> Malformation
+    ensures { result ≡ malformation_by violation }
+{
+    match violation {
+        Violation::PseudoOrder => Malformation::PseudoOrder,
+        Violation::RepeatedPseudo => Malformation::RepeatedPseudo,
+        Violation::WrongPseudo => Malformation::WrongPseudo,
+        Violation::MissingPseudo => Malformation::MissingPseudo,
+        Violation::ConnectionField => Malformation::ConnectionField,
+        Violation::Protocol => Malformation::Protocol,
+        Violation::Connect => Malformation::Connect,
+        Violation::Scheme => Malformation::Scheme,
+        Violation::Authority => Malformation::Authority,
+        Violation::Path => Malformation::Path,
+        Violation::Status => Malformation::Status,
+        Violation::ContentLength => Malformation::ContentLength,
+        Violation::TrailerField => Malformation::TrailerField,
+        Violation::Value => Malformation::Value,
+    }
+}
