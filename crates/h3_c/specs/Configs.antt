@@ -31,6 +31,7 @@ default_config =
       webtransport = 0;
       extended_connect = 0;
       datagram = 0;
+      strict = 0;
     }
 
 -- a number other than 0 means yes

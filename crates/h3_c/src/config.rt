@@ -41,6 +41,7 @@ impl Default for GivenConfig {
             webtransport: 0,
             extended_connect: 0,
             datagram: 0,
+            strict: 0,
         }
     }
 }
