@@ -1,3 +1,5 @@
 pub mod Counting
 pub mod CountingLaws
+pub mod Held
 pub mod Sums
+pub mod Trees

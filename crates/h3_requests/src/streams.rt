@@ -8,7 +8,7 @@ ghost use Rattle.h3_connection.specs.State.{kept_at};
 use crate::map::StreamMap;
 use crate::ready::ReadyStreams;
 use crate::stream::RequestStream;
-use h3_blocked::replace;
+use h3_blocked::BlockedCounts;
 use h3_proto::stream::StreamId;
 use std::alloc::{AllocError, Global};
 use std::marker::Model;
@@ -23,8 +23,8 @@ mod unread;
 #[derive(Drop)]
 pub struct RequestStreams {
     streams: StreamMap,
-    // what the streams wait for, in order, and no 0
-    blocked: Vec<usize>,
+    // what the streams wait for, and no 0
+    blocked: BlockedCounts,
     // those on which bytes wait to be sent
     ready: ReadyStreams,
 }
@@ -39,7 +39,7 @@ impl Model for RequestStreams {
 
     ghost use Rattle.h3_requests.specs.Ready.{AreKept};
 
-    ghost invariant = { λ s. AreKept s.blocked.items s.ready s.streams.by_id.entries };
+    ghost invariant = { λ s. AreKept s.blocked.counts s.ready s.streams.by_id.entries };
 }
 
 impl RequestStreams {
@@ -49,7 +49,7 @@ impl RequestStreams {
     {
         RequestStreams {
             streams: StreamMap::new(alloc),
-            blocked: Vec::new(alloc),
+            blocked: BlockedCounts::new(alloc),
             ready: ReadyStreams::new(alloc),
         }
     }
@@ -71,7 +71,7 @@ impl RequestStreams {
         let Ok(before) = self.streams.insert(id, RequestStream::new(alloc)) else {
             return Err(AllocError);
         };
-        replace(&mut self.blocked, waits_of(&before), 0);
+        self.blocked.replace(waits_of(&before), 0);
         self.ready.settle(id, false);
         Ok(())
     }
@@ -81,7 +81,7 @@ impl RequestStreams {
         ensures { TakesOut self.old self.new id }
     {
         let stream = self.streams.remove(id);
-        replace(&mut self.blocked, waits_of(&stream), 0);
+        self.blocked.replace(waits_of(&stream), 0);
         self.ready.settle(id, false);
     }
 }

@@ -13,4 +13,4 @@ replace-requires-clause-among c = has_count_at _ _ c.args.id _ (c.waits_of.ensur
 pub invariant_of-self-2 : goal.invariant_of-self-2
 invariant_of-self-2 c =
     inserted _ _ _ _ _ _ c.args.id _ _ c.in-Ok.ensures.ok c.in-Ok.ensures.distinct (ap (λ r. r.incoming.waits_for) c.new.ensures) (ap (λ r. has_bytes (Some r)) c.new.ensures) (c.waits_of.ensures ∙ ap waits_at c.in-Ok.ensures.before)
-    c.replace.ensures.sorted c.replace.ensures.replaced c.settle.ensures c.self.invariant
+    c.replace.ensures c.settle.ensures c.self.invariant

@@ -11,4 +11,4 @@ pub replace-requires-clause-among : goal.replace-requires-clause-among
 replace-requires-clause-among c = has_count_at _ c.self.inside.streams.by_id.entries c.args.id _ (search rules) c.self.invariant.counted
 
 pub invariant_of-self-2 : goal.invariant_of-self-2
-invariant_of-self-2 c = replaced _ _ _ _ _ c.args.id c.in-Some.stream.now _ (c.get_mut.follows.holds _) (search rules) c.replace.ensures.sorted (search rules) (search rules) c.self.invariant
+invariant_of-self-2 c = replaced _ _ _ _ _ c.args.id c.in-Some.stream.now _ (c.get_mut.follows.holds _) (search rules) (search rules) (search rules) c.self.invariant

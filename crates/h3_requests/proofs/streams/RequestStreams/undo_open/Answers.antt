@@ -11,4 +11,4 @@ replace-requires-clause-among c = has_count_at _ _ c.args.id _ (c.waits_of.ensur
 pub invariant_of-self : goal.invariant_of-self
 invariant_of-self c =
     removed _ _ _ _ _ _ c.args.id _ c.remove-stream.ensures.takes_out c.remove-stream.ensures.distinct (c.waits_of.ensures ∙ ap waits_at c.remove-stream.ensures.before)
-    c.replace.ensures.sorted c.replace.ensures.replaced c.settle.ensures c.self.invariant
+    c.replace.ensures c.settle.ensures c.self.invariant

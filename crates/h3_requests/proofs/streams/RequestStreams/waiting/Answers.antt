@@ -7,5 +7,5 @@ use Rattle.h3_requests.proofs.streams.RequestStreams.waiting.Goals as goal
 
 pub returns : goal.returns
 returns c = λ receivers are.
-    c.above.ensures ∙ ap (above c.args.inserted) c.deref.ensures.value
+    c.above.ensures
     ∙ waits _ c.self.inside.streams.by_id.entries receivers c.self.invariant.counted (subst (AreReceivers receivers) (sym c.self.view_is) are) c.args.inserted
