@@ -65,6 +65,12 @@ static int opened, seen[REQUESTS];
 
 static int is_memory_aside(uint32_t n) { return n == H3_OK; }
 
+static uint64_t unread(int side, uint64_t id) {
+  h3_stream_state s;
+  WANT(h3_stream(&ends[side], id, &s) == H3_OK, "stream", id, 0);
+  return s.unread;
+}
+
 static void open_one(void) {
   uint64_t id;
   if (opened == REQUESTS) return;
@@ -155,8 +161,12 @@ static void carry(int side, uint64_t id, size_t most) {
   WANT(h3_stream(&ends[side], id, &before) == H3_OK, "stream", id, 0);
   WANT(n == (before.waiting < most ? before.waiting : most), "outgoing gives fewer than fit", id, n);
   if (n) {
+    uint64_t held = unread(!side, id);
     told = h3_deliver(&ends[!side], id, buffer, n, &detail);
     WANT(told == H3_OK, "deliver", id, told == H3_CONNECTION ? detail : told);
+    /* a request's bytes are held until they are pulled, unless it was given up; others are read, as far as they are whole */
+    int is_thrown_away = request && (f->canceled || f->faulty);
+    WANT(request ? unread(!side, id) == held + (is_thrown_away ? 0 : n) : unread(!side, id) <= held + n, "unread behind a delivery", id, held);
     if (request && !side) seen[id / 4] = 1;
   }
   WANT(h3_advance(&ends[side], id, n) == H3_OK, "advance", id, n);
@@ -217,7 +227,10 @@ static int pull_one(int side, int i) {
   uint64_t id = 4u * (unsigned)i;
   flow *f = &flows[i][!side];
   h3_item item;
+  uint64_t held = unread(side, id);
   WANT(h3_pull(&ends[side], id, &item) == H3_OK, "pull", id, 0);
+  WANT(item.kind < H3_END ? unread(side, id) < held : unread(side, id) <= held, "unread behind a pull", id, held);
+  WANT(item.kind != H3_BODY || unread(side, id) + item.len <= held, "unread behind a body", id, held);
   size_t n;
   if (f->canceled && !f->faulty) {
     WANT(item.kind == H3_FAULT_CANCELED, "a canceled stream", id, item.kind);
@@ -317,6 +330,8 @@ static void run(uint64_t of) {
       flow *f = &flows[i][side];
       if (f->finished && !f->reset && !f->canceled) WANT(f->end_out, "not all came out", 4u * (unsigned)i, (uint64_t)side);
     }
+  for (uint64_t id = 0; id < 4u * REQUESTS + 12; id++)
+    for (int side = 0; side < 2; side++) WANT(unread(side, id) == 0, "something is still held", id, unread(side, id));
   for (int side = 0; side < 2; side++) {
     h3_free(&ends[side]);
     h3_free(&ends[side]);

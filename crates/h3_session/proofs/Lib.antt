@@ -6,7 +6,7 @@ pub mod Parts
 pub mod SendingBodies
 pub mod Taking
 pub mod Next
-pub mod Unread
+pub mod Held
 pub mod Inserting
 pub mod SendingSections
 pub mod SendingHeads

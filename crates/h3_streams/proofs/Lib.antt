@@ -12,4 +12,4 @@ mod FirstFrames
 mod EarlyReads
 mod Told
 mod ArrivedBytes
-pub mod Unread
+pub mod Held

@@ -46,7 +46,7 @@ impl Endpoint {
     /// those behind the last whole frame or instruction; of its other unidirectional streams a type that is not whole and what was not pulled of a
     /// session; and what was kept of the stream because memory was refused. 0 of a stream that is not there or was given up. At most the greatest
     /// `u64`. It takes no memory, and one look-up; behind a `Kept` also a pass over what is kept.
-    #[tactic(auto, using(crate::proofs::Unread::shows_unread))]
+    #[tactic(auto, using(crate::proofs::Held::shows_unread))]
     pub fn unread(&self, id: StreamId) -> u64
         ensures { ShowsUnread self.now id result }
     {
@@ -55,7 +55,7 @@ impl Endpoint {
     }
 
     // What is held of a stream, what is kept aside.
-    #[tactic(auto, using(crate::proofs::Unread::held_by_kind))]
+    #[tactic(auto, using(crate::proofs::Held::held_by_kind))]
     fn held(&self, id: StreamId) -> usize
         ensures { (e : EndpointHistory) → StandsFor self.now e → result ≡ counted (held_at e id (kind_of e.side id)) }
     {
@@ -67,7 +67,7 @@ impl Endpoint {
         }
     }
 
-    #[tactic(auto, using(crate::proofs::Unread::held_request))]
+    #[tactic(auto, using(crate::proofs::Held::held_request))]
     fn held_of_request(&self, id: StreamId) -> usize
         ensures { (e : EndpointHistory) → StandsFor self.now e → result ≡ counted (held_of_request (incoming_at e id)) }
     {
@@ -81,7 +81,7 @@ impl Endpoint {
     }
 
     // What is kept of the stream because memory was refused.
-    #[tactic(auto, using(crate::proofs::Unread::counted_sum))]
+    #[tactic(auto, using(crate::proofs::Held::counted_sum))]
     fn held_in_kept(&self, id: StreamId) -> usize
         ensures { result ≡ counted (sum_by (held_in id) self.now.kept) }
     {

@@ -2,7 +2,7 @@
 use Rattle.std.proofs.Common.{arith, ◌≡◌, ℕ, ◌+◌, List, ap, sym, subst, ◌∙◌}
 use Rattle.std.specs.Prelude.{◌-◌, ◌^◌, min, option_map, unwrap_or}
 use Rattle.std.specs.List.{sum_by}
-use Rattle.h3_connection.specs.Arrivals.{Arrival}
+use Rattle.h3_connection.specs.declared.arrival.Arrival.{Arrival}
 use Rattle.h3_connection.specs.Delivering.{incoming_at}
 use Rattle.h3_connection.specs.Endpoint.{EndpointHistory, Kind, kind_of}
 use Rattle.h3_connection.specs.Incoming.{nothing_came}
