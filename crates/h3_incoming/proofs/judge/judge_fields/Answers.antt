@@ -11,7 +11,7 @@ pub returns-in-Ok-clause-ok : goal.returns-in-Ok-clause-ok
 returns-in-Ok-clause-ok c = λ id r i replies few at.
     read_head c.args.side c.args.announced.now id r i replies c.args.fields.items c.args.place c.in-Ok.header few (c.lists_are_their_value.ensures.head _ _ c.in-Ok.ensures.ok) at
     ∙ ap (λ b. head_or_trailer c.args.side id i replies b c.args.place c.in-Ok.header)
-        (ap (broken_rule c.args.side c.args.announced.now c.args.place) (sym c.as_slice.ensures) ∙ sym c.broken_rule-broken.ensures)
+    (ap (broken_rule c.args.side c.args.announced.now c.args.place) (sym c.as_slice.ensures.value) ∙ sym c.broken_rule-broken.ensures)
     ∙ c.judge_header.ensures id i replies at
 
 pub returns-in-Err-clause-ok : goal.returns-in-Err-clause-ok
