@@ -3,6 +3,7 @@ use Rattle.std.specs.Prelude.{ℕ, ◌+◌, ◌*◌, ◌-◌, List, [], ◌∷�
 use Rattle.h3_field.specs.Field.{Field}
 use Rattle.h3_header.specs.Head.{Head, trailer_head, head_fields}
 use Rattle.h3_header.specs.HeadRead.{HeadRead, IsHead, IsNone, head_of}
+use Rattle.h3_proto.specs.Config.{no_choices}
 use Rattle.h3_connection.specs.declared.setup.Announced.{Announced}
 use Rattle.h3_connection.specs.declared.event.Item.{Item}
 use Rattle.h3_connection.specs.declared.event.Item.TheVariants as item
@@ -35,6 +36,7 @@ plain section capacity blocked =
     record {
       settings = (6, section) ∷ (8, 0) ∷ (0x2b603742, 0) ∷ (0x33, 0) ∷ (0x2b603743, 0) ∷ (1, capacity) ∷ (7, blocked) ∷ [];
       limits = record { table = capacity; blocked = blocked };
+      choices = no_choices;
     }
 
 -- answers with each head as its field list reads

@@ -17,9 +17,8 @@
 pub use h3_connection::laws::{
     a_connection_fault_stays, cut_calls_are_answered_alike, cut_deliveries_are_answered_alike,
     cut_pulls_are_answered_alike, each_stream_is_isolated, nothing_kept_is_plain,
-    strict_endpoints_hand_out_no_broken_list, the_end_stays,
-    tries_and_waiting_streams_are_bounded, unknown_frames_give_nothing,
-    unknown_streams_change_nothing_else,
+    strict_endpoints_hand_out_no_broken_list, the_end_stays, tries_and_waiting_streams_are_bounded,
+    unknown_frames_give_nothing, unknown_streams_change_nothing_else,
 };
 pub use h3_headline::laws::{endpoints_decode_what_was_sent, two_endpoints_run_in_a_world};
 pub use h3_headline::parts::{

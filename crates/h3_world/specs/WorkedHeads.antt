@@ -3,6 +3,7 @@ use Rattle.std.specs.Prelude.{ℕ, ◌-◌, ◌^◌, List, [], ◌∷◌, codes,
 use Rattle.http_header.specs.FieldValue.{plain_value}
 use Rattle.http_header.specs.HeaderMap.{append}
 use Rattle.h3_header.specs.Head.{Head as Fields, trailer_head, response_head}
+use Rattle.h3_proto.specs.Config.{no_choices}
 use Rattle.h3_proto.specs.declared.stream.Side.{Side}
 use Rattle.h3_connection.specs.declared.setup.Announced.{Announced}
 use Rattle.h3_world.specs.declared.setup.Setup.{Setup}
@@ -20,6 +21,7 @@ plain section table blocked =
     record {
       settings = (6, section) ∷ (8, 0) ∷ (0x2b603742, 0) ∷ (0x33, 0) ∷ (0x2b603743, 0) ∷ (1, table) ∷ (7, blocked) ∷ [];
       limits = record { table = table; blocked = blocked };
+      choices = no_choices;
     }
 
 abbrev pub between : Announced → Announced → Setup
