@@ -1,6 +1,7 @@
 #!/usr/bin/env bash
 # Does each crate cite of another crate only what stands in its specs/ and its public functions, never its proofs/? One line
-# 'ok CRATE' or 'failed CRATE' a crate, and the lines that cite another crate's proofs.
+# 'ok CRATE' or 'failed CRATE' a crate, and the lines that cite another crate's proofs. And is crates.txt in order, with no name that is not used
+# (scripts/crates.py)?
 set -uo pipefail
 export LC_ALL=C
 cd "$(dirname "$0")/.."
@@ -24,4 +25,5 @@ for crate in $crates; do
     bad=1
   fi
 done
+python3 scripts/crates.py || bad=1
 exit "$bad"
