@@ -12,3 +12,5 @@ mod FirstFrames
 mod EarlyReads
 mod Told
 mod ArrivedBytes
+mod Rows
+mod Joined
