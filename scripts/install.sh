@@ -1,6 +1,7 @@
 #!/usr/bin/env bash
-# Installs what `make lib` left in build/c (or in the folder LIB, where it is a proved library) below PREFIX (/usr/local), or below DESTDIR/PREFIX: the two archives and CMake's package file in lib/beanwhile-h3, the
-# header in include/beanwhile-h3, and beanwhile-h3.pc in lib/pkgconfig. Names of its own: other projects have a libh3 and an h3.pc.
+# Installs what `make lib` left in build/c (or in the folder LIB, where it is a proved library) below PREFIX (/usr/local), or below DESTDIR/PREFIX: the
+# two archives and CMake's package file in lib/beanwhile-h3, the header in include/beanwhile-h3, and beanwhile-h3.pc in lib/pkgconfig. Names of its
+# own: other projects have a libh3 and an h3.pc.
 set -euo pipefail
 cd "$(dirname "$0")/.."
 lib_folder=${LIB:-build/c}

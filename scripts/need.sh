@@ -16,7 +16,7 @@ while [ $# -gt 0 ]; do
   case $1 in
     rt)
       command -v rt >/dev/null ||
-        missing "rt is not on the PATH: it is the command of Rattle's kit (${KITS// / or }). Unpack the kit and link its bin/rt into a folder of the PATH (README.md, \"Get rt\")"
+        missing "rt is not on the PATH: it is the command of Rattle's kit (${KITS// / or }); unpack it and link its bin/rt there (README.md, \"Get rt\")"
       version=$(rt version 2>/dev/null | cut -d' ' -f1)
       [[ " $KITS " == *" $version "* ]] || echo "rt is of ${version:-an unknown kit}; this repository was proved with ${KITS// / and }" >&2
       ;;

@@ -1,7 +1,7 @@
 #!/usr/bin/env bash
 # packages.sh SET..: are the Debian packages there that a command wants? Names all that are missing at once, with the line that installs them.
-# The sets: c (what `make test-c` is built with), peer (what bench/ is built with), examples-c, examples-go and examples-rust (what the programs of examples/ are), examples (all of these), interop
-# (what `make interop` runs them against), load (`make load`), upstream (`make upstream-root`).
+# The sets: c (what `make test-c` is built with), peer (what bench/ is built with), examples-c, examples-go and examples-rust (what the programs of
+# examples/ are), examples (all of these), interop (what `make interop` runs them against), load (`make load`), upstream (`make upstream-root`).
 set -uo pipefail
 
 missing=()

@@ -1,8 +1,12 @@
 #!/usr/bin/env python3
-"""Are the pages of this repository as a reader needs them? One line 'ok ..' or 'failed ..' for each of these:
+"""Are the pages of this repository as a reader needs them?
+
+    python3 scripts/pages.py           compares: one line 'ok ..' or 'failed ..' for each of these
+    python3 scripts/pages.py --write   writes the counts of edits into README anew
 
 - No link of a page is dead: neither its file nor its heading.
-- No line of the pages in SHORT_LINES is longer than 140 characters (of the rows of tables targets of links are not counted), and README has at most 110 lines.
+- No line of the pages in SHORT_LINES is longer than 140 characters (of the rows of tables targets of links are not counted), and README has at
+  most 110 lines.
 - A block of code behind a line `<!-- from PATH -->` stands in that file, line by line; in the pages SNIPPETS every block of C, Rust, Go and Mermaid has such a line.
 - scripts/README.md has each file of scripts/.
 - README says how many edits must be refused, and how many of them a reader judged."""
@@ -108,15 +112,26 @@ def not_in_index():
             yield path
 
 
-def miscounted():
-    """where README says another number of edits than there are"""
+def counts():
+    """what README says of the edits that must be refused: a form of its words, and the number in it"""
     edits = [it for it in files("crates") if "/refused/" in it and it.endswith(".edit")]
     judged = [it for it in edits if re.search(r"^judged:", read(it), re.M)]
-    text = " ".join(read("README.md").split())
-    for count, form in ((len(edits), r"attacked\W+: (\d+) edits"), (len(edits), r"of the (\d+) edits of"), (len(judged), r"(\d+) of the edits have such a line")):
-        said = re.search(form, text)
-        if said is None or int(said[1]) != count:
-            yield f"'{form}' is {said and said[1]}, and there are {count}"
+    return ((r"(attacked\W+: )\d+( edits)", len(edits)), (r"(of the )\d+(\s+edits of)", len(edits)), (r"(\. )\d+( of the edits have such a\s+line)", len(judged)))
+
+
+def counted(text):
+    for form, count in counts():
+        text = re.sub(form, rf"\g<1>{count}\g<2>", text)
+    return text
+
+
+def miscounted():
+    """where README says another number of edits than there are"""
+    text = read("README.md")
+    for form, count in counts():
+        found = re.search(form, text)
+        if found is None or found[0] != f"{found[1]}{count}{found[2]}":
+            yield f"there are {count}, and it says '{found and found[0]}' (python3 scripts/pages.py --write)"
 
 
 def say(wrong, good, what):
@@ -128,6 +143,11 @@ def say(wrong, good, what):
 
 
 def main():
+    if sys.argv[1:] == ["--write"]:
+        text = counted(read("README.md"))
+        with open(os.path.join(ROOT, "README.md"), "w", encoding="utf-8") as file:
+            file.write(text)
+        return
     pages = [it for it in files(".") if it.endswith(".md")]
     links = sum(count_of_links(read(it)) for it in pages)
     fine = say([it for page in pages for it in dead_links(page, read(page))], f"pages: {links} links of {len(pages)} pages lead somewhere", "pages, a dead link")
