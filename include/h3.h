@@ -408,7 +408,8 @@ static inline uint32_t h3_item_bytes(h3_endpoint *endpoint, size_t from, void *b
 
 typedef struct {
   uint64_t waiting;      /* bytes that wait to be sent */
-  uint64_t unread;       /* bytes that were delivered and are still held: not handed out, and not read. 0 of a stream that was given up */
+  uint64_t unread;       /* bytes that were delivered and are still held: not handed out, and not read. Of a stream that was given up only what
+                            H3_KEPT took counts, until it is read */
   uint32_t has_outgoing; /* 1 where something can be sent: an own unidirectional stream, or a request stream that was opened */
   uint32_t is_finished;  /* 1 where its message was finished */
   uint32_t is_reset;     /* 1 where sending was cut off */

@@ -32,6 +32,8 @@ pub struct Config {
     pub webtransport: u32,
     pub extended_connect: u32,
     pub datagram: u32,
+    /// 1: heads and trailers are judged by all of RFC 9114, sections 4.2 to 4.5.
+    pub strict: u32,
 }
 
 impl Config {
@@ -49,6 +51,7 @@ impl Config {
             webtransport: 0,
             extended_connect: 0,
             datagram: 0,
+            strict: 0,
         };
         // SAFETY: it writes the numbers of the config, and nothing else.
         unsafe { h3_raw_config_default(&mut config) };

@@ -4,8 +4,10 @@
 
 mod map;
 mod ready;
+mod room;
 pub mod stream;
 pub mod streams;
 
+pub use room::SectionRoom;
 pub use stream::RequestStream;
 pub use streams::RequestStreams;

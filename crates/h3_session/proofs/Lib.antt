@@ -32,3 +32,4 @@ pub mod Runs
 pub mod Carrying
 pub mod Sendables
 pub mod Headlines
+pub mod LentFrames

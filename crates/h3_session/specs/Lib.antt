@@ -11,3 +11,4 @@ pub mod Acting
 pub mod Copied
 pub mod Typed
 pub mod Headlines
+pub mod Frames

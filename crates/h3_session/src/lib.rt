@@ -28,5 +28,6 @@ pub use h3_proto::error::Code;
 pub use h3_proto::frame::{SettingId, Settings, SettingsError};
 pub use h3_proto::stream::{InvalidStreamId, Side, StreamId};
 pub use h3_proto::webtransport::SessionId;
+pub use h3_wire::frame::FrameBuffer;
 pub use h3_world::event::{Answer, Event};
 pub use h3_world::setup::Setup;

@@ -1,5 +1,5 @@
 -- A stream is told to be one of the connection's: its reader has read nothing, and reads nothing of no bytes.
-use Rattle.std.proofs.Common.{◌≡◌, ℕ, ◌-◌, ◌==◌, Bool, true, false, not, if◌then◌else◌, List, [], ◌++◌, append-nil, flat_map, Option, Some, None, refl, ap, sym, subst, ◌∙◌, arith}
+use Rattle.std.proofs.Common.{◌≡◌, ℕ, ◌-◌, Bool, true, false, if◌then◌else◌, List, [], ◌++◌, append-nil, flat_map, Option, Some, None, refl, ap, sym, subst, ◌∙◌, arith}
 use Rattle.std.specs.Prelude.{is_some}
 use Rattle.h3_qpack.specs.DecoderState.{DecoderState}
 use Rattle.h3_qpack.specs.EncoderHistory.{EncoderHistory}
@@ -7,7 +7,7 @@ use Rattle.h3_qpack.specs.Hearing.{Heard, hear, heard, listen, listened}
 use Rattle.h3_field.specs.Instruction.{decoder_bytes}
 use Rattle.h3_connection.specs.Codes.{encoder_stream_error}
 use Rattle.h3_connection.specs.Control.{Found, read_control, read_encoder, read_decoder, listened_to, after_peer, if_learned, then_decoder, increment}
-use Rattle.h3_connection.specs.Endpoint.{EndpointHistory, is_second, is_read_as, replied}
+use Rattle.h3_connection.specs.Endpoint.{EndpointHistory, replied}
 use Rattle.h3_connection.specs.Listeners.{Decoding, Encoding, fault_if, heard_more, after_hearing, insertions_heard}
 use Rattle.h3_connection.specs.PeerReading.{with_unread, read_peer}
 use Rattle.h3_connection.specs.State.{EndpointState, StandsFor, IsToldPeer}

@@ -13,3 +13,5 @@ mod EarlyReads
 mod Told
 mod ArrivedBytes
 pub mod Held
+mod Rows
+mod Joined

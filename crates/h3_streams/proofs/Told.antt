@@ -1,5 +1,5 @@
 -- Bytes of a stream of the peer that is read as one of the connection's.
-use Rattle.std.proofs.Common.{◌≡◌, ℕ, Bool, true, false, not, List, [], ◌∷◌, ◌++◌, Option, Some, None, refl, ap, sym, subst, ◌∙◌, inl, inr}
+use Rattle.std.proofs.Common.{◌≡◌, ℕ, true, false, not, List, [], ◌∷◌, ◌++◌, Option, Some, None, refl, ap, sym, subst, ◌∙◌, inl, inr}
 use Rattle.std.specs.Prelude.{unwrap_or, IfSome, All}
 use Rattle.std.proofs.lemmas.Bool.{cases_eq}
 use Rattle.h3_proto.specs.declared.stream.Side.{Side}

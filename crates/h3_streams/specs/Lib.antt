@@ -3,3 +3,4 @@ pub mod Placed
 pub mod PlacedLaws
 pub mod ReadingOn
 pub mod Stopping
+pub mod Plain

@@ -1,5 +1,5 @@
 -- What a reading leaves that was refused memory: what came was read up to some point, and the rest is still to be read.
-use Rattle.std.specs.Prelude.{◌≡◌, ◌<◌, ◌^◌, ℕ, length, Bool, true, false, List, [], ◌∷◌, ◌++◌, Option, Some, None, IfSome, All}
+use Rattle.std.specs.Prelude.{◌≡◌, ◌<◌, ◌^◌, ℕ, length, false, List, [], ◌∷◌, ◌++◌, Option, Some, None, IfSome, All}
 use Rattle.std.specs.List.{concat}
 use Rattle.h3_proto.specs.declared.stream.Side.{Side}
 use Rattle.h3_connection.specs.Arrivals.{stream_of}
@@ -7,7 +7,7 @@ use Rattle.h3_connection.specs.Control.{after_peer}
 use Rattle.h3_connection.specs.Delivering.{unidirectional_at}
 use Rattle.h3_connection.specs.declared.arrival.Arrival.{Arrival}
 use Rattle.h3_connection.specs.declared.arrival.Arrival.TheVariants.{BytesCame}
-use Rattle.h3_connection.specs.Endpoint.{EndpointHistory, is_second, is_read_as, kind_of}
+use Rattle.h3_connection.specs.Endpoint.{EndpointHistory, is_second, kind_of}
 use Rattle.h3_connection.specs.Endpoint.Kind.{PeerUnidirectional}
 use Rattle.h3_connection.specs.PartReading.{ReadsOn, ReadsPart, held_as, early_arrival}
 use Rattle.h3_connection.specs.PeerReading.{read_peer}

@@ -10,7 +10,6 @@ ghost use Rattle.h3_streams.specs.Placed.{placed, stream_of_peer, Reads, KeepsAl
 ghost use Rattle.h3_streams.specs.ReadingOn.{HasRoom, IsDue, StopsAt, left_arrivals};
 
 use crate::left::Left;
-use crate::map;
 use crate::readers::MOST_HELD;
 use crate::streams::ConnectionStreams;
 use bytes::Bytes;
@@ -44,10 +43,7 @@ impl ConnectionStreams {
     fn session_len(&self, id: StreamId) -> usize
         ensures { result ≡ length (concat (stream_of_peer self.now id).unread) }
     {
-        match self.unidirectional.get(&id.into_inner()) {
-            Some(stream) => stream.unread_len(),
-            None => 0,
-        }
+        self.unidirectional.unread_len(id)
     }
 
     /// Whether bytes have room here: no more is held than any memory has room for, and no less is refused.
@@ -74,7 +70,7 @@ impl ConnectionStreams {
         if !self.has_room(id, bytes.len()) {
             return Err(Left::of(id, bytes));
         }
-        match map::receive(&mut self.unidirectional, alloc, id, bytes) {
+        match self.unidirectional.receive(alloc, id, bytes) {
             Ok(Received::Nothing) => Ok(None),
             Ok(Received::Push) => Ok(Some(push_fault(side))),
             Ok(Received::Control(rest)) => self.control_bytes(alloc, side, id, rest),
@@ -90,7 +86,7 @@ impl ConnectionStreams {
         ensures ok { IfOk result (λ fault. (s : EndpointState) (e : EndpointHistory) → StandsFor (placed s self.old) e → Reads s fault self.new (end_at e id PeerUnidirectional)) }
         ensures err { OnErr result (KeepsAll self.old self.new) }
     {
-        let Ok(is_critical) = map::close(&mut self.unidirectional, alloc, id, None) else {
+        let Ok(is_critical) = self.unidirectional.close(alloc, id, None) else {
             return Err(AllocError);
         };
         Ok(closing_fault(is_critical))
@@ -107,7 +103,7 @@ impl ConnectionStreams {
         ensures ok { IfOk result (λ fault. (s : EndpointState) (e : EndpointHistory) → StandsFor (placed s self.old) e → Reads s fault self.new (reset_at e id code PeerUnidirectional)) }
         ensures err { OnErr result (KeepsAll self.old self.new) }
     {
-        let Ok(is_critical) = map::close(&mut self.unidirectional, alloc, id, Some(code)) else {
+        let Ok(is_critical) = self.unidirectional.close(alloc, id, Some(code)) else {
             return Err(AllocError);
         };
         Ok(closing_fault(is_critical))

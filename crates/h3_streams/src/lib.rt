@@ -7,6 +7,8 @@ pub mod ids;
 mod learning;
 pub mod left;
 mod map;
+pub mod peer_streams;
+mod plain;
 mod readers;
 mod roles;
 pub mod streams;

@@ -1,8 +1,9 @@
-//! The peer's unidirectional streams by their ids.
-ghost use Rattle.std.specs.Prelude.{◌≡◌, ◌+◌, ◌<◌, ◌^◌, length, IsSome, is_none, IfOk, IfErr, OnOk, OnErr};
+//! Streams of the peer in a map by their ids.
+ghost use Rattle.std.specs.Prelude.{◌≡◌, ◌+◌, ◌<◌, ◌^◌, length, IsSome, IfSome, IfNone, None, is_some, is_none, IfOk, IfErr, OnOk, OnErr};
 ghost use Rattle.std.specs.List.{concat};
 ghost use Rattle.h3_connection.specs.Calls.{Sets, AllSame};
 ghost use Rattle.h3_connection.specs.State.{kept_at};
+ghost use Rattle.h3_connection.specs.Unidirectional.{is_closed};
 ghost use Rattle.h3_streams.specs.Placed.{peer_stream, Pulls, Receives, Closes};
 
 use bytes::Bytes;
@@ -11,6 +12,44 @@ use h3_proto::stream::StreamId;
 use h3_unidirectional::stream::{Received, UnidirectionalStream};
 use std::alloc::{AllocError, Global};
 use std::collections::BTreeMap;
+
+/// The stream of this id.
+pub(crate) fn get<'a>(
+    streams: &'a BTreeMap<u64, UnidirectionalStream>,
+    id: &u64,
+) -> Option<&'a UnidirectionalStream>
+    ensures some { IfSome result (λ stream. IfSome (kept_at streams.now.entries id.now) (λ o. o ≡ stream.now)) }
+    ensures none { IfNone result (kept_at streams.now.entries id.now ≡ None) }
+{
+    streams.get(id)
+}
+
+/// Whether there is a stream of this id.
+pub(crate) fn has(streams: &BTreeMap<u64, UnidirectionalStream>, id: StreamId) -> bool
+    ensures { result ≡ is_some (kept_at streams.now.entries id) }
+{
+    streams.contains_key(&id.into_inner())
+}
+
+/// Whether the end or the reset of the stream of this id came.
+pub(crate) fn is_closed(streams: &BTreeMap<u64, UnidirectionalStream>, id: StreamId) -> bool
+    ensures { result ≡ is_closed (peer_stream streams.now.entries id) }
+{
+    match streams.get(&id.into_inner()) {
+        Some(stream) => stream.is_closed(),
+        None => false,
+    }
+}
+
+/// How many bytes of a session came on it and were not handed out.
+pub(crate) fn unread_len(streams: &BTreeMap<u64, UnidirectionalStream>, id: StreamId) -> usize
+    ensures { result ≡ length (concat (peer_stream streams.now.entries id).unread) }
+{
+    match streams.get(&id.into_inner()) {
+        Some(stream) => stream.unread_len(),
+        None => 0,
+    }
+}
 
 /// The next item of the stream of this id.
 pub(crate) fn pull(streams: &mut BTreeMap<u64, UnidirectionalStream>, id: StreamId) -> Pull

@@ -9,7 +9,7 @@ ghost use Rattle.h3_connection.specs.Unidirectional.{is_closed};
 ghost use Rattle.h3_streams.specs.Placed.{placed, first_streams, stream_of_peer, is_critical_at, Answers};
 
 use crate::ids::{StreamKind, is_own, other};
-use crate::map;
+use crate::peer_streams::PeerStreams;
 use h3_connection::event::Pull;
 use h3_connection::setup::Announced;
 use h3_proto::stream::{Side, StreamId};
@@ -17,17 +17,15 @@ use h3_unidirectional::control::PeerControl;
 use h3_unidirectional::decoding::Decoding;
 use h3_unidirectional::encoding::Encoding;
 use h3_unidirectional::own::OwnStreams;
-use h3_unidirectional::stream::UnidirectionalStream;
 use h3_wire::frame::FrameBuffer;
 use std::alloc::{AllocError, Global};
-use std::collections::BTreeMap;
 use std::marker::Model;
 
 /// The peer's unidirectional streams with their readers, both QPACK ends, and the own streams.
 #[derive(Drop)]
 pub struct ConnectionStreams {
     /// The peer's streams of which anything came, by their ids.
-    pub unidirectional: BTreeMap<u64, UnidirectionalStream>,
+    pub unidirectional: PeerStreams,
     /// The peer's stream that is read as its control stream.
     pub control_on: Option<StreamId>,
     /// The one that is read as its encoder stream.
@@ -46,7 +44,7 @@ impl Model for ConnectionStreams {
     ghost Value = { StreamsState };
 
     ghost view = { λ x. record {
-      unidirectional = x.unidirectional.entries;
+      unidirectional = x.unidirectional;
       control_on = x.control_on;
       encoder_on = x.encoder_on;
       decoder_on = x.decoder_on;
@@ -75,7 +73,7 @@ impl ConnectionStreams {
     {
         let own = OwnStreams::new(alloc, &announced.settings)?;
         Ok(ConnectionStreams {
-            unidirectional: BTreeMap::new(alloc),
+            unidirectional: PeerStreams::new(alloc),
             control_on: None,
             encoder_on: None,
             decoder_on: None,
@@ -109,10 +107,7 @@ impl ConnectionStreams {
     pub fn is_closed(&self, id: StreamId) -> bool
         ensures { result ≡ is_closed (stream_of_peer self.now id) }
     {
-        match self.unidirectional.get(&id.into_inner()) {
-            Some(stream) => stream.is_closed(),
-            None => false,
-        }
+        self.unidirectional.is_closed(id)
     }
 
     /// The bytes of the peer's control stream that were not read, with the count of tries of the frame at their front. None where this
@@ -131,6 +126,6 @@ impl ConnectionStreams {
     pub fn pull(&mut self, id: StreamId) -> Pull
         ensures { (s : EndpointState) (e : EndpointHistory) → StandsFor (placed s self.old) e → Answers s result self.new (pull_peer e id (stream_at e.unidirectional id)) }
     {
-        map::pull(&mut self.unidirectional, id)
+        self.unidirectional.pull(id)
     }
 }

@@ -175,3 +175,10 @@ tells_first kind.Decoder before bytes unfinished r rest told h = told_before Dec
 tells_first (kind.Session id) before bytes unfinished r rest told h = told_before (Session id) bytes rest r (λ l. refl) h
 tells_first (kind.Push id) before bytes unfinished r rest told h = told_before (Push id) bytes rest r (λ l. refl) h
 tells_first kind.Ignored before bytes unfinished r rest told h = told_before Ignored bytes rest r (λ l. refl) h
+
+-- the same of the first bytes
+pub first_told : (bytes left : List ℕ) (k : Kind) → Tells bytes left (Some k) → (length left ≤ length bytes) × (role_after (Untold []) bytes ≡ (role_of k [], drop (length bytes - length left) bytes))
+first_told bytes left k tells = told kind.Untold [] bytes left k (nothing_told [] refl) refl tells
+
+pub first_front : (bytes : List ℕ) (r : Role) (rest : List ℕ) → is_untold r ≡ false → role_after (Untold []) bytes ≡ (r, rest) → TellsFirst (Untold []) bytes r rest
+first_front bytes r rest = tells_first kind.Untold [] bytes (nothing_told [] refl) r rest

@@ -3,6 +3,8 @@ use Rattle.std.specs.Prelude.{◌≡◌, ℕ, Bool, true, false, List, [], ◌++
 use Rattle.h3_coding.specs.Varint.{varint_at}
 use Rattle.h3_connection.specs.Unidirectional.{Role, of_kind, role_after}
 use Rattle.h3_connection.specs.Unidirectional.Role.{Untold, Control, Encoder, Decoder, Session, Push, Ignored}
+use Rattle.h3_unidirectional.specs.declared.plain.PlainRole.{PlainRole}
+use Rattle.h3_unidirectional.specs.declared.plain.PlainRole.TheVariants as plain_role
 use Rattle.h3_unidirectional.specs.declared.stream.Kind.{Kind}
 use Rattle.h3_unidirectional.specs.declared.stream.Kind.TheVariants as kind
 use Rattle.h3_unidirectional.specs.declared.stream.Received.{Received}
@@ -16,6 +18,13 @@ role_of kind.Decoder front = Decoder
 role_of (kind.Session id) front = Session id
 role_of (kind.Push id) front = Push id
 role_of kind.Ignored front = Ignored
+
+-- the role that a type alone tells
+abbrev pub plain : PlainRole → Role
+plain plain_role.Control = Control
+plain plain_role.Encoder = Encoder
+plain plain_role.Decoder = Decoder
+plain plain_role.Ignored = Ignored
 
 -- the code that it was cut off with, if it was
 abbrev pub code_of : Bool → ℕ → Option ℕ

@@ -6,5 +6,6 @@ pub mod control;
 pub mod decoding;
 pub mod encoding;
 pub mod own;
+pub mod plain;
 pub mod stream;
 pub mod waiting;

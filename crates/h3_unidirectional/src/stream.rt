@@ -74,7 +74,7 @@ impl Model for UnidirectionalStream {
 
 /// Reads what a stream begins with: its type, and the id behind it where it is a push stream (RFC 9114, section 4.6) or one of a
 /// WebTransport session. `None` where that is not whole.
-fn read_kind<B: Buf>(buf: &mut B) -> Option<Kind>
+pub(crate) fn read_kind<B: Buf>(buf: &mut B) -> Option<Kind>
     ensures { Tells (B.unread buf.old) (B.unread buf.new) result }
 {
     let Ok(kind) = buf.get_var() else {

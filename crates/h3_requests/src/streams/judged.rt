@@ -1,5 +1,5 @@
 //! What is done on a request stream where it is allowed: the stream is looked up once, judged by what is stored of it, and changed.
-ghost use Rattle.std.specs.Prelude.{◌≡◌, ◌++◌, None, unwrap_or, OnOk, OnErr, IfErr, IfSome};
+ghost use Rattle.std.specs.Prelude.{◌≡◌, ◌++◌, None, unwrap_or, OnOk, OnErr, IfOk, IfErr, IfSome};
 ghost use Rattle.h3_connection.specs.Answers.{call_refused};
 ghost use Rattle.h3_connection.specs.Calls.{Sets, AllSame};
 ghost use Rattle.h3_connection.specs.Delivering.{given_up_once, cancellation};
@@ -11,6 +11,7 @@ ghost use Rattle.h3_outgoing.specs.Sent.{has_body, has_ended, was_cut_off};
 ghost use Rattle.h3_requests.specs.Refused.{or_later, head_refused_at, body_refused_at, end_refused_at, reset_refused_at, cancel_refused_at};
 
 use super::RequestStreams;
+use crate::room::SectionRoom;
 use bytes::{Buf, Bytes};
 use h3_connection::event::Refusal;
 use h3_proto::stream::StreamId;
@@ -19,7 +20,12 @@ use std::alloc::Global;
 impl RequestStreams {
     /// Room for the frame of a head, so that sending it needs no memory. Refused are, in this order, a stream that is not there, one
     /// whose final head or end was sent, what `later` refuses, and want of memory.
-    pub fn reserve_head(&mut self, id: StreamId, later: Option<Refusal>) -> Result<(), Refusal>
+    pub fn reserve_head(
+        &mut self,
+        id: StreamId,
+        later: Option<Refusal>,
+    ) -> Result<SectionRoom, Refusal>
+        ensures room { IfOk result (λ room. room ≡ id) }
         ensures taken { OnOk result (or_later (head_refused_at (kept_at self.old id)) later ≡ None) }
         ensures why { IfErr result (λ r. r ≡ unwrap_or (or_later (head_refused_at (kept_at self.old id)) later) OutOfMemory) }
         ensures same { AllSame self.old self.new }
@@ -33,18 +39,23 @@ impl RequestStreams {
         if let Some(refusal) = later {
             return Err(refusal);
         }
-        let Ok(()) = stream.outgoing.reserve() else {
+        let Ok(frame) = stream.outgoing.reserve() else {
             return Err(Refusal::OutOfMemory);
         };
         let Ok(()) = self.ready.reserve(id) else {
             return Err(Refusal::OutOfMemory);
         };
-        Ok(())
+        Ok(SectionRoom::of(id, frame, &self.ready))
     }
 
     /// Room for the frame of a trailer, so that sending it needs no memory. Refused are, in this order, a stream that is not there,
     /// one whose final head was not sent, or whose trailer or end was, what `later` refuses, and want of memory.
-    pub fn reserve_trailer(&mut self, id: StreamId, later: Option<Refusal>) -> Result<(), Refusal>
+    pub fn reserve_trailer(
+        &mut self,
+        id: StreamId,
+        later: Option<Refusal>,
+    ) -> Result<SectionRoom, Refusal>
+        ensures room { IfOk result (λ room. room ≡ id) }
         ensures taken { OnOk result (or_later (body_refused_at (kept_at self.old id)) later ≡ None) }
         ensures why { IfErr result (λ r. r ≡ unwrap_or (or_later (body_refused_at (kept_at self.old id)) later) OutOfMemory) }
         ensures same { AllSame self.old self.new }
@@ -58,13 +69,13 @@ impl RequestStreams {
         if let Some(refusal) = later {
             return Err(refusal);
         }
-        let Ok(()) = stream.outgoing.reserve() else {
+        let Ok(frame) = stream.outgoing.reserve() else {
             return Err(Refusal::OutOfMemory);
         };
         let Ok(()) = self.ready.reserve(id) else {
             return Err(Refusal::OutOfMemory);
         };
-        Ok(())
+        Ok(SectionRoom::of(id, frame, &self.ready))
     }
 
     /// A body goes out as the payload of a DATA frame; an empty one writes nothing. Refused are, in this order, a stream that is not

@@ -8,30 +8,33 @@ ghost use Rattle.h3_outgoing.specs.Sent.{has_section, taken_from};
 ghost use Rattle.h3_requests.specs.HasBytes.{has_bytes};
 
 use super::RequestStreams;
+use crate::room::SectionRoom;
 use bytes::Bytes;
 use h3_connection::place::SendPlace;
 use h3_proto::stream::StreamId;
 
 impl RequestStreams {
-    /// The HEADERS frame of an encoded field section goes out, and the message is at that place then. An `Err` changes nothing, and
-    /// hands the section back: memory was refused, or the stream is not there.
+    /// The HEADERS frame of an encoded field section goes out, for which room was taken, and the message is at that place then. An `Err`
+    /// changes nothing, and hands the section back: memory was refused, or the stream is not there.
     pub fn send_section(
         &mut self,
-        id: StreamId,
+        room: SectionRoom,
         section: Bytes,
         place: SendPlace,
     ) -> Result<(), Bytes>
-        ensures ok { OnOk result (IfSome (kept_at self.old id) (λ r. Sets self.old self.new id (record r { outgoing = has_section r.outgoing section place }))) }
-        ensures there { OnOk result (IsSome (kept_at self.old id)) }
+        ensures ok { OnOk result (IfSome (kept_at self.old room) (λ r. Sets self.old self.new room (record r { outgoing = has_section r.outgoing section place }))) }
+        ensures there { OnOk result (IsSome (kept_at self.old room)) }
         ensures err { IfErr result (λ b. (b ≡ section) × AllSame self.old self.new) }
     {
+        let id = room.id();
+        let frame = room.into_frame();
         let Some(stream) = self.streams.get_mut(id) else {
             return Err(section);
         };
         let Ok(()) = self.ready.reserve(id) else {
             return Err(section);
         };
-        if let Err(section) = stream.outgoing.send_section(section, place) {
+        if let Err(section) = stream.outgoing.send_section(frame, section, place) {
             return Err(section);
         }
         self.ready.settle(id, stream.outgoing.waiting() > 0);

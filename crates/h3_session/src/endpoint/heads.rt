@@ -27,6 +27,7 @@ use h3_header::Header;
 use h3_proto::frame::SettingId;
 use h3_proto::stream::{Side, StreamId};
 use h3_qpack::laws::sections_leave_their_counts;
+use h3_requests::SectionRoom;
 use h3_streams::streams::ConnectionStreams;
 use std::alloc::{AllocError, Global};
 
@@ -43,17 +44,19 @@ impl Endpoint {
             return Err(Refusal::Closed(code));
         }
         let later = side_refusal(self.side, head);
-        if let Err(refusal) = self.reserve_head(id, later) {
-            return Err(refusal);
-        }
+        let room = match self.reserve_head(id, later) {
+            Ok(room) => room,
+            Err(refusal) => return Err(refusal),
+        };
         let Ok(fields) = head.fields(self.alloc) else {
             return Err(Refusal::OutOfMemory);
         };
-        self.send_fields(id, fields.as_slice(), place_behind(head))
+        self.send_fields(room, fields.as_slice(), place_behind(head))
     }
 
     // Room for the frame of a head on a stream that takes one, unless `later` refuses it. The streams are found as they were.
-    fn reserve_head(&mut self, id: StreamId, later: Option<Refusal>) -> Result<(), Refusal>
+    fn reserve_head(&mut self, id: StreamId, later: Option<Refusal>) -> Result<SectionRoom, Refusal>
+        ensures room { IfOk result (λ room. room ≡ id) }
         ensures rest { self.new ≡ record self.old { requests = self.new.requests } }
         ensures taken { OnOk result (or_later (head_refused_at (kept_at self.old.requests id)) later ≡ None) }
         ensures why { IfErr result (λ r. r ≡ unwrap_or (or_later (head_refused_at (kept_at self.old.requests id)) later) OutOfMemory) }
@@ -72,17 +75,23 @@ impl Endpoint {
             return Err(Refusal::Closed(code));
         }
         let later = pseudo_refusal(trailer);
-        if let Err(refusal) = self.reserve_trailer(id, later) {
-            return Err(refusal);
-        }
+        let room = match self.reserve_trailer(id, later) {
+            Ok(room) => room,
+            Err(refusal) => return Err(refusal),
+        };
         let Ok(fields) = trailer.fields(self.alloc) else {
             return Err(Refusal::OutOfMemory);
         };
-        self.send_fields(id, fields.as_slice(), SendPlace::TrailerSent)
+        self.send_fields(room, fields.as_slice(), SendPlace::TrailerSent)
     }
 
     // Room for the frame of a trailer on a stream that takes one, unless `later` refuses it. The streams are found as they were.
-    fn reserve_trailer(&mut self, id: StreamId, later: Option<Refusal>) -> Result<(), Refusal>
+    fn reserve_trailer(
+        &mut self,
+        id: StreamId,
+        later: Option<Refusal>,
+    ) -> Result<SectionRoom, Refusal>
+        ensures room { IfOk result (λ room. room ≡ id) }
         ensures rest { self.new ≡ record self.old { requests = self.new.requests } }
         ensures taken { OnOk result (or_later (body_refused_at (kept_at self.old.requests id)) later ≡ None) }
         ensures why { IfErr result (λ r. r ≡ unwrap_or (or_later (body_refused_at (kept_at self.old.requests id)) later) OutOfMemory) }
@@ -91,20 +100,20 @@ impl Endpoint {
         self.requests.reserve_trailer(id, later)
     }
 
-    // Sends fields on a stream that takes them, where their size is allowed.
+    // Sends fields on a stream that takes them and has room for their frame, where their size is allowed.
     fn send_fields(
         &mut self,
-        id: StreamId,
+        room: SectionRoom,
         fields: &[HeaderField],
         place: SendPlace,
     ) -> Result<(), Refusal>
-        ensures { SendsFields self.old self.new id fields.now place (call_refused result) }
+        ensures { SendsFields self.old self.new room fields.now place (call_refused result) }
     {
         let sum = match self.judge_size(fields) {
             Ok(sum) => sum,
             Err(refusal) => return Err(refusal),
         };
-        let Ok(()) = self.queue_section(id, fields, place) else {
+        let Ok(()) = self.queue_section(room, fields, place) else {
             return Err(Refusal::OutOfMemory);
         };
         self.sent = sum;
@@ -145,21 +154,22 @@ impl Endpoint {
         }
     }
 
-    // Encodes fields, and puts the section behind what waits on the stream.
+    // Encodes fields, and puts the section behind what waits on the stream, in the room that was taken for it.
     fn queue_section(
         &mut self,
-        id: StreamId,
+        room: SectionRoom,
         fields: &[HeaderField],
         place: SendPlace,
     ) -> Result<(), AllocError>
         requires { section_size fields.now < 2 ^ 62 }
-        ensures ok { OnOk result (Queues self.old self.new id fields.now place) }
-        ensures err { OnErr result ((e : EndpointHistory) → StandsFor self.old e → CutsOff e id fields.now self.new) }
+        ensures ok { OnOk result (Queues self.old self.new room fields.now place) }
+        ensures err { OnErr result ((e : EndpointHistory) → StandsFor self.old e → CutsOff e room fields.now self.new) }
     {
+        let id = room.id();
         let Ok((section, count)) = encode(&mut self.streams, self.alloc, id, fields) else {
             return Err(AllocError);
         };
-        let Ok(()) = self.requests.send_section(id, section, place) else {
+        let Ok(()) = self.requests.send_section(room, section, place) else {
             withdraw(&mut self.streams, id, count);
             return Err(AllocError);
         };

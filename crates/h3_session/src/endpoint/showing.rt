@@ -1,13 +1,15 @@
 //! What can be read of an endpoint.
-ghost use Rattle.std.specs.Prelude.{◌≡◌, ◌≤◌, option_copied};
+ghost use Rattle.std.specs.Prelude.{◌≡◌, option_copied};
 ghost use Rattle.h3_connection.specs.OwnIds.{is_own};
 ghost use Rattle.h3_connection.specs.ReadingContracts.{ShowsOutgoing, ShowsFinished, ShowsReset, ShowsSettings, ShowsGoaways, ShowsSizes, ShowsHeads, HeadsAreBounded, ShowsSent, ShowsTries, TriesAreBounded, ShowsLimits};
+ghost use Rattle.h3_session.specs.Frames.{LendsFrames};
 
 use super::Endpoint;
 use h3_coding::varint::VarInt;
 use h3_connection::event::{PeerLimits, TableSizes};
 use h3_proto::frame::{SettingId, Settings};
 use h3_proto::stream::{Side, StreamId};
+use h3_wire::frame::FrameBuffer;
 
 impl Endpoint {
     /// Whether anything can be sent on a stream: it is an own unidirectional one, or a request stream that was opened.
@@ -108,18 +110,18 @@ impl Endpoint {
         }
     }
 
-    /// How often the head of the frame under way on a request stream or on the peer's control stream was tried, or else that of the
-    /// last frame that was read there: at most 17 times. 0 on any other stream, and before the first. A try does not count that ends
-    /// for want of memory or at a frame that is refused.
-    pub fn frame_tries(&self, id: StreamId) -> u8
-        ensures bound { result ≤ 17 }
+    /// The bytes that came and were not read, of a request stream that is there or of the peer's control stream. Their `tries` say how often
+    /// the head of the frame under way was tried, or else that of the last frame that was read there: at most 17 times, and 0 before
+    /// the first. A try does not count that ends for want of memory or at a frame that is refused.
+    pub fn frames(&self, id: StreamId) -> Option<&FrameBuffer>
+        ensures { LendsFrames self.now id (option_copied result) }
     {
         if let Some(frames) = self.streams.control_frames(id) {
-            return frames.tries();
+            return Some(frames);
         }
         match self.requests.get(id) {
-            Some(stream) => stream.incoming().frames().tries(),
-            None => 0,
+            Some(stream) => Some(stream.incoming().frames()),
+            None => None,
         }
     }
 }

@@ -15,9 +15,9 @@ returns-in-Err c =
 pub returns-in_default-fields : goal.returns-in_default-fields
 returns-in_default-fields c =
     head_unlisted c.args.self.now c.reserve_head.new.self c.args.id c.args.head.now c.side_refusal-later.result (ap (λ (s : EndpointState). s.closed) (sym c.self.view_is) ∙ c.in_default.is) (c.side_refusal-later.ensures ∙ ap (λ (s : EndpointState). side_refused s.side c.args.head.now) c.self.view_is)
-    c.reserve_head.ensures.rest c.reserve_head.ensures.same c.in_default-reserve_head.ensures.taken
+    c.reserve_head.ensures.rest c.reserve_head.ensures.same c.in-Ok.ensures.taken
 
 pub returns : goal.returns
 returns c =
     head_sent c.args.self.now c.reserve_head.new.self c.send_fields.new.self c.args.id c.args.head.now c.side_refusal-later.result c.as_slice.result.now c.place_behind.result c.send_fields.result (ap (λ (s : EndpointState). s.closed) (sym c.self.view_is) ∙ c.in_default.is) (c.side_refusal-later.ensures ∙ ap (λ (s : EndpointState). side_refused s.side c.args.head.now) c.self.view_is)
-    c.reserve_head.ensures.rest c.reserve_head.ensures.same c.in_default-reserve_head.ensures.taken (c.as_slice.ensures.value ∙ c.in-Ok.ensures.value) c.place_behind.ensures c.send_fields.ensures
+    c.reserve_head.ensures.rest c.reserve_head.ensures.same c.in-Ok.ensures.taken (c.as_slice.ensures.value ∙ c.in-Ok-fields.ensures.value) c.place_behind.ensures (rw c.in-Ok.ensures.room at c.send_fields.ensures)

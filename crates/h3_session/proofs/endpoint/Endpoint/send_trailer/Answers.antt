@@ -14,9 +14,9 @@ returns-in-Err c =
 pub returns-in_default-fields : goal.returns-in_default-fields
 returns-in_default-fields c =
     trailer_unlisted c.args.self.now c.reserve_trailer.new.self c.args.id c.args.trailer.now c.pseudo_refusal-later.result (ap (λ (s : EndpointState). s.closed) (sym c.self.view_is) ∙ c.in_default.is) c.pseudo_refusal-later.ensures
-    c.reserve_trailer.ensures.rest c.reserve_trailer.ensures.same c.in_default-reserve_trailer.ensures.taken
+    c.reserve_trailer.ensures.rest c.reserve_trailer.ensures.same c.in-Ok.ensures.taken
 
 pub returns : goal.returns
 returns c =
     trailer_sent c.args.self.now c.reserve_trailer.new.self c.send_fields.new.self c.args.id c.args.trailer.now c.pseudo_refusal-later.result c.as_slice.result.now c.send_fields.result (ap (λ (s : EndpointState). s.closed) (sym c.self.view_is) ∙ c.in_default.is) c.pseudo_refusal-later.ensures
-    c.reserve_trailer.ensures.rest c.reserve_trailer.ensures.same c.in_default-reserve_trailer.ensures.taken (c.as_slice.ensures.value ∙ c.in-Ok.ensures.value) c.send_fields.ensures
+    c.reserve_trailer.ensures.rest c.reserve_trailer.ensures.same c.in-Ok.ensures.taken (c.as_slice.ensures.value ∙ c.in-Ok-fields.ensures.value) (rw c.in-Ok.ensures.room at c.send_fields.ensures)
