@@ -1,6 +1,6 @@
 -- How many bytes came on a stream and are still held: they were not handed out, and not read. Flow control (RFC 9000, section 4.1) may
 -- grant credit for all others.
-use Rattle.std.specs.Prelude.{◌≡◌, ℕ, ◌+◌, ◌-◌, ◌^◌, min, List, [], length, if◌then◌else◌, ◌==◌, Option, unwrap_or}
+use Rattle.std.specs.Prelude.{ℕ, ◌+◌, ◌-◌, ◌^◌, min, List, [], length, if◌then◌else◌, ◌==◌, Option, unwrap_or}
 use Rattle.std.specs.List.{concat, sum_by}
 use Rattle.h3_connection.specs.Arrivals.{Arrival, BytesCame, EndCame, ResetCame}
 use Rattle.h3_connection.specs.Delivering.{incoming_at, unidirectional_at}

@@ -1,14 +1,14 @@
 -- The first field of which anything is malformed by itself refuses its list.
-use Rattle.std.proofs.Common.{◌≡◌, ℕ, zero, suc, ◌+◌, ◌<◌, ◌≤◌, ◌^◌, nat_le, Bool, true, false, not, ◌&&◌, ◌||◌, bytes_eq, List, [], ◌∷◌, ◌++◌, length, take, get_or, Option, Some, None, refl, ap, subst, ◌∙◌, arith, if◌then◌else◌, length-append, take_all}
+use Rattle.std.proofs.Common.{◌≡◌, ℕ, zero, suc, ◌+◌, ◌<◌, ◌≤◌, ◌^◌, nat_le, nat_lt, Bool, true, false, not, ◌&&◌, ◌||◌, bytes_eq, List, [], ◌∷◌, ◌++◌, length, take, get_or, Option, Some, None, refl, ap, sym, subst, ◌∙◌, arith, if◌then◌else◌, length-append, take_all}
 use Rattle.std.specs.Prelude.{All}
-use Rattle.std.proofs.lemmas.Bool.{lt-leb}
+use Rattle.std.proofs.lemmas.Bool.{lt-leb, ltb-true, ltb-false}
 use Rattle.std.proofs.lemmas.List.Sums.{sum_by-cons}
 use Rattle.http_header.specs.FieldValue.{FieldValue, plain_value}
 use Rattle.http_header.specs.HeaderMap.{Entry, Entries, append, value_count}
 use Rattle.h3_field.specs.Field.{Field}
-use Rattle.h3_header.specs.BadPart.{bad_part, bad_part_at, refusal_of, AreGood}
+use Rattle.h3_header.specs.BadPart.{bad_part, bad_part_at, refusal_of, AreGood, IsHeadUnlessMany}
 use Rattle.h3_header.specs.Head.{Head, trailer_head}
-use Rattle.h3_header.specs.HeadRead.{HeadRead, HeadRefusal, IsNone, Name, Value, TooMany, is_name_at, is_value_at, is_full_at, refusal_at, unless_refused, read_from, head_of}
+use Rattle.h3_header.specs.HeadRead.{HeadRead, HeadRefusal, IsHead, IsNone, Name, Value, TooMany, is_name_at, is_value_at, is_full_at, refusal_at, unless_refused, read_from, head_of}
 use Rattle.h3_header.specs.HeadTests.{contains_key, is_full_of_values, refuses_append}
 use Rattle.h3_header.specs.Reads.{kind_of, with_kind, with_field}
 use Rattle.h3_header.specs.declared.headers.judge.BadPart.{BadPart}
@@ -113,3 +113,23 @@ bad_found fields few i d p is lt good bad =
 
 pub none_found : (fields few : List Field) (i : ℕ) → few ≡ take 24576 fields → length few ≤ i → All (λ f. bad_part f ≡ None) (take i few) → AreGood fields
 none_found fields few i is end good = subst (λ l. All (λ f. bad_part f ≡ None) l) (take_all i few end ∙ is) good
+
+-- with room for all of them, fields that are good make a head
+good_from : (h : Head) (fields : List Field) (n : ℕ) → HasPlaces h n → length fields ≤ n → All (λ f. bad_part f ≡ None) fields → (k : Head) × (read_from h fields ≡ IsHead k)
+good_from h [] n room few good = (h, refl)
+good_from h (f ∷ fields) zero room few good = absurd (omega (arith, few))
+good_from h (f ∷ fields) (suc n) room few good =
+    let later = good_from (with_field h f) fields n (one_less (kind_of f.name) h f n room) (omega (arith, few)) (λ k e less. good (suc k) e (omega (arith, less))) in
+    (later.0, ap (λ o. unless_refused o (read_from (with_field h f) fields)) (taken (kind_of f.name) h f n room (good 0 f (omega arith))) ∙ later.1)
+
+few_are_head : (fields : List Field) → length fields ≤ 24576 → AreGood fields → (k : Head) × (head_of fields ≡ IsHead k)
+unfolding head_of
+few_are_head fields few good =
+    good_from (trailer_head []) fields 24576 (record { names = omega arith; values = omega arith }) few (subst (λ l. All (λ f. bad_part f ≡ None) l) (take_all 24576 fields few) good)
+
+by_count : (fields : List Field) (b : Bool) → nat_lt 24576 (length fields) ≡ b → AreGood fields → IsHeadUnlessMany fields
+by_count fields true many good = λ why none. ltb-true _ _ many
+by_count fields false many good = λ why none. absurd (let head = few_are_head fields (ltb-false _ _ many) good in let never : IsNone why ≡ IsHead head.0 = sym none ∙ head.1 in cc)
+
+pub good_unless_many : (fields : List Field) → AreGood fields → IsHeadUnlessMany fields
+good_unless_many fields good = by_count fields (nat_lt 24576 (length fields)) refl good

@@ -1,7 +1,7 @@
 -- What is malformed of a field by itself, whatever stands before it in its list.
-use Rattle.std.specs.Prelude.{◌≡◌, ℕ, not, List, take, All, if◌then◌else◌, Option, Some, None}
+use Rattle.std.specs.Prelude.{◌≡◌, ℕ, ◌<◌, not, List, length, take, All, if◌then◌else◌, Option, Some, None}
 use Rattle.h3_field.specs.Field.{Field}
-use Rattle.h3_header.specs.HeadRead.{HeadRefusal, Name, Value, is_name_at, is_value_at}
+use Rattle.h3_header.specs.HeadRead.{HeadRefusal, IsNone, Name, Value, head_of, is_name_at, is_value_at}
 use Rattle.h3_header.specs.Reads.{kind_of}
 use Rattle.h3_header.specs.declared.headers.kind.FieldKind.{FieldKind}
 use Rattle.h3_header.specs.declared.headers.judge.BadPart.{BadPart}
@@ -19,6 +19,10 @@ abbrev pub refusal_of : BadPart → HeadRefusal
 refusal_of part.Name = Name
 refusal_of part.Value = Value
 
--- Nothing is malformed of the first 24,576 fields: so many names a map has room for, so the list is a head's, or has more fields.
+-- Nothing is malformed of the first 24,576 fields: so many names a map has room for.
 abbrev pub AreGood : List Field → Type 0
 AreGood fields = All (λ f. bad_part f ≡ None) (take 24576 fields)
+
+-- The list is no head only if it has more fields than these.
+abbrev pub IsHeadUnlessMany : List Field → Type 0
+IsHeadUnlessMany fields = (why : HeadRefusal) → head_of fields ≡ IsNone why → 24576 < length fields

@@ -2,7 +2,7 @@
 ghost use Rattle.std.specs.Prelude.{◌≡◌, ◌<◌, ◌≤◌, ℕ, Bool, List, [], Some, None, IfOk, OnErr, option_map, codes};
 ghost use Rattle.h3_field.specs.Instruction.{DecoderInstruction};
 ghost use Rattle.h3_qpack.specs.DecoderState.{DecoderState};
-ghost use Rattle.h3_header.specs.BadPart.{AreGood, refusal_of};
+ghost use Rattle.h3_header.specs.BadPart.{IsHeadUnlessMany, refusal_of};
 ghost use Rattle.h3_header.specs.Head.{trailer_head};
 ghost use Rattle.h3_header.specs.HeadRead.{HeadRefusal, told};
 ghost use Rattle.h3_header.specs.Reads.{RefusesOne};
@@ -69,8 +69,8 @@ fn judge_large(side: Side, place: Place, large: LargeSection) -> Judged
     Judged::HandsOut(Item::TooLarge(large.mem_size), behind)
 }
 
-// A section that is not. Want of memory is told only of a list of which a front is good, and whose next field may ask for memory; and of
-// which no field is malformed by itself, among as many as a map has names for.
+// A section that is not. Want of memory is told only of a list of which a front is good, and whose next field may ask for memory; and of no
+// list that is malformed, unless it has more fields than a map has names for.
 fn judge_fields(
     alloc: Global,
     side: Side,
@@ -81,7 +81,7 @@ fn judge_fields(
     ensures ok { IfOk result (λ j. (id : ℕ) (r : DecoderState) (i : Incoming) (replies : List DecoderInstruction)
         → told_size fields.items ≤ section_of announced.now → i.place ≡ place → read_section side announced.now id r i replies fields.items ≡ judged_as id i replies j) }
     ensures memory { OnErr result (RefusesOne (trailer_head []) fields.items HeaderError.OutOfMemory) }
-    ensures good { OnErr result (AreGood fields.items) }
+    ensures good { OnErr result (IsHeadUnlessMany fields.items) }
 {
     h3_header::laws::lists_are_their_value();
     let list = fields.as_slice();
@@ -92,12 +92,12 @@ fn judge_fields(
     }
 }
 
-// A list that is no head is malformed. Want of memory is told where it was told, and of no list of which a field is malformed by itself: that
-// is judged without memory.
+// A list that is no head is malformed. Want of memory is told where it was told, and of no list that is malformed, which is judged without
+// memory, unless it has more fields than a map has names for.
 fn judge_refusal(fields: &[HeaderField], error: HeaderError) -> Result<Judged, AllocError>
     ensures ok { IfOk result (λ j. (why : HeadRefusal) × Tells fields.now error why × (j ≡ Judged.Malformed (malformation_of why))) }
     ensures memory { OnErr result (told error ≡ None) }
-    ensures good { OnErr result (AreGood fields.now) }
+    ensures good { OnErr result (IsHeadUnlessMany fields.now) }
 {
     if let Some(why) = malformation(error) {
         return Ok(Judged::Malformed(why));

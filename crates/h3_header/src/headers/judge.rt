@@ -1,6 +1,6 @@
 //! What is malformed of a field list, told without memory.
 ghost use Rattle.std.specs.Prelude.{◌≡◌, take, IfSome, IfNone};
-ghost use Rattle.h3_header.specs.BadPart.{bad_part, refusal_of, AreGood};
+ghost use Rattle.h3_header.specs.BadPart.{bad_part, refusal_of, AreGood, IsHeadUnlessMany};
 ghost use Rattle.h3_header.specs.HeadRead.{IsNone, head_of, is_name_at, is_value_at};
 ghost use Rattle.h3_header.specs.HeadTests.{is_code_text, is_protocol_text};
 
@@ -23,10 +23,12 @@ pub enum BadPart {
 }
 
 /// What is malformed of a list, by the first of its first 24,576 fields of which anything is: `Header::try_from` refuses the list for that,
-/// unless memory is refused first. It takes no memory, and makes no text. None: each of these fields is good by itself.
+/// unless memory is refused first. It takes no memory, and makes no text. None: each of these fields is good by itself, and a list of no
+/// more fields is a header's.
 pub fn first_bad_part(fields: &[HeaderField]) -> Option<BadPart>
     ensures some { IfSome result (λ part. head_of fields.now ≡ IsNone (refusal_of part)) }
     ensures none { IfNone result (AreGood fields.now) }
+    ensures many { IfNone result (IsHeadUnlessMany fields.now) }
 {
     let few = front(fields, MOST_NAMES);
     'fields: for field in few {

@@ -1,6 +1,6 @@
 use Rattle.std.proofs.Common.{◌≡◌, [], ◌∙◌, ap, sym, subst}
 use Rattle.std.proofs.lemmas.Result.{IfOk-weaker, IfErr-weaker}
-use Rattle.h3_header.specs.BadPart.{AreGood}
+use Rattle.h3_header.specs.BadPart.{IsHeadUnlessMany}
 use Rattle.h3_header.specs.Head.{trailer_head}
 use Rattle.h3_header.specs.HeadRead.{IsHead, IsNone, head_of}
 use Rattle.h3_header.specs.Reads.{RefusesOne}
@@ -35,4 +35,4 @@ returns-clause-memory c =
     c.judge_refusal.ensures.memory
 
 pub returns-clause-good : goal.returns-clause-good
-returns-clause-good c = IfErr-weaker c.judge_refusal.result _ _ (λ e good. subst AreGood c.as_slice-list.ensures.value good) c.judge_refusal.ensures.good
+returns-clause-good c = IfErr-weaker c.judge_refusal.result _ _ (λ e good. subst IsHeadUnlessMany c.as_slice-list.ensures.value good) c.judge_refusal.ensures.good

@@ -1,7 +1,7 @@
 use Rattle.std.proofs.Common.{◌≡◌, rules, arith, get_or, Some, None}
 use Rattle.std.proofs.lemmas.List.Elements.{All-more}
 use Rattle.h3_header.specs.BadPart.{bad_part}
-use Rattle.h3_header.proofs.BadPartLaws.{bad_found, none_found}
+use Rattle.h3_header.proofs.BadPartLaws.{bad_found, none_found, good_unless_many}
 use Rattle.h3_header.proofs.headers.judge.first_bad_part.Goals as goal
 
 pub returns-in-Some-clause-some : goal.returns-in-Some-clause-some
@@ -18,3 +18,7 @@ fields-preserved c =
 
 pub returns-clause-none : goal.returns-clause-none
 returns-clause-none c = none_found c.args.fields.now c.front-few.result.now c.fields.field-index c.front-few.ensures (omega arith) c.fields.invariant
+
+pub returns-clause-many : goal.returns-clause-many
+returns-clause-many c =
+    good_unless_many c.args.fields.now (none_found c.args.fields.now c.front-few.result.now c.fields.field-index c.front-few.ensures (omega arith) c.fields.invariant)
