@@ -1,5 +1,5 @@
 //! Streams of the peer in a map by their ids.
-ghost use Rattle.std.specs.Prelude.{◌≡◌, ◌+◌, ◌<◌, ◌^◌, length, IsSome, IfSome, IfNone, None, is_some, is_none, IfOk, IfErr, OnOk, OnErr};
+ghost use Rattle.std.specs.Prelude.{◌≡◌, ◌+◌, ◌<◌, ◌^◌, length, IsSome, IfSome, IfNone, Some, None, is_some, is_none, IfOk, IfErr, OnOk, OnErr};
 ghost use Rattle.std.specs.List.{concat};
 ghost use Rattle.h3_connection.specs.Calls.{Sets, AllSame};
 ghost use Rattle.h3_connection.specs.State.{kept_at};
@@ -18,7 +18,7 @@ pub(crate) fn get<'a>(
     streams: &'a BTreeMap<u64, UnidirectionalStream>,
     id: &u64,
 ) -> Option<&'a UnidirectionalStream>
-    ensures some { IfSome result (λ stream. IfSome (kept_at streams.now.entries id.now) (λ o. o ≡ stream.now)) }
+    ensures some { IfSome result (λ stream. kept_at streams.now.entries id.now ≡ Some stream.now) }
     ensures none { IfNone result (kept_at streams.now.entries id.now ≡ None) }
 {
     streams.get(id)

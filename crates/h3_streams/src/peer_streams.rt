@@ -1,5 +1,5 @@
 //! The peer's unidirectional streams by their ids.
-ghost use Rattle.std.specs.Prelude.{◌≡◌, ◌+◌, ◌<◌, ◌^◌, ◌++◌, [], false, None, length, IfSome, IfNone, IfOk, IfErr, OnErr};
+ghost use Rattle.std.specs.Prelude.{◌≡◌, ◌+◌, ◌<◌, ◌^◌, ◌++◌, [], false, Some, None, length, IfSome, IfNone, IfOk, IfErr, OnErr};
 ghost use Rattle.std.specs.List.{concat};
 ghost use Rattle.h3_connection.specs.Calls.{AllSame};
 ghost use Rattle.h3_connection.specs.Keeping.{is_settled_peer};
@@ -73,7 +73,7 @@ impl PeerStreams {
 
     /// The stream of this id, where more than its role is kept of it. What is not answered is not settled.
     pub fn get(&self, id: &u64) -> Option<&UnidirectionalStream>
-        ensures some { IfSome result (λ stream. IfSome (kept_at self.now id.now) (λ o. o ≡ stream.now)) }
+        ensures some { IfSome result (λ stream. kept_at self.now id.now ≡ Some stream.now) }
         ensures none { IfNone result (is_settled_peer (kept_at self.now id.now) ≡ false) }
     {
         match self.plain.role(*id) {
