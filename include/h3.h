@@ -177,11 +177,14 @@ typedef struct {
   uint32_t webtransport;
   uint32_t extended_connect;          /* RFC 9220 */
   uint32_t datagram;                  /* RFC 9297 */
+  uint32_t count_acknowledgments;     /* whether an acknowledgment tells the own encoder of insertions (RFC 9204, section 2.1.4): many decoders
+                                       * tell of most by nothing else, and without it the encoder soon inserts no more. An increment that is
+                                       * 0 or past what was inserted (section 4.4.3) then closes the connection, with code 0x202 */
 } h3_config;
 
-/* A client that takes field sections of any size and has no dynamic table. */
+/* A client that takes field sections of any size, has no dynamic table, and counts acknowledgments. */
 static inline void h3_config_default(h3_config *config) {
-  h3_config c = {(UINT64_C(1) << 62) - 1, 0, 0, 0, 0, 0, 0, 0, 0, 0};
+  h3_config c = {(UINT64_C(1) << 62) - 1, 0, 0, 0, 0, 0, 0, 0, 0, 0, 1};
   *config = c;
 }
 

@@ -32,6 +32,8 @@ pub struct Config {
     pub webtransport: u32,
     pub extended_connect: u32,
     pub datagram: u32,
+    /// 1: an acknowledgment tells the encoder of insertions (RFC 9204, section 2.1.4).
+    pub count_acknowledgments: u32,
 }
 
 impl Config {
@@ -48,6 +50,7 @@ impl Config {
             webtransport: 0,
             extended_connect: 0,
             datagram: 0,
+            count_acknowledgments: 1,
         }
     }
 }

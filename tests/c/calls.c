@@ -169,6 +169,7 @@ static void begin(char **words) {
   c.max_field_section_size = strtoull(words[2], NULL, 10);
   c.table = strtoull(words[3], NULL, 10);
   c.blocked = strtoull(words[4], NULL, 10);
+  c.count_acknowledgments = 0; /* as Rust's default, which the rows go by */
   h3_endpoint made = H3_NONE_YET;
   uint32_t n = h3_new(&made, &c, &detail);
   answer(n, detail);

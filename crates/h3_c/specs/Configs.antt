@@ -34,7 +34,7 @@ config_of given =
         enable_datagram = is_on given.datagram;
         max_webtransport_sessions = given.max_webtransport_sessions;
       };
-      choices = no_choices;
+      choices = record no_choices { acknowledgments_counted = is_on given.count_acknowledgments };
     }
 
 abbrev pub limits_of : GivenConfig → Limits

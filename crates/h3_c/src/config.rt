@@ -23,6 +23,7 @@ pub struct GivenConfig {
     pub webtransport: u32,
     pub extended_connect: u32,
     pub datagram: u32,
+    pub count_acknowledgments: u32,
 }
 
 fn side_of(given: &GivenConfig) -> Side
@@ -45,6 +46,7 @@ fn config_of(given: &GivenConfig) -> Config
         .with_extended_connect(given.extended_connect != 0)
         .with_datagram(given.datagram != 0)
         .with_max_webtransport_sessions(given.max_webtransport_sessions)
+        .with_acknowledgments_counted(given.count_acknowledgments != 0)
 }
 
 /// The endpoint that is asked for.

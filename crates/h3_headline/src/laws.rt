@@ -53,7 +53,7 @@ pub fn endpoints_decode_what_was_sent()
 /// are those of a run of the world, of which all holds that is said of each step, and both stand in the world that it leads to.
 pub fn two_endpoints_run_in_a_world()
     ensures { (setup : Setup) (events : List Event) → IsMadeSetup setup → AllByRecursion IsSendable events →
-        (w : World) × Run (Happens setup) empty_world events (answers_of_ends (new_ends setup) events) w × Stands setup w (ends_after (new_ends setup) events) }
+        (w : World) × Run (Happens setup) (empty_world setup) events (answers_of_ends (new_ends setup) events) w × Stands setup w (ends_after (new_ends setup) events) }
 {
     what_is_cited_holds();
 }

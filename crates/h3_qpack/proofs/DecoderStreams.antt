@@ -84,7 +84,8 @@ accepted_next s (Acknowledge stream) js h e = ap not (subst (AreTold s.encoder.k
 accepted_next s (CancelStream stream) js h e = refl
 accepted_next s (Increment count) js h e =
     let told = subst (AreTold s.encoder.known_received s.encoder.tracked) e h.told in
-    some_within s.encoder.counts_acknowledgments count (length s.encoder.inserted) (s.encoder.known_received + count) told.0 (omega (arith, h.accounted, h.received, ap increments e))
+    let sum : increments s.decoder_instructions ≡ count + increments js = ap increments e in
+    some_within s.encoder.counts_acknowledgments count (length s.encoder.inserted) (s.encoder.known_received + count) told.0 (omega (arith, h.accounted, h.received, sum))
   where
     some_within : (b : Bool) (count most known : ℕ) → 0 < count → known ≤ most → (b && ((count == 0) || nat_lt most known)) ≡ false
     some_within true count most known some fits =

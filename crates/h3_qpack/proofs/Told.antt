@@ -74,9 +74,11 @@ pub told_acknowledgment : (stream : ℕ) (names : List ℕ) (more : List (List �
     → drop (acknowledgments stream is) (tracked_references stream tracked) ≡ names ∷ more → fold max 0 names ≤ known + increments is → AreTold known tracked (is ++ Acknowledge stream ∷ [])
 told_acknowledgment stream names more canceled known tracked [] alive last h own came =
     let first = first_names stream tracked names more own in
-    (first.0, omega (arith, first.1, came), tt)
+    let here : fold max 0 names ≤ known + 0 = came in
+    (first.0, omega (arith, first.1, here), tt)
 told_acknowledgment stream names more canceled known tracked (Increment count ∷ is) alive last h own came =
-    (h.0, told_acknowledgment stream names more canceled (known + count) tracked is alive last h.1 own (omega (arith, came)))
+    let here : fold max 0 names ≤ known + (count + increments is) = came in
+    (h.0, told_acknowledgment stream names more canceled (known + count) tracked is alive last h.1 own (omega (arith, here)))
 told_acknowledgment stream names more canceled known tracked (Acknowledge other ∷ is) alive last h own came =
     (h.0, h.1, told_acknowledgment stream names more canceled known (released other tracked) is alive last h.2 (left (cases_eq other stream)) came)
   where

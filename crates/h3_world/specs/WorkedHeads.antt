@@ -3,6 +3,7 @@ use Rattle.std.specs.Prelude.{ℕ, ◌-◌, ◌^◌, List, [], ◌∷◌, codes,
 use Rattle.http_header.specs.FieldValue.{plain_value}
 use Rattle.http_header.specs.HeaderMap.{append}
 use Rattle.h3_header.specs.Head.{Head as Fields, trailer_head, response_head}
+use Rattle.h3_proto.specs.Config.{no_choices}
 use Rattle.h3_proto.specs.declared.stream.Side.{Side}
 use Rattle.h3_connection.specs.declared.setup.Announced.{Announced}
 use Rattle.h3_world.specs.declared.setup.Setup.{Setup}
@@ -20,6 +21,7 @@ plain section table blocked =
     record {
       settings = (6, section) ∷ (8, 0) ∷ (0x2b603742, 0) ∷ (0x33, 0) ∷ (0x2b603743, 0) ∷ (1, table) ∷ (7, blocked) ∷ [];
       limits = record { table = table; blocked = blocked };
+      choices = no_choices;
     }
 
 abbrev pub between : Announced → Announced → Setup
@@ -40,17 +42,17 @@ abbrev pub small_client : ℕ → Setup
 small_client section = between (plain section 0 0) (plain 1000 0 0)
 
 abbrev pub answers : Setup → List Event → List Answer
-answers setup events = answers_from setup empty_world events
+answers setup events = answers_from setup (empty_world setup) events
 
 -- what the side has written on a stream once all of that has happened
 abbrev pub written : Setup → List Event → Side → ℕ → List ℕ
-written setup events side id = flow_bytes (flow (world_after setup empty_world events) side id)
+written setup events side id = flow_bytes (flow (world_after setup (empty_world setup) events) side id)
 
 abbrev pub written_by_encoder : Setup → List Event → Side → List ℕ
-written_by_encoder setup events side = encoder_stream (party (world_after setup empty_world events) side)
+written_by_encoder setup events side = encoder_stream (party (world_after setup (empty_world setup) events) side)
 
 abbrev pub written_by_decoder : Setup → List Event → Side → List ℕ
-written_by_decoder setup events side = decoder_stream (party (world_after setup empty_world events) side)
+written_by_decoder setup events side = decoder_stream (party (world_after setup (empty_world setup) events) side)
 
 -- heads of responses, without regular fields, and with one
 abbrev pub status : ℕ → Fields
