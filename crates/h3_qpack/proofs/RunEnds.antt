@@ -1,5 +1,5 @@
 -- What a run answers, by the session that it is.
-use Rattle.std.proofs.Common.{◌≡◌, ◌⊎◌, inl, inr, ℕ, ◌-◌, ◌^◌, ◌<◌, ◌≤◌, List, length, take, sym, ◌∙◌, ap, subst, arith}
+use Rattle.std.proofs.Common.{false, ◌≡◌, ◌⊎◌, inl, inr, ℕ, ◌-◌, ◌^◌, ◌<◌, ◌≤◌, List, length, take, sym, ◌∙◌, ap, subst, arith}
 use Rattle.h3_field.specs.Field.{section_size}
 use Rattle.h3_qpack.specs.DecoderState.{DecoderState, announcing}
 use Rattle.h3_qpack.specs.Session.{Session}
