@@ -185,6 +185,10 @@ impl DynamicTable {
         ensures value { result ≡ newest_in self.now.table (matches what field.now) above most }
         ensures within { IfSome result (λ n. (above < n) × (n ≤ most) × (n ≤ self.now.table.inserted)) }
     {
+        // where none may be named that is there, a chain is not gone along: it may have all entries of a name
+        if most <= above {
+            return None;
+        }
         match what {
             Match::Name => self.entries.newest(&self.names, what, field, above, most),
             Match::Field => self.entries.newest(&self.fields, what, field, above, most),
@@ -332,7 +336,8 @@ impl DynamicTable {
             stream,
             oldest,
             newest: count,
-        }) else {
+        })
+        else {
             self.blocking.remove(count);
             return Err(AllocError);
         };
@@ -354,7 +359,11 @@ impl DynamicTable {
             return false;
         }
         let inserted = self.entries.inserted();
-        match self.blocking.known_received().checked_add(increment as usize) {
+        match self
+            .blocking
+            .known_received()
+            .checked_add(increment as usize)
+        {
             Some(known) => increment == 0 || inserted < known,
             None => true,
         }

@@ -70,7 +70,11 @@ fn give_back(places: &mut Places, count: usize)
 }
 
 /// Takes the oldest section of a stream away, and answers what it names.
-fn take_oldest(places: &mut Places, further: &mut FurtherSections, stream: u64) -> Option<NamedEntries>
+fn take_oldest(
+    places: &mut Places,
+    further: &mut FurtherSections,
+    stream: u64,
+) -> Option<NamedEntries>
     ensures places { places.new.places ≡ places.old.places }
     ensures taken { IsFirstTaken stream (places.old.sections ++ further.old) (places.new.sections ++ further.new) result }
 {
@@ -81,7 +85,11 @@ fn take_oldest(places: &mut Places, further: &mut FurtherSections, stream: u64) 
 }
 
 /// Takes the newest section of a stream away, and answers what it names.
-fn take_newest(places: &mut Places, further: &mut FurtherSections, stream: u64) -> Option<NamedEntries>
+fn take_newest(
+    places: &mut Places,
+    further: &mut FurtherSections,
+    stream: u64,
+) -> Option<NamedEntries>
     ensures places { places.new.places ≡ places.old.places }
     ensures taken { IsLastTaken stream (places.old.sections ++ further.old) (places.new.sections ++ further.new) result }
 {
