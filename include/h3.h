@@ -229,10 +229,13 @@ typedef struct {
   uint32_t extended_connect;          /* RFC 9220 */
   uint32_t datagram;                  /* RFC 9297 */
   uint32_t strict;                    /* whether heads and trailers are judged by all of RFC 9114, sections 4.2 to 4.5: see h3_malformation */
+  uint32_t count_acknowledgments;     /* whether an acknowledgment tells the own encoder of insertions (RFC 9204, section 2.1.4): many decoders
+                                       * tell of most by nothing else, and without it the encoder soon inserts no more. An increment that is
+                                       * 0 or past what was inserted (section 4.4.3) then closes the connection, with code 0x202 */
 } h3_config;
 
 /* A client whose limits are fit for a peer that is not trusted: it takes field sections of at most 65,536 bytes, and has a dynamic table of 4,096
- * bytes, for which 16 streams may wait. All else is 0. SECURITY.md says what each limit bounds. */
+ * bytes, for which 16 streams may wait. It counts acknowledgments. All else is 0. SECURITY.md says what each limit bounds. */
 static inline void h3_config_default(h3_config *config);
 
 /* Makes an endpoint in *endpoint, which is overwritten: what it held before is not freed. Its control stream begins with the settings.

@@ -34,6 +34,8 @@ pub struct Config {
     pub datagram: u32,
     /// 1: heads and trailers are judged by all of RFC 9114, sections 4.2 to 4.5.
     pub strict: u32,
+    /// 1: an acknowledgment tells the encoder of insertions (RFC 9204, section 2.1.4).
+    pub count_acknowledgments: u32,
 }
 
 impl Config {
@@ -52,6 +54,7 @@ impl Config {
             extended_connect: 0,
             datagram: 0,
             strict: 0,
+            count_acknowledgments: 0,
         };
         // SAFETY: it writes the numbers of the config, and nothing else.
         unsafe { h3_raw_config_default(&mut config) };

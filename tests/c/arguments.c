@@ -352,6 +352,23 @@ static void of_waiting(void) {
   h3_free(&e);
 }
 
+/* an increment of 0 is a fault where acknowledgments count, and is taken where they do not */
+static void of_increments(void) {
+  for (uint32_t counts = 0; counts < 2; counts++) {
+    h3_endpoint e = H3_NONE_YET;
+    h3_config c;
+    uint64_t detail = 0;
+    h3_config_default(&c);
+    HOLDS(c.count_acknowledgments == 1);
+    c.count_acknowledgments = counts;
+    IS(h3_new(&e, &c, NULL), H3_OK);
+    IS(h3_deliver(&e, 3, "\0\4\0", 3, NULL), H3_OK);
+    IS(h3_deliver(&e, 11, "\3\0", 2, &detail), counts ? H3_CONNECTION : H3_OK);
+    HOLDS(detail == (counts ? 0x202 : 0));
+    h3_free(&e);
+  }
+}
+
 int main(void) {
   h3_endpoint e = H3_NONE_YET;
   h3_config c;
@@ -370,6 +387,7 @@ int main(void) {
   of_default();
   of_items();
   of_waiting();
+  of_increments();
   if (!bad) puts("ok arguments: wrong arguments of every kind are answered, and nothing is done");
   return bad;
 }

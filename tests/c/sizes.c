@@ -82,6 +82,7 @@ static void make(void) {
     c.server = (uint32_t)side;
     c.table = 4096;
     c.blocked = 100;
+    c.count_acknowledgments = 0; /* so that increments of 0 are taken */
     DONE(h3_new(&ends[side], &c, NULL), "h3_new", side);
   }
 }

@@ -1,6 +1,6 @@
 -- What an endpoint is made of.
 use Rattle.std.specs.Prelude.{◌≡◌, ℕ, Bool, not, ◌==◌, if◌then◌else◌, Option, Some, Result, Ok, Err}
-use Rattle.h3_proto.specs.Config.{announced, no_choices}
+use Rattle.h3_proto.specs.Config.{announced}
 use Rattle.h3_proto.specs.declared.config.Config.{Config}
 use Rattle.h3_proto.specs.declared.stream.Side.{Side}
 use Rattle.h3_proto.specs.declared.stream.Side.TheVariants.{Client, Server}
@@ -32,6 +32,7 @@ default_config =
       extended_connect = 0;
       datagram = 0;
       strict = 0;
+      count_acknowledgments = 1;
     }
 
 -- a number other than 0 means yes
@@ -52,7 +53,7 @@ config_of given =
         enable_datagram = is_on given.datagram;
         max_webtransport_sessions = given.max_webtransport_sessions;
       };
-      choices = record no_choices { strict_messages = is_on given.strict };
+      choices = record { strict_messages = is_on given.strict; acknowledgments_counted = is_on given.count_acknowledgments };
     }
 
 abbrev pub limits_of : GivenConfig → Limits

@@ -24,6 +24,7 @@ pub struct GivenConfig {
     pub extended_connect: u32,
     pub datagram: u32,
     pub strict: u32,
+    pub count_acknowledgments: u32,
 }
 
 impl Default for GivenConfig {
@@ -42,6 +43,7 @@ impl Default for GivenConfig {
             extended_connect: 0,
             datagram: 0,
             strict: 0,
+            count_acknowledgments: 1,
         }
     }
 }
@@ -67,6 +69,7 @@ fn config_of(given: &GivenConfig) -> Config
         .with_datagram(given.datagram != 0)
         .with_max_webtransport_sessions(given.max_webtransport_sessions)
         .with_strict_messages(given.strict != 0)
+        .with_acknowledgments_counted(given.count_acknowledgments != 0)
 }
 
 /// The endpoint that is asked for.

@@ -52,6 +52,10 @@ pub record EndpointHistory : Type 0 where
   -- what it was handed to send: the bytes of names, values and bodies, and 64 for each field and each call
   pub sent : ℕ
 
+-- what an encoder goes by before anything. Whether acknowledgments count is chosen once
+abbrev pub first_encoder : Announced → EncoderHistory
+first_encoder announced = record no_table { counts_acknowledgments = announced.choices.acknowledgments_counted }
+
 abbrev pub new_endpoint : Side → Announced → EndpointHistory
 new_endpoint side announced =
     record {
@@ -67,7 +71,7 @@ new_endpoint side announced =
       decoder_on = None;
       peer = nothing_read;
       decoding = record { decoder = announcing announced.limits.table; unread = [] };
-      encoder = no_table;
+      encoder = first_encoder announced;
       decoder_unread = [];
       own = record { goaways = []; control_taken = 0; instructions = []; encoder_taken = 0; replies = []; decoder_taken = 0 };
       kept = [];

@@ -65,9 +65,9 @@ run_moves laws setup w new [] (a ∷ later) writer id sendable h run = absurd ru
 run_moves laws setup w new (e ∷ es) [] writer id sendable h run = absurd run
 
 -- before anything, each flow is unused
-nothing_yet : (writer : Side) (id : ℕ) → flow empty_world writer id ≡ unused
-nothing_yet Client id = ap (λ e. e.request) (same_both (is_request id) no_exchange no_exchange (λ e. refl))
-nothing_yet Server id = ap (λ e. e.response) (same_both (is_request id) no_exchange no_exchange (λ e. refl))
+nothing_yet : (setup : Setup) (writer : Side) (id : ℕ) → flow (empty_world setup) writer id ≡ unused
+nothing_yet setup Client id = ap (λ e. e.request) (same_both (is_request id) no_exchange no_exchange (λ e. refl))
+nothing_yet setup Server id = ap (λ e. e.response) (same_both (is_request id) no_exchange no_exchange (λ e. refl))
 
 -- A run from the beginning: what was sent, and what was handed out.
 pub record Carries (most : ℕ) (g : Flow) (sending : List Content) (finishing : Bool) (handing : List Content) (ending : Bool) : Type 0 where
@@ -87,16 +87,16 @@ pub record Carried (setup : Setup) (w : World) (events : List Event) (answers : 
   pub sound : IsSoundWorld setup w
 
 pub run_carries : (laws : WorldLaws) (setup : Setup) (w : World) (events : List Event) (answers : List Answer) (writer : Side) (id : ℕ) → AllByRecursion IsSendable events
-    → Run (Happens setup) empty_world events answers w → Carried setup w events answers writer id
+    → Run (Happens setup) (empty_world setup) events answers w → Carried setup w events answers writer id
 run_carries laws setup w events answers writer id sendable run =
-    let r = run_moves laws setup empty_world w events answers writer id sendable (laws.begins setup) run in
+    let r = run_moves laws setup (empty_world setup) w events answers writer id sendable (laws.begins setup) run in
     record {
-      carried = carries (limit_of_reader setup writer) (flow empty_world writer id) (flow w writer id) (sent writer id events answers) (has_finished writer id events answers)
-          (pulled (other writer) id events answers) (has_pulled_end (other writer) id events answers) (nothing_yet writer id) r.moves;
+      carried = carries (limit_of_reader setup writer) (flow (empty_world setup) writer id) (flow w writer id) (sent writer id events answers) (has_finished writer id events answers)
+          (pulled (other writer) id events answers) (has_pulled_end (other writer) id events answers) (nothing_yet setup writer id) r.moves;
       sound = r.sound;
     }
 
-pub run_sound : (laws : WorldLaws) (setup : Setup) (w : World) (events : List Event) (answers : List Answer) → AllByRecursion IsSendable events → Run (Happens setup) empty_world events answers w → IsSoundWorld setup w
+pub run_sound : (laws : WorldLaws) (setup : Setup) (w : World) (events : List Event) (answers : List Answer) → AllByRecursion IsSendable events → Run (Happens setup) (empty_world setup) events answers w → IsSoundWorld setup w
 run_sound laws setup w events answers sendable run = (run_carries laws setup w events answers Client 0 sendable run).sound
 
 -- **A front.**
@@ -190,7 +190,7 @@ is_complete setup w events answers writer id c ended =
     below a b h = grind (arith, common_steps, h)
 
 -- The same for a reader.
-pub front_at : (laws : WorldLaws) (setup : Setup) (events : List Event) (answers : List Answer) (w : World) (side : Side) (id : ℕ) → AllByRecursion IsSendable events → Run (Happens setup) empty_world events answers w
+pub front_at : (laws : WorldLaws) (setup : Setup) (events : List Event) (answers : List Answer) (w : World) (side : Side) (id : ℕ) → AllByRecursion IsSendable events → Run (Happens setup) (empty_world setup) events answers w
     → IsFrontOf (pulled side id events answers) (map (at_reader (section_of (announced_at setup side))) (sent (other side) id events answers))
 front_at laws setup events answers w side id sendable run =
     let c = run_carries laws setup w events answers (other side) id sendable run in
@@ -198,7 +198,7 @@ front_at laws setup events answers w side id sendable run =
     (is_front (limit_of_reader setup (other side)) (flow w (other side) id) (sent (other side) id events answers) (has_finished (other side) id events answers)
     (pulled (other (other side)) id events answers) (has_pulled_end (other (other side)) id events answers) c.carried)
 
-pub all_at : (laws : WorldLaws) (setup : Setup) (events : List Event) (answers : List Answer) (w : World) (side : Side) (id : ℕ) → AllByRecursion IsSendable events → Run (Happens setup) empty_world events answers w
+pub all_at : (laws : WorldLaws) (setup : Setup) (events : List Event) (answers : List Answer) (w : World) (side : Side) (id : ℕ) → AllByRecursion IsSendable events → Run (Happens setup) (empty_world setup) events answers w
     → has_pulled_end side id events answers ≡ true
     → IsAll (section_of (announced_at setup side)) (sent (other side) id events answers) (has_finished (other side) id events answers) (pulled side id events answers)
 all_at laws setup events answers w side id sendable run ended =
@@ -207,7 +207,7 @@ all_at laws setup events answers w side id sendable run ended =
     (is_complete setup w events answers (other side) id c) ended
 
 -- and where no part is left
-pub left_none_at : (laws : WorldLaws) (setup : Setup) (events : List Event) (answers : List Answer) (w : World) (side : Side) (id : ℕ) → AllByRecursion IsSendable events → Run (Happens setup) empty_world events answers w
+pub left_none_at : (laws : WorldLaws) (setup : Setup) (events : List Event) (answers : List Answer) (w : World) (side : Side) (id : ℕ) → AllByRecursion IsSendable events → Run (Happens setup) (empty_world setup) events answers w
     → next_part (flow w (other side) id) ≡ None → pulled side id events answers ≡ map (at_reader (section_of (announced_at setup side))) (sent (other side) id events answers)
 left_none_at laws setup events answers w side id sendable run none =
     let c = run_carries laws setup w events answers (other side) id sendable run in
@@ -220,7 +220,7 @@ taken_whole : (most : ℕ) (sending : List Content) → AllByRecursion (IsTakenW
 taken_whole most [] h = refl
 taken_whole most (c ∷ cs) h = ap (λ x. x ∷ map (at_reader most) cs) h.0 ∙ ap (λ l. c ∷ l) (taken_whole most cs h.1)
 
-pub whole_at : (laws : WorldLaws) (setup : Setup) (events : List Event) (answers : List Answer) (w : World) (side : Side) (id : ℕ) → AllByRecursion IsSendable events → Run (Happens setup) empty_world events answers w
+pub whole_at : (laws : WorldLaws) (setup : Setup) (events : List Event) (answers : List Answer) (w : World) (side : Side) (id : ℕ) → AllByRecursion IsSendable events → Run (Happens setup) (empty_world setup) events answers w
     → has_pulled_end side id events answers ≡ true → AllByRecursion (IsTakenWhole (section_of (announced_at setup side))) (sent (other side) id events answers)
     → pulled side id events answers ≡ sent (other side) id events answers
 whole_at laws setup events answers w side id sendable run ended whole =

@@ -1,7 +1,6 @@
 -- No instruction of either side is refused: what a session has under way fits what both ends have.
 use Rattle.std.proofs.Common.{◌≡◌, ℕ, ◌+◌, ◌^◌, ◌<◌, ◌≤◌, nat_le, nat_lt, not, Bool, true, false, if◌then◌else◌, List, [], ◌∷◌, ◌++◌, length, Option, Some, None, refl, sym, ap, ◌∙◌, subst, arith}
-use Rattle.std.specs.Prelude.{◌==◌, ◌||◌, count_by}
-use Rattle.std.specs.List.{list_any}
+use Rattle.std.specs.Prelude.{◌==◌, ◌||◌, ◌&&◌, count_by}
 use Rattle.std.proofs.lemmas.Bool.{and_parts}
 use Rattle.std.proofs.lemmas.Grind.{common_steps}
 use Rattle.std.proofs.lemmas.List.Sums.{sum_by-cons}
@@ -10,11 +9,11 @@ use Rattle.h3_field.specs.Instruction.{EncoderInstruction, DecoderInstruction}
 use Rattle.h3_field.specs.Instruction.EncoderInstruction.{SetCapacity, InsertWithStaticName, InsertWithEntryName, InsertLiteral, Duplicate}
 use Rattle.h3_field.specs.Instruction.DecoderInstruction.{Acknowledge, CancelStream, Increment}
 use Rattle.h3_qpack.specs.DecoderState.{DecoderState, greatest_capacity, insertion_of, inserting, decoder_after, decoder_after_all}
-use Rattle.h3_qpack.specs.EncoderHistory.{EncoderHistory, UnacknowledgedSection, encoder_after, encoder_after_all, is_refused}
+use Rattle.h3_qpack.specs.EncoderHistory.{EncoderHistory, encoder_after, encoder_after_all, is_refused}
 use Rattle.h3_qpack.specs.Instructions.{AreAccepted}
 use Rattle.h3_qpack.specs.Schedule.{SessionEvent, SessionStep, SessionRun, beginning}
 use Rattle.h3_qpack.specs.Schedule.SessionEvent.{DecoderInstructionRead}
-use Rattle.h3_qpack.specs.Session.{Session, IsSound, acknowledgments, tracked_references, after_decoder_instruction}
+use Rattle.h3_qpack.specs.Session.{Session, IsSound, AreTold, increments, after_decoder_instruction}
 use Rattle.h3_table.specs.TableState.{has_room, with_entry, with_capacity}
 use Rattle.h3_qpack.specs.WholeInstructions.{is_insertion}
 use Rattle.h3_proto.specs.declared.stream.Side.{Side}
@@ -28,42 +27,32 @@ pub run_then : (start mid new : Session) (events : List SessionEvent) (event : S
 run_then start mid new [] event r step = (new, subst (λ s. SessionStep s event new) r step, refl)
 run_then start mid new (e ∷ events) event r step = (r.0, r.1, run_then r.0 mid new events event r.2 step)
 
--- a stream with an acknowledgment under way has a tracked section
-is_tracked : (stream : ℕ) (ts : List UnacknowledgedSection) → 0 < length (tracked_references stream ts) → list_any (λ t. t.stream == stream) ts ≡ true
-is_tracked stream [] h = absurd (omega (arith, h))
-is_tracked stream (t ∷ ts) h = by_test (t.stream == stream) h (is_tracked stream ts)
-  where
-    by_test : (b : Bool) → 0 < length (if b then t.references ∷ tracked_references stream ts else tracked_references stream ts) → (0 < length (tracked_references stream ts) → list_any (λ u. u.stream == stream) ts ≡ true)
-        → (b || list_any (λ u. u.stream == stream) ts) ≡ true
-    by_test true h later = refl
-    by_test false h later = later h
-
-own_stream : (stream : ℕ) → (stream == stream) ≡ true
-own_stream stream = grind (arith, common_steps)
-
-one_there : (stream : ℕ) (is : List DecoderInstruction) → 0 < acknowledgments stream (Acknowledge stream ∷ is)
-one_there stream is = let one = ap (λ b. (if b then 1 else 0) + acknowledgments stream is) (own_stream stream) in omega (arith, one)
-
+-- what is under way is not refused
 not_refused : (s : Session) (i : DecoderInstruction) (is : List DecoderInstruction) → s.decoder_instructions ≡ i ∷ is → IsSound s → is_refused s.encoder i ≡ false
-not_refused s (Acknowledge stream) is e h =
-    let some = one_there stream is in
-    let least : acknowledgments stream (Acknowledge stream ∷ is) ≤ length (tracked_references stream s.encoder.tracked) = subst (λ l. acknowledgments stream l ≤ length (tracked_references stream s.encoder.tracked)) e (h.acknowledged stream) in
-    ap not (is_tracked stream s.encoder.tracked (omega (arith, some, least)))
+not_refused s (Acknowledge stream) is e h = ap not (subst (AreTold s.encoder.known_received s.encoder.tracked) e h.told).0
 not_refused s (CancelStream stream) is e h = refl
-not_refused s (Increment count) is e h = refl
+not_refused s (Increment count) is e h =
+    let told = subst (AreTold s.encoder.known_received s.encoder.tracked) e h.told in
+    some_within s.encoder.counts_acknowledgments count (length s.encoder.inserted) (s.encoder.known_received + count) told.0 (omega (arith, h.accounted, h.received, ap increments e))
+  where
+    some_within : (b : Bool) (count most known : ℕ) → 0 < count → known ≤ most → (b && ((count == 0) || nat_lt most known)) ≡ false
+    some_within true count most known some fits =
+        let not_none : (count == 0) ≡ false = grind (arith, common_steps, some) in
+        let within : nat_lt most known ≡ false = grind (arith, common_steps, fits) in rw (not_none, within) refl
+    some_within false count most known some fits = refl
 
 -- each is accepted behind the others
-pub run_accepted : (laws : StreamLaws) (events : List SessionEvent) (s : Session) (is : List DecoderInstruction) → SessionRun (beginning 0 0) events s → s.decoder_instructions ≡ is → AreAccepted s.encoder is
-run_accepted laws events s [] run e = tt
-run_accepted laws events s (i ∷ is) run e =
+pub run_accepted : (laws : StreamLaws) (counts : Bool) (events : List SessionEvent) (s : Session) (is : List DecoderInstruction) → SessionRun (beginning counts 0 0) events s → s.decoder_instructions ≡ is → AreAccepted s.encoder is
+run_accepted laws counts events s [] run e = tt
+run_accepted laws counts events s (i ∷ is) run e =
     let next = after_decoder_instruction s i is in
-    let longer = run_then (beginning 0 0) s next events (DecoderInstructionRead i is) run (e, refl) in
-    (not_refused s i is e (laws.sound 0 0 events s run), run_accepted laws (events ++ DecoderInstructionRead i is ∷ []) next is longer refl)
+    let longer = run_then (beginning counts 0 0) s next events (DecoderInstructionRead i is) run (e, refl) in
+    (not_refused s i is e (laws.sound counts 0 0 events s run), run_accepted laws counts (events ++ DecoderInstructionRead i is ∷ []) next is longer refl)
 
 -- The side's encoder refuses nothing of what it has not read.
 pub replies_accepted : (laws : StreamLaws) (setup : Setup) (w : World) (side : Side) → HasSession setup w side → AreAccepted (party w side).encoder (replies_left setup w side)
 replies_accepted laws setup w side h =
-    subst (λ s. AreAccepted s (replies_left setup w side)) h.follows.encoder (run_accepted laws h.events h.session (replies_left setup w side) h.run h.follows.decoder_instructions)
+    subst (λ s. AreAccepted s (replies_left setup w side)) h.follows.encoder (run_accepted laws h.counts h.events h.session (replies_left setup w side) h.run h.follows.decoder_instructions)
 
 -- nor of a front of that
 pub accepted_front : (s : EncoderHistory) (is js : List DecoderInstruction) → AreAccepted s (is ++ js) → AreAccepted s is

@@ -18,7 +18,7 @@ use Rattle.h3_headline.specs.Standing.{Stands}
 
 -- What is cited of worlds: the contracts of `h3_world`'s `laws`, as premises.
 pub record WorldLaws : Type 0 where
-  pub begins : (setup : Setup) → IsSoundWorld setup empty_world
+  pub begins : (setup : Setup) → IsSoundWorld setup (empty_world setup)
   pub machine : (setup : Setup) (w : World) (e : Event) → IsSoundWorld setup w → Step setup w e (served setup w e).0 (served setup w e).1 × IsExact w e (served setup w e).0
   pub both : (setup : Setup) (w new : World) (e : Event) (a : Answer) → IsSendable e → Step setup w e a new → IsExact w e a → IsSoundWorld setup w → Happens setup w e a new × IsSoundWorld setup new
 

@@ -26,12 +26,12 @@ none_below : (n : ℕ) → nat_lt n 0 ≡ false
 none_below n = grind (arith, common_steps)
 
 -- no stream is open
-none_at_client : (id : ℕ) → is_open empty_world Client id ≡ false
-none_at_client id = ap (λ b. is_request id && b) (none_below (index_of id)) ∙ and_false (is_request id)
+none_at_client : (setup : Setup) (id : ℕ) → is_open (empty_world setup) Client id ≡ false
+none_at_client setup id = ap (λ b. is_request id && b) (none_below (index_of id)) ∙ and_false (is_request id)
 
-none_open : (side : Side) (id : ℕ) → is_open empty_world side id ≡ false
-none_open Client id = none_at_client id
-none_open Server id = ap (λ b. b && (exchange empty_world id).request.seen) (none_at_client id)
+none_open : (setup : Setup) (side : Side) (id : ℕ) → is_open (empty_world setup) side id ≡ false
+none_open setup Client id = none_at_client setup id
+none_open setup Server id = ap (λ b. b && (exchange (empty_world setup) id).request.seen) (none_at_client setup id)
 
 -- no settings are there before any byte
 above_none : (n : ℕ) → nat_le (1 + n) 0 ≡ false
@@ -56,7 +56,7 @@ decoder_at : (setup : Setup) (side : Side) → [] ≡ replies_unread (are_settin
 decoder_at setup side = rw (no_settings setup (other side)) refl
 
 -- One new endpoint.
-pub begins_at : (setup : Setup) (side : Side) → StandsAt setup empty_world side (new_endpoint side (announced_at setup side))
+pub begins_at : (setup : Setup) (side : Side) → StandsAt setup (empty_world setup) side (new_endpoint side (announced_at setup side))
 begins_at setup Client =
     record {
       side_is = refl;
@@ -69,8 +69,8 @@ begins_at setup Client =
       encoder_stream = record { stream_is = refl; is_on = refl; decoder = refl; unread = refl };
       decoder_stream = record { stream_is = refl; is_on = refl; left = decoder_at setup Client };
       no_others = λ id other. refl;
-      outgoing = λ id. rw (none_open Client id) refl;
-      incoming = λ id. rw (none_open Client id) tt;
+      outgoing = λ id. rw (none_open setup Client id) refl;
+      incoming = λ id. rw (none_open setup Client id) tt;
       distinct = tt;
     }
 begins_at setup Server =
@@ -85,26 +85,26 @@ begins_at setup Server =
       encoder_stream = record { stream_is = refl; is_on = refl; decoder = refl; unread = refl };
       decoder_stream = record { stream_is = refl; is_on = refl; left = decoder_at setup Server };
       no_others = λ id other. refl;
-      outgoing = λ id. rw (none_open Server id) refl;
-      incoming = λ id. rw (none_open Server id) tt;
+      outgoing = λ id. rw (none_open setup Server id) refl;
+      incoming = λ id. rw (none_open setup Server id) tt;
       distinct = tt;
     }
 
 -- nothing was sent on any stream
-nothing_sent : (side : Side) (id : ℕ) → AllByRecursion (IsReadable (other side)) (flow empty_world side id).sent
-nothing_sent Client id = by (is_request id)
+nothing_sent : (setup : Setup) (side : Side) (id : ℕ) → AllByRecursion (IsReadable (other side)) (flow (empty_world setup) side id).sent
+nothing_sent setup Client id = by (is_request id)
   where
     by : (request : Bool) → AllByRecursion (IsReadable Server) (if request then no_exchange else no_exchange).request.sent
     by true = tt
     by false = tt
-nothing_sent Server id = by (is_request id)
+nothing_sent setup Server id = by (is_request id)
   where
     by : (request : Bool) → AllByRecursion (IsReadable Client) (if request then no_exchange else no_exchange).response.sent
     by true = tt
     by false = tt
 
 -- Both of them.
-pub begins : (setup : Setup) → IsSoundWorld setup empty_world → Stands setup empty_world (new_ends setup)
+pub begins : (setup : Setup) → IsSoundWorld setup (empty_world setup) → Stands setup (empty_world setup) (new_ends setup)
 begins setup sound =
     record {
       at_client = begins_at setup Client;
@@ -114,6 +114,6 @@ begins setup sound =
       sound = sound;
       client_writes = record { goaways = tt; instructions = tt; replies = tt };
       server_writes = record { goaways = tt; instructions = tt; replies = tt };
-      requests = λ id. nothing_sent Client id;
-      responses = λ id. nothing_sent Server id;
+      requests = λ id. nothing_sent setup Client id;
+      responses = λ id. nothing_sent setup Server id;
     }

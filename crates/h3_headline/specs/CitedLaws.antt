@@ -1,5 +1,5 @@
 -- What is cited of QPACK's sessions and streams: the contracts of `h3_qpack`'s `laws`, as premises.
-use Rattle.std.specs.Prelude.{◌≡◌, ℕ, ◌-◌, ◌^◌, ◌<◌, ◌≤◌, false, List, ◌++◌, length, take, flat_map, Some}
+use Rattle.std.specs.Prelude.{◌≡◌, Bool, ℕ, ◌-◌, ◌^◌, ◌<◌, ◌≤◌, false, List, ◌++◌, length, take, flat_map, Some}
 use Rattle.std.specs.List.{AllByRecursion}
 use Rattle.h3_field.specs.Field.{Field, section_size}
 use Rattle.h3_field.specs.Instruction.{EncoderInstruction, encoder_bytes, DecoderInstruction, decoder_bytes}
@@ -24,14 +24,14 @@ pub record IsRead (capacity : ℕ) (instructions : List EncoderInstruction) : Ty
   pub reads : decoder_after_all (Some (announcing capacity)) instructions ≡ Some decoder
 
 pub record StreamLaws : Type 0 where
-  pub sound : (capacity limit : ℕ) (events : List SessionEvent) (s : Session) → SessionRun (beginning capacity limit) events s → IsSound s
+  pub sound : (counts : Bool) (capacity limit : ℕ) (events : List SessionEvent) (s : Session) → SessionRun (beginning counts capacity limit) events s → IsSound s
   pub heard_fronts : (r new : DecoderState) (all : List EncoderInstruction) (n : ℕ) → AllByRecursion IsWrittenInstruction all → decoder_after_all (Some r) (take (whole_in encoder_bytes n all) all) ≡ Some new →
       hear r (take n (flat_map encoder_bytes all)) ≡ heard new (rest_in encoder_bytes n all) false
   pub listened_fronts : (s : EncoderHistory) (all : List DecoderInstruction) (n : ℕ) → AllByRecursion IsReply all → AreAccepted s (decoder_instructions_in n all) →
       listen s (take n (flat_map decoder_bytes all)) ≡ listened (encoder_after_all s (decoder_instructions_in n all)) (rest_in decoder_bytes n all) false
   pub tables_read : (capacity : ℕ) (instructions : List EncoderInstruction) (inserted : List Field) (k : ℕ) → IsReadAs capacity capacity instructions inserted → k ≤ length (opening capacity ++ instructions) →
       (r : DecoderState) × (decoder_after_all (Some (announcing capacity)) (take k (opening capacity ++ instructions)) ≡ Some r) × HasInsertions capacity (take (k - length (opening capacity)) inserted) r
-  pub written : (capacity limit : ℕ) (events : List SessionEvent) (s : Session) (b : UndecodedSection) → SessionRun (beginning capacity limit) events s → oldest b.stream s.sections ≡ Some b →
+  pub written : (counts : Bool) (capacity limit : ℕ) (events : List SessionEvent) (s : Session) (b : UndecodedSection) → SessionRun (beginning counts capacity limit) events s → oldest b.stream s.sections ≡ Some b →
       AllByRecursion IsFieldOfBytes b.fields → section_size b.fields < 2 ^ 62 → length (encoded_section b.encoder b.fields) < 2 ^ 63 → IsWritten s b
-  pub values : (capacity limit announced : ℕ) (events : List SessionEvent) (s : Session) (b : UndecodedSection) (r : DecoderState) → SessionRun (beginning capacity limit) events s → IsDecoderAt announced s r →
+  pub values : (counts : Bool) (capacity limit announced : ℕ) (events : List SessionEvent) (s : Session) (b : UndecodedSection) (r : DecoderState) → SessionRun (beginning counts capacity limit) events s → IsDecoderAt announced s r →
       oldest b.stream s.sections ≡ Some b → is_canceled s b.stream ≡ false → IsWritten s b → decode_section r (encoded_section b.encoder b.fields) ≡ tried s b

@@ -62,7 +62,7 @@ instructions_read laws setup w writer k made sound within = by_known (settings_c
     by_known true e =
         let h = sound.session in
         let s = h.session in
-        let reads = read_as capacity s (party w writer).encoder h.follows.encoder sound.writer.capacity (laws.sound 0 0 h.events s h.run).read in
+        let reads = read_as capacity s (party w writer).encoder h.follows.encoder sound.writer.capacity (laws.sound h.counts 0 0 h.events s h.run).read in
         let all = opened_instructions setup w writer made h e in
         let front = laws.tables_read capacity s.instructions s.encoder.inserted k reads (subst (λ is. k ≤ length is) all within) in
         subst (λ is. IsRead capacity (take k is)) (sym all) (record { decoder = front.0; reads = front.1 })

@@ -76,7 +76,7 @@ has_read laws setup w writer r made sound reads = by_known (settings_came setup 
         let h = sound.session in
         let s = h.session in
         let all = opened_instructions setup w writer made h e in
-        let is_read = read_as capacity s (party w writer).encoder h.follows.encoder sound.writer.capacity (laws.sound 0 0 h.events s h.run).read in
+        let is_read = read_as capacity s (party w writer).encoder h.follows.encoder sound.writer.capacity (laws.sound h.counts 0 0 h.events s h.run).read in
         let within = whole_within encoder_bytes ((party w writer).own.encoder_taken - 1) (party w writer).own.instructions in
         let front = laws.tables_read capacity s.instructions s.encoder.inserted k is_read (subst (λ is. k ≤ length is) all within) in
         let same = same_decoder front.0 r (sym front.1 ∙ ap (λ is. decoder_after_all (Some (announcing capacity)) (take k is)) (sym all) ∙ reads) in
@@ -188,7 +188,7 @@ sections_written laws setup w writer sound h b is kept =
     let alive = none_of (flow w writer b.stream).fault (sym (h.follows.canceled b.stream) ∙ kept) in
     let all = subst (AllByRecursion IsTaken) (sym (h.follows.sections b.stream alive)) (flow_taken setup w writer b.stream sound) in
     let taken = oldest_first IsTaken b.stream b h.session.sections is all in
-    laws.written 0 0 h.events h.session b h.run is taken.0 taken.1 taken.2
+    laws.written h.counts 0 0 h.events h.session b h.run is taken.0 taken.1 taken.2
 
 -- **An endpoint that stands in a world has read the insertions that came.**
 pub insertions_read : (setup : Setup) (w : World) (side : Side) (e : EndpointHistory) → StandsAt setup w side e → e.decoding.decoder.table.inserted ≡ insertions_came (party w (other side))

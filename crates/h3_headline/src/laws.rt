@@ -54,7 +54,7 @@ pub fn endpoints_decode_what_was_sent()
 /// asks for strict messages.
 pub fn two_endpoints_run_in_a_world()
     ensures { (setup : Setup) (events : List Event) → IsMadeSetup setup → JudgesPlainly setup → AllByRecursion IsSendable events →
-        (w : World) × Run (Happens setup) empty_world events (answers_of_ends (new_ends setup) events) w × Stands setup w (ends_after (new_ends setup) events) }
+        (w : World) × Run (Happens setup) (empty_world setup) events (answers_of_ends (new_ends setup) events) w × Stands setup w (ends_after (new_ends setup) events) }
 {
     what_is_cited_holds();
 }

@@ -33,26 +33,26 @@ use crate::laws::{two_endpoints_run_in_a_world, what_is_cited_holds};
 
 /// A run, cut anywhere, is a run of the events before and one of the others, from the world that those lead to.
 pub fn runs_can_be_cut()
-    ensures { (setup : Setup) (before after : List Event) (answers : List Answer) (w : World) → Run (Happens setup) empty_world (before ++ after) answers w → IsCutAt setup empty_world before after answers w }
+    ensures { (setup : Setup) (before after : List Event) (answers : List Answer) (w : World) → Run (Happens setup) (empty_world setup) (before ++ after) answers w → IsCutAt setup (empty_world setup) before after answers w }
 {}
 
 /// No answer of a run tells of a connection fault.
 pub fn no_connection_fault()
-    ensures { (setup : Setup) (events : List Event) (answers : List Answer) (w : World) → Run (Happens setup) empty_world events answers w → list_any is_connection_fault answers ≡ false }
+    ensures { (setup : Setup) (events : List Event) (answers : List Answer) (w : World) → Run (Happens setup) (empty_world setup) events answers w → list_any is_connection_fault answers ≡ false }
 {}
 
 /// A head, a piece of the body, a trailer or the end of a message that is in order, on a stream that is open, with a field section within
 /// the limit known, is accepted.
 pub fn ordered_sends_are_accepted()
-    ensures { (setup : Setup) (before : List Event) (given : List Answer) (w new : World) (e : Event) (a : Answer) → Run (Happens setup) empty_world before given w → Happens setup w e a new → IsInOrder setup w e → a ≡ Done }
+    ensures { (setup : Setup) (before : List Event) (given : List Answer) (w new : World) (e : Event) (a : Answer) → Run (Happens setup) (empty_world setup) before given w → Happens setup w e a new → IsInOrder setup w e → a ≡ Done }
 {}
 
 /// With everything delivered, a pull of a stream that was not given up pauses only where no part is left: all that the other side sent on it
 /// was handed out before.
 pub fn everything_comes_out()
-    ensures none_left { (setup : Setup) (before : List Event) (given : List Answer) (w new : World) (side : Side) (id : ℕ) (p : PullAnswer) → Run (Happens setup) empty_world before given w → Happens setup w (Pull side id) (Pulled p) new →
+    ensures none_left { (setup : Setup) (before : List Event) (given : List Answer) (w new : World) (side : Side) (id : ℕ) (p : PullAnswer) → Run (Happens setup) (empty_world setup) before given w → Happens setup w (Pull side id) (Pulled p) new →
         IsDelivered setup w (other side) id → settled w side id ≡ None → is_none (pause_of p) ≡ false → next_part (flow w (other side) id) ≡ None }
-    ensures all { (setup : Setup) (before : List Event) (given : List Answer) (w new : World) (side : Side) (id : ℕ) (p : PullAnswer) → AllByRecursion IsSendable before → Run (Happens setup) empty_world before given w →
+    ensures all { (setup : Setup) (before : List Event) (given : List Answer) (w new : World) (side : Side) (id : ℕ) (p : PullAnswer) → AllByRecursion IsSendable before → Run (Happens setup) (empty_world setup) before given w →
         Happens setup w (Pull side id) (Pulled p) new → IsDelivered setup w (other side) id → settled w side id ≡ None → is_none (pause_of p) ≡ false →
         pulled side id before given ≡ map (at_reader (section_of (announced_at setup side))) (sent (other side) id before given) }
 {
@@ -63,9 +63,9 @@ pub fn everything_comes_out()
 /// size where that is above the side's limit, and the bytes of the body in any pieces. Once the end is handed out, that is all, and the
 /// other side has finished.
 pub fn what_is_pulled_is_what_was_sent()
-    ensures front { (setup : Setup) (events : List Event) (answers : List Answer) (w : World) (side : Side) (id : ℕ) → AllByRecursion IsSendable events → Run (Happens setup) empty_world events answers w →
+    ensures front { (setup : Setup) (events : List Event) (answers : List Answer) (w : World) (side : Side) (id : ℕ) → AllByRecursion IsSendable events → Run (Happens setup) (empty_world setup) events answers w →
         IsFrontOf (pulled side id events answers) (map (at_reader (section_of (announced_at setup side))) (sent (other side) id events answers)) }
-    ensures end { (setup : Setup) (events : List Event) (answers : List Answer) (w : World) (side : Side) (id : ℕ) → AllByRecursion IsSendable events → Run (Happens setup) empty_world events answers w →
+    ensures end { (setup : Setup) (events : List Event) (answers : List Answer) (w : World) (side : Side) (id : ℕ) → AllByRecursion IsSendable events → Run (Happens setup) (empty_world setup) events answers w →
         has_pulled_end side id events answers ≡ true →
         (pulled side id events answers ≡ map (at_reader (section_of (announced_at setup side))) (sent (other side) id events answers)) × (has_finished (other side) id events answers ≡ true) }
 {
@@ -75,11 +75,11 @@ pub fn what_is_pulled_is_what_was_sent()
 /// Two runs, with other setups, schedules and deliveries too, in which the same was sent on a stream and its end was handed out hand out the
 /// same, where no section is above the reader's limit: what was sent.
 pub fn what_comes_out_rests_on_what_was_sent()
-    ensures all { (setup : Setup) (events : List Event) (answers : List Answer) (w : World) (side : Side) (id : ℕ) → AllByRecursion IsSendable events → Run (Happens setup) empty_world events answers w →
+    ensures all { (setup : Setup) (events : List Event) (answers : List Answer) (w : World) (side : Side) (id : ℕ) → AllByRecursion IsSendable events → Run (Happens setup) (empty_world setup) events answers w →
         has_pulled_end side id events answers ≡ true → AllByRecursion (IsTakenWhole (section_of (announced_at setup side))) (sent (other side) id events answers) →
         pulled side id events answers ≡ sent (other side) id events answers }
     ensures same { (setup others : Setup) (events more : List Event) (answers given : List Answer) (w v : World) (side reader : Side) (id i : ℕ) → AllByRecursion IsSendable events → AllByRecursion IsSendable more →
-        Run (Happens setup) empty_world events answers w → Run (Happens others) empty_world more given v →
+        Run (Happens setup) (empty_world setup) events answers w → Run (Happens others) (empty_world others) more given v →
         has_pulled_end side id events answers ≡ true → has_pulled_end reader i more given ≡ true →
         AllByRecursion (IsTakenWhole (section_of (announced_at setup side))) (sent (other side) id events answers) → AllByRecursion (IsTakenWhole (section_of (announced_at others reader))) (sent (other reader) i more given) →
         sent (other side) id events answers ≡ sent (other reader) i more given → pulled side id events answers ≡ pulled reader i more given }
@@ -89,7 +89,7 @@ pub fn what_comes_out_rests_on_what_was_sent()
 
 /// The table that a side's decoder holds is the table of the other side's encoder after as many insertions as came.
 pub fn tables_agree()
-    ensures { (setup : Setup) (events : List Event) (answers : List Answer) (w : World) (side : Side) → IsMadeSetup setup → AllByRecursion IsSendable events → Run (Happens setup) empty_world events answers w → HasReadTable setup w side }
+    ensures { (setup : Setup) (events : List Event) (answers : List Answer) (w : World) (side : Side) → IsMadeSetup setup → AllByRecursion IsSendable events → Run (Happens setup) (empty_world setup) events answers w → HasReadTable setup w side }
 {
     what_is_cited_holds();
 }
@@ -97,9 +97,9 @@ pub fn tables_agree()
 /// A side's encoder refuses none of the instructions of the other side's decoder that it has not read, however many of them come, and its
 /// decoder has refused none of those that came of the other side's encoder.
 pub fn no_instruction_is_refused()
-    ensures encoder { (setup : Setup) (events : List Event) (answers : List Answer) (w : World) (side : Side) (n : ℕ) → AllByRecursion IsSendable events → Run (Happens setup) empty_world events answers w →
+    ensures encoder { (setup : Setup) (events : List Event) (answers : List Answer) (w : World) (side : Side) (n : ℕ) → AllByRecursion IsSendable events → Run (Happens setup) (empty_world setup) events answers w →
         AreAccepted (party w side).encoder (take n (replies_left setup w side)) }
-    ensures decoder { (setup : Setup) (events : List Event) (answers : List Answer) (w : World) (side : Side) → IsMadeSetup setup → AllByRecursion IsSendable events → Run (Happens setup) empty_world events answers w →
+    ensures decoder { (setup : Setup) (events : List Event) (answers : List Answer) (w : World) (side : Side) → IsMadeSetup setup → AllByRecursion IsSendable events → Run (Happens setup) (empty_world setup) events answers w →
         is_some (decoder_at setup w side) ≡ true }
 {
     what_is_cited_holds();

@@ -12,7 +12,7 @@ use Rattle.h3_field.specs.declared.parse_error.ParseError.{ParseError}
 use Rattle.h3_field.specs.declared.parse_error.ParseError.TheVariants.{Integer}
 use Rattle.h3_qpack.specs.EncoderHistory.{EncoderHistory, encoder_after, encoder_after_all, is_refused}
 use Rattle.h3_table.specs.Tracking.{is_of}
-use Rattle.h3_qpack.specs.EncoderState.{EncoderState, encoder_state, encoder_state_after}
+use Rattle.h3_qpack.specs.EncoderState.{EncoderState, encoder_state, refuses_increment, encoder_state_after}
 use Rattle.h3_qpack.specs.Instructions.{AreDecoderInstructions, NoDecoderInstruction, NextDecoderInstruction, AreAccepted}
 use Rattle.h3_qpack.specs.EncoderAnswers.{HasReadDecoderInstructions, HasReadDecoderInstruction, IsDecoderInstructionRefusal}
 use Rattle.h3_qpack.proofs.EncoderStates.{encoder_after_state, tracked_state}
@@ -57,6 +57,10 @@ heard_one old new bytes left i here less is small accepted =
 -- A stream has a tracked section by the history where it is kept with one.
 pub acknowledged : (old : EncoderState) (stream : ℕ) (b : Bool) → b ≡ list_any (is_of stream) old.tracked → (s : EncoderHistory) → old ≡ encoder_state s → is_refused s (Acknowledge stream) ≡ not b
 acknowledged old stream b e s is = ap not (tracked_state stream s.tracked ∙ ap (λ t. list_any (is_of stream) t.tracked) (sym is) ∙ sym e)
+
+-- An increment is refused by the history where it is refused by what is kept.
+pub increment_told : (old : EncoderState) (count : ℕ) (b : Bool) → b ≡ refuses_increment old count → (s : EncoderHistory) → old ≡ encoder_state s → is_refused s (Increment count) ≡ b
+increment_told old count b e s is = sym (e ∙ ap (λ t. refuses_increment t count) is)
 
 one_further : (bytes left rest : List ℕ) (is : List DecoderInstruction) (i : DecoderInstruction) → AreDecoderInstructions bytes is left → decoder_instruction left ≡ Whole i rest
     → AreDecoderInstructions bytes (is ++ i ∷ []) rest

@@ -1,7 +1,7 @@
 -- The decoder's stream, which the encoder reads without a refusal.
-use Rattle.std.proofs.Common.{◌≡◌, inl, inr, ℕ, zero, suc, ◌+◌, ◌-◌, ◌<◌, ◌≤◌, Bool, true, false, not, ◌||◌, List, [], ◌∷◌, ◌++◌, length, take, drop, refl, sym, ◌∙◌, ap, subst, arith, length-append, append_assoc, flat_map, if◌then◌else◌}
+use Rattle.std.proofs.Common.{◌≡◌, inl, inr, ℕ, zero, suc, ◌+◌, ◌-◌, ◌<◌, ◌≤◌, Bool, true, false, not, ◌||◌, ◌&&◌, nat_lt, List, [], ◌∷◌, ◌++◌, length, take, drop, refl, sym, ◌∙◌, ap, subst, arith, length-append, append_assoc, flat_map, if◌then◌else◌}
 use Rattle.std.specs.Prelude.{◌==◌}
-use Rattle.std.specs.List.{AllByRecursion, list_any}
+use Rattle.std.specs.List.{AllByRecursion}
 use Rattle.std.proofs.lemmas.Grind.{common_steps}
 use Rattle.std.proofs.lemmas.List.{take-append-drop, length-take-le}
 use Rattle.std.proofs.Math.Seq.{drop-append_seam}
@@ -13,9 +13,9 @@ use Rattle.h3_field.specs.InstructionAnswer.{IsReply}
 use Rattle.h3_field.specs.InstructionLaws.{decoder_instruction_stable}
 use Rattle.h3_field.specs.ReadBackLaws.{reply_reads_back}
 use Rattle.h3_field.specs.SectionLaws.{whole_same}
-use Rattle.h3_qpack.specs.EncoderHistory.{EncoderHistory, UnacknowledgedSection, encoder_after_all, is_refused}
+use Rattle.h3_qpack.specs.EncoderHistory.{EncoderHistory, encoder_after_all, is_refused}
 use Rattle.h3_qpack.specs.Instructions.{AreDecoderInstructions, NoDecoderInstruction, NextDecoderInstruction, BeginsRefused}
-use Rattle.h3_qpack.specs.Session.{Session, IsSound, tracked_references, acknowledgments, after_decoder_instruction}
+use Rattle.h3_qpack.specs.Session.{Session, IsSound, AreTold, increments, after_decoder_instruction}
 use Rattle.h3_qpack.specs.Exchange.{Stream, unread, undelivered, arriving, reading}
 use Rattle.h3_qpack.proofs.Drafts.{All-second}
 use Rattle.h3_qpack.proofs.Sessions.{reply_read}
@@ -78,28 +78,20 @@ none_refused (j ∷ js) n s w next h = by_kind h
         let one = whole_same i j (rest ++ drop n text) (flat_map decoder_bytes js) (sym stays ∙ own) in
         let accepted : is_refused s i ≡ false = ap (is_refused s) one.0 ∙ next j js refl in cc
 
--- an acknowledgment under way finds a section
-tracked_found : (stream : ℕ) (ts : List UnacknowledgedSection) → 0 < length (tracked_references stream ts) → list_any (λ section. section.stream == stream) ts ≡ true
-tracked_found stream [] h = absurd (omega (arith, h))
-tracked_found stream (t ∷ ts) h = by_test (t.stream == stream) refl h (tracked_found stream ts)
-  where
-    or_right : (a : Bool) → (a || true) ≡ true
-    or_right true = refl
-    or_right false = refl
-
-    by_test : (b : Bool) → (t.stream == stream) ≡ b → 0 < length (if b then t.references ∷ tracked_references stream ts else tracked_references stream ts)
-        → (0 < length (tracked_references stream ts) → list_any (λ section. section.stream == stream) ts ≡ true) → list_any (λ section. section.stream == stream) (t ∷ ts) ≡ true
-    by_test true e h later = rw e refl
-    by_test false e h later = rw (later h) (or_right (t.stream == stream))
-
+-- nothing under way is refused
 accepted_next : (s : Session) (j : DecoderInstruction) (js : List DecoderInstruction) → IsSound s → s.decoder_instructions ≡ j ∷ js → is_refused s.encoder j ≡ false
-accepted_next s (Acknowledge stream) js h e =
-    let enough = subst (λ is. acknowledgments stream is ≤ length (tracked_references stream s.encoder.tracked)) e (h.acknowledged stream) in
-    let own : ◌≡◌ {A = ℕ} (if stream == stream then 1 else 0) 1 = grind (arith, common_steps) in
-    let found = tracked_found stream s.encoder.tracked (omega (arith, enough, own)) in
-    ap not found
+accepted_next s (Acknowledge stream) js h e = ap not (subst (AreTold s.encoder.known_received s.encoder.tracked) e h.told).0
 accepted_next s (CancelStream stream) js h e = refl
-accepted_next s (Increment count) js h e = refl
+accepted_next s (Increment count) js h e =
+    let told = subst (AreTold s.encoder.known_received s.encoder.tracked) e h.told in
+    let sum : increments s.decoder_instructions ≡ count + increments js = ap increments e in
+    some_within s.encoder.counts_acknowledgments count (length s.encoder.inserted) (s.encoder.known_received + count) told.0 (omega (arith, h.accounted, h.received, sum))
+  where
+    some_within : (b : Bool) (count most known : ℕ) → 0 < count → known ≤ most → (b && ((count == 0) || nat_lt most known)) ≡ false
+    some_within true count most known some fits =
+        let not_none : (count == 0) ≡ false = grind (arith, common_steps, some) in
+        let within : nat_lt most known ≡ false = grind (arith, common_steps, fits) in rw (not_none, within) refl
+    some_within false count most known some fits = refl
 
 -- the session after so many of the decoder's instructions
 abbrev pub heard_so : Session → ℕ → Session

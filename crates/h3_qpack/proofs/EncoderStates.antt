@@ -1,19 +1,19 @@
 -- What an encoder keeps, after an instruction of its decoder.
-use Rattle.std.proofs.Common.{◌≡◌, ℕ, ◌+◌, ◌-◌, ◌^◌, ◌≤◌, Bool, true, false, not, ◌||◌, List, [], ◌∷◌, length, map, filter, cond, min, refl, sym, ◌∙◌, ap, arith, nat_lt, if◌then◌else◌}
+use Rattle.std.proofs.Common.{◌≡◌, ℕ, ◌+◌, ◌-◌, ◌^◌, ◌<◌, ◌≤◌, Bool, true, false, not, ◌||◌, List, [], ◌∷◌, length, map, filter, cond, min, max, refl, sym, ◌∙◌, ap, arith, nat_lt, if◌then◌else◌}
 use Rattle.std.specs.Prelude.{◌==◌}
-use Rattle.std.specs.List.{list_any, count_by}
+use Rattle.std.specs.List.{list_any, count_by, fold}
 use Rattle.std.proofs.lemmas.List.Sums.{sum_by-cons}
 use Rattle.std.proofs.lemmas.Grind.{common_steps}
 use Rattle.h3_field.specs.Instruction.{DecoderInstruction}
 use Rattle.h3_field.specs.Instruction.DecoderInstruction.{Acknowledge, CancelStream, Increment}
-use Rattle.h3_qpack.specs.EncoderHistory.{EncoderHistory, UnacknowledgedSection, released, without_stream, encoder_after}
+use Rattle.h3_qpack.specs.EncoderHistory.{EncoderHistory, UnacknowledgedSection, acknowledged_count, known_by, released, without_stream, encoder_after}
 use Rattle.std.specs.Ordering.{nat_cmp}
 use Rattle.std.specs.BTreeSet.{insert_key}
 use Rattle.h3_table.specs.declared.tracking.TrackedSection.{TrackedSection}
-use Rattle.h3_table.specs.InOrder.{in_order}
+use Rattle.h3_table.specs.InOrder.{put_first, in_order}
 use Rattle.h3_table.specs.InOrderLaws.{any_in_order, oldest_in_order, filter_in_order, length_in_order}
-use Rattle.h3_table.specs.Tracking.{is_of, without_oldest_of, without_all_of}
-use Rattle.h3_qpack.specs.EncoderState.{encoder_state, tracked_section, encoder_state_after}
+use Rattle.h3_table.specs.Tracking.{is_of, newest_named, without_oldest_of, without_all_of}
+use Rattle.h3_qpack.specs.EncoderState.{EncoderState, encoder_state, tracked_section, knowing, encoder_state_after}
 
 released_state : (stream : ℕ) (ts : List UnacknowledgedSection) → map tracked_section (released stream ts) ≡ without_oldest_of stream (map tracked_section ts)
 released_state stream [] = refl
@@ -52,18 +52,58 @@ filter_twice known later (c ∷ cs) le = by_tests (nat_lt known c) (nat_lt later
     by_tests false true e f h = absurd (grind (arith, common_steps))
     by_tests false false e f h = h
 
+-- what the oldest section of a stream needs, in whatever order the streams are
+newest_first : (stream : ℕ) (t : TrackedSection) (ts : List TrackedSection) → newest_named stream (put_first (λ u. u.stream) t ts) ≡ newest_named stream (t ∷ ts)
+newest_first stream t [] = refl
+newest_first stream t (u ∷ ts) = by_test (nat_lt u.stream t.stream) refl (newest_first stream t ts)
+  where
+    other : (b c : Bool) → (u.stream == stream) ≡ b → (t.stream == stream) ≡ c → u.stream < t.stream
+        → (if b then u.newest else (if c then t.newest else newest_named stream ts)) ≡ (if c then t.newest else (if b then u.newest else newest_named stream ts))
+    other true true e f lt = absurd (grind (arith, common_steps, e, f, lt))
+    other true false e f lt = refl
+    other false c e f lt = refl
+
+    by_test : (b : Bool) → nat_lt u.stream t.stream ≡ b → newest_named stream (put_first (λ u. u.stream) t ts) ≡ newest_named stream (t ∷ ts)
+        → newest_named stream (if b then u ∷ put_first (λ u. u.stream) t ts else t ∷ u ∷ ts) ≡ newest_named stream (t ∷ u ∷ ts)
+    by_test true e h =
+        let lt : u.stream < t.stream = grind (arith, common_steps, e) in
+        ap (λ n. if u.stream == stream then u.newest else n) h ∙ other (u.stream == stream) (t.stream == stream) refl refl lt
+    by_test false e h = refl
+
+newest_in_streams : (stream : ℕ) (ts : List TrackedSection) → newest_named stream (in_order (λ t. t.stream) ts) ≡ newest_named stream ts
+newest_in_streams stream [] = refl
+newest_in_streams stream (t ∷ ts) = newest_first stream t (in_order (λ u. u.stream) ts) ∙ ap (λ n. if t.stream == stream then t.newest else n) (newest_in_streams stream ts)
+
+acknowledged_state : (stream : ℕ) (ts : List UnacknowledgedSection) → acknowledged_count stream ts ≡ newest_named stream (in_order (λ t. t.stream) (map tracked_section ts))
+acknowledged_state stream ts = stored ts ∙ sym (newest_in_streams stream (map tracked_section ts))
+  where
+    stored : (ts : List UnacknowledgedSection) → acknowledged_count stream ts ≡ newest_named stream (map tracked_section ts)
+    stored [] = refl
+    stored (t ∷ ts) = ap (λ n. if t.stream == stream then fold max 0 t.references else n) (stored ts)
+
+-- More is known: the counts above that are those that were above what was known, of which some are left out.
+known_state : (s : EncoderHistory) (known : ℕ) → s.known_received ≤ known → encoder_state (record s { known_received = known }) ≡ knowing (encoder_state s) known
+known_state s known le =
+    ap (λ counts. record (encoder_state s) { known_received = known; blocking_counts = counts })
+    (ap (in_order (λ n. n)) (filter_twice s.known_received known s.required_insert_counts le)
+    ∙ sym (filter_in_order (λ c. nat_lt known c) (λ n. n) (filter (λ c. nat_lt s.known_received c) s.required_insert_counts)))
+
+acknowledging_state : (s : EncoderHistory) (stream : ℕ) (b : Bool) → s.counts_acknowledgments ≡ b
+    → encoder_state (record s { known_received = if b then max s.known_received (acknowledged_count stream s.tracked) else s.known_received })
+    ≡ (if b then knowing (encoder_state s) (max s.known_received (newest_named stream (in_order (λ t. t.stream) (map tracked_section s.tracked)))) else encoder_state s)
+acknowledging_state s stream true e =
+    known_state s (max s.known_received (acknowledged_count stream s.tracked)) (omega arith) ∙ ap (λ n. knowing (encoder_state s) (max s.known_received n)) (acknowledged_state stream s.tracked)
+acknowledging_state s stream false e = refl
+
 pub encoder_after_state : (s : EncoderHistory) (i : DecoderInstruction) → ((count : ℕ) → i ≡ Increment count → s.known_received ≤ 2 ^ 64 - 1) → encoder_state (encoder_after s i) ≡ encoder_state_after (encoder_state s) i
 encoder_after_state s (Acknowledge stream) small =
-    ap (λ ts. record (encoder_state s) { tracked = ts })
+    ap (λ ts. record (encoder_state (record s { known_received = known_by s stream })) { tracked = ts })
     (ap (in_order (λ t. t.stream)) (released_state stream s.tracked) ∙ sym (oldest_in_order stream (map tracked_section s.tracked)))
+    ∙ ap (λ (t : EncoderState). record t { tracked = without_oldest_of stream (in_order (λ t. t.stream) (map tracked_section s.tracked)) }) (acknowledging_state s stream s.counts_acknowledgments refl)
 encoder_after_state s (CancelStream stream) small =
     ap (λ ts. record (encoder_state s) { tracked = ts; canceled = insert_key nat_cmp s.canceled stream })
     (ap (in_order (λ t. t.stream)) (without_stored stream s.tracked) ∙ sym (filter_in_order (λ t. not (is_of stream t)) (λ t. t.stream) (map tracked_section s.tracked)))
-encoder_after_state s (Increment count) small =
-    let known = min (s.known_received + count) (2 ^ 64 - 1) in
-    ap (λ counts. record (encoder_state s) { known_received = known; blocking_counts = counts })
-    (ap (in_order (λ n. n)) (filter_twice s.known_received known s.required_insert_counts (omega (arith, small count refl)))
-    ∙ sym (filter_in_order (λ c. nat_lt known c) (λ n. n) (filter (λ c. nat_lt s.known_received c) s.required_insert_counts)))
+encoder_after_state s (Increment count) small = known_state s (min (s.known_received + count) (2 ^ 64 - 1)) (omega (arith, small count refl))
 
 passing : (test : ℕ → Bool) (counts : List ℕ) → length (filter test counts) ≡ count_by test counts
 passing test [] = refl

@@ -1,5 +1,5 @@
 -- What is expected of a run keeps its session sound.
-use Rattle.std.proofs.Common.{◌≡◌, ℕ, ◌≤◌, Bool, true, false, List, [], ◌∷◌, take, Some, unwrap_or, refl, sym, ◌∙◌, ap, subst, arith, if◌then◌else◌}
+use Rattle.std.proofs.Common.{◌≡◌, ℕ, ◌<◌, ◌≤◌, Bool, true, false, List, [], ◌∷◌, take, Some, unwrap_or, refl, sym, ◌∙◌, ap, subst, arith, if◌then◌else◌}
 use Rattle.std.specs.Prelude.{◌==◌}
 use Rattle.std.proofs.lemmas.Grind.{common_steps}
 use Rattle.h3_field.specs.Field.{Field}
@@ -56,11 +56,14 @@ encodes_keeps s stream fields answer.NoBlock t h e = absurd e
 encodes_keeps s stream fields answer.Canceled t h e = absurd e
 
 reads_keeps : (s t : Session) → IsSound s → ReadsInsertions s t → Keeps s t
-reads_keeps s t h e = by_test (e.0 == 0) e.2
+reads_keeps s t h e = by_test (e.0 == 0) refl e.2
   where
-    by_test : (b : Bool) → t ≡ (if b then s else inserted s e.0) → Keeps s t
-    by_test true is = stays s t h is
-    by_test false is = subst (Keeps s) (sym is) (record { sound = insertions_read s e.0 e.1 h; limit = refl })
+    some_of : (n : ℕ) → (n == 0) ≡ false → 0 < n
+    some_of n k = grind (arith, common_steps)
+
+    by_test : (b : Bool) → (e.0 == 0) ≡ b → t ≡ (if b then s else inserted s e.0) → Keeps s t
+    by_test true k is = stays s t h is
+    by_test false k is = subst (Keeps s) (sym is) (record { sound = insertions_read s e.0 (some_of e.0 k) e.1 h; limit = refl })
 
 delivers_keeps : (s : Session) (a : SessionAnswer) (t : Session) → IsSound s → DeliversInsertions s a t → Keeps s t
 delivers_keeps s (answer.Short most) t h e = stays s t h e
@@ -91,7 +94,7 @@ decodes_keeps s stream answer.NoBlock t h e = stays s t h e.2
 decodes_keeps s stream (answer.Decoded fs) t h e =
     let of_stream = oldest_of_stream stream s.sections e.1.0 e.1.1 in
     subst (Keeps s) (sym e.1.4) (record {
-      sound = section_decoded s e.1.0 (subst (λ n. oldest n s.sections ≡ Some e.1.0) (sym of_stream) e.1.1) (subst (λ n. is_canceled s n ≡ false) (sym of_stream) e.0) h;
+      sound = section_decoded s e.1.0 (subst (λ n. oldest n s.sections ≡ Some e.1.0) (sym of_stream) e.1.1) (subst (λ n. is_canceled s n ≡ false) (sym of_stream) e.0) e.1.3 h;
       limit = refl;
     })
 decodes_keeps s stream (answer.Missing count) t h e = stays s t h e.1.4
@@ -121,16 +124,16 @@ expects_keeps s (event.DecoderBytes count) a t h e = replies_keeps s a t h e
 expects_keeps s (event.Decode stream) a t h e = decodes_keeps s stream a t h e
 expects_keeps s (event.Cancel stream) a t h e = cancels_keeps s stream a t h e
 
-run_keeps : (capacity limit : ℕ) (events : List SessionEvent) (answers : List SessionAnswer) (s : Session) → Expected (beginning capacity limit) events answers s → Keeps (beginning capacity limit) s
-run_keeps capacity limit events answers s NoEvent = record { sound = beginning_is_sound capacity limit; limit = refl }
-run_keeps capacity limit events answers s (NextEvent before replies mid new e a run h) =
-    let m = run_keeps capacity limit before replies mid run in
+run_keeps : (counts : Bool) (capacity limit : ℕ) (events : List SessionEvent) (answers : List SessionAnswer) (s : Session) → Expected (beginning counts capacity limit) events answers s → Keeps (beginning counts capacity limit) s
+run_keeps counts capacity limit events answers s NoEvent = record { sound = beginning_is_sound counts capacity limit; limit = refl }
+run_keeps counts capacity limit events answers s (NextEvent before replies mid new e a run h) =
+    let m = run_keeps counts capacity limit before replies mid run in
     let k = expects_keeps mid e a new m.sound h in
     record { sound = k.sound; limit = k.limit ∙ m.limit }
 
 -- Every session that is expected is sound, and no more of its sections are blocked than may be.
-pub expected_sound : (capacity limit : ℕ) (events : List SessionEvent) (answers : List SessionAnswer) (s : Session) → Expected (beginning capacity limit) events answers s
+pub expected_sound : (counts : Bool) (capacity limit : ℕ) (events : List SessionEvent) (answers : List SessionAnswer) (s : Session) → Expected (beginning counts capacity limit) events answers s
     → IsSound s × (blocks_out s.encoder ≤ limit)
-expected_sound capacity limit events answers s run =
-    let k = run_keeps capacity limit events answers s run in
+expected_sound counts capacity limit events answers s run =
+    let k = run_keeps counts capacity limit events answers s run in
     (k.sound, subst (λ n. blocks_out s.encoder ≤ n) k.limit k.sound.within_limit)

@@ -4,6 +4,7 @@ use Rattle.std.proofs.lemmas.Grind.{common_steps}
 use Rattle.h3_field.specs.Field.{Field}
 use Rattle.h3_table.specs.Table.{newest_from}
 use Rattle.h3_table.specs.TableState.{TableState, in_range, evicted, newest_in}
+use Rattle.h3_qpack.proofs.Newest.{newest_from-none}
 
 -- two tests that agree on what a third, which finds nothing, fails
 same_beside_none : (none test other : ℕ → Field → Bool) (first : ℕ) (fs : List Field) → newest_from none first fs ≡ None
@@ -35,3 +36,15 @@ missed h test after base most le none =
         → (nat_lt (max after base) n && nat_le n most && test e) ≡ (nat_lt after n && nat_le n most && test e)
     by_test n e low true is fails = grind (arith, common_steps)
     by_test n e low false is fails = grind (arith, common_steps)
+
+-- Above a number and up to one that is no greater there is nothing to be found.
+pub none_between : (h : TableState) (test : Field → Bool) (above most : ℕ) → most ≤ above → newest_in h test above most ≡ None
+none_between h test above most le = newest_from-none (in_range test above most) (evicted h + 1) h.entries (λ n e below. outside n (test e))
+  where
+    outside : (n : ℕ) (b : Bool) → (nat_lt above n && nat_le n most && b) ≡ false
+    outside n b = by_order (nat_lt above n) (nat_le n most) refl refl
+      where
+        by_order : (c d : Bool) → nat_lt above n ≡ c → nat_le n most ≡ d → (c && d && b) ≡ false
+        by_order true true e f = absurd (grind (arith, common_steps, e, f, le))
+        by_order true false e f = refl
+        by_order false d e f = refl

@@ -1,5 +1,5 @@
 -- What a run answers, by the session that it is.
-use Rattle.std.proofs.Common.{◌≡◌, ◌⊎◌, inl, inr, ℕ, ◌-◌, ◌^◌, ◌<◌, ◌≤◌, List, length, take, sym, ◌∙◌, ap, subst, arith}
+use Rattle.std.proofs.Common.{false, ◌≡◌, ◌⊎◌, inl, inr, ℕ, ◌-◌, ◌^◌, ◌<◌, ◌≤◌, List, length, take, sym, ◌∙◌, ap, subst, arith}
 use Rattle.h3_field.specs.Field.{section_size}
 use Rattle.h3_qpack.specs.DecoderState.{DecoderState, announcing}
 use Rattle.h3_qpack.specs.Session.{Session}
@@ -28,7 +28,7 @@ decoder_within capacity w s st = by_case (encoder_stream_is capacity s.instructi
 pub has_answered : (capacity limit : ℕ) (events : List SessionEvent) (answers : List SessionAnswer) (end : ExchangeHistory) → capacity < 2 ^ 30 → Exchange (start capacity limit) events answers end → HasAnswered capacity limit events answers
 has_answered capacity limit events answers end small run =
     let x = run_as_expected capacity limit events answers end small run in
-    let s = expected_sound capacity limit events answers x.session x.expected in
+    let s = expected_sound false capacity limit events answers x.session x.expected in
     record {
       end = end;
       session = x.session;

@@ -124,10 +124,10 @@ begun_encoder_stream capacity small =
     by_test true = (tt, refl)
     by_test false = (((omega (arith, small), tt, capacity_few capacity), tt), sym (append-nil (encoder_bytes (SetCapacity capacity))))
 
-begun_stands : (capacity limit : ℕ) → capacity < 2 ^ 30 → Stands capacity (start capacity limit) (beginning capacity limit)
+begun_stands : (capacity limit : ℕ) → capacity < 2 ^ 30 → Stands capacity (start capacity limit) (beginning false capacity limit)
 begun_stands capacity limit small =
     record {
-      sound = beginning_is_sound capacity limit;
+      sound = beginning_is_sound false capacity limit;
       encoder = refl;
       capacity_is = refl;
       count = 0;
@@ -214,6 +214,9 @@ encodes_stands capacity w s stream fields answer.Canceled new st size h = absurd
 zero_of : (n : ℕ) → (n == 0) ≡ true → n ≡ 0
 zero_of n e = grind (arith, common_steps)
 
+some_of : (n : ℕ) → (n == 0) ≡ false → 0 < n
+some_of n e = grind (arith, common_steps)
+
 -- the decoder reads more
 abbrev instructions_more : Session → ℕ → Session
 instructions_more s count = if count == 0 then s else inserted s count
@@ -255,7 +258,7 @@ encoder_stream_step capacity w s more new st d =
         })
     by_test gained false e st few within count encoder_stream received written encoder sections canceled =
         rw e (record {
-          sound = insertions_read s gained within st.sound;
+          sound = insertions_read s gained (some_of gained e) within st.sound;
           encoder = encoder ∙ st.encoder;
           capacity_is = st.capacity_is;
           count = count;
@@ -428,7 +431,7 @@ decoded_stands capacity w s stream fields new st few h =
       decoded s k.section,
       (k.alive_there, (k.section, k.is_there, right.fields_are, right.came, refl)),
       subst (λ x. Stands capacity x (decoded s k.section)) (sym h.3) (record {
-        sound = section_decoded s k.section k.is k.alive st.sound;
+        sound = section_decoded s k.section k.is k.alive right.came st.sound;
         encoder = st.encoder;
         capacity_is = st.capacity_is;
         count = st.count;
@@ -534,12 +537,12 @@ event_stands capacity w s (event.Cancel stream) a new st small h = cancels_stand
 
 pub record AsExpected (capacity limit : ℕ) (events : List SessionEvent) (answers : List SessionAnswer) (w : ExchangeHistory) : Type 0 where
   pub session : Session
-  pub expected : Expected (beginning capacity limit) events answers session
+  pub expected : Expected (beginning false capacity limit) events answers session
   pub stands : Stands capacity w session
 
 -- Every run answers what is expected.
 pub run_as_expected : (capacity limit : ℕ) (events : List SessionEvent) (answers : List SessionAnswer) (w : ExchangeHistory) → capacity < 2 ^ 30 → Exchange (start capacity limit) events answers w → AsExpected capacity limit events answers w
-run_as_expected capacity limit events answers w small Before = record { session = beginning capacity limit; expected = NoEvent; stands = begun_stands capacity limit small }
+run_as_expected capacity limit events answers w small Before = record { session = beginning false capacity limit; expected = NoEvent; stands = begun_stands capacity limit small }
 run_as_expected capacity limit events answers w small (Then before replies mid new e a run fits h) =
     let m = run_as_expected capacity limit before replies mid small run in
     let n = event_stands capacity mid m.session e a new m.stands fits h in

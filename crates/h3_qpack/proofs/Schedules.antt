@@ -1,16 +1,18 @@
 -- Every session is sound.
-use Rattle.std.proofs.Common.{ℕ, List, [], ◌∷◌, refl, sym, subst, arith}
+use Rattle.std.proofs.Common.{ℕ, Bool, true, false, if◌then◌else◌, List, [], ◌∷◌, refl, sym, subst, arith}
 use Rattle.std.proofs.Common.{◌≡◌, ◌<◌, ◌≤◌, ap, length}
 use Rattle.std.specs.List.{AllByRecursion}
 use Rattle.h3_field.specs.Field.{Field}
-use Rattle.h3_field.specs.Instruction.{EncoderInstruction}
+use Rattle.h3_field.specs.Instruction.{EncoderInstruction, DecoderInstruction}
+use Rattle.h3_field.specs.Instruction.DecoderInstruction.{Acknowledge}
 use Rattle.h3_qpack.specs.TableHistory.{IsReadAs}
 use Rattle.h3_table.specs.Table.{evictions}
-use Rattle.h3_qpack.specs.EncoderHistory.{referenced_entries}
+use Rattle.h3_qpack.specs.EncoderHistory.{EncoderHistory, referenced_entries, encoder_after, writing_on, was_canceled}
+use Rattle.h3_qpack.specs.SectionEncoding.{encoded_section, instructions_for}
 use Rattle.h3_qpack.specs.Session.{Session, IsSound}
 use Rattle.h3_qpack.specs.Schedule.{SessionEvent, SessionStep, SessionRun, beginning, with_table}
 use Rattle.h3_qpack.specs.Schedule.SessionEvent.{UseTable, Encode, CutOff, InsertionsRead, Decode, Cancel, DecoderInstructionRead}
-use Rattle.h3_qpack.proofs.Sessions.{section_written, insertions_kept, insertions_read, section_decoded, stream_abandoned, reply_read}
+use Rattle.h3_qpack.proofs.Sessions.{section_written, insertions_kept, insertions_read, section_decoded, stream_abandoned, reply_read, nothing_told}
 
 nothing_evicted : (capacity : ℕ) (inserted : List Field) → inserted ≡ [] → evictions capacity inserted ≡ 0
 nothing_evicted capacity inserted e = ap (evictions capacity) e
@@ -34,6 +36,7 @@ table_used s capacity limit none zero_limit h =
       references_present = moved (evictions s.encoder.capacity s.encoder.inserted) _ (referenced_entries s.encoder) (omega (arith, evicted)) h.references_present;
       tracked = h.tracked;
       acknowledged = h.acknowledged;
+      told = h.told;
       written = h.written;
       cancels = h.cancels;
       untracked = h.untracked;
@@ -46,8 +49,8 @@ pub step_is_sound : (s : Session) (event : SessionEvent) (new : Session) → IsS
 step_is_sound s (UseTable capacity limit) new h e = subst IsSound (sym e.2) (table_used s capacity limit e.0 e.1 h)
 step_is_sound s (Encode stream fields) new h e = subst IsSound (sym e) (section_written s stream fields h)
 step_is_sound s (CutOff stream fields) new h e = subst IsSound (sym e) (insertions_kept s stream fields h)
-step_is_sound s (InsertionsRead count) new h e = subst IsSound (sym e.2) (insertions_read s count e.1 h)
-step_is_sound s (Decode section) new h e = subst IsSound (sym e.3) (section_decoded s section e.0 e.1 h)
+step_is_sound s (InsertionsRead count) new h e = subst IsSound (sym e.2) (insertions_read s count e.0 e.1 h)
+step_is_sound s (Decode section) new h e = subst IsSound (sym e.3) (section_decoded s section e.0 e.1 e.2 h)
 step_is_sound s (Cancel stream) new h e = subst IsSound (sym e.1) (stream_abandoned s stream h)
 step_is_sound s (DecoderInstructionRead instruction rest) new h e = subst IsSound (sym e.1) (reply_read s instruction rest e.0 h)
 
@@ -55,8 +58,8 @@ run_is_sound : (s : Session) (events : List SessionEvent) (new : Session) → Is
 run_is_sound s [] new h r = subst IsSound (sym r) h
 run_is_sound s (event ∷ events) new h r = run_is_sound r.0 events new (step_is_sound s event r.0 h r.1) r.2
 
-pub beginning_is_sound : (capacity limit : ℕ) → IsSound (beginning capacity limit)
-beginning_is_sound capacity limit =
+pub beginning_is_sound : (counts : Bool) (capacity limit : ℕ) → IsSound (beginning counts capacity limit)
+beginning_is_sound counts capacity limit =
     record {
       received = omega arith;
       accounted = refl;
@@ -64,6 +67,7 @@ beginning_is_sound capacity limit =
       references_present = tt;
       tracked = λ stream alive. refl;
       acknowledged = λ stream. omega arith;
+      told = tt;
       written = tt;
       cancels = tt;
       untracked = λ stream canceled. refl;
@@ -72,5 +76,27 @@ beginning_is_sound capacity limit =
       small = omega arith;
     }
 
-pub every_run_is_sound : (capacity limit : ℕ) (events : List SessionEvent) (s : Session) → SessionRun (beginning capacity limit) events s → IsSound s
-every_run_is_sound capacity limit events s r = run_is_sound (beginning capacity limit) events s (beginning_is_sound capacity limit) r
+pub every_run_is_sound : (counts : Bool) (capacity limit : ℕ) (events : List SessionEvent) (s : Session) → SessionRun (beginning counts capacity limit) events s → IsSound s
+every_run_is_sound counts capacity limit events s r = run_is_sound (beginning counts capacity limit) events s (beginning_is_sound counts capacity limit) r
+
+-- An acknowledgment that is read tells of no insertion that no increment told of.
+pub nothing_new : (counts : Bool) (capacity limit : ℕ) (events : List SessionEvent) (s : Session) (stream : ℕ) (rest : List DecoderInstruction) → SessionRun (beginning counts capacity limit) events s
+    → s.decoder_instructions ≡ Acknowledge stream ∷ rest → (encoder_after s.encoder (Acknowledge stream)).known_received ≡ s.encoder.known_received
+nothing_new counts capacity limit events s stream rest run is = nothing_told s stream rest is (every_run_is_sound counts capacity limit events s run)
+
+-- What a section is written by does not look at whether acknowledgments count.
+pub same_bytes : (s : EncoderHistory) (counts : Bool) (stream : ℕ) (fields : List Field) → encoded_section (writing_on (record s { counts_acknowledgments = counts }) stream) fields ≡ encoded_section (writing_on s stream) fields
+same_bytes s counts stream fields = by_test (was_canceled s stream)
+  where
+    by_test : (b : Bool) → encoded_section (if b then record s { capacity = 0; limit = 0; counts_acknowledgments = counts } else record s { counts_acknowledgments = counts }) fields
+        ≡ encoded_section (if b then record s { capacity = 0; limit = 0 } else s) fields
+    by_test true = refl
+    by_test false = refl
+
+pub same_instructions : (s : EncoderHistory) (counts : Bool) (stream : ℕ) (fields : List Field) → instructions_for (writing_on (record s { counts_acknowledgments = counts }) stream) fields ≡ instructions_for (writing_on s stream) fields
+same_instructions s counts stream fields = by_test (was_canceled s stream)
+  where
+    by_test : (b : Bool) → instructions_for (if b then record s { capacity = 0; limit = 0; counts_acknowledgments = counts } else record s { counts_acknowledgments = counts }) fields
+        ≡ instructions_for (if b then record s { capacity = 0; limit = 0 } else s) fields
+    by_test true = refl
+    by_test false = refl

@@ -88,11 +88,11 @@ blocking_more known count counts = by_test (nat_lt known count) refl
         sym (ap (in_order (λ n. n)) (filter-append (λ c. nat_lt known c) counts (count ∷ []) ∙ ap (λ cs. filter (λ c. nat_lt known c) counts ++ cs) none ∙ append-nil _))
 
 tracked_more : (b : Bool) (stream : ℕ) (references : List ℕ) (ts : List UnacknowledgedSection) → b ≡ false
-    → put_last (λ t. t.stream) (record { stream = stream; oldest = least references }) (in_order (λ t. t.stream) (map tracked_section ts))
+    → put_last (λ t. t.stream) (record { stream = stream; oldest = least references; newest = fold max 0 references }) (in_order (λ t. t.stream) (map tracked_section ts))
     ≡ in_order (λ t. t.stream) (map tracked_section (ts ++ (if b then [] else record { stream = stream; references = references } ∷ [])))
 tracked_more b stream references ts e =
     rw e (sym (ap (in_order (λ t. t.stream)) (map-append tracked_section ts (record { stream = stream; references = references } ∷ []))
-    ∙ in_order_more (λ (t : TrackedSection). t.stream) (map tracked_section ts) (record { stream = stream; oldest = least references })))
+    ∙ in_order_more (λ (t : TrackedSection). t.stream) (map tracked_section ts) (record { stream = stream; oldest = least references; newest = fold max 0 references })))
 
 tracked_same : (b : Bool) (more ts : List UnacknowledgedSection) → b ≡ true → in_order (λ t. t.stream) (map tracked_section ts) ≡ in_order (λ t. t.stream) (map tracked_section (ts ++ (if b then [] else more)))
 tracked_same b more ts e = rw e (ap (λ us. in_order (λ t. t.stream) (map tracked_section us)) (sym (append-nil ts)))

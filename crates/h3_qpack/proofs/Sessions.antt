@@ -10,14 +10,15 @@ use Rattle.h3_field.specs.Field.{Field}
 use Rattle.h3_field.specs.Instruction.{DecoderInstruction}
 use Rattle.h3_field.specs.Instruction.DecoderInstruction.{Acknowledge, CancelStream, Increment}
 use Rattle.h3_table.specs.Table.{evictions}
-use Rattle.h3_qpack.specs.EncoderHistory.{EncoderHistory, UnacknowledgedSection, released, without_stream, was_canceled, writing_on, blocks_out}
+use Rattle.h3_qpack.specs.EncoderHistory.{EncoderHistory, UnacknowledgedSection, acknowledged_count, known_by, released, without_stream, was_canceled, writing_on, blocks_out}
 use Rattle.h3_qpack.specs.SectionEncoding.{Draft, draft_of, required_insert_count}
 use Rattle.h3_qpack.proofs.Canceled.{canceled_more, on_static, on_other, sent_draft}
 use Rattle.h3_qpack.proofs.Insertions.{section_read_as}
+use Rattle.h3_qpack.proofs.Told.{released_names, released_others, without_others, one_acknowledged, other_acknowledged, told_behind, told_acknowledgment, told_more, unraised}
 use Rattle.h3_qpack.proofs.Drafts.{All-first, All-second, draft_is_draft, IsNamed}
 use Rattle.h3_table.specs.ReleasingLaws.{All-join}
 use Rattle.h3_qpack.specs.Schedule.{without_section}
-use Rattle.h3_qpack.specs.Session.{Session, UndecodedSection, encoded, inserted, decoded, after_cancellation, after_decoder_instruction, increments, acknowledgments, tracked_references, references_of, undecoded_references, count_of, CancelsAreLast, is_canceled, oldest, without_oldest, IsWrittenOver, IsSound}
+use Rattle.h3_qpack.specs.Session.{Session, UndecodedSection, encoded, inserted, decoded, after_cancellation, after_decoder_instruction, increments, acknowledgments, tracked_references, references_of, undecoded_references, count_of, CancelsAreLast, AreTold, is_canceled, oldest, without_oldest, IsWrittenOver, IsSound}
 
 increments-append : (xs ys : List DecoderInstruction) → increments (xs ++ ys) ≡ increments xs + increments ys
 increments-append [] ys = omega arith
@@ -45,21 +46,6 @@ undecoded_references-append stream [] ys = refl
 undecoded_references-append stream (x ∷ xs) ys =
     cons_either ((x.stream == stream) && nat_lt 0 (count_of x)) (references_of x) (undecoded_references stream xs) (undecoded_references stream ys) _ (undecoded_references-append stream xs ys)
 
--- the oldest section of a stream goes, and those of other streams stay
-release_first : (stream : ℕ) (b : UnacknowledgedSection) (bs : List UnacknowledgedSection) (t : Bool) → (b.stream == stream) ≡ t
-    → tracked_references stream (released stream bs) ≡ drop 1 (tracked_references stream bs)
-    → tracked_references stream (if t then bs else b ∷ released stream bs) ≡ drop 1 (if t then b.references ∷ tracked_references stream bs else tracked_references stream bs)
-release_first stream b bs true e h = refl
-release_first stream b bs false e h = rw e h
-
-released_names : (stream : ℕ) (bs : List UnacknowledgedSection) → tracked_references stream (released stream bs) ≡ drop 1 (tracked_references stream bs)
-released_names stream [] = refl
-released_names stream (b ∷ bs) = release_first stream b bs (b.stream == stream) refl (released_names stream bs)
-
-released_others : (stream other : ℕ) (bs : List UnacknowledgedSection) → stream ≢ other → tracked_references other (released stream bs) ≡ tracked_references other bs
-released_others stream other [] ne = refl
-released_others stream other (b ∷ bs) ne = grind (arith, common_steps, released_others stream other bs ne)
-
 -- more is known, so fewer sections are out
 fewer_out : (counts : List ℕ) (known later : ℕ) → known ≤ later → count_by (λ c. nat_lt later c) counts ≤ count_by (λ c. nat_lt known c) counts
 fewer_out [] known later le = omega arith
@@ -76,15 +62,6 @@ without_own stream (b ∷ bs) = by_test (b.stream == stream) refl (without_own s
     by_test true e h = h
     by_test false e h = rw e h
 
-without_others : (stream other : ℕ) (bs : List UnacknowledgedSection) → stream ≢ other → tracked_references other (without_stream stream bs) ≡ tracked_references other bs
-without_others stream other [] ne = refl
-without_others stream other (b ∷ bs) ne = by_test (b.stream == stream) refl (without_others stream other bs ne)
-  where
-    by_test : (t : Bool) → (b.stream == stream) ≡ t → tracked_references other (without_stream stream bs) ≡ tracked_references other bs
-        → tracked_references other (cond (not t) (b ∷ without_stream stream bs) (without_stream stream bs)) ≡ (if b.stream == other then b.references ∷ tracked_references other bs else tracked_references other bs)
-    by_test true e h = let no : (b.stream == other) ≡ false = grind (arith, common_steps) in rw (no, h) refl
-    by_test false e h = rw h refl
-
 -- the increments are read: what is known grows
 increment_read : (s : Session) (count : ℕ) (rest : List DecoderInstruction) → s.decoder_instructions ≡ Increment count ∷ rest → IsSound s → IsSound (after_decoder_instruction s (Increment count) rest)
 increment_read s count rest is h =
@@ -98,6 +75,7 @@ increment_read s count rest is h =
       references_present = h.references_present;
       tracked = λ stream alive. subst (λ n. drop n (tracked_references stream s.encoder.tracked) ≡ undecoded_references stream s.sections) (acks stream) (h.tracked stream alive);
       acknowledged = λ stream. omega (arith, h.acknowledged stream, acks stream);
+      told = subst (λ n. AreTold n s.encoder.tracked rest) (sym exact) (subst (AreTold s.encoder.known_received s.encoder.tracked) is h.told).1;
       written = h.written;
       cancels = subst (CancelsAreLast s.canceled) is h.cancels;
       untracked = h.untracked;
@@ -114,8 +92,8 @@ cancels_more canceled (Acknowledge stream ∷ decoder_instructions) count h = ca
 cancels_more canceled (Increment other ∷ decoder_instructions) count h = cancels_more canceled decoder_instructions count h
 
 -- more insertions are read by the decoder
-pub insertions_read : (s : Session) (count : ℕ) → s.received + count ≤ length s.encoder.inserted → IsSound s → IsSound (inserted s count)
-insertions_read s count fits h =
+pub insertions_read : (s : Session) (count : ℕ) → 0 < count → s.received + count ≤ length s.encoder.inserted → IsSound s → IsSound (inserted s count)
+insertions_read s count some fits h =
     let acks : (stream : ℕ) → acknowledgments stream (s.decoder_instructions ++ Increment count ∷ []) ≡ acknowledgments stream s.decoder_instructions =
     λ stream. acknowledgments-append stream s.decoder_instructions (Increment count ∷ []) ∙ add-zero _ in
     record {
@@ -125,6 +103,7 @@ insertions_read s count fits h =
       references_present = h.references_present;
       tracked = λ stream alive. subst (λ n. drop n (tracked_references stream s.encoder.tracked) ≡ undecoded_references stream s.sections) (sym (acks stream)) (h.tracked stream alive);
       acknowledged = λ stream. omega (arith, h.acknowledged stream, acks stream);
+      told = told_behind s.encoder.known_received s.encoder.tracked s.decoder_instructions (Increment count ∷ []) h.told (λ k ts. (some, tt));
       written = h.written;
       cancels = cancels_more s.canceled s.decoder_instructions count h.cancels;
       untracked = h.untracked;
@@ -132,13 +111,6 @@ insertions_read s count fits h =
       read = h.read;
       small = h.small;
     }
-
--- of an acknowledgment under way the stream has a tracked section
-one_acknowledged : (stream : ℕ) (rest : List DecoderInstruction) → acknowledgments stream (Acknowledge stream ∷ rest) ≡ 1 + acknowledgments stream rest
-one_acknowledged stream rest = grind (arith, common_steps)
-
-other_acknowledged : (stream other : ℕ) (rest : List DecoderInstruction) → stream ≢ other → acknowledgments other (Acknowledge stream ∷ rest) ≡ acknowledgments other rest
-other_acknowledged stream other rest ne = grind (arith, common_steps)
 
 released_first : (P : ℕ → Type 0) (stream : ℕ) (b : UnacknowledgedSection) (bs : List UnacknowledgedSection) (t : Bool) → AllByRecursion P (flat_map (λ b. b.references) bs)
     → AllByRecursion P (b.references ++ flat_map (λ b. b.references) (released stream bs)) → AllByRecursion P (flat_map (λ b. b.references) (if t then bs else b ∷ released stream bs))
@@ -167,11 +139,18 @@ none_released stream other bs none = ⊎_elim
     (λ ne. released_others stream other bs ne ∙ none)
     (cases_eq stream other)
 
+-- an acknowledgment tells of nothing new
+pub nothing_told : (s : Session) (stream : ℕ) (rest : List DecoderInstruction) → s.decoder_instructions ≡ Acknowledge stream ∷ rest → IsSound s → known_by s.encoder stream ≡ s.encoder.known_received
+nothing_told s stream rest is h =
+    unraised s.encoder.counts_acknowledgments s.encoder.known_received (acknowledged_count stream s.encoder.tracked) (subst (AreTold s.encoder.known_received s.encoder.tracked) is h.told).1
+
 -- an acknowledgment is read: the stream's oldest section is released
 acknowledgment_read : (s : Session) (stream : ℕ) (rest : List DecoderInstruction) → s.decoder_instructions ≡ Acknowledge stream ∷ rest → IsSound s → IsSound (after_decoder_instruction s (Acknowledge stream) rest)
 acknowledgment_read s stream rest is h =
     let one : acknowledgments stream s.decoder_instructions ≡ 1 + acknowledgments stream rest = ap (acknowledgments stream) is ∙ one_acknowledged stream rest in
-    record {
+    let same : after_decoder_instruction s (Acknowledge stream) rest ≡ record s { encoder = record s.encoder { tracked = released stream s.encoder.tracked }; decoder_instructions = rest } =
+    ap (λ n. record s { encoder = record s.encoder { known_received = n; tracked = released stream s.encoder.tracked }; decoder_instructions = rest }) (nothing_told s stream rest is h) in
+    subst IsSound (sym same) (record {
       received = h.received;
       accounted = subst (λ decoder_instructions. s.encoder.known_received + increments decoder_instructions ≡ s.received) is h.accounted;
       evictions_known = h.evictions_known;
@@ -191,13 +170,14 @@ acknowledgment_read s stream rest is h =
           (omega (arith, one, h.acknowledged stream, ap length (released_names stream s.encoder.tracked), length-drop 1 (tracked_references stream s.encoder.tracked))))
           (λ ne. omega (arith, h.acknowledged other, ap length (released_others stream other s.encoder.tracked ne), ap (acknowledgments other) is, other_acknowledged stream other rest ne))
           (cases_eq stream other);
+      told = (subst (AreTold s.encoder.known_received s.encoder.tracked) is h.told).2;
       written = h.written;
       cancels = subst (CancelsAreLast s.canceled) is h.cancels;
       untracked = λ other canceled. none_released stream other s.encoder.tracked (h.untracked other canceled);
       within_limit = h.within_limit;
       read = h.read;
       small = h.small;
-    }
+    })
 
 -- a cancellation is read: the stream's sections are released, and no acknowledgment of it is under way
 cancellation_read : (s : Session) (stream : ℕ) (rest : List DecoderInstruction) → s.decoder_instructions ≡ CancelStream stream ∷ rest → IsSound s → IsSound (after_decoder_instruction s (CancelStream stream) rest)
@@ -220,6 +200,7 @@ cancellation_read s stream rest is h =
           (λ e. subst (λ t. acknowledgments t rest ≤ length (tracked_references t (without_stream stream s.encoder.tracked))) e (omega (arith, last.1)))
           (λ ne. omega (arith, h.acknowledged other, ap length (others other ne), ap (acknowledgments other) is))
           (cases_eq stream other);
+      told = subst (AreTold s.encoder.known_received s.encoder.tracked) is h.told;
       written = h.written;
       cancels = last.2;
       untracked = λ other canceled. ⊎_elim
@@ -340,6 +321,7 @@ plain_written s one same none h =
           ∙ sym (undecoded_references-append other s.sections (one ∷ []) ∙ ap (λ names. undecoded_references other s.sections ++ names) (not_own (one.stream == other) (count_of one) (references_of one) none)
           ∙ append-nil (undecoded_references other s.sections));
       acknowledged = h.acknowledged;
+      told = h.told;
       written = All-join (IsWrittenOver s.encoder.inserted) s.sections (one ∷ []) h.written (record { more = []; begins = sym (append-nil _ ∙ same) }, tt);
       cancels = h.cancels;
       untracked = h.untracked;
@@ -392,6 +374,7 @@ other_written s stream fields e h =
         ap length (tracked_references-append other s.encoder.tracked (if required_insert_count draft == 0 then [] else record { stream = stream; references = draft.references } ∷ [])),
         length-append (tracked_references other s.encoder.tracked) (tracked_references other (if required_insert_count draft == 0 then [] else record { stream = stream; references = draft.references } ∷ [])),
       );
+      told = told_more s.encoder.known_received s.encoder.tracked (if required_insert_count draft == 0 then [] else record { stream = stream; references = draft.references } ∷ []) s.decoder_instructions h.told;
       written = All-join (IsWrittenOver draft.inserted) s.sections _
           (longer_written s.encoder.inserted draft.inserted d.more d.begins s.sections h.written)
           (record { more = []; begins = sym (append-nil draft.inserted) }, tt);
@@ -489,6 +472,7 @@ plain_decoded s b none is h =
           (λ ne. sym (taken_others b.stream other s.sections ne))
           (cases_eq b.stream other));
       acknowledged = λ other. rw same (h.acknowledged other);
+      told = rw same h.told;
       written = without_written (IsWrittenOver s.encoder.inserted) b.stream s.sections h.written;
       cancels = rw same h.cancels;
       untracked = h.untracked;
@@ -498,9 +482,9 @@ plain_decoded s b none is h =
     }
 
 -- a section that named entries is decoded and acknowledged
-acknowledged_decoded : (s : Session) (b : UndecodedSection) → (count_of b == 0) ≡ false → oldest b.stream s.sections ≡ Some b → is_canceled s b.stream ≡ false → IsSound s
+acknowledged_decoded : (s : Session) (b : UndecodedSection) → (count_of b == 0) ≡ false → oldest b.stream s.sections ≡ Some b → is_canceled s b.stream ≡ false → count_of b ≤ s.received → IsSound s
     → IsSound (record s { sections = without_oldest b.stream s.sections; decoder_instructions = s.decoder_instructions ++ Acknowledge b.stream ∷ [] })
-acknowledged_decoded s b some is alive h =
+acknowledged_decoded s b some is alive came h =
     let evicted : undecoded_references b.stream s.sections ≡ references_of b ∷ undecoded_references b.stream (without_oldest b.stream s.sections) =
     taken_names b.stream s.sections b is ∙ rw (above_zero (count_of b), some) refl in
     let own : drop (acknowledgments b.stream s.decoder_instructions) (tracked_references b.stream s.encoder.tracked) ≡ references_of b ∷ undecoded_references b.stream (without_oldest b.stream s.sections) =
@@ -526,6 +510,7 @@ acknowledged_decoded s b some is alive h =
           (omega (arith, one, ap length own, length-drop (acknowledgments b.stream s.decoder_instructions) (tracked_references b.stream s.encoder.tracked))))
           (λ ne. omega (arith, none other ne, h.acknowledged other))
           (cases_eq b.stream other);
+      told = told_acknowledgment b.stream (references_of b) _ s.canceled s.encoder.known_received s.encoder.tracked s.decoder_instructions alive h.cancels h.told own (omega (arith, came, h.accounted));
       written = without_written (IsWrittenOver s.encoder.inserted) b.stream s.sections h.written;
       cancels = cancels_without s.canceled s.decoder_instructions b.stream alive h.cancels;
       untracked = h.untracked;
@@ -535,12 +520,12 @@ acknowledged_decoded s b some is alive h =
     }
 
 -- the oldest section of a stream is decoded
-pub section_decoded : (s : Session) (b : UndecodedSection) → oldest b.stream s.sections ≡ Some b → is_canceled s b.stream ≡ false → IsSound s → IsSound (decoded s b)
-section_decoded s b is alive h = by_count (count_of b == 0) refl
+pub section_decoded : (s : Session) (b : UndecodedSection) → oldest b.stream s.sections ≡ Some b → is_canceled s b.stream ≡ false → count_of b ≤ s.received → IsSound s → IsSound (decoded s b)
+section_decoded s b is alive came h = by_count (count_of b == 0) refl
   where
     by_count : (t : Bool) → (count_of b == 0) ≡ t → IsSound (record s { sections = without_oldest b.stream s.sections; decoder_instructions = s.decoder_instructions ++ (if t then [] else Acknowledge b.stream ∷ []) })
     by_count true e = plain_decoded s b e is h
-    by_count false e = acknowledged_decoded s b e is alive h
+    by_count false e = acknowledged_decoded s b e is alive came h
 
 undecoded_kept : (stream other : ℕ) (sections : List UndecodedSection) → stream ≢ other → undecoded_references other (filter (λ b. not (b.stream == stream)) sections) ≡ undecoded_references other sections
 undecoded_kept stream other [] ne = refl
@@ -587,6 +572,7 @@ stream_abandoned s stream h =
           let ne : stream ≢ other = λ e. let yes : (stream == other) ≡ true = grind (arith, common_steps) in absurd (same_no (sym yes ∙ parts.0)) in
           ap (λ n. drop n (tracked_references other s.encoder.tracked)) (acks other) ∙ h.tracked other parts.1 ∙ sym (undecoded_kept stream other s.sections ne);
       acknowledged = λ other. omega (arith, acks other, h.acknowledged other);
+      told = told_behind s.encoder.known_received s.encoder.tracked s.decoder_instructions (CancelStream stream ∷ []) h.told (λ k ts. tt);
       written = kept_written (IsWrittenOver s.encoder.inserted) _ s.sections h.written;
       cancels = cancels_last s.canceled s.decoder_instructions stream h.cancels;
       untracked = h.untracked;
@@ -613,6 +599,7 @@ other_kept s fields h =
       references_present = d.present;
       tracked = h.tracked;
       acknowledged = h.acknowledged;
+      told = h.told;
       written = longer_written s.encoder.inserted draft.inserted d.more d.begins s.sections h.written;
       cancels = h.cancels;
       untracked = h.untracked;

@@ -1,5 +1,5 @@
 -- Every section under way is what a writer took.
-use Rattle.std.proofs.Common.{◌≡◌, ℕ, ◌^◌, ◌<◌, ◌≤◌, List, [], ◌∷◌, length, refl, sym, ap, subst, arith, length-append, Some, flat_map}
+use Rattle.std.proofs.Common.{◌≡◌, Bool, ℕ, ◌^◌, ◌<◌, ◌≤◌, List, [], ◌∷◌, length, refl, sym, ap, subst, arith, length-append, Some, flat_map}
 use Rattle.std.specs.List.{AllByRecursion}
 use Rattle.h3_field.specs.Field.{Field, section_size}
 use Rattle.h3_field.specs.Instruction.{DecoderInstruction}
@@ -61,11 +61,11 @@ run_capacity s [] new sound h r = subst HaveCapacity (sym r) h
 run_capacity s (event ∷ events) new sound h r = run_capacity r.0 events new (step_is_sound s event r.0 sound r.1) (step_capacity s event r.0 sound h r.1) r.2
 
 -- The oldest section of a stream, if its fields are of bytes and its encoding is not longer than memory holds.
-pub section_is_written : (capacity limit : ℕ) (events : List SessionEvent) (s : Session) (b : UndecodedSection) → SessionRun (beginning capacity limit) events s → oldest b.stream s.sections ≡ Some b
+pub section_is_written : (counts : Bool) (capacity limit : ℕ) (events : List SessionEvent) (s : Session) (b : UndecodedSection) → SessionRun (beginning counts capacity limit) events s → oldest b.stream s.sections ≡ Some b
     → AllByRecursion IsFieldOfBytes b.fields → section_size b.fields < 2 ^ 62 → length (encoded_section b.encoder b.fields) < 2 ^ 63 → IsWritten s b
-section_is_written capacity limit events s b run is bytes size held =
-    let sound = every_run_is_sound capacity limit events s run in
-    let capacities = run_capacity (beginning capacity limit) events s (beginning_is_sound capacity limit) tt run in
+section_is_written counts capacity limit events s b run is bytes size held =
+    let sound = every_run_is_sound counts capacity limit events s run in
+    let capacities = run_capacity (beginning counts capacity limit) events s (beginning_is_sound counts capacity limit) tt run in
     let over = oldest_holds (IsWrittenOver s.encoder.inserted) b.stream s.sections b sound.written is in
     let d = draft_of b.encoder b.fields in
     let few : length b.encoder.inserted < 2 ^ 62 =

@@ -5,7 +5,7 @@ use Rattle.h3_field.specs.Instruction.{DecoderInstruction}
 use Rattle.h3_field.specs.Instruction.DecoderInstruction.{Acknowledge, CancelStream, Increment}
 use Rattle.h3_field.specs.InstructionReading.{decoder_instruction}
 use Rattle.h3_field.specs.declared.prefix_int.Error.TheVariants.{Overflow}
-use Rattle.h3_field.specs.declared.dynamic.Error.TheVariants.{UnknownStreamId, MaximumTableSizeTooLarge, MaxBlockedStreamsTooLarge}
+use Rattle.h3_field.specs.declared.dynamic.Error.TheVariants.{UnknownStreamId, InvalidTrackingCount, MaximumTableSizeTooLarge, MaxBlockedStreamsTooLarge}
 use Rattle.h3_field.specs.declared.encoder_error.EncoderError.{EncoderError}
 use Rattle.h3_field.specs.declared.encoder_error.EncoderError.TheVariants.{Insertion, InvalidInteger, InvalidString, UnknownDecoderInstruction, OutOfMemory}
 use Rattle.h3_qpack.specs.EncoderHistory.{EncoderHistory, encoder_after, encoder_after_all, is_refused, was_canceled}
@@ -34,7 +34,7 @@ IsDecoderInstructionRefusal Bad e = e ≡ InvalidInteger Overflow
 IsDecoderInstructionRefusal Unfinished e = ⊥
 IsDecoderInstructionRefusal (Whole (Acknowledge stream) rest) e = e ≡ Insertion (UnknownStreamId stream)
 IsDecoderInstructionRefusal (Whole (CancelStream stream) rest) e = e ≡ OutOfMemory
-IsDecoderInstructionRefusal (Whole (Increment count) rest) e = ⊥
+IsDecoderInstructionRefusal (Whole (Increment count) rest) e = e ≡ Insertion InvalidTrackingCount
 
 -- There is no memory to keep the id of a stream, of which this is the first cancellation.
 pub record LacksMemory (s : EncoderHistory) (bytes : List ℕ) (e : EncoderError) : Type 0 where

@@ -1,5 +1,5 @@
 -- What an encoder goes by: the insertions that it made, and what it read of the decoder.
-use Rattle.std.specs.Prelude.{ℕ, ◌+◌, ◌-◌, ◌^◌, min, Bool, false, not, List, [], ◌∷◌, filter, flat_map, count_by, nat_lt, if◌then◌else◌, ◌==◌}
+use Rattle.std.specs.Prelude.{ℕ, ◌+◌, ◌-◌, ◌^◌, min, max, Bool, false, not, ◌&&◌, ◌||◌, List, [], ◌∷◌, length, fold, filter, flat_map, count_by, nat_lt, if◌then◌else◌, ◌==◌}
 use Rattle.std.specs.List.{list_any}
 use Rattle.std.specs.Ordering.{nat_cmp}
 use Rattle.std.specs.BTreeSet.{insert_key}
@@ -25,10 +25,13 @@ pub record EncoderHistory : Type 0 where
   pub tracked : List UnacknowledgedSection
   -- the streams of which a cancellation was read, in increasing order
   pub canceled : List ℕ
+  -- an acknowledgment tells of the insertions that its section needs (RFC 9204, section 2.1.4); else increments alone tell of any
+  pub counts_acknowledgments : Bool
 
 -- an encoder that may not use a table
 abbrev pub no_table : EncoderHistory
-no_table = record { capacity = 0; limit = 0; inserted = []; known_received = 0; required_insert_counts = []; tracked = []; canceled = [] }
+no_table =
+    record { capacity = 0; limit = 0; inserted = []; known_received = 0; required_insert_counts = []; tracked = []; canceled = []; counts_acknowledgments = false }
 
 -- how many sections may still be blocked for insertions. The limit is one on streams (RFC 9204, section 2.1.2); two sections of one
 -- stream count twice here
@@ -44,6 +47,15 @@ abbrev pub released : ℕ → List UnacknowledgedSection → List Unacknowledged
 released stream [] = []
 released stream (section ∷ sections) = if section.stream == stream then sections else section ∷ released stream sections
 
+-- the required insert count of the oldest section of the stream, or 0
+abbrev pub acknowledged_count : ℕ → List UnacknowledgedSection → ℕ
+acknowledged_count stream [] = 0
+acknowledged_count stream (section ∷ sections) = if section.stream == stream then fold max 0 section.references else acknowledged_count stream sections
+
+-- how many insertions are known to be received, once the oldest section of the stream is acknowledged (RFC 9204, section 2.1.4)
+abbrev pub known_by : EncoderHistory → ℕ → ℕ
+known_by s stream = if s.counts_acknowledgments then max s.known_received (acknowledged_count stream s.tracked) else s.known_received
+
 -- the sections without those of the stream
 abbrev pub without_stream : ℕ → List UnacknowledgedSection → List UnacknowledgedSection
 without_stream stream sections = filter (λ section. not (section.stream == stream)) sections
@@ -58,9 +70,8 @@ abbrev pub writing_on : EncoderHistory → ℕ → EncoderHistory
 writing_on s stream = if was_canceled s stream then record s { capacity = 0; limit = 0 } else s
 
 -- the encoder after an instruction of the decoder. The known received count stops at the greatest number of 64 bits.
--- That an increment is not 0, and not past what was sent (RFC 9204, section 4.4.3), is not enforced
 abbrev pub encoder_after : EncoderHistory → DecoderInstruction → EncoderHistory
-encoder_after s (Acknowledge stream) = record s { tracked = released stream s.tracked }
+encoder_after s (Acknowledge stream) = record s { known_received = known_by s stream; tracked = released stream s.tracked }
 encoder_after s (CancelStream stream) = record s { tracked = without_stream stream s.tracked; canceled = insert_key nat_cmp s.canceled stream }
 encoder_after s (Increment count) = record s { known_received = min (s.known_received + count) (2 ^ 64 - 1) }
 
@@ -68,11 +79,12 @@ abbrev pub encoder_after_all : EncoderHistory → List DecoderInstruction → En
 encoder_after_all s [] = s
 encoder_after_all s (instruction ∷ rest) = encoder_after_all (encoder_after s instruction) rest
 
--- an acknowledgment of a stream without a tracked section
+-- an acknowledgment of a stream without a tracked section. An increment that is 0 or past what was inserted (RFC 9204, section 4.4.3)
+-- is refused where acknowledgments count
 abbrev pub is_refused : EncoderHistory → DecoderInstruction → Bool
 is_refused s (Acknowledge stream) = not (list_any (λ section. section.stream == stream) s.tracked)
 is_refused s (CancelStream stream) = false
-is_refused s (Increment count) = false
+is_refused s (Increment count) = s.counts_acknowledgments && ((count == 0) || nat_lt (length s.inserted) (s.known_received + count))
 
 -- the encoder after the instructions of any peer up to the first that it refuses, and what is left of them
 abbrev pub encoder_after_front : EncoderHistory → List DecoderInstruction → EncoderHistory × List DecoderInstruction

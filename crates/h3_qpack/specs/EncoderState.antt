@@ -1,11 +1,11 @@
 -- What an encoder keeps of its history.
-use Rattle.std.specs.Prelude.{◌≡◌, ◌⊎◌, false, ◌<◌, ◌≤◌, ℕ, ◌+◌, ◌-◌, ◌^◌, true, min, max, List, [], ◌∷◌, length, map, filter, fold, nat_lt, if◌then◌else◌, ◌==◌}
+use Rattle.std.specs.Prelude.{◌≡◌, ◌⊎◌, false, ◌<◌, ◌≤◌, ℕ, Bool, ◌+◌, ◌-◌, ◌^◌, true, ◌&&◌, ◌||◌, min, max, List, [], ◌∷◌, length, map, filter, fold, nat_lt, if◌then◌else◌, ◌==◌}
 use Rattle.std.specs.Ordering.{nat_cmp}
 use Rattle.std.specs.BTreeSet.{insert_key}
 use Rattle.h3_field.specs.Instruction.{DecoderInstruction}
 use Rattle.h3_field.specs.Instruction.DecoderInstruction.{Acknowledge, CancelStream, Increment}
 use Rattle.h3_table.specs.InOrder.{in_order, put_last}
-use Rattle.h3_table.specs.Tracking.{is_free_to, without_newest, without_oldest_of, without_newest_of, without_all_of}
+use Rattle.h3_table.specs.Tracking.{is_free_to, newest_named, without_newest, without_oldest_of, without_newest_of, without_all_of}
 use Rattle.h3_field.specs.Field.{Field, field_size}
 use Rattle.h3_table.specs.Table.{table}
 use Rattle.h3_table.specs.TableState.{TableState, evicted, with_entry, with_capacity}
@@ -24,6 +24,7 @@ pub record EncoderState : Type 0 where
   pub tracked : List TrackedSection
   -- the streams of which a cancellation was read
   pub canceled : List ℕ
+  pub counts_acknowledgments : Bool
 
 -- the least of some numbers
 abbrev pub least : List ℕ → ℕ
@@ -31,7 +32,7 @@ least [] = 0
 least (n ∷ ns) = fold min n ns
 
 abbrev pub tracked_section : UnacknowledgedSection → TrackedSection
-tracked_section t = record { stream = t.stream; oldest = least t.references }
+tracked_section t = record { stream = t.stream; oldest = least t.references; newest = fold max 0 t.references }
 
 abbrev pub encoder_state : EncoderHistory → EncoderState
 encoder_state s =
@@ -42,17 +43,28 @@ encoder_state s =
       blocking_counts = in_order (λ count. count) (filter (λ count. nat_lt s.known_received count) s.required_insert_counts);
       tracked = in_order (λ t. t.stream) (map tracked_section s.tracked);
       canceled = s.canceled;
+      counts_acknowledgments = s.counts_acknowledgments;
     }
+
+-- So many insertions are known to be received.
+abbrev pub knowing : EncoderState → ℕ → EncoderState
+knowing s known = record s { known_received = known; blocking_counts = filter (λ c. nat_lt known c) s.blocking_counts }
 
 -- what is known to be received, after a further increment
 abbrev pub raised : EncoderState → ℕ → EncoderState
-raised s count =
-    let known = min (s.known_received + count) (2 ^ 64 - 1) in
-    record s { known_received = known; blocking_counts = filter (λ c. nat_lt known c) s.blocking_counts }
+raised s count = knowing s (min (s.known_received + count) (2 ^ 64 - 1))
+
+-- what is known to be received, after an acknowledgment of the stream
+abbrev pub raised_by : EncoderState → ℕ → EncoderState
+raised_by s stream = if s.counts_acknowledgments then knowing s (max s.known_received (newest_named stream s.tracked)) else s
+
+-- an increment that is 0 or past what was inserted, where acknowledgments count
+abbrev pub refuses_increment : EncoderState → ℕ → Bool
+refuses_increment s count = s.counts_acknowledgments && ((count == 0) || nat_lt s.table.inserted (s.known_received + count))
 
 -- the state after an instruction of the decoder
 abbrev pub encoder_state_after : EncoderState → DecoderInstruction → EncoderState
-encoder_state_after s (Acknowledge stream) = record s { tracked = without_oldest_of stream s.tracked }
+encoder_state_after s (Acknowledge stream) = record (raised_by s stream) { tracked = without_oldest_of stream s.tracked }
 encoder_state_after s (CancelStream stream) = record s { tracked = without_all_of stream s.tracked; canceled = insert_key nat_cmp s.canceled stream }
 encoder_state_after s (Increment count) = raised s count
 
@@ -70,7 +82,7 @@ abbrev pub encoder_state_sent : EncoderState → ℕ → ℕ → ℕ → Encoder
 encoder_state_sent s stream count oldest =
     record s {
       blocking_counts = if nat_lt s.known_received count then put_last (λ n. n) count s.blocking_counts else s.blocking_counts;
-      tracked = put_last (λ t. t.stream) (record { stream = stream; oldest = oldest }) s.tracked;
+      tracked = put_last (λ t. t.stream) (record { stream = stream; oldest = oldest; newest = count }) s.tracked;
     }
 
 -- the state after the newest section of the stream, which has that required insert count, was withdrawn

@@ -1,5 +1,5 @@
 -- Every schedule of one encoder and one decoder.
-use Rattle.std.specs.Prelude.{◌≡◌, ℕ, ◌+◌, ◌++◌, ◌<◌, ◌≤◌, false, List, [], ◌∷◌, length, Some}
+use Rattle.std.specs.Prelude.{◌≡◌, ℕ, ◌+◌, ◌++◌, ◌<◌, ◌≤◌, Bool, false, List, [], ◌∷◌, length, Some}
 use Rattle.h3_field.specs.Field.{Field}
 use Rattle.h3_field.specs.Instruction.{DecoderInstruction}
 use Rattle.h3_qpack.specs.EncoderHistory.{no_table, writing_on}
@@ -42,7 +42,7 @@ abbrev pub SessionRun : Session → List SessionEvent → Session → Type 0
 SessionRun s [] new = new ≡ s
 SessionRun s (event ∷ events) new = (mid : Session) × SessionStep s event mid × SessionRun mid events new
 
--- an encoder with this capacity and limit, and a decoder, before anything
-abbrev pub beginning : ℕ → ℕ → Session
-beginning capacity limit =
-    record { encoder = record no_table { capacity = capacity; limit = limit }; instructions = []; received = 0; sections = []; decoder_instructions = []; canceled = [] }
+-- an encoder with this capacity and limit, for which acknowledgments count or do not, and a decoder, before anything
+abbrev pub beginning : Bool → ℕ → ℕ → Session
+beginning counts capacity limit =
+    record { encoder = record no_table { capacity = capacity; limit = limit; counts_acknowledgments = counts }; instructions = []; received = 0; sections = []; decoder_instructions = []; canceled = [] }

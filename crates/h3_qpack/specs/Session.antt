@@ -6,7 +6,7 @@ use Rattle.h3_field.specs.Instruction.{EncoderInstruction, DecoderInstruction}
 use Rattle.h3_field.specs.Instruction.DecoderInstruction.{Acknowledge, CancelStream, Increment}
 use Rattle.h3_qpack.specs.NamedFields.{StandFor}
 use Rattle.h3_table.specs.Table.{evictions}
-use Rattle.h3_qpack.specs.EncoderHistory.{EncoderHistory, UnacknowledgedSection, encoder_after, blocks_out, referenced_entries, was_canceled, writing_on}
+use Rattle.h3_qpack.specs.EncoderHistory.{EncoderHistory, UnacknowledgedSection, acknowledged_count, released, without_stream, encoder_after, blocks_out, referenced_entries, was_canceled, writing_on}
 use Rattle.h3_qpack.specs.SectionEncoding.{draft_of, instructions_for, required_insert_count, sent_section}
 use Rattle.h3_qpack.specs.TableHistory.{IsReadAs}
 
@@ -114,6 +114,15 @@ CancelsAreLast canceled (CancelStream stream ∷ decoder_instructions) =
 CancelsAreLast canceled (Acknowledge stream ∷ decoder_instructions) = CancelsAreLast canceled decoder_instructions
 CancelsAreLast canceled (Increment count ∷ decoder_instructions) = CancelsAreLast canceled decoder_instructions
 
+-- What a decoder tells fits what is known and tracked: an increment is not 0, and an acknowledgment is of a section whose insertions
+-- are known by then.
+abbrev pub AreTold : ℕ → List UnacknowledgedSection → List DecoderInstruction → Type 0
+AreTold known tracked [] = Unit {0}
+AreTold known tracked (Increment count ∷ decoder_instructions) = (0 < count) × AreTold (known + count) tracked decoder_instructions
+AreTold known tracked (Acknowledge stream ∷ decoder_instructions) =
+    (list_any (λ section. section.stream == stream) tracked ≡ true) × (acknowledged_count stream tracked ≤ known) × AreTold known (released stream tracked) decoder_instructions
+AreTold known tracked (CancelStream stream ∷ decoder_instructions) = AreTold known (without_stream stream tracked) decoder_instructions
+
 -- the section was written over a front of these insertions
 pub record IsWrittenOver (inserted : List Field) (b : UndecodedSection) : Type 0 where
   pub more : List Field
@@ -133,6 +142,8 @@ pub record IsSound (s : Session) : Type 0 where
       drop (acknowledgments stream s.decoder_instructions) (tracked_references stream s.encoder.tracked) ≡ undecoded_references stream s.sections
   -- each acknowledgment under way finds a tracked section
   pub acknowledged : (stream : ℕ) → acknowledgments stream s.decoder_instructions ≤ length (tracked_references stream s.encoder.tracked)
+  -- nothing under way is refused, or tells of an insertion that no increment told of
+  pub told : AreTold s.encoder.known_received s.encoder.tracked s.decoder_instructions
   pub written : AllByRecursion (IsWrittenOver s.encoder.inserted) s.sections
   pub cancels : CancelsAreLast s.canceled s.decoder_instructions
   -- no tracked section is of a stream whose cancellation was read

@@ -1,7 +1,7 @@
 -- The worked values that the definitions are tried at.
-use Rattle.std.specs.Prelude.{ℕ, List, [], ◌∷◌, codes}
+use Rattle.std.specs.Prelude.{ℕ, Bool, List, [], ◌∷◌, codes}
 use Rattle.h3_field.specs.Field.{Field}
-use Rattle.h3_field.specs.Instruction.DecoderInstruction.{CancelStream, Increment}
+use Rattle.h3_field.specs.Instruction.DecoderInstruction.{Acknowledge, CancelStream, Increment}
 use Rattle.h3_qpack.specs.EncoderHistory.{EncoderHistory, no_table, encoder_after}
 use Rattle.h3_field.specs.Instruction.EncoderInstruction.{SetCapacity, InsertLiteral, InsertWithEntryName, Duplicate}
 use Rattle.std.specs.Prelude.{Option, Some}
@@ -57,3 +57,15 @@ three_canceled =
 -- Stream 0 is canceled before anything.
 abbrev pub canceled_first : EncoderHistory
 canceled_first = encoder_after (fresh 64 10) (CancelStream 0)
+
+-- One more section may be blocked, and acknowledgments count or do not: stream 0 has a response that waits for an insertion.
+abbrev pub one_waits : Bool → EncoderHistory
+one_waits counts = sent_section (record (fresh 64 1) { counts_acknowledgments = counts }) 0 (with_header x_a)
+
+-- its decoder acknowledges it, and leaves the increment out
+abbrev pub one_acknowledged : Bool → EncoderHistory
+one_acknowledged counts = encoder_after (one_waits counts) (Acknowledge 0)
+
+-- Two sections of one stream, each with an insertion of its own, where acknowledgments count or do not.
+abbrev pub two_on_a_stream : Bool → EncoderHistory
+two_on_a_stream counts = sent_section (sent_section (record (fresh 100 10) { counts_acknowledgments = counts }) 0 (with_header x_a)) 0 (with_header x_b)

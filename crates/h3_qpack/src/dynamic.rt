@@ -5,9 +5,9 @@ ghost use Rattle.h3_field.specs.Field.{Field, field_size, section_size};
 ghost use Rattle.h3_table.specs.TableState.{TableState, no_entries, evicted, entry_at, newest_in, with_entry, with_capacity};
 ghost use Rattle.h3_table.specs.Matches.{matches};
 ghost use Rattle.h3_table.specs.Index.{IsIndexed, HasRoom};
-ghost use Rattle.h3_table.specs.Tracking.{is_of, is_free_to, without_oldest_of};
-ghost use Rattle.h3_field.specs.Instruction.DecoderInstruction.{CancelStream};
-ghost use Rattle.h3_qpack.specs.EncoderState.{EncoderState, MayInsertInto, MayHaveCapacity, IsCapacityRefusal, raised, encoder_state_sent, encoder_state_after, encoder_state_withdrawn};
+ghost use Rattle.h3_table.specs.Tracking.{is_of, is_free_to};
+ghost use Rattle.h3_field.specs.Instruction.DecoderInstruction.{Acknowledge, CancelStream};
+ghost use Rattle.h3_qpack.specs.EncoderState.{EncoderState, MayInsertInto, MayHaveCapacity, IsCapacityRefusal, raised, refuses_increment, encoder_state_sent, encoder_state_after, encoder_state_withdrawn};
 ghost use Rattle.h3_qpack.specs.Drafting.{begun, IsSmall};
 ghost use Rattle.h3_field.specs.declared.dynamic.Error.TheVariants.{MaxBlockedStreamsTooLarge};
 
@@ -41,6 +41,8 @@ pub struct DynamicTable {
     limit: usize,
     // what is known to be received, and the required insert counts above that
     blocking: BlockingCounts,
+    // an acknowledgment tells of the insertions that its section needs
+    counts_acknowledgments: bool,
     alloc: Global,
 }
 
@@ -69,7 +71,7 @@ fn reserve(names: &mut Index, fields: &mut Index) -> Result<(), AllocError>
 impl DynamicTable {
     /// A table of capacity 0, whose sections may not be blocked.
     pub fn new(alloc: Global) -> DynamicTable
-        ensures { result ≡ record { table = no_entries; limit = 0; known_received = 0; blocking_counts = []; tracked = []; canceled = [] } }
+        ensures { result ≡ record { table = no_entries; limit = 0; known_received = 0; blocking_counts = []; tracked = []; canceled = []; counts_acknowledgments = false } }
     {
         DynamicTable {
             entries: Entries::new(alloc),
@@ -79,6 +81,7 @@ impl DynamicTable {
             canceled: StreamSet::new(alloc),
             limit: 0,
             blocking: BlockingCounts::new(alloc),
+            counts_acknowledgments: false,
             alloc,
         }
     }
@@ -182,6 +185,10 @@ impl DynamicTable {
         ensures value { result ≡ newest_in self.now.table (matches what field.now) above most }
         ensures within { IfSome result (λ n. (above < n) × (n ≤ most) × (n ≤ self.now.table.inserted)) }
     {
+        // where none may be named that is there, a chain is not gone along: it may have all entries of a name
+        if most <= above {
+            return None;
+        }
         match what {
             Match::Name => self.entries.newest(&self.names, what, field, above, most),
             Match::Field => self.entries.newest(&self.fields, what, field, above, most),
@@ -325,19 +332,58 @@ impl DynamicTable {
         ensures err { OnErr result (self.new ≡ self.old) }
     {
         self.blocking.add(count)?;
-        let Ok(()) = self.tracking.track(TrackedSection { stream, oldest }) else {
+        let Ok(()) = self.tracking.track(TrackedSection {
+            stream,
+            oldest,
+            newest: count,
+        })
+        else {
             self.blocking.remove(count);
             return Err(AllocError);
         };
         Ok(())
     }
 
-    /// Releases the oldest tracked section of a stream, and tells whether there was one.
-    pub(crate) fn release(&mut self, stream: u64) -> bool
-        ensures found { result ≡ list_any (is_of stream) self.old.tracked }
-        ensures after { self.new ≡ record self.old { tracked = without_oldest_of stream self.old.tracked } }
+    /// From now on an acknowledgment tells of the insertions that its section needs (RFC 9204, section 2.1.4), or does not.
+    pub(crate) fn count_acknowledgments(&mut self, counted: bool)
+        ensures { self.new ≡ record self.old { counts_acknowledgments = counted } }
     {
-        self.tracking.release(stream)
+        self.counts_acknowledgments = counted;
+    }
+
+    /// Whether an increment is 0 or past what was inserted, where acknowledgments count.
+    pub(crate) fn refuses_increment(&self, increment: u64) -> bool
+        ensures { result ≡ refuses_increment self.now increment }
+    {
+        if !self.counts_acknowledgments {
+            return false;
+        }
+        let inserted = self.entries.inserted();
+        match self
+            .blocking
+            .known_received()
+            .checked_add(increment as usize)
+        {
+            Some(known) => increment == 0 || inserted < known,
+            None => true,
+        }
+    }
+
+    /// Releases the oldest tracked section of a stream, and tells whether there was one. Where acknowledgments count, the insertions
+    /// that the section needs are known to be received then.
+    pub(crate) fn acknowledge(&mut self, stream: u64) -> bool
+        ensures found { result ≡ list_any (is_of stream) self.old.tracked }
+        ensures after { result ≡ true → self.new ≡ encoder_state_after self.old (Acknowledge stream) }
+        ensures none { result ≡ false → self.new ≡ self.old }
+    {
+        let Some(count) = self.tracking.release(stream) else {
+            return false;
+        };
+        if self.counts_acknowledgments {
+            let known = self.blocking.known_received();
+            self.blocking.raise(count.saturating_sub(known));
+        }
+        true
     }
 
     /// Whether a cancellation of the stream was read.

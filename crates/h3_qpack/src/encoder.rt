@@ -63,6 +63,14 @@ impl Encoder {
         Encoder { table, lines }
     }
 
+    /// From now on an acknowledgment of a section tells of the insertions that the section needs (RFC 9204, section 2.1.4), and an
+    /// increment that is 0 or past what was inserted is refused (RFC 9204, section 4.4.3); or neither. Off at first.
+    pub fn count_acknowledgments(&mut self, counted: bool)
+        ensures { (s : EncoderHistory) → self.old ≡ encoder_state s → self.new ≡ encoder_state (record s { counts_acknowledgments = counted }) }
+    {
+        self.table.count_acknowledgments(counted);
+    }
+
     /// How many insertions are known to be received.
     pub fn known_received(&self) -> usize
         ensures value { result ≡ self.now.known_received }
@@ -154,7 +162,7 @@ impl Encoder {
         let mut ahead = SliceCursor::new(buf.chunk());
         match HeaderAck::decode(&mut ahead) {
             Ok(Some(HeaderAck(stream))) => {
-                if !self.table.release(stream) {
+                if !self.table.acknowledge(stream) {
                     let unknown = dynamic::Error::UnknownStreamId(stream);
                     return Err(EncoderError::Insertion(unknown));
                 }
@@ -196,6 +204,10 @@ impl Encoder {
         let mut ahead = SliceCursor::new(buf.chunk());
         match InsertCountIncrement::decode(&mut ahead) {
             Ok(Some(InsertCountIncrement(count))) => {
+                if self.table.refuses_increment(count) {
+                    let invalid = dynamic::Error::InvalidTrackingCount;
+                    return Err(EncoderError::Insertion(invalid));
+                }
                 self.table.update_largest_received(count as usize);
                 *buf = ahead;
                 Ok(true)
@@ -219,8 +231,8 @@ impl Encoder {
 
     /// Reads a decoder's instructions: the whole ones at the front, up to the first that is refused. One that is not
     /// whole, or is refused, is left unread; those before it stand. Refused are an integer out of range, an acknowledgment of a
-    /// stream without a tracked section, and for want of memory the first cancellation of a stream. What is left unread is an end
-    /// of what was there.
+    /// stream without a tracked section, where acknowledgments count an increment that is 0 or past what was inserted, and for want
+    /// of memory the first cancellation of a stream. What is left unread is an end of what was there.
     pub fn on_decoder_recv(&mut self, read: &mut SliceCursor<'_>) -> Result<(), EncoderError>
         ensures read_before { HasReadDecoderInstructions self.old self.new read.old read.new }
         ensures rest { read.new ≡ drop (length read.old - length read.new) read.old }

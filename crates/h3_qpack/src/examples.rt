@@ -3,7 +3,7 @@ ghost use Rattle.std.specs.Prelude.{◌≡◌, ℕ, ◌∷◌, ◌++◌, [], Lis
 ghost use Rattle.h3_field.specs.Field.{Field};
 ghost use Rattle.h3_field.specs.Instruction.{encoder_bytes};
 ghost use Rattle.h3_field.specs.Instruction.DecoderInstruction.{CancelStream, Increment};
-ghost use Rattle.h3_qpack.specs.EncoderHistory.{encoder_after, writing_on};
+ghost use Rattle.h3_qpack.specs.EncoderHistory.{blocks_out, encoder_after, writing_on};
 ghost use Rattle.h3_qpack.specs.SectionEncoding.{encoded_section, instructions_for, sent_section};
 ghost use Rattle.std.specs.Prelude.{Some, None, option_map, true, false};
 ghost use Rattle.h3_field.specs.Instruction.DecoderInstruction.{Acknowledge};
@@ -11,7 +11,7 @@ ghost use Rattle.h3_field.specs.Instruction.EncoderInstruction.{SetCapacity, Ins
 ghost use Rattle.h3_qpack.specs.EncoderHistory.{is_refused, encoder_after_front, withdrawn};
 ghost use Rattle.h3_table.specs.Table.{table};
 ghost use Rattle.h3_qpack.specs.DecoderState.{announcing, decoder_after, decoder_after_all};
-ghost use Rattle.h3_qpack.specs.Worked.{three, fresh, sample, host_text, path_text, with_header, x_a, x_b, x_a_of, older_known, three_canceled, canceled_first};
+ghost use Rattle.h3_qpack.specs.Worked.{three, fresh, sample, host_text, path_text, with_header, x_a, x_b, x_a_of, older_known, three_canceled, canceled_first, one_waits, one_acknowledged, two_on_a_stream};
 
 /// Three requests for the same page: the first inserts two fields, the second names them, and the third may not.
 #[tactic(auto, unfolding(h3_field::specs::StaticTable::static_table, h3_field::specs::StaticTable::static_field, h3_field::specs::StaticTable::static_name, h3_huffman::specs::Huffman::huffman, h3_huffman::specs::Huffman::octets, h3_huffman::specs::Huffman::code_word, h3_huffman::specs::Huffman::bits))]
@@ -71,4 +71,33 @@ pub fn cancellations()
     ensures released { encoded_section (writing_on three_canceled 4) (with_header x_b) ≡ 3 ∷ 128 ∷ 217 ∷ 16 ∷ [] }
     ensures canceled { encoded_section (writing_on canceled_first 0) (with_header x_a) ≡ 0 ∷ 0 ∷ 217 ∷ 43 ∷ 242 ∷ 176 ∷ 255 ∷ 129 ∷ 15 ∷ [] }
     ensures other { encoded_section (writing_on canceled_first 4) (with_header x_a) ≡ 2 ∷ 128 ∷ 217 ∷ 16 ∷ [] }
+{}
+
+/// A decoder acknowledges a section and leaves the increment out. Where acknowledgments count, the next section with the same field is an
+/// indexed line and need not wait; else it has a literal, since no further section may wait.
+#[tactic(auto, unfolding(h3_field::specs::StaticTable::static_table, h3_field::specs::StaticTable::static_field, h3_field::specs::StaticTable::static_name, h3_huffman::specs::Huffman::huffman, h3_huffman::specs::Huffman::octets, h3_huffman::specs::Huffman::code_word, h3_huffman::specs::Huffman::bits))]
+pub fn no_increments()
+    ensures counted { encoded_section (one_acknowledged true) (with_header x_a) ≡ 2 ∷ 0 ∷ 217 ∷ 128 ∷ [] }
+    ensures waits { blocks_out (sent_section (one_acknowledged true) 4 (with_header x_a)) ≡ 0 }
+    ensures uncounted { encoded_section (one_acknowledged false) (with_header x_a) ≡ 0 ∷ 0 ∷ 217 ∷ 43 ∷ 242 ∷ 176 ∷ 255 ∷ 129 ∷ 15 ∷ [] }
+{}
+
+/// An acknowledgment is of the oldest section of its stream, and increments count on from there.
+#[tactic(auto, unfolding(h3_field::specs::StaticTable::static_table, h3_field::specs::StaticTable::static_field, h3_field::specs::StaticTable::static_name, h3_huffman::specs::Huffman::huffman, h3_huffman::specs::Huffman::octets, h3_huffman::specs::Huffman::code_word, h3_huffman::specs::Huffman::bits))]
+pub fn oldest_acknowledged()
+    ensures first { (encoder_after (two_on_a_stream true) (Acknowledge 0)).known_received ≡ 1 }
+    ensures both { (encoder_after (encoder_after (two_on_a_stream true) (Acknowledge 0)) (Acknowledge 0)).known_received ≡ 2 }
+    ensures further { (encoder_after (encoder_after (two_on_a_stream true) (Acknowledge 0)) (Increment 1)).known_received ≡ 2 }
+    ensures uncounted { (encoder_after (two_on_a_stream false) (Acknowledge 0)).known_received ≡ 0 }
+{}
+
+/// Where acknowledgments count, an increment that is 0 or past what was inserted is refused. Else each is taken.
+#[tactic(auto, unfolding(h3_field::specs::StaticTable::static_table, h3_field::specs::StaticTable::static_field, h3_field::specs::StaticTable::static_name, h3_huffman::specs::Huffman::huffman, h3_huffman::specs::Huffman::octets, h3_huffman::specs::Huffman::code_word, h3_huffman::specs::Huffman::bits))]
+pub fn increments()
+    ensures none { is_refused (one_waits true) (Increment 0) ≡ true }
+    ensures past { is_refused (one_waits true) (Increment 2) ≡ true }
+    ensures right { is_refused (one_waits true) (Increment 1) ≡ false }
+    ensures twice { (encoder_after_front (one_waits true) (Acknowledge 0 ∷ Increment 1 ∷ [])).1 ≡ Increment 1 ∷ [] }
+    ensures untracked { is_refused (one_acknowledged true) (Acknowledge 0) ≡ true }
+    ensures uncounted { (encoder_after_front (one_waits false) (Increment 0 ∷ Increment 2 ∷ [])).1 ≡ [] }
 {}

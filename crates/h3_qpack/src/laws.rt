@@ -1,6 +1,6 @@
 //! Laws over the definitions.
 
-ghost use Rattle.std.specs.Prelude.{◌≡◌, ◌==◌, ◌||◌, ℕ, ◌+◌, ◌-◌, ◌*◌, ◌%◌, ◌^◌, ◌<◌, ◌≤◌, ◌∷◌, true, false, List, Some};
+ghost use Rattle.std.specs.Prelude.{◌≡◌, ◌==◌, ◌||◌, ℕ, ◌+◌, ◌-◌, ◌*◌, ◌%◌, ◌^◌, ◌<◌, ◌≤◌, ◌∷◌, Bool, true, false, List, Some};
 ghost use Rattle.h3_field.specs.Field.{Field, section_size};
 ghost use Rattle.h3_field.specs.ReadBack.{IsFieldOfBytes};
 ghost use Rattle.h3_field.specs.Section.{section_bytes};
@@ -64,21 +64,30 @@ pub fn cancellations_are_kept()
 
 /// Over every schedule, no tracked section is of a stream whose cancellation was read.
 pub fn canceled_streams_are_not_tracked()
-    ensures { (capacity limit : ℕ) (events : List SessionEvent) (s : Session) (stream : ℕ) → SessionRun (beginning capacity limit) events s → was_canceled s.encoder stream ≡ true →
+    ensures { (counts : Bool) (capacity limit : ℕ) (events : List SessionEvent) (s : Session) (stream : ℕ) → SessionRun (beginning counts capacity limit) events s → was_canceled s.encoder stream ≡ true →
         tracked_references stream s.encoder.tracked ≡ [] }
 {}
 
-/// Over every schedule, what is under way fits what both ends have.
+/// Over every schedule, and whether acknowledgments count or not, what is under way fits what both ends have.
 pub fn every_session_is_sound()
-    ensures { (capacity limit : ℕ) (events : List SessionEvent) (s : Session) → SessionRun (beginning capacity limit) events s → IsSound s }
+    ensures { (counts : Bool) (capacity limit : ℕ) (events : List SessionEvent) (s : Session) → SessionRun (beginning counts capacity limit) events s → IsSound s }
+{}
+
+/// Over every schedule, an acknowledgment that is read tells of no insertion that no increment told of before: what is known to be
+/// received is the same whether acknowledgments count or not, and so is each section that is written then.
+pub fn acknowledgments_tell_nothing_new()
+    ensures known { (counts : Bool) (capacity limit : ℕ) (events : List SessionEvent) (s : Session) (stream : ℕ) (rest : List DecoderInstruction) → SessionRun (beginning counts capacity limit) events s →
+        s.decoder_instructions ≡ Acknowledge stream ∷ rest → (encoder_after s.encoder (Acknowledge stream)).known_received ≡ s.encoder.known_received }
+    ensures bytes { (s : EncoderHistory) (counts : Bool) (stream : ℕ) (fields : List Field) → encoded_section (writing_on (record s { counts_acknowledgments = counts }) stream) fields ≡ encoded_section (writing_on s stream) fields }
+    ensures instructions { (s : EncoderHistory) (counts : Bool) (stream : ℕ) (fields : List Field) → instructions_for (writing_on (record s { counts_acknowledgments = counts }) stream) fields ≡ instructions_for (writing_on s stream) fields }
 {}
 
 /// Over every schedule, a section that is tried once its insertions came decodes to its fields, and its encoded count is
 /// read as its count whenever it is tried.
 pub fn every_section_decodes()
-    ensures fields { (capacity limit : ℕ) (events : List SessionEvent) (s : Session) (b : UndecodedSection) → SessionRun (beginning capacity limit) events s →
+    ensures fields { (counts : Bool) (capacity limit : ℕ) (events : List SessionEvent) (s : Session) (b : UndecodedSection) → SessionRun (beginning counts capacity limit) events s →
         oldest b.stream s.sections ≡ Some b → is_canceled s b.stream ≡ false → count_of b ≤ s.received → DecodesTo s b }
-    ensures count { (capacity limit : ℕ) (events : List SessionEvent) (s : Session) (b : UndecodedSection) → SessionRun (beginning capacity limit) events s →
+    ensures count { (counts : Bool) (capacity limit : ℕ) (events : List SessionEvent) (s : Session) (b : UndecodedSection) → SessionRun (beginning counts capacity limit) events s →
         oldest b.stream s.sections ≡ Some b → is_canceled s b.stream ≡ false → 0 < count_of b →
         IsRequiredCount s.encoder.capacity s.received (count_of b % (2 * most_entries s.encoder.capacity) + 1) (count_of b) }
 {}
@@ -87,10 +96,10 @@ pub fn every_section_decodes()
 /// before that it is missing exactly so many: never bad. The decoder announced the capacity that the encoder has, or any other
 /// while the encoder has inserted nothing, as before the peer's settings came.
 pub fn every_encoding_means_its_fields()
-    ensures means { (capacity limit : ℕ) (events : List SessionEvent) (s : Session) (b : UndecodedSection) → SessionRun (beginning capacity limit) events s →
+    ensures means { (counts : Bool) (capacity limit : ℕ) (events : List SessionEvent) (s : Session) (b : UndecodedSection) → SessionRun (beginning counts capacity limit) events s →
         oldest b.stream s.sections ≡ Some b → is_canceled s b.stream ≡ false → count_of b ≤ s.received → IsWritten s b →
         MeansFields (decoder_of s) (encoded_section b.encoder b.fields) (count_of b) b.fields }
-    ensures value { (capacity limit announced : ℕ) (events : List SessionEvent) (s : Session) (b : UndecodedSection) (r : DecoderState) → SessionRun (beginning capacity limit) events s → IsDecoderAt announced s r →
+    ensures value { (counts : Bool) (capacity limit announced : ℕ) (events : List SessionEvent) (s : Session) (b : UndecodedSection) (r : DecoderState) → SessionRun (beginning counts capacity limit) events s → IsDecoderAt announced s r →
         oldest b.stream s.sections ≡ Some b → is_canceled s b.stream ≡ false → IsWritten s b →
         decode_section r (encoded_section b.encoder b.fields) ≡ tried s b }
 {}
@@ -98,7 +107,7 @@ pub fn every_encoding_means_its_fields()
 /// Over every schedule, the section that a stream decodes next is what a writer took, if its fields are of bytes and its encoding is
 /// not longer than memory holds.
 pub fn every_section_is_written()
-    ensures { (capacity limit : ℕ) (events : List SessionEvent) (s : Session) (b : UndecodedSection) → SessionRun (beginning capacity limit) events s → oldest b.stream s.sections ≡ Some b →
+    ensures { (counts : Bool) (capacity limit : ℕ) (events : List SessionEvent) (s : Session) (b : UndecodedSection) → SessionRun (beginning counts capacity limit) events s → oldest b.stream s.sections ≡ Some b →
         AllByRecursion IsFieldOfBytes b.fields → section_size b.fields < 2 ^ 62 → length (encoded_section b.encoder b.fields) < 2 ^ 63 → IsWritten s b }
 {}
 
@@ -125,19 +134,19 @@ pub fn sections_leave_their_counts()
 /// the bytes of the first n insertions were read, n insertions were.
 pub fn every_run_answers_as_expected()
     ensures { (capacity limit : ℕ) (events : List RunEvent) (answers : List SessionAnswer) (end : ExchangeHistory) → capacity < 2 ^ 30 → Exchange (start capacity limit) events answers end →
-        (s : Session) × Expected (beginning capacity limit) events answers s
+        (s : Session) × Expected (beginning false capacity limit) events answers s
         × ((n : ℕ) → n ≤ length s.instructions → length (flat_map encoder_bytes (opening capacity ++ take n s.instructions)) ≤ end.encoder_stream.read → n ≤ s.received) }
 {}
 
 /// After any number of events as expected, the session is sound, and at most the limit of its sections are blocked.
 pub fn every_expected_session_is_sound()
-    ensures { (capacity limit : ℕ) (events : List RunEvent) (answers : List SessionAnswer) (s : Session) → Expected (beginning capacity limit) events answers s →
+    ensures { (counts : Bool) (capacity limit : ℕ) (events : List RunEvent) (answers : List SessionAnswer) (s : Session) → Expected (beginning counts capacity limit) events answers s →
         IsSound s × (blocks_out s.encoder ≤ limit) }
 {}
 
 /// After any number of the encoder's instructions a decoder's table is the encoder's after as many insertions.
 pub fn tables_agree()
-    ensures { (capacity limit : ℕ) (events : List SessionEvent) (s : Session) (k : ℕ) → SessionRun (beginning capacity limit) events s → k ≤ length s.instructions →
+    ensures { (counts : Bool) (capacity limit : ℕ) (events : List SessionEvent) (s : Session) (k : ℕ) → SessionRun (beginning counts capacity limit) events s → k ≤ length s.instructions →
         table_after_all s.encoder.capacity (Some (table_of s.encoder.capacity [])) (take k s.instructions) ≡ Some (table_of s.encoder.capacity (take k s.encoder.inserted)) }
 {}
 

@@ -20,7 +20,7 @@ use Rattle.h3_session.proofs.Sendables.{few_are_sendable}
 -- what is cited of two endpoints, over some events
 abbrev pub RunOfEnds : Setup → List Event → Type 0
 RunOfEnds setup events =
-    (w : World) × Run (Happens setup) empty_world events (answers_of_ends (new_ends setup) events) w × Stands setup w (ends_after (new_ends setup) events)
+    (w : World) × Run (Happens setup) (empty_world setup) events (answers_of_ends (new_ends setup) events) w × Stands setup w (ends_after (new_ends setup) events)
 
 pub runs_in_world : (setup : Setup) (events : List Event) (answers : List Answer) (client server : EndpointState) → (AllByRecursion IsSendable events → RunOfEnds setup events)
     → AllByRecursion IsTyped events → RunsTo (new_ends setup) events answers client server → AreFew events → RunsInWorld setup events answers client server
@@ -28,7 +28,7 @@ runs_in_world setup events answers client server law typed h few =
     let on = law (few_are_sendable events typed few) in
     record {
       world = on.0;
-      run = subst (λ given. Run (Happens setup) empty_world events given on.0) (sym h.answered_so) on.1;
+      run = subst (λ given. Run (Happens setup) (empty_world setup) events given on.0) (sym h.answered_so) on.1;
       ends = ends_after (new_ends setup) events;
       stands = on.2;
       client_stands = h.client_stands;
@@ -46,4 +46,4 @@ pub runs_until_memory : (setup : Setup) (events : List Event) (answers : List An
 runs_until_memory setup events answers law typed h few = λ n not_memory.
     let front = take n events in
     let on = law front (front_of_all IsSendable n events (few_are_sendable events typed few)) in
-    (on.0, subst (λ given. Run (Happens setup) empty_world front given on.0) (sym (h.until_memory n not_memory)) on.1)
+    (on.0, subst (λ given. Run (Happens setup) (empty_world setup) front given on.0) (sym (h.until_memory n not_memory)) on.1)

@@ -15,7 +15,7 @@ use Rattle.h3_headline.specs.Standing.{Stands}
 -- leads to.
 pub record RunsInWorld (setup : Setup) (events : List Event) (answers : List Answer) (client server : EndpointState) : Type 0 where
   pub world : World
-  pub run : Run (Happens setup) empty_world events answers world
+  pub run : Run (Happens setup) (empty_world setup) events answers world
   pub ends : Ends
   pub stands : Stands setup world ends
   pub client_stands : StandsFor client ends.client
@@ -24,4 +24,4 @@ pub record RunsInWorld (setup : Setup) (events : List Event) (answers : List Ans
 -- The answers up to the first that tells of refused memory are those of a run from the empty world, each step of which happens.
 abbrev pub RunsUntilMemory : Setup → List Event → List Answer → Type 0
 RunsUntilMemory setup events answers =
-    (n : ℕ) → list_any is_memory (take n answers) ≡ false → (w : World) × Run (Happens setup) empty_world (take n events) (take n answers) w
+    (n : ℕ) → list_any is_memory (take n answers) ≡ false → (w : World) × Run (Happens setup) (empty_world setup) (take n events) (take n answers) w

@@ -5,8 +5,9 @@ use Rattle.std.specs.List.{list_any, AllByRecursion}
 use Rattle.std.proofs.lemmas.Grind.{common_steps}
 use Rattle.std.proofs.lemmas.List.{append-nil}
 use Rattle.std.proofs.lemmas.List.Elements.{filter-append}
+use Rattle.h3_table.specs.declared.tracking.NamedEntries.{NamedEntries}
 use Rattle.h3_table.specs.declared.tracking.TrackedSection.{TrackedSection}
-use Rattle.h3_table.specs.Tracking.{is_of, without_newest, without_oldest_of}
+use Rattle.h3_table.specs.Tracking.{is_of, newest_named, without_newest, without_oldest_of}
 use Rattle.h3_table.specs.InOrder.{put_first, put_last, in_order}
 use Rattle.h3_table.specs.Sections.{IsWithoutOne, IsOldestTaken, IsNewestTaken}
 use Rattle.h3_table.specs.ByStream.{of_stream, HaveSame, HasOneMore, IsFirstTaken, IsLastTaken}
@@ -151,6 +152,15 @@ oldest_one s (u ∷ ts) us t is = by_test (u.stream == s) is (oldest_one s ts us
     by_test true k later = record { front = []; back = ts; taken = u; names = ap (λ v. v.oldest) (same_heads u t (of_stream s ts) us k).0; was = refl; is = refl }
     by_test false k later = let w = later k in record { front = u ∷ w.front; back = w.back; taken = w.taken; names = w.names; was = ap (λ vs. u ∷ vs) w.was; is = ap (λ vs. u ∷ vs) w.is }
 
+-- what the first of a stream names
+oldest_names : (s : ℕ) (ts us : List TrackedSection) (t : TrackedSection) → of_stream s ts ≡ t ∷ us → t.newest ≡ newest_named s ts
+oldest_names s [] us t is = absurd (some_differs t us (sym is))
+oldest_names s (u ∷ ts) us t is = by_test (u.stream == s) is (oldest_names s ts us t)
+  where
+    by_test : (b : Bool) → cond b (u ∷ of_stream s ts) (of_stream s ts) ≡ t ∷ us → (of_stream s ts ≡ t ∷ us → t.newest ≡ newest_named s ts) → t.newest ≡ (if b then u.newest else newest_named s ts)
+    by_test true k later = ap (λ v. v.newest) (sym (same_heads u t (of_stream s ts) us k).0)
+    by_test false k later = later k
+
 -- whether there is one
 pub none_there : (s : ℕ) (ts : List TrackedSection) → of_stream s ts ≡ [] → list_any (is_of s) ts ≡ false
 none_there s [] is = refl
@@ -169,12 +179,12 @@ some_there s (u ∷ ts) us t is = by_test (u.stream == s) is (some_there s ts us
     by_test false k later = later k
 
 -- The first of its stream was taken: so it is in order.
-pub oldest_taken : (s : ℕ) (ts us : List TrackedSection) (named : Option ℕ) → IsFirstTaken s ts us named → IsOldestTaken s (in_order (λ t. t.stream) ts) (in_order (λ t. t.stream) us) named
+pub oldest_taken : (s : ℕ) (ts us : List TrackedSection) (named : Option NamedEntries) → IsFirstTaken s ts us named → IsOldestTaken s (in_order (λ t. t.stream) ts) (in_order (λ t. t.stream) us) named
 oldest_taken s ts us None h =
     let same : HaveSame ts us = λ k. by_stream k (k == s) refl in
     let is = same_in_order ts us same in
     let none = none_there s (in_order (λ t. t.stream) ts) (of_stream-in_order s ts ∙ h.none.0) in
-    record { found = sym none; rest = is ∙ sym (none_removed s (in_order (λ t. t.stream) ts) none); one = tt; none = is }
+    record { found = sym none; rest = is ∙ sym (none_removed s (in_order (λ t. t.stream) ts) none); newest = tt; one = tt; none = is }
   where
     by_stream : (k : ℕ) (b : Bool) → (k == s) ≡ b → of_stream k us ≡ of_stream k ts
     by_stream k true e = let is = alike k s e in ap (λ m. of_stream m us) is ∙ h.none.1 ∙ sym h.none.0 ∙ ap (λ m. of_stream m ts) (sym is)
@@ -183,7 +193,13 @@ oldest_taken s ts us (Some n) h =
     let same : HaveSame (without_oldest_of s ts) us = λ k. by_stream k (k == s) refl in
     let there = of_stream-in_order s ts ∙ h.one in
     let rest = same_in_order (without_oldest_of s ts) us same ∙ sym (oldest_in_order s ts) in
-    record { found = sym (some_there s (in_order (λ t. t.stream) ts) (of_stream s us) _ there); rest = rest; one = rw rest (oldest_one s (in_order (λ t. t.stream) ts) (of_stream s us) _ there); none = tt }
+    record {
+      found = sym (some_there s (in_order (λ t. t.stream) ts) (of_stream s us) _ there);
+      rest = rest;
+      newest = oldest_names s (in_order (λ t. t.stream) ts) (of_stream s us) _ there;
+      one = rw rest (oldest_one s (in_order (λ t. t.stream) ts) (of_stream s us) _ there);
+      none = tt;
+    }
   where
     by_stream : (k : ℕ) (b : Bool) → (k == s) ≡ b → of_stream k us ≡ of_stream k (without_oldest_of s ts)
     by_stream k true e = let is = alike k s e in ap (λ m. of_stream m us) is ∙ sym (oldest_own s ts (of_stream s us) _ h.one) ∙ ap (λ m. of_stream m (without_oldest_of s ts)) (sym is)
@@ -222,42 +238,42 @@ newest_kept s (t ∷ ts) = by_tests (list_any (is_of s) ts) (t.stream == s) refl
     by_tests false true e f h = rw (any_kept s ts, e, f) refl
     by_tests false false e f h = rw f (sym (none_newest (is_of s) (of_stream s ts) (any_kept s ts ∙ e)))
 
-newest_own : (s n : ℕ) (ts us : List TrackedSection) → of_stream s ts ≡ us ++ record { stream = s; oldest = n } ∷ [] → of_stream s (without_newest (is_of s) ts) ≡ us
-newest_own s n ts us is = newest_kept s ts ∙ ap (without_newest (is_of s)) is ∙ last_goes (is_of s) us (record { stream = s; oldest = n }) [] (itself s) refl ∙ append-nil us
+newest_own : (s : ℕ) (n : NamedEntries) (ts us : List TrackedSection) → of_stream s ts ≡ us ++ record { stream = s; oldest = n.oldest; newest = n.newest } ∷ [] → of_stream s (without_newest (is_of s) ts) ≡ us
+newest_own s n ts us is = newest_kept s ts ∙ ap (without_newest (is_of s)) is ∙ last_goes (is_of s) us (record { stream = s; oldest = n.oldest; newest = n.newest }) [] (itself s) refl ∙ append-nil us
 
-last_there : (s n : ℕ) (ts us : List TrackedSection) → of_stream s ts ≡ us ++ record { stream = s; oldest = n } ∷ [] → list_any (is_of s) ts ≡ true
+last_there : (s : ℕ) (n : NamedEntries) (ts us : List TrackedSection) → of_stream s ts ≡ us ++ record { stream = s; oldest = n.oldest; newest = n.newest } ∷ [] → list_any (is_of s) ts ≡ true
 last_there s n ts [] is = some_there s ts [] _ is
 last_there s n ts (u ∷ us) is = some_there s ts _ u is
 
 -- the last of a stream, with none of it behind
-newest_one : (s n : ℕ) (ts us : List TrackedSection) → of_stream s ts ≡ us ++ record { stream = s; oldest = n } ∷ [] → IsWithoutOne n ts (without_newest (is_of s) ts)
+newest_one : (s : ℕ) (n : NamedEntries) (ts us : List TrackedSection) → of_stream s ts ≡ us ++ record { stream = s; oldest = n.oldest; newest = n.newest } ∷ [] → IsWithoutOne n.oldest ts (without_newest (is_of s) ts)
 newest_one s n [] [] is = absurd (some_differs _ [] (sym is))
 newest_one s n [] (u ∷ us) is = absurd (some_differs u _ (sym is))
 newest_one s n (t ∷ ts) us is = by_tests (list_any (is_of s) ts) (t.stream == s) refl is (newest_one s n ts)
   where
-    more : IsWithoutOne n ts (without_newest (is_of s) ts) → IsWithoutOne n (t ∷ ts) (t ∷ without_newest (is_of s) ts)
+    more : IsWithoutOne n.oldest ts (without_newest (is_of s) ts) → IsWithoutOne n.oldest (t ∷ ts) (t ∷ without_newest (is_of s) ts)
     more w = record { front = t ∷ w.front; back = w.back; taken = w.taken; names = w.names; was = ap (λ vs. t ∷ vs) w.was; is = ap (λ vs. t ∷ vs) w.is }
 
-    nothing : (vs : List TrackedSection) → list_any (is_of s) ts ≡ false → of_stream s ts ≡ vs ++ record { stream = s; oldest = n } ∷ [] → ⊥
+    nothing : (vs : List TrackedSection) → list_any (is_of s) ts ≡ false → of_stream s ts ≡ vs ++ record { stream = s; oldest = n.oldest; newest = n.newest } ∷ [] → ⊥
     nothing vs none k = let both : true ≡ false = sym (last_there s n ts vs k) ∙ none in cc
 
-    behind : (vs : List TrackedSection) → list_any (is_of s) ts ≡ true → t ∷ of_stream s ts ≡ vs ++ record { stream = s; oldest = n } ∷ [] → ((vs : List TrackedSection) → of_stream s ts ≡ vs ++ record { stream = s; oldest = n } ∷ [] → IsWithoutOne n ts (without_newest (is_of s) ts)) → IsWithoutOne n ts (without_newest (is_of s) ts)
+    behind : (vs : List TrackedSection) → list_any (is_of s) ts ≡ true → t ∷ of_stream s ts ≡ vs ++ record { stream = s; oldest = n.oldest; newest = n.newest } ∷ [] → ((vs : List TrackedSection) → of_stream s ts ≡ vs ++ record { stream = s; oldest = n.oldest; newest = n.newest } ∷ [] → IsWithoutOne n.oldest ts (without_newest (is_of s) ts)) → IsWithoutOne n.oldest ts (without_newest (is_of s) ts)
     behind [] some k later = let both : true ≡ false = sym some ∙ none_there s ts (same_heads t _ (of_stream s ts) [] k).1 in absurd (cc)
     behind (v ∷ vs) some k later = later vs (same_heads t v (of_stream s ts) _ k).1
 
-    own : (vs : List TrackedSection) → list_any (is_of s) ts ≡ false → t ∷ of_stream s ts ≡ vs ++ record { stream = s; oldest = n } ∷ [] → IsWithoutOne n (t ∷ ts) ts
+    own : (vs : List TrackedSection) → list_any (is_of s) ts ≡ false → t ∷ of_stream s ts ≡ vs ++ record { stream = s; oldest = n.oldest; newest = n.newest } ∷ [] → IsWithoutOne n.oldest (t ∷ ts) ts
     own [] none k = record { front = []; back = ts; taken = t; names = ap (λ v. v.oldest) (same_heads t _ (of_stream s ts) [] k).0; was = refl; is = refl }
     own (v ∷ vs) none k = absurd (nothing vs none (same_heads t v (of_stream s ts) _ k).1)
 
-    by_tests : (a b : Bool) → list_any (is_of s) ts ≡ a → cond b (t ∷ of_stream s ts) (of_stream s ts) ≡ us ++ record { stream = s; oldest = n } ∷ []
-        → ((vs : List TrackedSection) → of_stream s ts ≡ vs ++ record { stream = s; oldest = n } ∷ [] → IsWithoutOne n ts (without_newest (is_of s) ts)) → IsWithoutOne n (t ∷ ts) (if a then t ∷ without_newest (is_of s) ts else (if b then ts else t ∷ ts))
+    by_tests : (a b : Bool) → list_any (is_of s) ts ≡ a → cond b (t ∷ of_stream s ts) (of_stream s ts) ≡ us ++ record { stream = s; oldest = n.oldest; newest = n.newest } ∷ []
+        → ((vs : List TrackedSection) → of_stream s ts ≡ vs ++ record { stream = s; oldest = n.oldest; newest = n.newest } ∷ [] → IsWithoutOne n.oldest ts (without_newest (is_of s) ts)) → IsWithoutOne n.oldest (t ∷ ts) (if a then t ∷ without_newest (is_of s) ts else (if b then ts else t ∷ ts))
     by_tests true true e k later = more (behind us e k later)
     by_tests true false e k later = more (later us k)
     by_tests false true e k later = own us e k
     by_tests false false e k later = absurd (nothing us e k)
 
 -- The last of its stream was taken: so it is in order.
-pub newest_taken : (s : ℕ) (ts us : List TrackedSection) (named : Option ℕ) → IsLastTaken s ts us named → IsNewestTaken s (in_order (λ t. t.stream) ts) (in_order (λ t. t.stream) us) named
+pub newest_taken : (s : ℕ) (ts us : List TrackedSection) (named : Option NamedEntries) → IsLastTaken s ts us named → IsNewestTaken s (in_order (λ t. t.stream) ts) (in_order (λ t. t.stream) us) named
 newest_taken s ts us None h =
     let same : HaveSame ts us = λ k. by_stream k (k == s) refl in
     let is = same_in_order ts us same in

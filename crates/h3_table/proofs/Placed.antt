@@ -8,10 +8,11 @@ use Rattle.std.proofs.Math.ListN.{get_or-append}
 use Rattle.h3_table.specs.declared.tracking.TrackedSection.{TrackedSection}
 use Rattle.h3_table.specs.Places.{place_of, placed_from, placed}
 use Rattle.h3_table.specs.ByStream.{of_stream, HaveSame, HasOneMore, IsFirstTaken}
+use Rattle.h3_table.proofs.Alones.{named_by}
 use Rattle.h3_table.proofs.ByStream.{itself, unlike, alike}
 
 abbrev pub nothing : TrackedSection
-nothing = record { stream = 0; oldest = 0 }
+nothing = record { stream = 0; oldest = 0; newest = 0 }
 
 -- a section of the stream that names an entry
 abbrev pub one_of : ℕ → TrackedSection → List TrackedSection
@@ -112,11 +113,11 @@ nothing_left ts s place here lt = written s place ts nothing (sym here) lt
 
 -- The section at the place of its stream is taken.
 pub taken_there : (ts : List TrackedSection) (s place : ℕ) (there : TrackedSection) → place ≡ place_of (length ts) s → place < length ts → there ≡ get_or ts place nothing → there.stream ≡ s → there.oldest ≢ 0
-    → IsFirstTaken s (placed ts) (placed (set ts place nothing)) (Some there.oldest)
+    → IsFirstTaken s (placed ts) (placed (set ts place nothing)) (Some (named_by there))
 taken_there ts s place there here lt is own some =
     record {
       others = λ k ne. by_place k (place_of (length ts) k == place) refl ne;
-      one = found ∙ ap (λ m. record { stream = m; oldest = there.oldest } ∷ []) own ∙ ap (λ us. record { stream = s; oldest = there.oldest } ∷ us) (sym (nothing_left ts s place here lt));
+      one = found ∙ ap (λ m. record { stream = m; oldest = there.oldest; newest = there.newest } ∷ []) own ∙ ap (λ us. record { stream = s; oldest = there.oldest; newest = there.newest } ∷ us) (sym (nothing_left ts s place here lt));
       none = tt;
     }
   where

@@ -5,10 +5,10 @@ use Rattle.h3_table.specs.declared.tracking.TrackedSection.{TrackedSection}
 use Rattle.h3_table.specs.declared.places.PlacedSection.TheInside.{Inside}
 
 abbrev pub placed_section_inside : Inside → TrackedSection
-placed_section_inside s = record { stream = s.index * 4; oldest = s.oldest }
+placed_section_inside s = record { stream = s.index * 4; oldest = s.oldest; newest = s.newest }
 
 abbrev pub placed_section_of : TrackedSection → Inside
-placed_section_of t = record { index = t.stream / 4; oldest = t.oldest }
+placed_section_of t = record { index = t.stream / 4; oldest = t.oldest; newest = t.newest }
 
 -- No bit of the fields is lost in the section.
 pub placed_section_is_back : (s : Inside) → placed_section_of (placed_section_inside s) ≡ s

@@ -3,7 +3,7 @@ use Rattle.std.specs.Prelude.{ℕ, zero, suc, ◌+◌, Bool, not, filter, List, 
 use Rattle.std.specs.List.{list_all, list_any}
 use Rattle.h3_table.specs.declared.tracking.TrackedSection.{TrackedSection}
 
--- Sections over the entries from one number up to another, each with the oldest entry that it names.
+-- Sections over the entries from one number up to another, each with the oldest and the newest entry that it names.
 pub record TrackingState : Type 0 where
   pub evicted : ℕ
   pub made : ℕ
@@ -16,6 +16,11 @@ is_of stream t = t.stream == stream
 abbrev pub without_oldest_of : ℕ → List TrackedSection → List TrackedSection
 without_oldest_of stream [] = []
 without_oldest_of stream (t ∷ ts) = if t.stream == stream then ts else t ∷ without_oldest_of stream ts
+
+-- the newest entry that the oldest section of the stream names, or 0
+abbrev pub newest_named : ℕ → List TrackedSection → ℕ
+newest_named stream [] = 0
+newest_named stream (t ∷ ts) = if t.stream == stream then t.newest else newest_named stream ts
 
 -- the sections without all of the stream
 abbrev pub without_all_of : ℕ → List TrackedSection → List TrackedSection

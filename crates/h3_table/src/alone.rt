@@ -4,7 +4,7 @@ ghost use Rattle.h3_table.specs.InOrder.{put_last};
 ghost use Rattle.h3_table.specs.Sections.{IsOldestTaken, IsNewestTaken};
 
 use crate::sections::Sections;
-use crate::tracking::TrackedSection;
+use crate::tracking::{NamedEntries, TrackedSection};
 use std::alloc::{AllocError, Global};
 use std::marker::Model;
 
@@ -58,8 +58,8 @@ impl TrackedSections {
         self.others.add(section)
     }
 
-    /// Takes the oldest section of a stream away, and answers the oldest entry that it names.
-    pub fn take_oldest(&mut self, stream: u64) -> Option<usize>
+    /// Takes the oldest section of a stream away, and answers what it names.
+    pub fn take_oldest(&mut self, stream: u64) -> Option<NamedEntries>
         ensures { IsOldestTaken stream self.old self.new result }
     {
         let Some(only) = self.only else {
@@ -69,11 +69,11 @@ impl TrackedSections {
             return None;
         }
         self.only = None;
-        Some(only.oldest)
+        Some(only.named())
     }
 
-    /// Takes the newest section of a stream away, and answers the oldest entry that it names.
-    pub fn take_newest(&mut self, stream: u64) -> Option<usize>
+    /// Takes the newest section of a stream away, and answers what it names.
+    pub fn take_newest(&mut self, stream: u64) -> Option<NamedEntries>
         ensures { IsNewestTaken stream self.old self.new result }
     {
         let Some(only) = self.only else {
@@ -83,6 +83,6 @@ impl TrackedSections {
             return None;
         }
         self.only = None;
-        Some(only.oldest)
+        Some(only.named())
     }
 }

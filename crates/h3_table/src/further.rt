@@ -1,54 +1,56 @@
 //! Sections that are sent and neither acknowledged nor canceled, and have no place of their own: each stream has its own in the order of sending.
-ghost use Rattle.std.specs.Prelude.{◌≡◌, ℕ, ◌++◌, ◌∷◌, List, [], length, false, None, Some, IfSome, IfNone, OnErr, OnOk};
+ghost use Rattle.std.specs.Prelude.{◌≡◌, ◌++◌, ◌∷◌, List, [], length, false, None, Some, IfSome, IfNone, OnErr, OnOk};
 ghost use Rattle.std.specs.Ordering.{nat_cmp};
 ghost use Rattle.std.specs.BTreeMap.{is_at};
 ghost use Rattle.std.specs.Map.{lookup};
 ghost use Rattle.h3_table.specs.Sections.{sections_of, IsChanged};
 ghost use Rattle.h3_table.specs.ByStream.{of_stream, HasOneMore, IsFirstTaken, IsLastTaken};
+ghost use Rattle.h3_table.specs.declared.tracking.NamedEntries.{NamedEntries};
 
-use crate::tracking::TrackedSection;
+use crate::tracking::{NamedEntries, TrackedSection};
 use std::alloc::{AllocError, Global};
 use std::collections::{BTreeMap, VecDeque};
 use std::marker::Model;
 
-/// The oldest entries that the sections of one stream name, in the order of sending. There is at least one; further ones are few,
-/// so the first stands by itself.
+/// What the sections of one stream name, in the order of sending. There is at least one; further ones are few, so the first stands
+/// by itself.
 #[derive(Drop)]
-pub(crate) struct OldestEntries {
-    first: usize,
-    more: VecDeque<usize>,
+pub(crate) struct EntriesInOrder {
+    first: NamedEntries,
+    more: VecDeque<NamedEntries>,
 }
 
-impl Model for OldestEntries {
-    ghost use Rattle.std.specs.Prelude.{ℕ, List, ◌∷◌};
+impl Model for EntriesInOrder {
+    ghost use Rattle.std.specs.Prelude.{List, ◌∷◌};
+    ghost use Rattle.h3_table.specs.declared.tracking.NamedEntries.{NamedEntries};
 
-    ghost Value = { List ℕ };
+    ghost Value = { List NamedEntries };
 
     ghost view = { λ o. o.first ∷ o.more.items };
 }
 
-impl OldestEntries {
-    fn new(alloc: Global, first: usize) -> OldestEntries
+impl EntriesInOrder {
+    fn new(alloc: Global, first: NamedEntries) -> EntriesInOrder
         ensures { result ≡ first ∷ [] }
     {
-        OldestEntries {
+        EntriesInOrder {
             first,
             more: VecDeque::new(alloc),
         }
     }
 
-    fn add(&mut self, oldest: usize) -> Result<(), AllocError>
-        ensures ok { OnOk result (self.new ≡ self.old ++ oldest ∷ []) }
+    fn add(&mut self, named: NamedEntries) -> Result<(), AllocError>
+        ensures ok { OnOk result (self.new ≡ self.old ++ named ∷ []) }
         ensures err { OnErr result (self.new ≡ self.old) }
     {
-        let Ok(()) = self.more.push_back(oldest) else {
+        let Ok(()) = self.more.push_back(named) else {
             return Err(AllocError);
         };
         Ok(())
     }
 
     /// Takes the first away, where others follow it.
-    fn take_first(&mut self) -> Option<usize>
+    fn take_first(&mut self) -> Option<NamedEntries>
         ensures some { IfSome result (λ n. self.old ≡ n ∷ self.new) }
         ensures none { IfNone result ((length self.old ≡ 1) × (self.new ≡ self.old)) }
     {
@@ -61,15 +63,15 @@ impl OldestEntries {
     }
 
     /// Takes the last away, where others stand in front of it.
-    fn take_last(&mut self) -> Option<usize>
+    fn take_last(&mut self) -> Option<NamedEntries>
         ensures some { IfSome result (λ n. self.old ≡ self.new ++ n ∷ []) }
         ensures none { IfNone result ((length self.old ≡ 1) × (self.new ≡ self.old)) }
     {
         self.more.pop_back()
     }
 
-    fn first(&self) -> usize
-        ensures { (rest : List ℕ) → (n : ℕ) → self.now ≡ n ∷ rest → result ≡ n }
+    fn first(&self) -> NamedEntries
+        ensures { (rest : List NamedEntries) → (n : NamedEntries) → self.now ≡ n ∷ rest → result ≡ n }
     {
         self.first
     }
@@ -79,7 +81,7 @@ impl OldestEntries {
 #[derive(Drop)]
 pub(crate) struct FurtherSections {
     alloc: Global,
-    streams: BTreeMap<u64, OldestEntries>,
+    streams: BTreeMap<u64, EntriesInOrder>,
 }
 
 impl Model for FurtherSections {
@@ -94,7 +96,7 @@ impl Model for FurtherSections {
 
 /// A section is the first of its stream.
 fn begin(
-    streams: &mut BTreeMap<u64, OldestEntries>,
+    streams: &mut BTreeMap<u64, EntriesInOrder>,
     alloc: Global,
     section: TrackedSection,
 ) -> Result<(), AllocError>
@@ -102,7 +104,7 @@ fn begin(
     ensures ok { OnOk result (HasOneMore section (sections_of streams.old.entries) (sections_of streams.new.entries)) }
     ensures err { OnErr result (sections_of streams.new.entries ≡ sections_of streams.old.entries) }
 {
-    let entries = OldestEntries::new(alloc, section.oldest);
+    let entries = EntriesInOrder::new(alloc, section.named());
     let Ok(_) = streams.insert(section.stream, entries) else {
         return Err(AllocError);
     };
@@ -111,7 +113,7 @@ fn begin(
 
 /// Adds a section to those of its stream.
 fn add(
-    streams: &mut BTreeMap<u64, OldestEntries>,
+    streams: &mut BTreeMap<u64, EntriesInOrder>,
     alloc: Global,
     section: TrackedSection,
 ) -> Result<(), AllocError>
@@ -121,15 +123,15 @@ fn add(
     let Some(entries) = streams.get_mut(&section.stream) else {
         return begin(streams, alloc, section);
     };
-    let Ok(()) = entries.add(section.oldest) else {
+    let Ok(()) = entries.add(section.named()) else {
         return Err(AllocError);
     };
     Ok(())
 }
 
 /// Takes a stream away, and answers what its only section names.
-fn take_only(streams: &mut BTreeMap<u64, OldestEntries>, stream: u64) -> Option<usize>
-    ensures only { (n : ℕ) → lookup (is_at (nat_cmp stream)) streams.old.entries ≡ Some (n ∷ []) → result ≡ Some n }
+fn take_only(streams: &mut BTreeMap<u64, EntriesInOrder>, stream: u64) -> Option<NamedEntries>
+    ensures only { (n : NamedEntries) → lookup (is_at (nat_cmp stream)) streams.old.entries ≡ Some (n ∷ []) → result ≡ Some n }
     ensures after { IsChanged stream streams.old.entries streams.new.entries None }
 {
     match streams.remove(&stream) {
@@ -139,27 +141,27 @@ fn take_only(streams: &mut BTreeMap<u64, OldestEntries>, stream: u64) -> Option<
 }
 
 /// Takes the oldest section of a stream away, and answers what it names.
-fn take_oldest(streams: &mut BTreeMap<u64, OldestEntries>, stream: u64) -> Option<usize>
+fn take_oldest(streams: &mut BTreeMap<u64, EntriesInOrder>, stream: u64) -> Option<NamedEntries>
     ensures { IsFirstTaken stream (sections_of streams.old.entries) (sections_of streams.new.entries) result }
 {
     let Some(entries) = streams.get_mut(&stream) else {
         return None;
     };
-    if let Some(oldest) = entries.take_first() {
-        return Some(oldest);
+    if let Some(named) = entries.take_first() {
+        return Some(named);
     }
     take_only(streams, stream)
 }
 
 /// Takes the newest section of a stream away, and answers what it names.
-fn take_newest(streams: &mut BTreeMap<u64, OldestEntries>, stream: u64) -> Option<usize>
+fn take_newest(streams: &mut BTreeMap<u64, EntriesInOrder>, stream: u64) -> Option<NamedEntries>
     ensures { IsLastTaken stream (sections_of streams.old.entries) (sections_of streams.new.entries) result }
 {
     let Some(entries) = streams.get_mut(&stream) else {
         return None;
     };
-    if let Some(oldest) = entries.take_last() {
-        return Some(oldest);
+    if let Some(named) = entries.take_last() {
+        return Some(named);
     }
     take_only(streams, stream)
 }
@@ -190,15 +192,15 @@ impl FurtherSections {
         add(&mut self.streams, self.alloc, section)
     }
 
-    /// Takes the oldest section of a stream away, and answers the oldest entry that it names.
-    pub(crate) fn take_oldest(&mut self, stream: u64) -> Option<usize>
+    /// Takes the oldest section of a stream away, and answers what it names.
+    pub(crate) fn take_oldest(&mut self, stream: u64) -> Option<NamedEntries>
         ensures { IsFirstTaken stream self.old self.new result }
     {
         take_oldest(&mut self.streams, stream)
     }
 
-    /// Takes the newest section of a stream away, and answers the oldest entry that it names.
-    pub(crate) fn take_newest(&mut self, stream: u64) -> Option<usize>
+    /// Takes the newest section of a stream away, and answers what it names.
+    pub(crate) fn take_newest(&mut self, stream: u64) -> Option<NamedEntries>
         ensures { IsLastTaken stream self.old self.new result }
     {
         take_newest(&mut self.streams, stream)

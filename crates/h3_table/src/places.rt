@@ -3,7 +3,7 @@ ghost use Rattle.std.specs.Prelude.{◌≡◌, ◌<◌, ◌≤◌, ◌+◌, ◌*
 ghost use Rattle.h3_table.specs.Places.{place_of};
 ghost use Rattle.h3_table.specs.ByStream.{of_stream, HaveSame, HasOneMore, IsFirstTaken};
 
-use crate::tracking::TrackedSection;
+use crate::tracking::{NamedEntries, TrackedSection};
 use std::alloc::{AllocError, Global};
 use std::marker::Model;
 
@@ -16,12 +16,13 @@ const KEPT_PLACES: usize = 1024;
 /// Streams of requests are four apart (RFC 9000, section 2.1).
 const STREAM_STEP: u64 = 4;
 
-/// A section in eight bytes, so that eight of them share a line of memory. Entries are numbered from 1, so one that names entry 0 is none.
+/// A section in twelve bytes, so that five of them share a line of memory. Entries are numbered from 1, so one that names entry 0 is none.
 #[derive(Clone, Copy)]
 struct PlacedSection {
     // the stream's number among request streams
     index: u32,
     oldest: u32,
+    newest: u32,
 }
 
 impl Model for PlacedSection {
@@ -41,10 +42,11 @@ impl Model for PlacedSection {
 const NOTHING: PlacedSection = PlacedSection {
     index: 0,
     oldest: 0,
+    newest: 0,
 };
 
 impl PlacedSection {
-    /// The section, where it fits: its stream is of the kind of requests, and neither number needs more than 32 bits.
+    /// The section, where it fits: its stream is of the kind of requests, and no number needs more than 32 bits.
     fn of(section: TrackedSection) -> Option<PlacedSection>
         ensures { IfSome result (λ slot. slot ≡ section) }
     {
@@ -57,7 +59,14 @@ impl PlacedSection {
         let Ok(oldest) = u32::try_from(section.oldest) else {
             return None;
         };
-        Some(PlacedSection { index, oldest })
+        let Ok(newest) = u32::try_from(section.newest) else {
+            return None;
+        };
+        Some(PlacedSection {
+            index,
+            oldest,
+            newest,
+        })
     }
 
     fn stream(self) -> u64
@@ -70,6 +79,15 @@ impl PlacedSection {
         ensures { result ≡ self.oldest }
     {
         self.oldest as usize
+    }
+
+    fn named(self) -> NamedEntries
+        ensures { result ≡ record { oldest = self.oldest; newest = self.newest } }
+    {
+        NamedEntries {
+            oldest: self.oldest as usize,
+            newest: self.newest as usize,
+        }
     }
 }
 
@@ -176,8 +194,8 @@ impl Places {
         Ok(self.put_at_once(slot))
     }
 
-    /// Takes the section of a stream away, and answers the oldest entry that it names.
-    pub(crate) fn take(&mut self, stream: u64) -> Option<usize>
+    /// Takes the section of a stream away, and answers what it names.
+    pub(crate) fn take(&mut self, stream: u64) -> Option<NamedEntries>
         ensures taken { IsFirstTaken stream self.old.sections self.new.sections result }
         ensures alone { IfSome result (λ n. of_stream stream self.new.sections ≡ []) }
         ensures places { self.new.places ≡ self.old.places }
@@ -192,6 +210,6 @@ impl Places {
             return None;
         }
         self.slots[place] = NOTHING;
-        Some(there.oldest())
+        Some(there.named())
     }
 }

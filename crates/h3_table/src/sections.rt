@@ -6,7 +6,7 @@ ghost use Rattle.h3_table.specs.ByStream.{HaveSame, HasOneMore, IsFirstTaken, Is
 
 use crate::further::FurtherSections;
 use crate::places::Places;
-use crate::tracking::TrackedSection;
+use crate::tracking::{NamedEntries, TrackedSection};
 use std::alloc::{AllocError, Global};
 use std::marker::Model;
 
@@ -70,23 +70,31 @@ fn give_back(places: &mut Places, count: usize)
 }
 
 /// Takes the oldest section of a stream away, and answers what it names.
-fn take_oldest(places: &mut Places, further: &mut FurtherSections, stream: u64) -> Option<usize>
+fn take_oldest(
+    places: &mut Places,
+    further: &mut FurtherSections,
+    stream: u64,
+) -> Option<NamedEntries>
     ensures places { places.new.places ≡ places.old.places }
     ensures taken { IsFirstTaken stream (places.old.sections ++ further.old) (places.new.sections ++ further.new) result }
 {
-    if let Some(oldest) = places.take(stream) {
-        return Some(oldest);
+    if let Some(named) = places.take(stream) {
+        return Some(named);
     }
     further.take_oldest(stream)
 }
 
 /// Takes the newest section of a stream away, and answers what it names.
-fn take_newest(places: &mut Places, further: &mut FurtherSections, stream: u64) -> Option<usize>
+fn take_newest(
+    places: &mut Places,
+    further: &mut FurtherSections,
+    stream: u64,
+) -> Option<NamedEntries>
     ensures places { places.new.places ≡ places.old.places }
     ensures taken { IsLastTaken stream (places.old.sections ++ further.old) (places.new.sections ++ further.new) result }
 {
-    if let Some(oldest) = further.take_newest(stream) {
-        return Some(oldest);
+    if let Some(named) = further.take_newest(stream) {
+        return Some(named);
     }
     places.take(stream)
 }
@@ -126,27 +134,27 @@ impl Sections {
         Ok(())
     }
 
-    /// Takes the oldest section of a stream away, and answers the oldest entry that it names.
-    pub fn take_oldest(&mut self, stream: u64) -> Option<usize>
+    /// Takes the oldest section of a stream away, and answers what it names.
+    pub fn take_oldest(&mut self, stream: u64) -> Option<NamedEntries>
         ensures { IsOldestTaken stream self.old self.new result }
     {
-        let Some(oldest) = take_oldest(&mut self.places, &mut self.further, stream) else {
+        let Some(named) = take_oldest(&mut self.places, &mut self.further, stream) else {
             return None;
         };
         self.count -= 1;
         give_back(&mut self.places, self.count);
-        Some(oldest)
+        Some(named)
     }
 
-    /// Takes the newest section of a stream away, and answers the oldest entry that it names.
-    pub fn take_newest(&mut self, stream: u64) -> Option<usize>
+    /// Takes the newest section of a stream away, and answers what it names.
+    pub fn take_newest(&mut self, stream: u64) -> Option<NamedEntries>
         ensures { IsNewestTaken stream self.old self.new result }
     {
-        let Some(oldest) = take_newest(&mut self.places, &mut self.further, stream) else {
+        let Some(named) = take_newest(&mut self.places, &mut self.further, stream) else {
             return None;
         };
         self.count -= 1;
         give_back(&mut self.places, self.count);
-        Some(oldest)
+        Some(named)
     }
 }

@@ -1,20 +1,40 @@
 //! Sections that are sent and neither acknowledged nor canceled (RFC 9204, sections 2.1.1 and 2.1.2), and how many of
 //! them hold each entry.
-ghost use Rattle.std.specs.Prelude.{◌≡◌, ◌+◌, ◌-◌, ◌^◌, ◌<◌, ◌≤◌, [], length, true, drop, slice_set, slice_index_or, OnErr, OnOk};
+ghost use Rattle.std.specs.Prelude.{◌≡◌, ◌+◌, ◌-◌, ◌^◌, ◌<◌, ◌≤◌, [], length, true, drop, slice_set, slice_index_or, is_some, IfSome, OnErr, OnOk};
 ghost use Rattle.std.specs.List.{list_any, AllByRecursion};
 ghost use Rattle.h3_table.specs.InOrder.{put_last};
-ghost use Rattle.h3_table.specs.Tracking.{TrackingState, is_of, reference_count, is_free_to, without_oldest_of, without_newest_of, without_all_of};
+ghost use Rattle.h3_table.specs.Tracking.{TrackingState, is_of, reference_count, is_free_to, newest_named, without_oldest_of, without_newest_of, without_all_of};
 
 use crate::alone::TrackedSections;
 use std::alloc::{AllocError, Global};
 use std::collections::VecDeque;
 use std::marker::Model;
 
-/// A section that names entries, and the oldest of them.
+/// The oldest and the newest of the entries that a section names. The number of the newest is the section's required insert count.
+#[derive(Clone, Copy, Debug)]
+pub struct NamedEntries {
+    pub oldest: usize,
+    pub newest: usize,
+}
+
+/// A section that names entries, with the oldest and the newest of them.
 #[derive(Clone, Copy, Debug)]
 pub struct TrackedSection {
     pub stream: u64,
     pub oldest: usize,
+    pub newest: usize,
+}
+
+impl TrackedSection {
+    /// What it names.
+    pub(crate) fn named(self) -> NamedEntries
+        ensures { result ≡ record { oldest = self.oldest; newest = self.newest } }
+    {
+        NamedEntries {
+            oldest: self.oldest,
+            newest: self.newest,
+        }
+    }
 }
 
 /// The tracked sections in the order of their streams, and those of one stream in the order of sending, over the entries that
@@ -137,32 +157,33 @@ impl Tracking {
         Ok(())
     }
 
-    /// Releases the oldest section of a stream, and tells whether there was one.
-    pub fn release(&mut self, stream: u64) -> bool
-        ensures found { result ≡ list_any (is_of stream) self.old.sections }
+    /// Releases the oldest section of a stream, and answers the newest entry that it names.
+    pub fn release(&mut self, stream: u64) -> Option<usize>
+        ensures found { is_some result ≡ list_any (is_of stream) self.old.sections }
+        ensures newest { IfSome result (λ n. n ≡ newest_named stream self.old.sections) }
         ensures after { self.new ≡ record self.old { sections = without_oldest_of stream self.old.sections } }
     {
-        let Some(oldest) = self.sections.take_oldest(stream) else {
-            return false;
+        let Some(named) = self.sections.take_oldest(stream) else {
+            return None;
         };
-        take_one(&mut self.references, oldest - self.evicted - 1);
-        true
+        take_one(&mut self.references, named.oldest - self.evicted - 1);
+        Some(named.newest)
     }
 
     /// Releases all sections of a stream.
     pub fn release_all(&mut self, stream: u64)
         ensures { self.new ≡ record self.old { sections = without_all_of stream self.old.sections } }
     {
-        while self.release(stream) {}
+        while self.release(stream).is_some() {}
     }
 
     /// Releases the newest section of a stream, if there is one.
     pub fn release_newest(&mut self, stream: u64)
         ensures { self.new ≡ record self.old { sections = without_newest_of stream self.old.sections } }
     {
-        let Some(oldest) = self.sections.take_newest(stream) else {
+        let Some(named) = self.sections.take_newest(stream) else {
             return;
         };
-        take_one(&mut self.references, oldest - self.evicted - 1);
+        take_one(&mut self.references, named.oldest - self.evicted - 1);
     }
 }

@@ -19,7 +19,7 @@ use Rattle.h3_session.specs.Running.{AnswersEach}
 -- world, each step of which happens, and those of two endpoints with the bytes carried between them.
 pub record AreAnswers (setup : Setup) (events : List Event) (answers : List Answer) : Type 0 where
   pub world : World
-  pub run : Run (Happens setup) empty_world events answers world
+  pub run : Run (Happens setup) (empty_world setup) events answers world
   pub of_ends : answers ≡ answers_of_ends (new_ends setup) events
 
 -- What is said of the answers to some events. There is one for each; and those up to the first that tells of refused memory are those of

@@ -45,12 +45,14 @@ impl Model for Encoding {
 }
 
 impl Encoding {
-    /// An encoder that may not use a table.
-    pub fn new(alloc: Global) -> Encoding
-        ensures { result ≡ record { encoder = encoder_state no_table; unread = [] } }
+    /// An encoder that may not use a table. Whether acknowledgments tell of insertions (RFC 9204, section 2.1.4) is chosen here.
+    pub fn new(alloc: Global, acknowledgments_counted: bool) -> Encoding
+        ensures { result ≡ record { encoder = encoder_state (record no_table { counts_acknowledgments = acknowledgments_counted }); unread = [] } }
     {
+        let mut encoder = Encoder::new(alloc);
+        encoder.count_acknowledgments(acknowledgments_counted);
         Encoding {
-            encoder: Encoder::new(alloc),
+            encoder,
             unread: Vec::new(alloc),
             wait: Wait::Unknown,
         }

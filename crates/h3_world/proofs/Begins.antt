@@ -5,12 +5,14 @@ use Rattle.std.proofs.lemmas.Grind.{common_steps}
 use Rattle.h3_coding.specs.Encodings.{encoding}
 use Rattle.h3_field.specs.Instruction.{DecoderInstruction}
 use Rattle.h3_qpack.specs.Schedule.{beginning}
+use Rattle.h3_qpack.specs.Session.{Session}
 use Rattle.h3_qpack.specs.WholeInstructions.{decoder_instructions_in}
 use Rattle.h3_wire.specs.Encoded.{frame_encoding}
 use Rattle.h3_proto.specs.Pairs.{payload_of}
 use Rattle.h3_proto.specs.StreamIds.{is_request, index_of}
 use Rattle.h3_proto.specs.declared.stream.Side.{Side}
 use Rattle.h3_proto.specs.declared.stream.Side.TheVariants.{Client, Server}
+use Rattle.h3_connection.specs.declared.setup.Announced.{Announced}
 use Rattle.h3_world.specs.declared.setup.Setup.{Setup}
 use Rattle.h3_world.specs.Setup.{announced_at}
 use Rattle.h3_world.specs.Flow.{unused}
@@ -34,52 +36,56 @@ settings_to_come setup side =
     let payload = frame_encoding 4 (payload_of (announced_at setup side).settings) in
     not_none (length (settings_bytes (announced_at setup side))) (length (encoding 0)) (length payload) (length-append (encoding 0) payload) one_byte
 
-exchange-empty : (id : ℕ) → exchange empty_world id ≡ no_exchange
-exchange-empty id = by_test (is_request id)
+exchange-empty : (setup : Setup) (id : ℕ) → exchange (empty_world setup) id ≡ no_exchange
+exchange-empty setup id = by_test (is_request id)
   where
     by_test : (b : Bool) → (if b then unwrap_or (slice_get {X = Exchange} [] (index_of id)) no_exchange else no_exchange) ≡ no_exchange
     by_test true = refl
     by_test false = refl
 
-came-empty : (setup : Setup) (side : Side) → settings_came setup empty_world side ≡ false
+came-empty : (setup : Setup) (side : Side) → settings_came setup (empty_world setup) side ≡ false
 came-empty setup Client = settings_to_come setup Client
 came-empty setup Server = settings_to_come setup Server
 
-flow-empty : (side : Side) (id : ℕ) → flow empty_world side id ≡ unused
-flow-empty Client id = ap (λ e. e.request) (exchange-empty id)
-flow-empty Server id = ap (λ e. e.response) (exchange-empty id)
+flow-empty : (setup : Setup) (side : Side) (id : ℕ) → flow (empty_world setup) side id ≡ unused
+flow-empty setup Client id = ap (λ e. e.request) (exchange-empty setup id)
+flow-empty setup Server id = ap (λ e. e.response) (exchange-empty setup id)
 
-follows_empty : (setup : Setup) (side : Side) → Follows setup empty_world side (beginning 0 0)
+-- the session of a side, before anything
+abbrev begun : Setup → Side → Session
+begun setup side = beginning (announced_at setup side).choices.acknowledgments_counted 0 0
+
+follows_empty : (setup : Setup) (side : Side) → Follows setup (empty_world setup) side (begun setup side)
 follows_empty setup Client =
     record {
       encoder = refl;
-      instructions = sym (ap (λ b. (if b then opening (limits_for setup Client) else []) ++ (beginning 0 0).instructions) (came-empty setup Server));
+      instructions = sym (ap (λ b. (if b then opening (limits_for setup Client) else []) ++ (begun setup Client).instructions) (came-empty setup Server));
       received = refl;
-      decoder_instructions = sym (ap (λ b. drop (length {A = DecoderInstruction} (if b then decoder_instructions_in 0 [] else [])) (silent.own.replies)) (came-empty setup Server));
-      canceled = λ id. sym (ap (λ f. is_some f.fault) (flow-empty Client id));
-      sections = λ id none. sym (ap sections_left (flow-empty Client id));
+      decoder_instructions = sym (ap (λ b. drop (length {A = DecoderInstruction} (if b then decoder_instructions_in 0 [] else [])) ((silent setup.client).own.replies)) (came-empty setup Server));
+      canceled = λ id. sym (ap (λ f. is_some f.fault) (flow-empty setup Client id));
+      sections = λ id none. sym (ap sections_left (flow-empty setup Client id));
     }
 follows_empty setup Server =
     record {
       encoder = refl;
-      instructions = sym (ap (λ b. (if b then opening (limits_for setup Server) else []) ++ (beginning 0 0).instructions) (came-empty setup Client));
+      instructions = sym (ap (λ b. (if b then opening (limits_for setup Server) else []) ++ (begun setup Server).instructions) (came-empty setup Client));
       received = refl;
-      decoder_instructions = sym (ap (λ b. drop (length {A = DecoderInstruction} (if b then decoder_instructions_in 0 [] else [])) (silent.own.replies)) (came-empty setup Client));
-      canceled = λ id. sym (ap (λ f. is_some f.fault) (flow-empty Server id));
-      sections = λ id none. sym (ap sections_left (flow-empty Server id));
+      decoder_instructions = sym (ap (λ b. drop (length {A = DecoderInstruction} (if b then decoder_instructions_in 0 [] else [])) ((silent setup.server).own.replies)) (came-empty setup Client));
+      canceled = λ id. sym (ap (λ f. is_some f.fault) (flow-empty setup Server id));
+      sections = λ id none. sym (ap sections_left (flow-empty setup Server id));
     }
 
-writer_empty : (setup : Setup) (side : Side) (knows : Bool) → IsSoundWriter setup side silent knows
-writer_empty setup side knows =
+writer_empty : (setup : Setup) (side : Side) (announced : Announced) (knows : Bool) → IsSoundWriter setup side (silent announced) knows
+writer_empty setup side announced knows =
     record { control = omega arith; encoder = omega arith; decoder = omega arith; unknown = λ e. (refl, refl, refl); limit = omega arith; capacity = inr (refl, refl) }
 
-session_empty : (setup : Setup) (side : Side) → HasSession setup empty_world side
-session_empty setup side = record { events = []; session = beginning 0 0; run = refl; follows = follows_empty setup side }
+session_empty : (setup : Setup) (side : Side) → HasSession setup (empty_world setup) side
+session_empty setup side = record { counts = (announced_at setup side).choices.acknowledgments_counted; events = []; session = begun setup side; run = refl; follows = follows_empty setup side }
 
-pub empty_sound : (setup : Setup) → IsSoundWorld setup empty_world
+pub empty_sound : (setup : Setup) → IsSoundWorld setup (empty_world setup)
 empty_sound setup =
     record {
-      client = record { writer = writer_empty setup Client (settings_came setup empty_world Server); counts = λ most. refl; session = session_empty setup Client };
-      server = record { writer = writer_empty setup Server (settings_came setup empty_world Client); counts = λ most. refl; session = session_empty setup Server };
+      client = record { writer = writer_empty setup Client setup.client (settings_came setup (empty_world setup) Server); counts = λ most. refl; session = session_empty setup Client };
+      server = record { writer = writer_empty setup Server setup.server (settings_came setup (empty_world setup) Client); counts = λ most. refl; session = session_empty setup Server };
       exchanges = tt;
     }

@@ -150,7 +150,7 @@ pub written_insertions : SessionsAreSound → (setup : Setup) (w : World) (side 
 written_insertions law setup w side h =
     ap (count_by is_insertion) h.follows.instructions
     ∙ behind_opening (limits_for setup side) (settings_came setup w (other side)) h.session.instructions
-    ∙ run_inserts (beginning 0 0) h.events h.session refl h.run
+    ∙ run_inserts (beginning h.counts 0 0) h.events h.session refl h.run
     ∙ (session_is_sound law setup w side h).read.one_each
     ∙ ap (λ x. length x.inserted) h.follows.encoder
 

@@ -75,10 +75,10 @@ step_has canceled s (DecoderInstructionRead instruction rest) new sound e all =
     subst AllHave (sym e.1) (subst (λ c. AllByRecursion (HasItsCapacity c) s.sections) (sym (read_capacity s.encoder instruction)) all)
 
 -- over every schedule, from one that was gone through
-run_has : SessionsAreSound → CanceledNameNone → (before : List SessionEvent) (s : Session) (events : List SessionEvent) (new : Session) → SessionRun (beginning 0 0) before s → SessionRun s events new → AllHave s → AllHave new
-run_has law canceled before s [] new first run all = subst AllHave (sym run) all
-run_has law canceled before s (event ∷ events) new first run all =
-    run_has law canceled (before ++ event ∷ []) run.0 events new (run_joined (beginning 0 0) before (event ∷ []) s run.0 first (run.0, run.1, refl)) run.2 (step_has canceled s event run.0 (law before s first) run.1 all)
+run_has : SessionsAreSound → CanceledNameNone → (counts : Bool) (before : List SessionEvent) (s : Session) (events : List SessionEvent) (new : Session) → SessionRun (beginning counts 0 0) before s → SessionRun s events new → AllHave s → AllHave new
+run_has law canceled counts before s [] new first run all = subst AllHave (sym run) all
+run_has law canceled counts before s (event ∷ events) new first run all =
+    run_has law canceled counts (before ++ event ∷ []) run.0 events new (run_joined (beginning counts 0 0) before (event ∷ []) s run.0 first (run.0, run.1, refl)) run.2 (step_has canceled s event run.0 (law counts before s first) run.1 all)
 
-pub sections_have_capacity : SessionsAreSound → CanceledNameNone → (events : List SessionEvent) (s : Session) → SessionRun (beginning 0 0) events s → AllHave s
-sections_have_capacity law canceled events s run = run_has law canceled [] (beginning 0 0) events s refl run tt
+pub sections_have_capacity : SessionsAreSound → CanceledNameNone → (counts : Bool) (events : List SessionEvent) (s : Session) → SessionRun (beginning counts 0 0) events s → AllHave s
+sections_have_capacity law canceled counts events s run = run_has law canceled counts [] (beginning counts 0 0) events s refl run tt

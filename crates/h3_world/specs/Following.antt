@@ -1,5 +1,5 @@
 -- The QPACK session of one direction, as the world goes.
-use Rattle.std.specs.Prelude.{◌≡◌, ◌⊎◌, ℕ, List, [], ◌∷◌, ◌++◌, length, drop, map, filter, ◌==◌, None, is_some, if◌then◌else◌}
+use Rattle.std.specs.Prelude.{◌≡◌, ◌⊎◌, ℕ, Bool, List, [], ◌∷◌, ◌++◌, length, drop, map, filter, ◌==◌, None, is_some, if◌then◌else◌}
 use Rattle.h3_field.specs.Field.{Field}
 use Rattle.h3_field.specs.Instruction.{EncoderInstruction, DecoderInstruction}
 use Rattle.h3_field.specs.Instruction.EncoderInstruction.{SetCapacity}
@@ -72,11 +72,12 @@ pub record Follows (setup : Setup) (w : World) (side : Side) (s : Session) : Typ
   pub canceled : (id : ℕ) → is_canceled s id ≡ is_some (flow w side id).fault
   pub sections : (id : ℕ) → (flow w side id).fault ≡ None → sections_on id s.sections ≡ sections_left (flow w side id)
 
--- Some schedule of one encoder and one decoder leads there.
+-- Some schedule of one encoder and one decoder leads there, whether acknowledgments count for the encoder or not.
 pub record HasSession (setup : Setup) (w : World) (side : Side) : Type 0 where
+  pub counts : Bool
   pub events : List SessionEvent
   pub session : Session
-  pub run : SessionRun (beginning 0 0) events session
+  pub run : SessionRun (beginning counts 0 0) events session
   pub follows : Follows setup w side session
 
 -- The encoder has the announced capacity, or may name no entry yet.

@@ -42,17 +42,17 @@ abbrev pub small_client : ℕ → Setup
 small_client section = between (plain section 0 0) (plain 1000 0 0)
 
 abbrev pub answers : Setup → List Event → List Answer
-answers setup events = answers_from setup empty_world events
+answers setup events = answers_from setup (empty_world setup) events
 
 -- what the side has written on a stream once all of that has happened
 abbrev pub written : Setup → List Event → Side → ℕ → List ℕ
-written setup events side id = flow_bytes (flow (world_after setup empty_world events) side id)
+written setup events side id = flow_bytes (flow (world_after setup (empty_world setup) events) side id)
 
 abbrev pub written_by_encoder : Setup → List Event → Side → List ℕ
-written_by_encoder setup events side = encoder_stream (party (world_after setup empty_world events) side)
+written_by_encoder setup events side = encoder_stream (party (world_after setup (empty_world setup) events) side)
 
 abbrev pub written_by_decoder : Setup → List Event → Side → List ℕ
-written_by_decoder setup events side = decoder_stream (party (world_after setup empty_world events) side)
+written_by_decoder setup events side = decoder_stream (party (world_after setup (empty_world setup) events) side)
 
 -- heads of responses, without regular fields, and with one
 abbrev pub status : ℕ → Fields

@@ -2,8 +2,10 @@
 use Rattle.std.specs.Prelude.{List, []}
 use Rattle.h3_proto.specs.declared.stream.Side.{Side}
 use Rattle.h3_proto.specs.declared.stream.Side.TheVariants.{Client, Server}
-use Rattle.h3_qpack.specs.EncoderHistory.{EncoderHistory, no_table}
-use Rattle.h3_connection.specs.Endpoint.{Own}
+use Rattle.h3_qpack.specs.EncoderHistory.{EncoderHistory}
+use Rattle.h3_connection.specs.Endpoint.{Own, first_encoder}
+use Rattle.h3_connection.specs.declared.setup.Announced.{Announced}
+use Rattle.h3_world.specs.declared.setup.Setup.{Setup}
 use Rattle.h3_world.specs.Flow.{Flow, unused}
 
 -- A side: what it wrote on its control, encoder and decoder streams with how many bytes of each were delivered, and what its
@@ -23,18 +25,19 @@ pub record World : Type 0 where
   -- in the order of their ids 0, 4, 8, ..
   pub exchanges : List Exchange
 
-abbrev pub silent : Party
-silent =
+abbrev pub silent : Announced → Party
+silent announced =
     record {
       own = record { goaways = []; control_taken = 0; instructions = []; encoder_taken = 0; replies = []; decoder_taken = 0 };
-      encoder = no_table;
+      encoder = first_encoder announced;
     }
 
 abbrev pub no_exchange : Exchange
 no_exchange = record { request = unused; response = unused }
 
-abbrev pub empty_world : World
-empty_world = record { client = silent; server = silent; exchanges = [] }
+-- before anything
+abbrev pub empty_world : Setup → World
+empty_world setup = record { client = silent setup.client; server = silent setup.server; exchanges = [] }
 
 abbrev pub party : World → Side → Party
 party w Client = w.client

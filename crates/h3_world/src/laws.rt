@@ -21,7 +21,7 @@ ghost use Rattle.h3_world.specs.declared.event.Answer.{Answer};
 /// said of a step holds of it: with everything delivered everything comes out, there is no connection fault, and no more streams
 /// wait than were announced.
 pub fn every_exact_step_happens()
-    ensures begins { (setup : Setup) → IsSoundWorld setup empty_world }
+    ensures begins { (setup : Setup) → IsSoundWorld setup (empty_world setup) }
     ensures kept { (setup : Setup) (w new : World) (e : Event) (a : Answer) → IsSendable e → Step setup w e a new → IsExact w e a → IsSoundWorld setup w → IsSoundWorld setup new }
     ensures both { (setup : Setup) (w new : World) (e : Event) (a : Answer) → IsSendable e → Step setup w e a new → IsExact w e a → IsSoundWorld setup w → Happens setup w e a new × IsSoundWorld setup new }
     ensures happens { (setup : Setup) (w new : World) (e : Event) (a : Answer) → Step setup w e a new → IsExact w e a → IsSoundWorld setup w → IsSoundWorld setup new → Happens setup w e a new }
@@ -39,15 +39,15 @@ ghost use Rattle.h3_world.specs.Machine.{answers_from, world_after};
 /// run of exact steps.
 pub fn every_schedule_runs()
     ensures machine { (setup : Setup) (events : List Event) → AllByRecursion IsSendable events →
-        Run (Happens setup) empty_world events (answers_from setup empty_world events) (world_after setup empty_world events) }
+        Run (Happens setup) (empty_world setup) events (answers_from setup (empty_world setup) events) (world_after setup (empty_world setup) events) }
     ensures exact { (setup : Setup) (events : List Event) (answers : List Answer) (new : World) → AllByRecursion IsSendable events →
-        Run (λ w e a v. Step setup w e a v × IsExact w e a) empty_world events answers new → Run (Happens setup) empty_world events answers new × IsSoundWorld setup new }
+        Run (λ w e a v. Step setup w e a v × IsExact w e a) (empty_world setup) events answers new → Run (Happens setup) (empty_world setup) events answers new × IsSoundWorld setup new }
 {
     h3_qpack::laws::every_session_is_sound();
     h3_qpack::laws::encoders_without_insertions_use_no_table();
 }
 
-ghost use Rattle.std.specs.Prelude.{◌≡◌, ℕ, ◌<◌, Ok};
+ghost use Rattle.std.specs.Prelude.{◌≡◌, ℕ, ◌<◌, Bool, Ok};
 ghost use Rattle.h3_proto.specs.Config.{announced};
 ghost use Rattle.h3_proto.specs.declared.config.Config.{Config};
 ghost use Rattle.h3_connection.specs.Announcing.{announced_by};
@@ -66,7 +66,7 @@ ghost use Rattle.h3_qpack.specs.Session.{Session, count_of};
 /// Over every schedule of one encoder, whose peer's limits come at any time, a section that names entries was written with the capacity
 /// that the encoder has.
 pub fn sections_have_the_capacity()
-    ensures { (events : List SessionEvent) (s : Session) → SessionRun (beginning 0 0) events s → AllByRecursion (λ b. 0 < count_of b → b.encoder.capacity ≡ s.encoder.capacity) s.sections }
+    ensures { (counts : Bool) (events : List SessionEvent) (s : Session) → SessionRun (beginning counts 0 0) events s → AllByRecursion (λ b. 0 < count_of b → b.encoder.capacity ≡ s.encoder.capacity) s.sections }
 {
     h3_qpack::laws::every_session_is_sound();
     h3_qpack::laws::canceled_streams_use_no_table();

@@ -7,7 +7,7 @@ use Rattle.h3_headline.proofs.parts.endpoints_hand_out_what_was_sent.Goals as go
 pub returns-clause-fault : goal.returns-clause-fault
 returns-clause-fault c = λ setup events made plain sendable.
     let ran = c.two_endpoints_run_in_a_world.ensures setup events made plain sendable in
-    no_fault setup empty_world ran.0 events (answers_of_ends (new_ends setup) events) ran.1
+    no_fault setup (empty_world setup) ran.0 events (answers_of_ends (new_ends setup) events) ran.1
 
 pub returns-clause-front : goal.returns-clause-front
 returns-clause-front c = λ setup events side id made plain sendable.

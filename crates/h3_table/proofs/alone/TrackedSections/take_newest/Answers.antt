@@ -9,4 +9,4 @@ returns c =
     let none = rw c.in-Some.is at c.self.invariant in
     let one = rw c.in-Some.is at c.self.view_is in
     let it : (c.in-Some.only.stream == c.args.stream) ≡ true = grind (arith, common_steps, c.if-only-stream.false) in
-    rw (← one, none) (newest_alone c.args.stream c.in-Some.only it)
+    rw (c.named.ensures, ← one, none) (newest_alone c.args.stream c.in-Some.only it)

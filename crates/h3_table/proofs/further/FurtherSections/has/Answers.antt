@@ -1,11 +1,12 @@
-use Rattle.std.proofs.Common.{◌≡◌, false, sym, ◌∙◌, List, ℕ, Some, None, Option, is_some, refl}
+use Rattle.std.proofs.Common.{◌≡◌, false, sym, ◌∙◌, List, Some, None, Option, is_some, refl}
 use Rattle.std.specs.Ordering.{nat_cmp}
 use Rattle.std.specs.BTreeMap.{is_at}
 use Rattle.std.specs.Map.{lookup}
+use Rattle.h3_table.specs.declared.tracking.NamedEntries.{NamedEntries}
 use Rattle.h3_table.proofs.Streams.{none_of_map}
 use Rattle.h3_table.proofs.further.FurtherSections.has.Goals as goal
 
-none_found : (o : Option (List ℕ)) → is_some o ≡ false → o ≡ None
+none_found : (o : Option (List NamedEntries)) → is_some o ≡ false → o ≡ None
 none_found None e = refl
 none_found (Some ns) e = absurd (cc)
 

@@ -26,7 +26,7 @@ returns-clause-taken c =
     let here = c.place_of-place.ensures.value ∙ ap (λ n. place_of n c.args.stream) len in
     let is = get_or_read_under ts c.place_of-place.result c.len-len.result there nothing c.index-there.ensures c.place_of-place.ensures.below len in
     let below : c.place_of-place.result < length ts = omega (arith, c.place_of-place.ensures.below, len) in
-    rw (← c.self.view_is, c.oldest-2.ensures)
+    rw (← c.self.view_is, c.named.ensures)
     (taken_there ts c.args.stream c.place_of-place.result there here below is (sym c.stream.ensures ∙ c.if-stream.false) (λ z. c.if-oldest-eq0.false (c.oldest.ensures ∙ z)))
 
 pub returns-clause-alone : goal.returns-clause-alone
