@@ -16,7 +16,7 @@ returns-in-Ok-clause-ok c = λ id r i replies few at.
     read_head c.args.side c.args.announced.now id r i replies c.args.fields.items c.args.place c.in-Ok.header few
     (subst (λ l. head_of l ≡ IsHead c.in-Ok.header) c.as_slice-list.ensures.value (c.lists_are_their_value.ensures.head _ _ c.in-Ok.ensures.ok)) at
     ∙ ap (λ b. head_or_trailer c.args.side id i replies b c.args.place c.in-Ok.header)
-        (ap (broken_rule c.args.side c.args.announced.now c.args.place) (sym c.as_slice-list.ensures.value) ∙ sym c.broken_rule-broken.ensures)
+    (ap (broken_rule c.args.side c.args.announced.now c.args.place) (sym c.as_slice-list.ensures.value) ∙ sym c.broken_rule-broken.ensures)
     ∙ c.judge_header.ensures id i replies at
 
 pub returns-clause-ok : goal.returns-clause-ok
