@@ -1,6 +1,7 @@
 pub mod Finding
 pub mod Replying
 pub mod Judging
+pub mod Left
 pub mod Trying
 pub mod Placing
 pub mod Gives

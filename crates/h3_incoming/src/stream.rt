@@ -18,6 +18,7 @@ use std::marker::Model;
 mod body;
 mod frames;
 mod front;
+mod left;
 mod pull;
 mod sections;
 mod unread;
@@ -38,6 +39,8 @@ pub struct IncomingStream {
     ended: bool,
     was_reset: bool,
     is_over: bool,
+    // whether bytes came behind the end that was handed out
+    came_behind: bool,
     fault: Option<StreamFault>,
 }
 
@@ -60,7 +63,7 @@ impl Model for IncomingStream {
       fault = s.fault;
     } };
 
-    ghost use Rattle.std.specs.Prelude.{◌≡◌, ◌<◌, ◌≤◌, true, [], None};
+    ghost use Rattle.std.specs.Prelude.{◌≡◌, ◌<◌, ◌≤◌, true, false, [], None};
     ghost use Rattle.std.specs.Option.{is_some};
 
     ghost invariant = { λ s. (0 < s.body_left → s.unread.decoder.expected ≡ None)
@@ -69,7 +72,8 @@ impl Model for IncomingStream {
         × (is_some s.fault ≡ true → s.unread.pieces ≡ [])
         × (s.tries ≤ 2)
         × (0 < s.waits_for → s.tries ≡ 1)
-        × (s.section ≡ None → s.waits_for ≡ 0) };
+        × (s.section ≡ None → s.waits_for ≡ 0)
+        × (s.is_over ≡ true → s.came_behind ≡ false → s.unread.pieces ≡ []) };
 }
 
 impl IncomingStream {
@@ -87,6 +91,7 @@ impl IncomingStream {
             ended: false,
             was_reset: false,
             is_over: false,
+            came_behind: false,
             fault: None,
         }
     }
@@ -102,6 +107,7 @@ impl IncomingStream {
         if self.fault.is_some() {
             return Ok(());
         }
+        self.came_behind = self.is_over;
         self.unread.push(bytes)
     }
 

@@ -1,5 +1,5 @@
 //! What is sent on a request stream: where its message is, and the frames that wait.
-ghost use Rattle.std.specs.Prelude.{◌≡◌, ◌≢◌, ◌+◌, ◌-◌, ◌*◌, ◌<◌, ◌≤◌, ◌^◌, ◌++◌, [], length, take, drop, min, max, true, false, OnOk, OnErr, IfErr, IsTrue};
+ghost use Rattle.std.specs.Prelude.{◌≡◌, ◌≢◌, ◌==◌, ◌+◌, ◌-◌, ◌*◌, ◌<◌, ◌≤◌, ◌^◌, ◌++◌, [], length, take, drop, min, max, true, false, OnOk, OnErr, IfErr, IsTrue};
 ghost use Rattle.std.specs.VecDeque.{deque_len, deque_capacity};
 ghost use Rattle.h3_wire.specs.Outgoing.{all_of};
 ghost use Rattle.h3_connection.specs.WaitingPieces.{bytes_of, lent, without_front};
@@ -259,6 +259,34 @@ impl OutgoingStream {
         self.pieces.pop_front();
         self.waiting -= len;
         len
+    }
+
+    /// Whether no frame waits.
+    pub fn is_empty(&self) -> bool
+        ensures { result ≡ (length self.now.pieces == 0) }
+    {
+        self.pieces.is_empty()
+    }
+
+    /// One like this, on which no frame waits. It takes no memory.
+    pub fn like(&self, alloc: Global) -> OutgoingStream
+        requires { (length self.now.pieces == 0) ≡ true }
+        ensures { result ≡ self.now }
+    {
+        OutgoingStream {
+            pieces: VecDeque::new(alloc),
+            waiting: 0,
+            place: self.place,
+            is_finished: self.is_finished,
+            is_reset: self.is_reset,
+        }
+    }
+
+    /// Where the message is.
+    pub fn place(&self) -> SendPlace
+        ensures { result ≡ self.now.place }
+    {
+        self.place
     }
 
     /// Whether the message was finished.

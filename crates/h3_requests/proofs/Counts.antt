@@ -16,19 +16,26 @@ use Rattle.h3_requests.specs.Limited.{AreReceivers}
 pub counted_again : {counts others : List ℕ} {streams : Streams RequestState} → others ≡ counts → AreCounted counts streams → AreCounted others streams
 counted_again {streams} same h = subst (λ l. AreCounted l streams) (sym same) h
 
+-- the stream that was written is found as it was under way
+pub kept_there : {under_way : Option RequestState} (old new : Streams RequestState) (id : ℕ) (before after : RequestState) → Writes old new under_way id after → under_way ≡ Some before
+    → kept_at old id ≡ Some before
+kept_there old new id before after writes there = writes.3 before there
+
 -- a stream was written that waits for as much as before
-pub written : (counts : List ℕ) (old new : Streams RequestState) (id : ℕ) (before after : RequestState) → Writes old new id after → kept_at old id ≡ Some before
+pub written : {under_way : Option RequestState} (counts : List ℕ) (old new : Streams RequestState) (id : ℕ) (before after : RequestState) → Writes old new under_way id after → under_way ≡ Some before
     → after.incoming.waits_for ≡ before.incoming.waits_for → AreCounted counts old → AreCounted counts new
 written counts old new id before after writes there same h =
     let sets : Sets old new id after = writes.0 (ap is_some there) in
-    record { agrees = agrees_set_same counts old new id after h.distinct writes.2 h.agrees sets (same ∙ sym (ap waits_at there)); distinct = writes.2 }
+    let kept = kept_there old new id before after writes there in
+    record { agrees = agrees_set_same counts old new id after h.distinct writes.2 h.agrees sets (same ∙ sym (ap waits_at kept)); distinct = writes.2 }
 
 -- or its count was replaced
-pub replaced : (counts others : List ℕ) (old new : Streams RequestState) (id : ℕ) (before after : RequestState) → Writes old new id after → kept_at old id ≡ Some before
+pub replaced : {under_way : Option RequestState} (counts others : List ℕ) (old new : Streams RequestState) (id : ℕ) (before after : RequestState) → Writes old new under_way id after → under_way ≡ Some before
     → Replaces counts others before.incoming.waits_for after.incoming.waits_for → AreCounted counts old → AreCounted others new
 replaced counts others old new id before after writes there replaces h =
     let sets : Sets old new id after = writes.0 (ap is_some there) in
-    let goes : Replaces counts others (waits_at (kept_at old id)) after.incoming.waits_for = subst (λ o. Replaces counts others (waits_at o) after.incoming.waits_for) (sym there) replaces in
+    let kept = kept_there old new id before after writes there in
+    let goes : Replaces counts others (waits_at (kept_at old id)) after.incoming.waits_for = subst (λ o. Replaces counts others (waits_at o) after.incoming.waits_for) (sym kept) replaces in
     record { agrees = agrees_set counts others old new id after h.distinct writes.2 h.agrees sets goes; distinct = writes.2 }
 
 has_count_by : (counts : List ℕ) (streams : Streams RequestState) (id : ℕ) (o : Option RequestState) → kept_at streams id ≡ o → AreCounted counts streams → HasCount counts (waits_at o)

@@ -1,59 +1,126 @@
--- What a table of hashes says of its keys, in the words of `kept_at`: both tests of an id are one.
-use Rattle.std.proofs.Common.{arith, ◌≡◌, ℕ, false, [], ◌∷◌, refl, sym, ◌∙◌, ap, subst}
-use Rattle.std.specs.Prelude.{Some, None, ◌==◌, ◌≢◌, nat_eq, IsSome}
+-- What is found in the streams of a map, by what is stored of each.
+use Rattle.std.proofs.Common.{◌≡◌, ◌<◌, ◌≤◌, ℕ, ◌^◌, Bool, true, false, [], ◌∷◌, refl, sym, ◌∙◌, ap, subst, inl, inr, arith}
+use Rattle.std.specs.Prelude.{Option, Some, None, ◌≢◌, IsSome, IfSome, is_some}
 use Rattle.std.specs.BTreeMap.{is_at}
 use Rattle.std.specs.Cmp.{unsigned_tied}
-use Rattle.std.specs.List.{AllByRecursion, IsDistinct}
-use Rattle.std.specs.Map.{keys_of, lookup, set_value}
+use Rattle.std.specs.Map.{lookup, set_value}
 use Rattle.std.specs.Ordering.{nat_cmp}
-use Rattle.std.proofs.lemmas.Grind.{common_steps}
+use Rattle.std.proofs.lemmas.Bool.{cases_eq}
 use Rattle.std.proofs.lemmas.Map.Steps.{set_value_same}
-use Rattle.h3_blocked.specs.Sums.{TakesOut}
-use Rattle.h3_connection.specs.Calls.{Sets}
-use Rattle.h3_connection.specs.State.{kept_at}
-use Rattle.h3_connection.specs.StreamSets.{Streams, HaveDistinctIds, stream_at}
+use Rattle.h3_blocked.specs.Sums.{TakesOut, kept_is_at}
+use Rattle.h3_connection.specs.Calls.{AllSame, Sets}
+use Rattle.h3_connection.specs.State.{RequestState, kept_at}
+use Rattle.h3_connection.specs.StreamSets.{Streams, HaveDistinctIds}
 use Rattle.h3_connection.specs.StreamSetLaws.{other_id}
+use Rattle.h3_requests.specs.Listed.{streams_of}
 use Rattle.h3_requests.specs.Lending.{Writes}
+use Rattle.h3_requests.specs.Stored.{either, over_at, stored_at, streams_in, under_way_at}
+use Rattle.h3_requests.specs.declared.map.StreamMap.{StreamMap}
+use Rattle.h3_requests.proofs.Listed as listed
 
-same_test : (id : ℕ) → is_at (nat_cmp id) ≡ nat_eq id
-same_test id = λ i q. unsigned_tied id q i
+-- what stands at an id is found there,
+pub found : {X : Type 0} (f : ℕ → Option X) (id : ℕ) → id < 2 ^ 64 → kept_at (streams_of f) id ≡ f id
+found f id few = kept_is_at (streams_of f) id ∙ listed.found f id few
 
-pub found : {X : Type 0} (streams : Streams X) (id : ℕ) → lookup (nat_eq id) streams ≡ kept_at streams id
-found streams id = ap (λ test. lookup test streams) (sym (same_test id))
+-- and where the same stands the same is found
+pub found_alike : {X : Type 0} (f g : ℕ → Option X) (id : ℕ) → g id ≡ f id → kept_at (streams_of g) id ≡ kept_at (streams_of f) id
+found_alike f g id is = kept_is_at (streams_of g) id ∙ listed.found_alike f g id is ∙ sym (kept_is_at (streams_of f) id)
 
--- at each other id the same is found
-abbrev KeepsOthers : {X : Type 0} → Streams X → Streams X → ℕ → Type 0
-KeepsOthers old new id = (q : ℕ) → nat_eq id q ≡ false → lookup (nat_eq q) new ≡ lookup (nat_eq q) old
+-- one stream is set,
+pub sets : {X : Type 0} (f g : ℕ → Option X) (id : ℕ) (x : X) → id < 2 ^ 64 → g id ≡ Some x → ((q : ℕ) → q ≢ id → g q ≡ f q) → Sets (streams_of f) (streams_of g) id x
+sets f g id x few here others = record { here = found g id few ∙ here; others = λ q differs. found_alike f g q (others q differs) }
 
-others_kept : {X : Type 0} (old new : Streams X) (id : ℕ) → KeepsOthers old new id → (q : ℕ) → q ≢ id → kept_at new q ≡ kept_at old q
-others_kept old new id others q differs = sym (found new q) ∙ others q (other_id q id differs) ∙ found old q
+-- or taken out,
+pub takes_out : {X : Type 0} (f g : ℕ → Option X) (id : ℕ) → id < 2 ^ 64 → g id ≡ None → ((q : ℕ) → q ≢ id → g q ≡ f q) → TakesOut (streams_of f) (streams_of g) id
+takes_out f g id few here others = record { here = found g id few ∙ here; others = λ q differs. found_alike f g q (others q differs) }
 
--- a stream is set,
-pub update_sets : {X : Type 0} (old new : Streams X) (id : ℕ) (x : X) → lookup (nat_eq id) new ≡ Some x → KeepsOthers old new id → Sets old new id x
-update_sets old new id x here others = record { here = sym (found new id) ∙ here; others = others_kept old new id others }
+-- or each is as it was
+pub all_same : {X : Type 0} (f g : ℕ → Option X) → ((q : ℕ) → g q ≡ f q) → AllSame (streams_of f) (streams_of g)
+all_same f g same = record { each = λ q. ap (λ l. kept_at l q) (listed.same_streams f g same) }
 
--- or taken out
-pub update_takes_out : {X : Type 0} (old new : Streams X) (id : ℕ) → lookup (nat_eq id) new ≡ None → KeepsOthers old new id → TakesOut old new id
-update_takes_out old new id here others = record { here = sym (found new id) ∙ here; others = others_kept old new id others }
+-- the same but at one id, and there too
+pub at_each : {X : Type 0} (f g : ℕ → Option X) (id : ℕ) → g id ≡ f id → ((q : ℕ) → q ≢ id → g q ≡ f q) → (q : ℕ) → g q ≡ f q
+at_each f g id here others q = elim (cases_eq q id) [
+  | inl same ↦ ap g same ∙ here ∙ sym (ap f same)
+  | inr differs ↦ others q differs
+]
 
-none_equal : {X : Type 0} (streams : Streams X) (id : ℕ) → AllByRecursion (λ q. nat_eq id q ≡ false) (keys_of streams) → stream_at streams id ≡ None
-none_equal [] id h = refl
-none_equal ((q, x) ∷ streams) id h =
-    let there : (q == id) ≡ false = grind (arith, common_steps, h.0) in
-    rw there (none_equal streams id h.1)
+-- an id, as a number
+pub few : (number id : ℕ) → number ≡ id → number < 2 ^ 62 → id < 2 ^ 64
+few number id is below = omega (arith, is, below)
+
+-- another id is at another key
+pub not_at : (id q : ℕ) → q ≢ id → is_at (nat_cmp id) q ≡ false
+not_at id q differs = unsigned_tied id q ∙ other_id q id differs
+
+-- at each other key the same is found
+abbrev pub KeepsOthers : {X : Type 0} → Streams X → Streams X → ℕ → Type 0
+KeepsOthers old new id = (q : ℕ) → is_at (nat_cmp id) q ≡ false → kept_at new q ≡ kept_at old q
+
+-- what is stored of a stream
+abbrev pub stored : {X : Type 0} → (under_way over : Streams X) → ℕ → Option X
+stored under_way over q = either (kept_at under_way q) (kept_at over q)
+
+stored_alike : {X : Type 0} (u v o p : Streams X) (q : ℕ) → kept_at v q ≡ kept_at u q → kept_at p q ≡ kept_at o q → stored v p q ≡ stored u o q
+stored_alike u v o p q under_way over = ap (λ x. either x (kept_at p q)) under_way ∙ ap (either (kept_at u q)) over
+
+-- what is found of a stream, by what is found of it among those under way
+pub under : (s : StreamMap) (number id : ℕ) (o : Option RequestState) → number ≡ id → number < 2 ^ 62 → o ≡ kept_at s.under_way.entries number → kept_at (streams_in s) id ≡ either o (over_at s id)
+under s number id o is below same = found (stored_at s) id (few number id is below) ∙ ap (λ x. either x (over_at s id)) (ap (kept_at s.under_way.entries) (sym is) ∙ sym same)
+
+-- nothing is stored,
+pub none_stored : (s : StreamMap) → s.under_way.entries ≡ [] → s.over ≡ [] → streams_in s ≡ []
+none_stored s under_way over = listed.nothing (stored_at s) (λ q. ap (λ l. either (kept_at l q) (over_at s q)) under_way ∙ ap (λ l. kept_at l q) over)
+
+-- or the same
+pub same_stored : (s n : StreamMap) → n.under_way.entries ≡ s.under_way.entries → n.over ≡ s.over → streams_in n ≡ streams_in s
+same_stored s n under_way over =
+    listed.same_streams (stored_at s) (stored_at n) (λ q. stored_alike s.under_way.entries n.under_way.entries s.over n.over q (ap (λ l. kept_at l q) under_way) (ap (λ l. kept_at l q) over))
+
+-- a stream is put among those under way,
+pub put_in : {X : Type 0} (u v o p : Streams X) (id : ℕ) (x : X) → id < 2 ^ 64 → kept_at v id ≡ Some x → KeepsOthers u v id → p ≡ o → Sets (streams_of (stored u o)) (streams_of (stored v p)) id x
+put_in u v o p id x below here others same =
+    sets (stored u o) (stored v p) id x below (ap (λ y. either y (kept_at p id)) here) (λ q differs. stored_alike u v o p q (others q (not_at id q differs)) (ap (λ l. kept_at l q) same))
+
+-- or taken out again before it counted,
+pub put_back : {X : Type 0} (u v w o p : Streams X) (id : ℕ) → kept_at u id ≡ None → KeepsOthers u v id → kept_at w id ≡ None → KeepsOthers v w id → p ≡ o
+    → streams_of (stored w p) ≡ streams_of (stored u o)
+put_back u v w o p id was others none again same =
+    listed.same_streams (stored u o) (stored w p) (at_each (stored u o) (stored w p) id (stored_alike u w o p id (none ∙ sym was) (ap (λ l. kept_at l id) same))
+    (λ q differs. stored_alike u w o p q (again q (not_at id q differs) ∙ others q (not_at id q differs)) (ap (λ l. kept_at l q) same)))
+
+-- or taken out of both,
+pub taken_out : {X : Type 0} (u v o p : Streams X) (id : ℕ) → id < 2 ^ 64 → kept_at v id ≡ None → KeepsOthers u v id → TakesOut o p id → TakesOut (streams_of (stored u o)) (streams_of (stored v p)) id
+taken_out u v o p id below none others takes =
+    takes_out (stored u o) (stored v p) id below (ap (λ y. either y (kept_at p id)) none ∙ takes.here)
+    (λ q differs. stored_alike u v o p q (others q (not_at id q differs)) (takes.others q differs))
+
+-- or taken up from those that are over,
+pub taken_up : {X : Type 0} (u v o : Streams X) (id : ℕ) (x : X) → kept_at u id ≡ None → kept_at o id ≡ Some x → kept_at v id ≡ Some x → KeepsOthers u v id
+    → streams_of (stored v o) ≡ streams_of (stored u o)
+taken_up u v o id x was over here others =
+    let at : stored v o id ≡ stored u o id = ap (λ y. either y (kept_at o id)) here ∙ sym (ap (λ y. either y (kept_at o id)) was ∙ over) in
+    listed.same_streams (stored u o) (stored v o) (at_each (stored u o) (stored v o) id at (λ q differs. stored_alike u v o o q (others q (not_at id q differs)) refl))
+
+-- or is from now on among those that are over
+pub retired : {X : Type 0} (u v o p : Streams X) (id : ℕ) (x : X) → kept_at u id ≡ Some x → Sets o p id x → kept_at v id ≡ None → KeepsOthers u v id
+    → streams_of (stored v p) ≡ streams_of (stored u o)
+retired u v o p id x was over none others =
+    let at : stored v p id ≡ stored u o id = ap (λ y. either y (kept_at p id)) none ∙ over.here ∙ sym (ap (λ y. either y (kept_at o id)) was) in
+    listed.same_streams (stored u o) (stored v p) (at_each (stored u o) (stored v p) id at (λ q differs. stored_alike u v o p q (others q (not_at id q differs)) (over.others q differs)))
 
 -- no id stands twice
-pub distinct_ids : {X : Type 0} (streams : Streams X) → IsDistinct nat_eq (keys_of streams) → HaveDistinctIds streams
-unfolding IsDistinct
-distinct_ids [] h = tt
-distinct_ids ((q, x) ∷ streams) h = (none_equal streams q h.0, distinct_ids streams h.1)
+pub distinct_in : (s : StreamMap) → HaveDistinctIds (streams_in s)
+distinct_in s = listed.distinct (stored_at s)
 
 -- a stream that was lent is given back
-pub writes : {X : Type 0} (old new : Streams X) (id : ℕ) (x : X) → new ≡ set_value (nat_eq id) old x → (IsSome (lookup (nat_eq id) old) → Sets old new id x) → IsDistinct nat_eq (keys_of new)
-    → Writes old new id x
-writes old new id x is sets distinct =
-    let same : kept_at old id ≡ Some x → new ≡ old = λ there. is ∙ set_value_same (nat_eq id) old x (found old id ∙ there) in (
-      λ some. sets (subst IsSome (sym (found old id)) some),
-      λ there. record { each = λ q. ap (λ l. kept_at l q) (same there) },
-      distinct_ids new distinct,
-    )
+pub writes : (s n : StreamMap) (id : ℕ) (x : RequestState) → id < 2 ^ 64 → n.over ≡ s.over → n.under_way.entries ≡ set_value (is_at (nat_cmp id)) s.under_way.entries x
+    → (IsSome (under_way_at s id) → (under_way_at n id ≡ Some x) × KeepsOthers s.under_way.entries n.under_way.entries id) → Writes (streams_in s) (streams_in n) (under_way_at s id) id x
+writes s n id x below over is updates = (
+  λ some. let u = updates some in put_in s.under_way.entries n.under_way.entries s.over n.over id x below u.0 u.1 over,
+  λ there.
+      let same : n.under_way.entries ≡ s.under_way.entries = is ∙ set_value_same (is_at (nat_cmp id)) s.under_way.entries x there in
+      all_same (stored_at s) (stored_at n) (λ q. stored_alike s.under_way.entries n.under_way.entries s.over n.over q (ap (λ l. kept_at l q) same) (ap (λ l. kept_at l q) over)),
+  distinct_in n,
+  λ y there. found (stored_at s) id below ∙ ap (λ o. either o (over_at s id)) there,
+)

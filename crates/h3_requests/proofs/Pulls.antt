@@ -1,13 +1,15 @@
 -- What a pull within the limit gives.
-use Rattle.std.proofs.Common.{◌≡◌, ℕ, true, List, [], ◌++◌, Some, refl, sym, ap, ◌∙◌, append-nil}
-use Rattle.std.specs.Prelude.{None, nat_lt}
+use Rattle.std.proofs.Common.{◌≡◌, ℕ, Bool, true, false, List, [], ◌++◌, Some, refl, sym, ap, ◌∙◌, append-nil}
+use Rattle.std.specs.Prelude.{◌||◌, Option, None, nat_lt, IfSome}
 use Rattle.h3_blocked.specs.Counting.{above, Replaces}
 use Rattle.h3_connection.specs.Incoming.{Incoming}
-use Rattle.h3_connection.specs.Pulling.{Pulled, just, pull_stream}
+use Rattle.h3_connection.specs.Codes.{decompression_failed}
+use Rattle.h3_connection.specs.Keeping.{is_settled_request}
+use Rattle.h3_connection.specs.Pulling.{Pulled, is_memory, just, pull_stream}
 use Rattle.h3_connection.specs.Sending.{if_too_many}
 use Rattle.h3_connection.specs.State.{RequestState, kept_at}
 use Rattle.h3_connection.specs.StreamSets.{Streams}
-use Rattle.h3_connection.specs.declared.event.Fault.TheVariants.{Stream}
+use Rattle.h3_connection.specs.declared.event.Fault.TheVariants.{Connection, Stream}
 use Rattle.h3_connection.specs.declared.event.Item.TheVariants as item
 use Rattle.h3_connection.specs.declared.event.Pull.{Pull}
 use Rattle.h3_connection.specs.declared.event.Pull.TheVariants as pull
@@ -19,8 +21,10 @@ use Rattle.h3_incoming.specs.Replying.{encodings}
 use Rattle.h3_proto.specs.declared.stream.Side.{Side}
 use Rattle.h3_qpack.specs.DecoderState.{DecoderState}
 use Rattle.h3_requests.specs.Counted.{AreCounted}
-use Rattle.h3_requests.specs.Limited.{AreReceivers, limited}
+use Rattle.h3_requests.specs.Limited.{AnswersOver, AreReceivers, PullsWithin, limited}
+use Rattle.h3_requests.specs.Over.{IsOver}
 use Rattle.h3_requests.proofs.Counts.{waits_then}
+use Rattle.h3_requests.proofs.Ways.{over_settled, over_waits}
 
 -- a stream that was given up gives its fault,
 pub gives_fault : (side : Side) (own : Announced) (id : ℕ) (r : DecoderState) (i : Incoming) (fault : StreamFault) → i.fault ≡ Some fault → pull_stream side own id r i ≡ just (pull.Fault (Stream fault)) i
@@ -56,3 +60,40 @@ gives_limited side own id r streams before given answer i after counts others in
     let within : limited own id r receivers q ≡ if_too_many (nat_lt own.limits.blocked (above inserted others)) q =
     ap (λ n. if_too_many (nat_lt own.limits.blocked n) q) (waits_then counts others streams receivers id before i h are there replaces r.table.inserted ∙ ap (λ n. above n others) (sym is)) in
     gives_by (limited own id r receivers p) answer after p.replies replies written (ap (limited own id r receivers) gives.is ∙ within ∙ judged p.replies) gives.replies
+
+must_settle : {P : Type 0} (result settled : Bool) → (result ≡ true → P) → (result ≡ false → settled ≡ false) → settled ≡ true → P
+must_settle true settled yes no is = yes refl
+must_settle false settled yes no is = absurd (let never : true ≡ false = sym is ∙ no refl in cc)
+
+judged_over : (i : Incoming) (are_too_many : Bool) (given answer : Pull) → i.waits_for ≡ 0 → (are_too_many ≡ true → answer ≡ pull.Fault (Connection decompression_failed)) → (are_too_many ≡ false → answer ≡ given)
+    → (replies : List DecoderInstruction) → if_too_many are_too_many (record { answer = given; incoming = i; replies = replies }) ≡ record { answer = answer; incoming = i; replies = replies }
+judged_over i true given answer none many few replies =
+    let same : record i { waits_for = 0 } ≡ i = ap (λ n. record i { waits_for = n }) (sym none) in
+    ap (λ a. record { answer = a; incoming = record i { waits_for = 0 }; replies = replies }) (sym (many refl)) ∙ ap (λ j. record { answer = answer; incoming = j; replies = replies }) same
+judged_over i false given answer none many few replies = ap (λ a. record { answer = a; incoming = i; replies = replies }) (sym (few refl))
+
+-- What a stream answers that is over.
+pub answers_over : (r : RequestState) (are_too_many result : Bool) (given answer : Pull) → IsOver r
+    → (result ≡ true → (is_memory given ≡ false) × ((side : Side) (own : Announced) (id : ℕ) (d : DecoderState) → pull_stream side own id d r.incoming ≡ just given r.incoming))
+    → (result ≡ false → is_settled_request (Some r.incoming) ≡ false) → (are_too_many ≡ true → answer ≡ pull.Fault (Connection decompression_failed)) → (are_too_many ≡ false → answer ≡ given)
+    → AnswersOver r.incoming are_too_many answer
+answers_over r are_too_many result given answer h settled no many few =
+    let p = must_settle result (is_settled_request (Some r.incoming)) settled no (settles _ _ (over_settled r h)) in
+    record { given = given; settled = p.1; judged = judged_over r.incoming are_too_many given answer (over_waits (Some r) h) many few }
+  where
+    settles : (a b : Bool) → (a || b) ≡ true → (b || a) ≡ true
+    settles true true e = refl
+    settles true false e = refl
+    settles false true e = refl
+    settles false false e = absurd (cc)
+
+-- So its pull is within the limit or tells that it is not, and nothing of it changes.
+pub pulled_over : (side : Side) (own : Announced) (id : ℕ) (r : DecoderState) (m : Streams RequestState) (counts : List ℕ) (inserted : ℕ) (o : Option RequestState) (answer : Pull) (replies : List ℕ) → AreCounted counts m
+    → kept_at m id ≡ o → IfSome o (λ q. AnswersOver q.incoming (nat_lt own.limits.blocked (above inserted counts)) answer) → inserted ≡ r.table.inserted
+    → IfSome (kept_at m id) (λ before. IfSome (kept_at m id) (λ after. PullsWithin side own id r m m before after answer replies replies))
+pulled_over side own id r m counts inserted None answer replies h is a same = rw is tt
+pulled_over side own id r m counts inserted (Some q) answer replies h is a same =
+    rw is (record {
+      sets = record { here = is; others = λ p differs. refl };
+      gives = gives_limited side own id r m q a.given answer q.incoming q.incoming counts counts inserted replies replies h is (gives_just _ _ _ _ (a.settled side own id r)) (λ n. refl) same a.judged;
+    })

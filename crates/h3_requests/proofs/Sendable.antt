@@ -1,6 +1,6 @@
 -- Which streams are ready goes along when a call changes the streams, and so do the counts.
-use Rattle.std.proofs.Common.{arith, ◌≡◌, ℕ, Bool, true, false, List, length, sym, ◌∙◌, ap, refl, inl, inr}
-use Rattle.std.specs.Prelude.{◌≢◌, ◌&&◌, Some, nat_lt, is_some}
+use Rattle.std.proofs.Common.{arith, ◌≡◌, ℕ, Bool, true, false, List, length, sym, ◌∙◌, ap, refl, subst, inl, inr}
+use Rattle.std.specs.Prelude.{◌≢◌, ◌&&◌, Option, Some, nat_lt, is_some}
 use Rattle.std.proofs.lemmas.Bool.{cases_eq}
 use Rattle.std.proofs.lemmas.List.{length-drop}
 use Rattle.h3_blocked.specs.Counting.{Replaces, waits_at}
@@ -29,6 +29,10 @@ ready_at s t old new id is one own others h q = elim (cases_eq q id) [
 as_before : (s : ReadyStreams) (old : Streams RequestState) (id : ℕ) (is : Bool) → is ≡ has_bytes (kept_at old id) → AreReady s old → IsOneTest id is (is_ready s) (is_ready s)
 as_before s old id is same h = record { own = h id ∙ sym same; others = λ q differs. refl }
 
+-- the streams are what they were, one of them in another place
+pub moved : {counts : List ℕ} {s : ReadyStreams} {old new : Streams RequestState} → new ≡ old → AreKept counts s old → AreKept counts s new
+moved {counts} {s} same h = subst (AreKept counts s) (sym same) h
+
 -- room was taken, or given back
 pub room_kept : {counts : List ℕ} {s t : ReadyStreams} {streams : Streams RequestState} → ((q : ℕ) → is_ready t q ≡ is_ready s q) → AreKept counts s streams → AreKept counts t streams
 room_kept same h = record { counted = h.counted; ready = λ q. same q ∙ h.ready q }
@@ -45,23 +49,26 @@ bytes_stay s old new id before after sets there same h =
     ready_at s s old new id is (as_before s old id is waits h) (sym (ap has_bytes sets.here)) sets.others h
 
 -- a stream was written that waits for as much as before, and on which as much waits
-pub written : (counts : List ℕ) (s : ReadyStreams) (old new : Streams RequestState) (id : ℕ) (before after : RequestState) → Writes old new id after → kept_at old id ≡ Some before
+pub written : {under_way : Option RequestState} (counts : List ℕ) (s : ReadyStreams) (old new : Streams RequestState) (id : ℕ) (before after : RequestState) → Writes old new under_way id after → under_way ≡ Some before
     → after.incoming.waits_for ≡ before.incoming.waits_for → after.outgoing.pieces ≡ before.outgoing.pieces → AreKept counts s old → AreKept counts s new
 written counts s old new id before after writes there same waits h =
-    record { counted = counting.written counts old new id before after writes there same h.counted; ready = bytes_stay s old new id before after (writes.0 (ap is_some there)) there waits h.ready }
+    record {
+      counted = counting.written counts old new id before after writes there same h.counted;
+      ready = bytes_stay s old new id before after (writes.0 (ap is_some there)) (counting.kept_there old new id before after writes there) waits h.ready;
+    }
 
 -- or its count was replaced
-pub replaced : (counts others : List ℕ) (s : ReadyStreams) (old new : Streams RequestState) (id : ℕ) (before after : RequestState) → Writes old new id after → kept_at old id ≡ Some before
+pub replaced : {under_way : Option RequestState} (counts others : List ℕ) (s : ReadyStreams) (old new : Streams RequestState) (id : ℕ) (before after : RequestState) → Writes old new under_way id after → under_way ≡ Some before
     → Replaces counts others before.incoming.waits_for after.incoming.waits_for → after.outgoing.pieces ≡ before.outgoing.pieces → AreKept counts s old
     → AreKept others s new
 replaced counts others s old new id before after writes there replaces waits h =
     record {
       counted = counting.replaced counts others old new id before after writes there replaces h.counted;
-      ready = bytes_stay s old new id before after (writes.0 (ap is_some there)) there waits h.ready;
+      ready = bytes_stay s old new id before after (writes.0 (ap is_some there)) (counting.kept_there old new id before after writes there) waits h.ready;
     }
 
 -- or its bytes were, and whether any wait is known
-pub settled : (counts : List ℕ) (s t : ReadyStreams) (old new : Streams RequestState) (id : ℕ) (is : Bool) (before after : RequestState) → Writes old new id after → kept_at old id ≡ Some before
+pub settled : {under_way : Option RequestState} (counts : List ℕ) (s t : ReadyStreams) (old new : Streams RequestState) (id : ℕ) (is : Bool) (before after : RequestState) → Writes old new under_way id after → under_way ≡ Some before
     → after.incoming.waits_for ≡ before.incoming.waits_for → IsOneTest id is (is_ready s) (is_ready t) → is ≡ nat_lt 0 (length (bytes_of after.outgoing.pieces)) → AreKept counts s old
     → AreKept counts t new
 settled counts s t old new id is before after writes there same one waits h =

@@ -3,5 +3,9 @@ pub mod Counted
 pub mod HasBytes
 pub mod Lending
 pub mod Limited
+pub mod Listed
+pub mod Marks
+pub mod Over
 pub mod Ready
 pub mod Refused
+pub mod Stored

@@ -1,11 +1,12 @@
 -- What a pull answers among the other streams: one too many that would wait is a fault.
-use Rattle.std.specs.Prelude.{◌≡◌, ℕ, List, if◌then◌else◌, option_map, nat_lt}
+use Rattle.std.specs.Prelude.{◌≡◌, ℕ, Bool, List, if◌then◌else◌, option_map, nat_lt}
+use Rattle.h3_field.specs.Instruction.{DecoderInstruction}
 use Rattle.h3_qpack.specs.DecoderState.{DecoderState}
 use Rattle.h3_proto.specs.declared.stream.Side.{Side}
 use Rattle.h3_connection.specs.Calls.{Sets}
 use Rattle.h3_connection.specs.Endpoint.{heads_waiting}
 use Rattle.h3_connection.specs.Incoming.{Incoming}
-use Rattle.h3_connection.specs.Pulling.{Pulled, is_client, pull_stream}
+use Rattle.h3_connection.specs.Pulling.{Pulled, is_client, just, pull_stream}
 use Rattle.h3_connection.specs.Sending.{if_too_many}
 use Rattle.h3_connection.specs.State.{RequestState, kept_at}
 use Rattle.h3_connection.specs.StreamSets.{Streams, HaveDistinctIds, stream_at, set_stream}
@@ -33,6 +34,13 @@ pub record PullsWithin (side : Side) (own : Announced) (id : ℕ) (r : DecoderSt
 pub record ResumesThere (old new : Streams RequestState) (id : ℕ) (before after : RequestState) : Type 0 where
   pub sets : Sets old new id (record before { incoming = after.incoming })
   pub resumes : Resumes before.incoming after.incoming
+
+-- The pull of a stream that is over changes nothing of it: it answers what is settled, or the fault where too many streams wait.
+pub record AnswersOver (i : Incoming) (are_too_many : Bool) (answer : Pull) : Type 0 where
+  pub given : Pull
+  pub settled : (side : Side) (own : Announced) (id : ℕ) (r : DecoderState) → pull_stream side own id r i ≡ just given i
+  pub judged : (replies : List DecoderInstruction)
+      → if_too_many are_too_many (record { answer = given; incoming = i; replies = replies }) ≡ record { answer = answer; incoming = i; replies = replies }
 
 -- what a pull answers of a request stream that is not open
 abbrev pub unopened_answer : Side → Pull

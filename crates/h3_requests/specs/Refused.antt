@@ -33,3 +33,8 @@ reset_refused_at (Some r) = refused_if (is_sent_off r.outgoing) refusal.Ended
 abbrev pub cancel_refused_at : Option RequestState → Option Refusal
 cancel_refused_at None = Some refusal.NotOpen
 cancel_refused_at (Some r) = refused_if (r.incoming.is_over || is_some r.incoming.fault) refusal.Ended
+
+-- of a stream that is not under way: this where it is over
+abbrev pub refused_over : Option RequestState → Refusal → Refusal
+refused_over None r = refusal.NotOpen
+refused_over (Some _) r = r

@@ -3,6 +3,7 @@
 #![tactic(auto)]
 
 mod map;
+mod over;
 mod ready;
 mod room;
 pub mod stream;

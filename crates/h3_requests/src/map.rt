@@ -1,83 +1,165 @@
-//! The request streams by their ids, found through a table of hashes.
+//! The request streams by their ids: those under way, found in the order of their ids, and those that are over.
 ghost use Rattle.std.specs.Borrow.{sem};
 ghost use Rattle.std.specs.Option.{option_copied_mut};
-ghost use Rattle.std.specs.Prelude.{◌≡◌, [], None, is_some, IfOk, OnErr, OnOk, option_copied};
+ghost use Rattle.std.specs.Prelude.{◌≡◌, [], None, is_some, IfOk, IfSome, OnErr, OnOk, option_copied};
+ghost use Rattle.h3_blocked.specs.Counting.{waits_at};
 ghost use Rattle.h3_blocked.specs.Sums.{TakesOut};
 ghost use Rattle.h3_connection.specs.Calls.{Sets};
 ghost use Rattle.h3_connection.specs.State.{kept_at};
 ghost use Rattle.h3_connection.specs.StreamSets.{HaveDistinctIds};
 ghost use Rattle.h3_requests.specs.Lending.{LendsStream};
+ghost use Rattle.h3_requests.specs.Over.{IsOver};
+ghost use Rattle.h3_requests.specs.Refused.{refused_over};
+ghost use Rattle.h3_requests.specs.Stored.{either, over_at, streams_in, under_way_at};
 
+use crate::over::OverStreams;
 use crate::stream::RequestStream;
+use h3_connection::event::Refusal;
 use h3_proto::stream::StreamId;
 use std::alloc::{AllocError, Global};
-use std::collections::HashMap;
+use std::collections::BTreeMap;
 
-// The streams, in no order and no id twice. A look-up takes as long however many there are, unless ids collide.
+// The streams, no id twice. No look-up and no change moves or visits more than a few of them, however many there are.
 #[derive(Drop)]
 pub(crate) struct StreamMap {
-    by_id: HashMap<u64, RequestStream>,
+    under_way: BTreeMap<u64, RequestStream>,
+    // and of a stream that is under way what it was when it was last over, which counts for nothing
+    over: OverStreams,
 }
 
 impl StreamMap {
     // No stream. It takes no memory.
     pub(crate) fn new(alloc: Global) -> StreamMap
-        ensures { result.by_id.entries ≡ [] }
+        ensures { streams_in result ≡ [] }
     {
         StreamMap {
-            by_id: HashMap::new(alloc),
+            under_way: BTreeMap::new(alloc),
+            over: OverStreams::new(alloc),
         }
-    }
-
-    // Whether the stream is there.
-    pub(crate) fn contains(&self, id: StreamId) -> bool
-        ensures { result ≡ is_some (kept_at self.now.by_id.entries id) }
-    {
-        self.by_id.contains_key(&id.into_inner())
     }
 
     // The stream of that id, where it is there.
     pub(crate) fn get(&self, id: StreamId) -> Option<&RequestStream>
-        ensures { option_copied result ≡ kept_at self.now.by_id.entries id }
+        ensures { option_copied result ≡ kept_at (streams_in self.now) id }
     {
-        self.by_id.get(&id.into_inner())
+        match self.under_way.get(&id.into_inner()) {
+            Some(stream) => Some(stream),
+            None => self.over.get(id),
+        }
     }
 
-    // The same, to be changed.
+    // The stream of that id, where it is over and not under way again.
+    pub(crate) fn get_over(&self, id: StreamId) -> Option<&RequestStream>
+        ensures value { option_copied result ≡ over_at self.now id }
+        ensures over { IfSome (over_at self.now id) IsOver }
+    {
+        self.over.get(id)
+    }
+
+    // Why a call is refused on a stream that is not under way: for this on one that is over, and else since none is there.
+    pub(crate) fn refusal_of_over(&self, id: StreamId, refusal: Refusal) -> Refusal
+        ensures value { result ≡ refused_over (over_at self.now id) refusal }
+        ensures over { IfSome (over_at self.now id) IsOver }
+    {
+        match self.over.get(id) {
+            Some(_) => refusal,
+            None => Refusal::NotOpen,
+        }
+    }
+
+    // The stream of that id, where it is under way, to be changed.
     pub(crate) fn get_mut(&mut self, id: StreamId) -> Option<&mut RequestStream>
         ensures* writes_back { sem 𝓛 (LendsStream self.entry id result) }
-        ensures value { option_copied_mut result ≡ kept_at self.old.by_id.entries id }
+        ensures value { option_copied_mut result ≡ under_way_at self.old id }
+        ensures found { kept_at (streams_in self.old) id ≡ either (under_way_at self.old id) (over_at self.old id) }
     {
-        self.by_id.get_mut(&id.into_inner())
+        self.under_way.get_mut(&id.into_inner())
     }
 
-    // Puts the stream there, and answers the one that was there. An `Err` changes nothing: no stream was there, and memory was
-    // refused.
-    #[tactic(auto, using(crate::proofs::Found::distinct_ids))]
+    // Puts the stream there, and answers what the one that was there waits for. An `Err` changes nothing: no stream was under way
+    // there, and memory was refused.
     pub(crate) fn insert(
         &mut self,
+        alloc: Global,
         id: StreamId,
         stream: RequestStream,
-    ) -> Result<Option<RequestStream>, AllocError>
-        ensures ok { OnOk result (Sets self.old.by_id.entries self.new.by_id.entries id stream) }
-        ensures before { IfOk result (λ before. before ≡ kept_at self.old.by_id.entries id) }
-        ensures absent { OnErr result (kept_at self.old.by_id.entries id ≡ None) }
-        ensures err { OnErr result (self.new.by_id.entries ≡ self.old.by_id.entries) }
-        ensures distinct { HaveDistinctIds self.new.by_id.entries }
+    ) -> Result<usize, AllocError>
+        ensures ok { OnOk result (Sets (streams_in self.old) (streams_in self.new) id stream) }
+        ensures before { IfOk result (λ count. count ≡ waits_at (kept_at (streams_in self.old) id)) }
+        ensures over { OnErr result (IfSome (kept_at (streams_in self.old) id) IsOver) }
+        ensures err { OnErr result (streams_in self.new ≡ streams_in self.old) }
+        ensures distinct { HaveDistinctIds (streams_in self.new) }
     {
-        let Ok(before) = self.by_id.insert(id.into_inner(), stream) else {
+        let number = id.into_inner();
+        let Ok(before) = self.under_way.insert(number, stream) else {
+            let _over = self.over.get(id);
             return Err(AllocError);
         };
-        Ok(before)
+        if let Some(before) = before {
+            return Ok(before.incoming.waits_for());
+        }
+        let Ok(()) = self.over.reserve(alloc, id) else {
+            self.under_way.remove(&number);
+            return Err(AllocError);
+        };
+        Ok(0)
     }
 
-    // Takes the stream out, where it is there. It takes no memory.
-    #[tactic(auto, using(crate::proofs::Found::distinct_ids))]
-    pub(crate) fn remove(&mut self, id: StreamId) -> Option<RequestStream>
-        ensures takes_out { TakesOut self.old.by_id.entries self.new.by_id.entries id }
-        ensures before { result ≡ kept_at self.old.by_id.entries id }
-        ensures distinct { HaveDistinctIds self.new.by_id.entries }
+    // Takes the stream out, where it is there, and answers what it waits for. It takes no memory.
+    pub(crate) fn remove(&mut self, id: StreamId) -> usize
+        ensures takes_out { TakesOut (streams_in self.old) (streams_in self.new) id }
+        ensures before { result ≡ waits_at (kept_at (streams_in self.old) id) }
+        ensures distinct { HaveDistinctIds (streams_in self.new) }
     {
-        self.by_id.remove(&id.into_inner())
+        let stream = self.under_way.remove(&id.into_inner());
+        self.over.remove(id);
+        match stream {
+            Some(stream) => stream.incoming.waits_for(),
+            None => 0,
+        }
+    }
+
+    // The stream is under way from now on, where it is there, and this tells whether it is. An `Err` changes nothing: memory was
+    // refused.
+    pub(crate) fn take_up(&mut self, alloc: Global, id: StreamId) -> Result<bool, AllocError>
+        ensures there { IfOk result (λ is_there. is_there ≡ is_some (kept_at (streams_in self.old) id)) }
+        ensures same { streams_in self.new ≡ streams_in self.old }
+    {
+        let number = id.into_inner();
+        if self.under_way.contains_key(&number) {
+            return Ok(true);
+        }
+        let Some(stream) = self.over.get(id) else {
+            return Ok(false);
+        };
+        let Ok(_) = self.under_way.insert(number, stream.like(alloc)) else {
+            return Err(AllocError);
+        };
+        Ok(true)
+    }
+
+    // A stream of which this tells that it is over takes one byte from now on, unless no memory was taken for that or there are
+    // too many ways in which streams are over.
+    pub(crate) fn retire_if(&mut self, id: StreamId, is_over: bool)
+        ensures { streams_in self.new ≡ streams_in self.old }
+    {
+        if is_over {
+            self.retire(id);
+        }
+    }
+
+    fn retire(&mut self, id: StreamId)
+        ensures { streams_in self.new ≡ streams_in self.old }
+    {
+        let number = id.into_inner();
+        let Some(stream) = self.under_way.get(&number) else {
+            return;
+        };
+        if !stream.is_over() {
+            return;
+        }
+        if self.over.put(id, stream) {
+            self.under_way.remove(&number);
+        }
     }
 }

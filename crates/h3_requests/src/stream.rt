@@ -3,6 +3,7 @@ ghost use Rattle.std.specs.Prelude.{◌≡◌, ◌||◌, ◌+◌, ◌<◌, ◌�
 ghost use Rattle.std.specs.List.{concat};
 ghost use Rattle.h3_connection.specs.Calls.{fresh_request};
 ghost use Rattle.h3_connection.specs.Delivering.{kept};
+ghost use Rattle.h3_requests.specs.Over.{IsOver, ReceivesAlike, SendsAlike};
 
 use bytes::Bytes;
 use h3_incoming::IncomingStream;
@@ -67,6 +68,39 @@ impl RequestStream {
         self.incoming.is_over() || self.incoming.fault().is_some()
     }
 
+    // Whether no call changes it any more: nothing more comes on it or is handed out of it, and nothing is left to be read or sent.
+    pub(crate) fn is_over(&self) -> bool
+        ensures { result ≡ true → IsOver self.now }
+    {
+        self.has_ended()
+            && self.is_settled()
+            && self.incoming.is_drained()
+            && self.outgoing.is_sent_off()
+            && self.outgoing.is_empty()
+    }
+
+    // Whether both are over, and in the same way.
+    #[tactic(auto, using(crate::proofs::Ways::over_alike))]
+    pub(crate) fn is_over_like(&self, other: &RequestStream) -> bool
+        ensures { result ≡ true → self.now ≡ other.now }
+    {
+        self.is_over()
+            && other.is_over()
+            && receives_alike(&self.incoming, &other.incoming)
+            && sends_alike(&self.outgoing, &other.outgoing)
+    }
+
+    // One like this, which is over. It takes no memory.
+    pub(crate) fn like(&self, alloc: Global) -> RequestStream
+        requires { IsOver self.now }
+        ensures { result ≡ self.now }
+    {
+        RequestStream {
+            incoming: self.incoming.like(alloc),
+            outgoing: self.outgoing.like(alloc),
+        }
+    }
+
     // Whether so many bytes more have room: no queue of 2^62 bytes fits into memory, and what is refused is 2^61 bytes or more.
     fn has_room_for(&self, len: usize) -> bool
         ensures room { result ≡ true → length (concat self.now.incoming.unread) + len < 2 ^ 64 }
@@ -87,4 +121,25 @@ impl RequestStream {
         }
         self.incoming.deliver(bytes)
     }
+}
+
+// Whether the messages of both came as far, and ended alike.
+fn receives_alike(stream: &IncomingStream, other: &IncomingStream) -> bool
+    ensures { result ≡ true → ReceivesAlike stream.now other.now }
+{
+    stream.place() == other.place()
+        && stream.tries() == other.tries()
+        && stream.ended() == other.ended()
+        && stream.was_reset() == other.was_reset()
+        && stream.is_over() == other.is_over()
+        && stream.fault() == other.fault()
+}
+
+// Whether the messages of both were sent as far, and ended alike.
+fn sends_alike(stream: &OutgoingStream, other: &OutgoingStream) -> bool
+    ensures { result ≡ true → SendsAlike stream.now other.now }
+{
+    stream.place() == other.place()
+        && stream.is_finished() == other.is_finished()
+        && stream.is_reset() == other.is_reset()
 }

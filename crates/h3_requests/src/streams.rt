@@ -1,9 +1,9 @@
 //! The request streams of a connection, by their ids.
-ghost use Rattle.std.specs.Prelude.{◌≡◌, [], None, OnOk, OnErr, option_copied};
-ghost use Rattle.h3_blocked.specs.Counting.{waits_at};
+ghost use Rattle.std.specs.Prelude.{◌≡◌, [], OnOk, OnErr, IfSome, option_copied};
 ghost use Rattle.h3_blocked.specs.Sums.{TakesOut};
 ghost use Rattle.h3_connection.specs.Calls.{fresh_request, Sets};
 ghost use Rattle.h3_connection.specs.State.{kept_at};
+ghost use Rattle.h3_requests.specs.Over.{IsOver};
 
 use crate::map::StreamMap;
 use crate::ready::ReadyStreams;
@@ -32,14 +32,15 @@ pub struct RequestStreams {
 impl Model for RequestStreams {
     ghost use Rattle.h3_connection.specs.State.{RequestState};
     ghost use Rattle.h3_connection.specs.StreamSets.{Streams};
+    ghost use Rattle.h3_requests.specs.Stored.{streams_in};
 
     ghost Value = { Streams RequestState };
 
-    ghost view = { λ s. s.streams.by_id.entries };
+    ghost view = { λ s. streams_in s.streams };
 
     ghost use Rattle.h3_requests.specs.Ready.{AreKept};
 
-    ghost invariant = { λ s. AreKept s.blocked.counts s.ready s.streams.by_id.entries };
+    ghost invariant = { λ s. AreKept s.blocked.counts s.ready (streams_in s.streams) };
 }
 
 impl RequestStreams {
@@ -62,16 +63,19 @@ impl RequestStreams {
     }
 
     /// A stream on which nothing has happened is there under that id, in the place of one that was there. An `Err` changes
-    /// nothing: no stream was there, and memory was refused.
+    /// nothing: no stream was there, or one that is over (`IsOver`), and memory was refused.
     pub fn open(&mut self, alloc: Global, id: StreamId) -> Result<(), AllocError>
         ensures ok { OnOk result (Sets self.old self.new id fresh_request) }
-        ensures absent { OnErr result (kept_at self.old id ≡ None) }
+        ensures over { OnErr result (IfSome (kept_at self.old id) IsOver) }
         ensures err { OnErr result (self.new ≡ self.old) }
     {
-        let Ok(before) = self.streams.insert(id, RequestStream::new(alloc)) else {
+        let Ok(before) = self
+            .streams
+            .insert(alloc, id, RequestStream::new(alloc))
+        else {
             return Err(AllocError);
         };
-        self.blocked.replace(waits_of(&before), 0);
+        self.blocked.replace(before, 0);
         self.ready.settle(id, false);
         Ok(())
     }
@@ -80,18 +84,8 @@ impl RequestStreams {
     pub fn undo_open(&mut self, id: StreamId)
         ensures { TakesOut self.old self.new id }
     {
-        let stream = self.streams.remove(id);
-        self.blocked.replace(waits_of(&stream), 0);
+        let before = self.streams.remove(id);
+        self.blocked.replace(before, 0);
         self.ready.settle(id, false);
-    }
-}
-
-// What a stream waits for that was taken out, and 0 where there was none.
-fn waits_of(stream: &Option<RequestStream>) -> usize
-    ensures { result ≡ waits_at stream.now }
-{
-    match stream {
-        Some(stream) => stream.incoming.waits_for(),
-        None => 0,
     }
 }

@@ -15,7 +15,8 @@ use std::mem;
 impl IncomingStream {
     /// The next bytes of the payload under way. One that the end cuts short is a fault of the connection (RFC 9114, section 7.1).
     pub(super) fn pull_payload(&mut self, out: &mut Pull)
-        requires { 0 < self.old.body_left }
+        requires open { 0 < self.old.body_left }
+        requires goes_on { self.old.is_over ≡ false }
         ensures answer { is_memory out.new ≡ false → in_payload self.old ≡ just out.new self.new }
         ensures memory { is_memory out.new ≡ true → self.new ≡ self.old }
     {
@@ -37,6 +38,7 @@ impl IncomingStream {
     pub(super) fn pull_raw(&mut self, alloc: Global, out: &mut Pull)
         requires open { self.old.fault ≡ None }
         requires session { is_session self.old.place ≡ true }
+        requires goes_on { self.old.is_over ≡ false }
         ensures answer { raw self.old ≡ just out.new self.new }
         ensures memory { is_memory out.new ≡ false }
     {

@@ -31,7 +31,7 @@ impl RequestStreams {
         ensures same { AllSame self.old self.new }
     {
         let Some(stream) = self.streams.get_mut(id) else {
-            return Err(Refusal::NotOpen);
+            return Err(self.streams.refusal_of_over(id, Refusal::OutOfOrder));
         };
         if !stream.outgoing.takes_head() {
             return Err(Refusal::OutOfOrder);
@@ -61,7 +61,7 @@ impl RequestStreams {
         ensures same { AllSame self.old self.new }
     {
         let Some(stream) = self.streams.get_mut(id) else {
-            return Err(Refusal::NotOpen);
+            return Err(self.streams.refusal_of_over(id, Refusal::OutOfOrder));
         };
         if !stream.outgoing.takes_body() {
             return Err(Refusal::OutOfOrder);
@@ -88,7 +88,8 @@ impl RequestStreams {
         ensures err { IfErr result (λ e. (e.1 ≡ body) × AllSame self.old self.new) }
     {
         let Some(stream) = self.streams.get_mut(id) else {
-            return Err((Refusal::NotOpen, body));
+            let refusal = self.streams.refusal_of_over(id, Refusal::OutOfOrder);
+            return Err((refusal, body));
         };
         if !stream.outgoing.takes_body() {
             return Err((Refusal::OutOfOrder, body));
@@ -115,12 +116,14 @@ impl RequestStreams {
         ensures err { OnErr result (AllSame self.old self.new) }
     {
         let Some(stream) = self.streams.get_mut(id) else {
-            return Err(Refusal::NotOpen);
+            return Err(self.streams.refusal_of_over(id, Refusal::OutOfOrder));
         };
         if !stream.outgoing.takes_end() {
             return Err(Refusal::OutOfOrder);
         }
         stream.outgoing.finish();
+        let is_over = stream.is_over();
+        self.streams.retire_if(id, is_over);
         Ok(())
     }
 
@@ -133,13 +136,15 @@ impl RequestStreams {
         ensures err { OnErr result (AllSame self.old self.new) }
     {
         let Some(stream) = self.streams.get_mut(id) else {
-            return Err(Refusal::NotOpen);
+            return Err(self.streams.refusal_of_over(id, Refusal::Ended));
         };
         if stream.outgoing.is_sent_off() {
             return Err(Refusal::Ended);
         }
         stream.outgoing.reset();
+        let is_over = stream.is_over();
         self.ready.settle(id, false);
+        self.streams.retire_if(id, is_over);
         Ok(())
     }
 
@@ -159,7 +164,7 @@ impl RequestStreams {
         ensures err { OnErr result (AllSame self.old self.new × (replies.new.items ≡ replies.old.items)) }
     {
         let Some(stream) = self.streams.get_mut(id) else {
-            return Err(Refusal::NotOpen);
+            return Err(self.streams.refusal_of_over(id, Refusal::Ended));
         };
         if stream.is_settled() {
             return Err(Refusal::Ended);
@@ -169,6 +174,8 @@ impl RequestStreams {
             return Err(Refusal::OutOfMemory);
         };
         self.blocked.replace(before, stream.incoming.waits_for());
+        let is_over = stream.is_over();
+        self.streams.retire_if(id, is_over);
         Ok(())
     }
 }

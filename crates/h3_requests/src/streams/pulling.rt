@@ -1,5 +1,5 @@
 //! How many request streams wait for insertions, and what a pull answers.
-ghost use Rattle.std.specs.Prelude.{◌≡◌, true, false, ℕ, List, None, Some, count_by, nat_lt, is_some, IfSome};
+ghost use Rattle.std.specs.Prelude.{◌≡◌, true, false, ℕ, List, None, Some, count_by, nat_lt, is_some, option_copied, IfNone, IfSome};
 ghost use Rattle.h3_field.specs.Instruction.{DecoderInstruction};
 ghost use Rattle.h3_qpack.specs.DecoderState.{DecoderState};
 ghost use Rattle.h3_blocked.specs.Counting.{above, HasCount, Replaces};
@@ -9,9 +9,11 @@ ghost use Rattle.h3_connection.specs.Pulling.{is_memory, just, pull_stream};
 ghost use Rattle.h3_connection.specs.Sending.{if_too_many};
 ghost use Rattle.h3_connection.specs.State.{kept_at};
 ghost use Rattle.h3_connection.specs.StreamSets.{Streams};
-ghost use Rattle.h3_requests.specs.Limited.{AreReceivers, PullsWithin, ResumesThere, unopened_answer};
+ghost use Rattle.h3_requests.specs.Limited.{AnswersOver, AreReceivers, PullsWithin, ResumesThere, unopened_answer};
+ghost use Rattle.h3_requests.specs.Over.{IsOver};
 
 use super::RequestStreams;
+use crate::stream::RequestStream;
 use h3_blocked::BlockedCounts;
 use h3_connection::event::{Fault, Pull};
 use h3_connection::setup::Announced;
@@ -54,11 +56,12 @@ impl RequestStreams {
             ResumesThere self.old self.new id before after)) × (replies.new.items ≡ replies.old.items) }
         ensures settled { IfSome (kept_at self.old id) (λ before. is_settled_request (Some before.incoming) ≡ true → is_memory out.new ≡ false) }
     {
-        let Some(stream) = self.streams.get_mut(id) else {
-            return unopened(side, out);
-        };
         let limit = announced.limits.blocked;
         let inserted = decoder.inserted();
+        let Some(stream) = self.streams.get_mut(id) else {
+            let are_too_many = self.blocked.above(inserted) as u64 > limit;
+            return answer_over(self.streams.get_over(id), side, are_too_many, out);
+        };
         if answer_settled(&stream.incoming, out) {
             return within_limit(
                 &mut stream.incoming,
@@ -86,7 +89,25 @@ impl RequestStreams {
             limit,
             inserted,
             out,
-        )
+        );
+        let is_over = stream.is_over();
+        self.streams.retire_if(id, is_over);
+    }
+}
+
+/// Answers for a stream that is not under way: for one that is over, or for none.
+fn answer_over(stream: Option<&RequestStream>, side: Side, are_too_many: bool, out: &mut Pull)
+    requires { IfSome (option_copied stream) IsOver }
+    ensures absent { IfNone (option_copied stream.entry) (out.new ≡ unopened_answer side) }
+    ensures there { IfSome (option_copied stream.entry) (λ r. AnswersOver r.incoming are_too_many out.new) }
+    ensures memory { is_memory out.new ≡ false }
+{
+    let Some(stream) = stream else {
+        return unopened(side, out);
+    };
+    answer_settled(&stream.incoming, out);
+    if are_too_many {
+        fail(out, Fault::Connection(Code::QPACK_DECOMPRESSION_FAILED));
     }
 }
 

@@ -23,7 +23,7 @@ impl RequestStreams {
         ensures err { OnErr result (AllSame self.old self.new) }
     {
         let Some(stream) = self.streams.get_mut(id) else {
-            return self.deliver_first(alloc, id, bytes);
+            return self.deliver_anew(alloc, id, bytes);
         };
         stream.deliver(bytes)
     }
@@ -43,6 +43,9 @@ impl RequestStreams {
         ensures err { OnErr result (AllSame self.old self.new) }
     {
         let Some(stream) = self.streams.get_mut(id) else {
+            if self.streams.get_over(id).is_some() {
+                return Err(DeliverError::Refused(Refusal::AfterEnd));
+            }
             return self.deliver_unopened(alloc, side, id, bytes);
         };
         if stream.has_ended() {
@@ -94,29 +97,53 @@ impl RequestStreams {
         Err(bytes)
     }
 
+    // Bytes of a stream that is not under way.
+    fn deliver_anew(&mut self, alloc: Global, id: StreamId, bytes: Bytes) -> Result<(), Bytes>
+        ensures ok { OnOk result (Receives self.old self.new id (λ i. kept i bytes)) }
+        ensures back { IfErr result (λ b. b ≡ bytes) }
+        ensures err { OnErr result (AllSame self.old self.new) }
+    {
+        let Ok(was_there) = self.open_absent(alloc, id) else {
+            return Err(bytes);
+        };
+        match self.deliver_there(id, bytes) {
+            Ok(()) => Ok(()),
+            Err(bytes) => {
+                self.close_again(id, was_there);
+                Err(bytes)
+            }
+        }
+    }
+
     /// Its end came. A stream that is not there is opened. An `Err` changes nothing: memory was refused.
     pub fn end(&mut self, alloc: Global, id: StreamId) -> Result<(), AllocError>
         ensures ok { OnOk result (Receives self.old self.new id with_end) }
         ensures err { OnErr result (AllSame self.old self.new) }
     {
         let Some(stream) = self.streams.get_mut(id) else {
-            return self.end_first(alloc, id);
+            return self.end_anew(alloc, id);
         };
         stream.incoming.end();
+        let is_over = stream.is_over();
+        self.streams.retire_if(id, is_over);
         Ok(())
     }
 
-    // The end of a stream of which nothing else came, which opens it.
-    fn end_first(&mut self, alloc: Global, id: StreamId) -> Result<(), AllocError>
-        requires { kept_at self.old id ≡ None }
+    // The end of a stream that is not under way.
+    fn end_anew(&mut self, alloc: Global, id: StreamId) -> Result<(), AllocError>
         ensures ok { OnOk result (Receives self.old self.new id with_end) }
-        ensures err { OnErr result (self.new ≡ self.old) }
+        ensures err { OnErr result (AllSame self.old self.new) }
     {
-        let Ok(()) = self.open(alloc, id) else {
+        let Ok(was_there) = self.open_absent(alloc, id) else {
             return Err(AllocError);
         };
-        self.end_there(id);
-        Ok(())
+        match self.end_there(id) {
+            Ok(()) => Ok(()),
+            Err(e) => {
+                self.close_again(id, was_there);
+                Err(e)
+            }
+        }
     }
 
     /// Its sender cut it off, with this code of an application. It is given up, unless it was before. The first time, the peer's
@@ -144,13 +171,13 @@ impl RequestStreams {
         }
     }
 
-    // Opens the stream where it is not there, and answers whether it was.
+    // Opens the stream where it is not there, takes it up where it is over, and answers whether it was there.
     fn open_absent(&mut self, alloc: Global, id: StreamId) -> Result<bool, AllocError>
         ensures was_there { IfOk result (λ b. b ≡ is_some (kept_at self.old id)) }
         ensures ok { OnOk result (Sets self.old self.new id (opened_at self.old id)) }
         ensures err { OnErr result (self.new ≡ self.old) }
     {
-        if self.streams.contains(id) {
+        if self.streams.take_up(alloc, id)? {
             return Ok(true);
         }
         match self.open(alloc, id) {
@@ -181,13 +208,18 @@ impl RequestStreams {
         stream.deliver(bytes)
     }
 
-    fn end_there(&mut self, id: StreamId)
-        ensures { IfSome (kept_at self.old id) (λ r. Sets self.old self.new id (record r { incoming = with_end r.incoming })) }
+    // An `Err`: the stream is not under way.
+    fn end_there(&mut self, id: StreamId) -> Result<(), AllocError>
+        ensures ok { OnOk result (IfSome (kept_at self.old id) (λ r. Sets self.old self.new id (record r { incoming = with_end r.incoming }))) }
+        ensures err { OnErr result (AllSame self.old self.new) }
     {
         let Some(stream) = self.streams.get_mut(id) else {
-            return;
+            return Err(AllocError);
         };
         stream.incoming.end();
+        let is_over = stream.is_over();
+        self.streams.retire_if(id, is_over);
+        Ok(())
     }
 
     fn reset_there(
@@ -203,13 +235,15 @@ impl RequestStreams {
         ensures err { OnErr result (AllSame self.old self.new × (replies.new.items ≡ replies.old.items)) }
     {
         let Some(stream) = self.streams.get_mut(id) else {
-            return Ok(());
+            return Err(AllocError);
         };
         let before = stream.incoming.waits_for();
         let Ok(()) = stream.incoming.reset(alloc, id, code, replies) else {
             return Err(AllocError);
         };
         self.blocked.replace(before, stream.incoming.waits_for());
+        let is_over = stream.is_over();
+        self.streams.retire_if(id, is_over);
         Ok(())
     }
 }

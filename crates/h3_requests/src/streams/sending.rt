@@ -49,12 +49,14 @@ impl RequestStreams {
         ensures absent { kept_at self.old id ≡ None → self.new ≡ self.old }
     {
         let Some(stream) = self.streams.get_mut(id) else {
-            return false;
+            return self.streams.get_over(id).is_some();
         };
         let waiting = stream.outgoing.waiting();
         stream.outgoing.advance(count.min(waiting));
         let left = stream.outgoing.waiting();
+        let is_over = stream.is_over();
         self.ready.settle(id, left > 0);
+        self.streams.retire_if(id, is_over);
         true
     }
 

@@ -1,6 +1,7 @@
 -- What becomes of the streams.
 use Rattle.std.proofs.Common.{refl, rules, ap}
-use Rattle.h3_requests.proofs.Found.{update_sets, writes}
+use Rattle.h3_requests.specs.Stored.{stored_at}
+use Rattle.h3_requests.proofs.Found.{few, found, writes}
 use Rattle.h3_requests.proofs.map.StreamMap.get_mut.Goals as goal
 
 pub returns : goal.returns
@@ -9,8 +10,9 @@ returns c = (
     refl,
     λ x.
         let wrote = rw c.into_inner.ensures.value at (c.get_mut.follows.holds x) in
-        writes _ _ c.args.id x wrote.0 (λ some. let updates = wrote.3 some in update_sets _ _ c.args.id x updates.1 updates.2) wrote.4,
-    ap (λ s. record { by_id = s }) c.get_mut.follows.holds-at-none,
+        writes c.args.self.now (record { under_way = c.get_mut.follows.lender x; over = c.args.self.now.over }) c.args.id x (few _ _ c.into_inner.ensures.value c.into_inner.ensures.bound) refl wrote.0
+        (λ some. let updates = wrote.3 some in (updates.1, updates.2)),
+    ap (λ s. record { under_way = s; over = c.args.self.now.over }) c.get_mut.follows.holds-at-none,
   ),
-  search rules,
+  record { writes_back = tt; value = search rules; found = found (stored_at c.args.self.now) c.args.id (few _ _ c.into_inner.ensures.value c.into_inner.ensures.bound) },
 )

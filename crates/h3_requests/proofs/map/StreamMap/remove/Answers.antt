@@ -1,8 +1,33 @@
--- The stream is taken out.
-use Rattle.h3_requests.proofs.Found.{update_takes_out}
+-- The stream is taken out of both.
+use Rattle.std.proofs.Common.{◌≡◌, Some, None, sym, ◌∙◌, ap}
+use Rattle.h3_blocked.specs.Counting.{waits_at}
+use Rattle.h3_connection.specs.State.{RequestState}
+use Rattle.h3_requests.proofs.Found.{distinct_in, few, taken_out, under}
+use Rattle.h3_requests.proofs.Ways.{over_waits}
 use Rattle.h3_requests.proofs.map.StreamMap.remove.Goals as goal
 
-pub returns-clause-takes_out : goal.returns-clause-takes_out
-returns-clause-takes_out c =
-    let updates = rw c.into_inner.ensures.value at c.remove.ensures.updates in
-    update_takes_out _ _ c.args.id updates.1 updates.2
+pub returns-in-Some-clause-takes_out : goal.returns-in-Some-clause-takes_out
+returns-in-Some-clause-takes_out c =
+    let updates = rw c.into_inner.ensures.value at c.remove-stream.ensures.updates in
+    taken_out c.args.self.now.under_way.entries c.remove-stream.new.self.entries c.args.self.now.over c.remove.new.self c.args.id (few _ _ c.into_inner.ensures.value c.into_inner.ensures.bound) updates.1 updates.2
+    c.remove.ensures.takes_out
+
+pub returns-in-Some-clause-before : goal.returns-in-Some-clause-before
+returns-in-Some-clause-before c =
+    c.waits_for.ensures ∙ ap (λ (r : RequestState). r.incoming.waits_for) c.stream.view_is
+    ∙ sym (ap waits_at (under c.args.self.now c.into_inner.result c.args.id (Some c.in-Some.stream) c.into_inner.ensures.value c.into_inner.ensures.bound c.in-Some.ensures.value))
+
+pub returns-in-Some-clause-distinct : goal.returns-in-Some-clause-distinct
+returns-in-Some-clause-distinct c = distinct_in (record { under_way = c.remove-stream.new.self; over = c.remove.new.self })
+
+pub returns-in-None-clause-takes_out : goal.returns-in-None-clause-takes_out
+returns-in-None-clause-takes_out c =
+    let updates = rw c.into_inner.ensures.value at c.remove-stream.ensures.updates in
+    taken_out c.args.self.now.under_way.entries c.remove-stream.new.self.entries c.args.self.now.over c.remove.new.self c.args.id (few _ _ c.into_inner.ensures.value c.into_inner.ensures.bound) updates.1 updates.2
+    c.remove.ensures.takes_out
+
+pub returns-in-None-clause-before : goal.returns-in-None-clause-before
+returns-in-None-clause-before c = sym (ap waits_at (under c.args.self.now c.into_inner.result c.args.id None c.into_inner.ensures.value c.into_inner.ensures.bound c.in-None.ensures.value) ∙ over_waits _ c.remove.ensures.over)
+
+pub returns-in-None-clause-distinct : goal.returns-in-None-clause-distinct
+returns-in-None-clause-distinct c = distinct_in (record { under_way = c.remove-stream.new.self; over = c.remove.new.self })

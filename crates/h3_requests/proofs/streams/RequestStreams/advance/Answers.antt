@@ -1,6 +1,10 @@
 -- Whether bytes still wait is what is left of those that waited.
-use Rattle.std.proofs.Common.{rules}
-use Rattle.h3_requests.proofs.Sendable.{listed_before, settled}
+use Rattle.std.proofs.Common.{rules, ◌≡◌, sym, ◌∙◌, ap}
+use Rattle.std.specs.Option.{option_copied_mut}
+use Rattle.h3_connection.specs.State.{kept_at}
+use Rattle.h3_requests.specs.Stored.{either, over_at}
+use Rattle.h3_requests.proofs.Ways.{over_advanced}
+use Rattle.h3_requests.proofs.Sendable.{moved, listed_before, settled}
 use Rattle.h3_requests.proofs.streams.RequestStreams.advance.Goals as goal
 
 pub settle-requires : goal.settle-requires
@@ -8,4 +12,12 @@ settle-requires c = listed_before _ _ _ c.args.id c.min.result _ c.in-Some.strea
 
 pub invariant_of-self-2 : goal.invariant_of-self-2
 invariant_of-self-2 c =
-    settled _ _ _ _ _ c.args.id _ c.in-Some.stream.now _ (c.get_mut.follows.holds _) (search rules) (search rules) c.settle.ensures (search rules) c.self.invariant
+    moved c.retire_if.ensures
+    (settled _ _ _ _ _ c.args.id _ c.in-Some.stream.now _ (c.get_mut.follows.holds _) (search rules) (search rules) c.settle.ensures (search rules) c.self.invariant)
+-- nothing waits on a stream that is over
+pub returns-in_default-clause-there : goal.returns-in_default-clause-there
+returns-in_default-clause-there c =
+    let found : kept_at c.args.self.now c.args.id ≡ over_at c.self.inside.streams c.args.id =
+    ap (λ l. kept_at l c.args.id) (sym c.self.view_is) ∙ c.get_mut.ensures.found ∙ ap (λ o. either o (over_at c.self.inside.streams c.args.id)) (sym c.get_mut.ensures.value ∙ ap option_copied_mut c.in_default.is) in
+    let h = over_advanced c.args.self.now c.args.id c.args.count (over_at c.self.inside.streams c.args.id) found (search (rules, c.get_over.ensures.over)) in
+    search (rules, h)

@@ -1,14 +1,12 @@
 -- The count of the stream goes with it.
-use Rattle.std.proofs.Common.{ap, ◌∙◌}
-use Rattle.h3_blocked.specs.Counting.{waits_at}
 use Rattle.h3_requests.proofs.Counts.{has_count_at}
 use Rattle.h3_requests.proofs.Sendable.{removed}
 use Rattle.h3_requests.proofs.streams.RequestStreams.undo_open.Goals as goal
 
 pub replace-requires-clause-among : goal.replace-requires-clause-among
-replace-requires-clause-among c = has_count_at _ _ c.args.id _ (c.waits_of.ensures ∙ ap waits_at c.remove-stream.ensures.before) c.self.invariant.counted
+replace-requires-clause-among c = has_count_at _ _ c.args.id _ c.remove-before.ensures.before c.self.invariant.counted
 
 pub invariant_of-self : goal.invariant_of-self
 invariant_of-self c =
-    removed _ _ _ _ _ _ c.args.id _ c.remove-stream.ensures.takes_out c.remove-stream.ensures.distinct (c.waits_of.ensures ∙ ap waits_at c.remove-stream.ensures.before)
+    removed _ _ _ _ _ _ c.args.id _ c.remove-before.ensures.takes_out c.remove-before.ensures.distinct c.remove-before.ensures.before
     c.replace.ensures c.settle.ensures c.self.invariant

@@ -3,9 +3,10 @@ use Rattle.std.proofs.Common.{ap, sym, subst, ◌∙◌}
 use Rattle.h3_blocked.specs.Counting.{above}
 use Rattle.h3_requests.specs.Limited.{AreReceivers}
 use Rattle.h3_requests.proofs.Counts.{waits}
+use Rattle.h3_requests.specs.Stored.{streams_in}
 use Rattle.h3_requests.proofs.streams.RequestStreams.waiting.Goals as goal
 
 pub returns : goal.returns
 returns c = λ receivers are.
     c.above.ensures
-    ∙ waits _ c.self.inside.streams.by_id.entries receivers c.self.invariant.counted (subst (AreReceivers receivers) (sym c.self.view_is) are) c.args.inserted
+    ∙ waits _ (streams_in c.self.inside.streams) receivers c.self.invariant.counted (subst (AreReceivers receivers) (sym c.self.view_is) are) c.args.inserted

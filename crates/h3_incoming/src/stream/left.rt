@@ -1,0 +1,46 @@
+//! What is left of a stream to be read.
+ghost use Rattle.std.specs.Prelude.{◌≡◌, true};
+ghost use Rattle.h3_incoming.specs.Left.{is_drained};
+
+use super::IncomingStream;
+use h3_connection::place::Place;
+use h3_wire::frame::FrameBuffer;
+use std::alloc::Global;
+
+impl IncomingStream {
+    /// Where its message is.
+    pub fn place(&self) -> Place
+        ensures { result ≡ self.now.place }
+    {
+        self.place
+    }
+
+    /// Whether nothing is left of it: no bytes, no field section and no payload under way. It waits for nothing then. It is told of
+    /// streams alone whose end was handed out, with nothing behind it, or that were given up.
+    pub fn is_drained(&self) -> bool
+        ensures { result ≡ true → is_drained self.now ≡ true }
+    {
+        let is_settled = (self.is_over && !self.came_behind) || self.fault.is_some();
+        is_settled && self.section.is_none() && self.body_left == 0
+    }
+
+    /// One like this, of which nothing is left. It takes no memory.
+    pub fn like(&self, alloc: Global) -> IncomingStream
+        requires { is_drained self.now ≡ true }
+        ensures { result ≡ self.now }
+    {
+        IncomingStream {
+            unread: FrameBuffer::new(alloc),
+            section: None,
+            body_left: 0,
+            place: self.place,
+            waits_for: 0,
+            tries: self.tries,
+            ended: self.ended,
+            was_reset: self.was_reset,
+            is_over: self.is_over,
+            came_behind: false,
+            fault: self.fault,
+        }
+    }
+}

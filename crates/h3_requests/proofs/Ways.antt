@@ -1,0 +1,296 @@
+-- Streams that are over, and the ways in which they are.
+use Rattle.std.proofs.Common.{arith, ◌≡◌, ◌<◌, ◌≤◌, ℕ, zero, suc, ◌+◌, ◌-◌, Bool, true, false, List, [], ◌∷◌, ◌++◌, length, ◌^◌, get_or, length-append, refl, sym, ◌∙◌, ap, subst, min, inl, inr}
+use Rattle.std.specs.Prelude.{◌≢◌, ◌&&◌, ◌||◌, ◌==◌, not, Option, Some, None, is_some, slice_get, IfSome, nat_lt}
+use Rattle.std.proofs.lemmas.Bool.{cases_eq}
+use Rattle.std.proofs.Math.Seq.{get_or-append_seam}
+use Rattle.std.proofs.lemmas.Grind.{common_steps}
+use Rattle.std.proofs.lemmas.List.{get_or_append_left}
+use Rattle.std.proofs.lemmas.Option.{slice_get-get_or, slice_get_past}
+use Rattle.h3_blocked.specs.Counting.{waits_at}
+use Rattle.h3_blocked.specs.Sums.{TakesOut}
+use Rattle.h3_connection.specs.Calls.{Sets}
+use Rattle.h3_connection.specs.Incoming.{Incoming}
+use Rattle.h3_connection.specs.State.{OutgoingState, RequestState, kept_at}
+use Rattle.h3_connection.specs.StreamSets.{Streams}
+use Rattle.h3_connection.specs.WaitingPieces.{bytes_of, without_front}
+use Rattle.h3_connection.specs.declared.event.Refusal.TheVariants as refusal
+use Rattle.h3_connection.specs.declared.place.SendPlace.{SendPlace}
+use Rattle.h3_incoming.specs.Left.{is_drained}
+use Rattle.h3_outgoing.specs.Sent.{is_sent_off, is_open, is_before_head, is_in_body, takes_head, takes_body, takes_end, taken_from}
+use Rattle.h3_requests.specs.HasBytes.{has_bytes}
+use Rattle.h3_requests.specs.Listed.{streams_of}
+use Rattle.h3_requests.specs.Marks.{HaveSameMarks, IsOneMark}
+use Rattle.h3_requests.specs.Over.{is_over, IsOver, AreMarked, HasWays, over_in, way_at, ReceivesAlike, SendsAlike}
+use Rattle.h3_requests.specs.Refused.{refused_over, head_refused_at, body_refused_at, end_refused_at, reset_refused_at, cancel_refused_at}
+use Rattle.h3_requests.proofs.Found.{few, found, sets, takes_out}
+use Rattle.h3_requests.proofs.Listed as listed
+
+both : (a b : Bool) → (a && b) ≡ true → (a ≡ true) × (b ≡ true)
+both true b h = (refl, h)
+both false b h = absurd (cc)
+
+empty : {X : Type 0} (xs : List X) → (length xs == 0) ≡ true → xs ≡ []
+empty [] h = refl
+empty (x ∷ xs) h = absurd (grind (arith, common_steps, h))
+
+zero_of : (n : ℕ) → (n == 0) ≡ true → n ≡ 0
+zero_of n h = grind (arith, common_steps, h)
+
+none_of : {X : Type 0} (o : Option X) → not (is_some o) ≡ true → o ≡ None
+none_of None h = refl
+none_of (Some x) h = absurd (cc)
+
+-- what is known of a stream that is over
+record Parts (r : RequestState) : Type 0 where
+  ended : (r.incoming.ended || r.incoming.was_reset) ≡ true
+  settled : (r.incoming.is_over || is_some r.incoming.fault) ≡ true
+  unread : r.incoming.unread ≡ []
+  section : r.incoming.section ≡ None
+  body_left : r.incoming.body_left ≡ 0
+  waits_for : r.incoming.waits_for ≡ 0
+  sent_off : is_sent_off r.outgoing ≡ true
+  pieces : r.outgoing.pieces ≡ []
+
+parts : (r : RequestState) → IsOver r → Parts r
+parts r h =
+    let a = both _ _ h in
+    let b = both _ _ a.0 in
+    let c = both _ _ b.0 in
+    let d = both _ _ c.0 in
+    let e = both _ _ c.1 in
+    let f = both _ _ e.0 in
+    let g = both _ _ f.0 in
+    record {
+      ended = d.0;
+      settled = d.1;
+      unread = empty _ g.0;
+      section = none_of _ g.1;
+      body_left = zero_of _ f.1;
+      waits_for = zero_of _ e.1;
+      sent_off = b.1;
+      pieces = empty _ a.1;
+    }
+
+received_alike : (a b : Incoming) → a.unread ≡ b.unread → a.section ≡ b.section → a.body_left ≡ b.body_left → a.waits_for ≡ b.waits_for → ReceivesAlike a b → a ≡ b
+received_alike a b unread section body_left waits_for same =
+    let e : record { unread = a.unread; section = a.section; body_left = a.body_left; place = a.place; waits_for = a.waits_for; tries = a.tries; ended = a.ended; was_reset = a.was_reset; is_over = a.is_over; fault = a.fault }
+    ≡ record { unread = b.unread; section = b.section; body_left = b.body_left; place = b.place; waits_for = b.waits_for; tries = b.tries; ended = b.ended; was_reset = b.was_reset; is_over = b.is_over; fault = b.fault } =
+    rw (unread, section, body_left, waits_for, same.place, same.tries, same.ended, same.was_reset, same.is_over, same.fault) refl in
+    e
+
+sent_alike : (a b : OutgoingState) → a.pieces ≡ [] → b.pieces ≡ [] → SendsAlike a b → a ≡ b
+sent_alike a b an bn same =
+    let left : a ≡ record { pieces = []; place = b.place; is_finished = b.is_finished; is_reset = b.is_reset } = rw (sym an, sym same.place, sym same.is_finished, sym same.is_reset) refl in
+    let right : record { pieces = []; place = b.place; is_finished = b.is_finished; is_reset = b.is_reset } ≡ b = rw (sym bn) refl in
+    left ∙ right
+
+-- Streams that are over alike are the same.
+pub over_alike : (a b : RequestState) → IsOver a → IsOver b → ReceivesAlike a.incoming b.incoming → SendsAlike a.outgoing b.outgoing → a ≡ b
+over_alike a b h k received sent =
+    let p = parts a h in
+    let q = parts b k in
+    let incoming : a.incoming ≡ b.incoming = received_alike a.incoming b.incoming (p.unread ∙ sym q.unread) (p.section ∙ sym q.section) (p.body_left ∙ sym q.body_left) (p.waits_for ∙ sym q.waits_for) received in
+    let outgoing : a.outgoing ≡ b.outgoing = sent_alike a.outgoing b.outgoing p.pieces q.pieces sent in
+    ap (λ i. record { incoming = i; outgoing = a.outgoing }) incoming ∙ ap (λ o. record { incoming = b.incoming; outgoing = o }) outgoing
+
+-- A stream that is over waits for nothing,
+pub over_waits : (o : Option RequestState) → IfSome o IsOver → waits_at o ≡ 0
+over_waits None h = refl
+over_waits (Some r) h = (parts r h).waits_for
+
+-- no bytes wait on it,
+pub over_bytes : (r : RequestState) → IsOver r → has_bytes (Some r) ≡ false
+over_bytes r h = ap (λ pieces. nat_lt 0 (length (bytes_of pieces))) (parts r h).pieces
+
+-- nothing more comes on it, and nothing more is handed out of it,
+pub over_ended : (r : RequestState) → IsOver r → (r.incoming.ended || r.incoming.was_reset) ≡ true
+over_ended r h = (parts r h).ended
+
+pub over_settled : (r : RequestState) → IsOver r → (r.incoming.is_over || is_some r.incoming.fault) ≡ true
+over_settled r h = (parts r h).settled
+
+-- and nothing more is sent on it
+pub over_sent : (r : RequestState) → IsOver r → is_sent_off r.outgoing ≡ true
+over_sent r h = (parts r h).sent_off
+
+closed_by : (o : OutgoingState) (reset finished : Bool) → o.is_reset ≡ reset → o.is_finished ≡ finished → is_sent_off o ≡ true → is_open o ≡ false
+closed_by o true finished is_reset is_finished h = grind (arith, common_steps, is_reset)
+closed_by o false true is_reset is_finished h = rw is_finished refl
+closed_by o false false is_reset is_finished h = absurd (let off : false ≡ true = sym (rw (is_reset, is_finished) refl) ∙ h in cc)
+
+pub over_closed : (r : RequestState) → IsOver r → is_open r.outgoing ≡ false
+over_closed r h = closed_by r.outgoing r.outgoing.is_reset r.outgoing.is_finished refl refl (over_sent r h)
+
+takes_none : (a b : Bool) → a ≡ false → (a && b) ≡ false
+takes_none a b h = rw h refl
+
+pub over_takes_head : (r : RequestState) → IsOver r → takes_head r.outgoing ≡ false
+over_takes_head r h = takes_none _ _ (over_closed r h)
+
+pub over_takes_body : (r : RequestState) → IsOver r → takes_body r.outgoing ≡ false
+over_takes_body r h = takes_none _ _ (over_closed r h)
+
+pub over_takes_end : (r : RequestState) → IsOver r → takes_end r.outgoing ≡ false
+over_takes_end r h = takes_none _ _ (over_closed r h)
+
+none_taken : (count : ℕ) (o : OutgoingState) → o.pieces ≡ [] → taken_from o count ≡ o
+none_taken count o none =
+    let same : without_front count o.pieces ≡ o.pieces = rw none refl in
+    ap (λ pieces. record o { pieces = pieces }) same
+
+-- so as much is taken of it as waits, which is nothing
+pub over_taken : (r : RequestState) (count : ℕ) → IsOver r → record r { outgoing = taken_from r.outgoing (min count (length (bytes_of r.outgoing.pieces))) } ≡ r
+over_taken r count h = ap (λ o. record r { outgoing = o }) (none_taken (min count (length (bytes_of r.outgoing.pieces))) r.outgoing (parts r h).pieces)
+
+-- What is found among the streams that are over, by the mark of an id.
+pub over_found : (ways : List RequestState) (marks : ℕ → ℕ) (model : Streams RequestState) (number id way : ℕ) → streams_of (over_in ways marks) ≡ model → number ≡ id → number < 2 ^ 62 → way ≡ marks number
+    → kept_at model id ≡ way_at ways way
+over_found ways marks model number id way is same below marked =
+    ap (λ l. kept_at l id) (sym is) ∙ found (over_in ways marks) id (few number id same below) ∙ ap (λ q. way_at ways (marks q)) (sym same) ∙ ap (way_at ways) (sym marked)
+
+-- It is over.
+pub over_known : (ways : List RequestState) (marks : ℕ → ℕ) (model : Streams RequestState) (number id : ℕ) → streams_of (over_in ways marks) ≡ model → number ≡ id → number < 2 ^ 62 → AreMarked ways marks
+    → IfSome (kept_at model id) IsOver
+over_known ways marks model number id is same below h =
+    subst (λ o. IfSome o IsOver) (sym (over_found ways marks model number id (marks number) is same below refl)) (h.over (marks number))
+
+-- where nothing is marked none is
+pub none_marked : (ways : List RequestState) (marks : ℕ → ℕ) → ((id : ℕ) → marks id ≡ 0) → streams_of (over_in ways marks) ≡ []
+none_marked ways marks none = listed.nothing (over_in ways marks) (λ id. rw (none id) refl)
+
+-- the marks are the same, and the ways that they name
+pub same_marked : (ways others : List RequestState) (marks later : ℕ → ℕ) → AreMarked ways marks → HasWays ways others → HaveSameMarks marks later
+    → streams_of (over_in others later) ≡ streams_of (over_in ways marks)
+same_marked ways others marks later h has same =
+    listed.same_streams (over_in ways marks) (over_in others later) (λ q. ap (way_at others) (same q) ∙ has.same (marks q) (h.known q))
+
+-- one stream is marked
+pub one_marked : (ways others : List RequestState) (marks later : ℕ → ℕ) (number id way : ℕ) (r : RequestState) → AreMarked ways marks → HasWays ways others → number ≡ id → number < 2 ^ 62
+    → IsOneMark number way marks later → way_at others way ≡ Some r → Sets (streams_of (over_in ways marks)) (streams_of (over_in others later)) id r
+one_marked ways others marks later number id way r h has is below one found_ =
+    sets (over_in ways marks) (over_in others later) id r (few number id is below) (ap (λ q. way_at others (later q)) (sym is) ∙ ap (way_at others) one.own ∙ found_)
+    (λ q differs. ap (way_at others) (one.others q (λ same. differs (same ∙ is))) ∙ has.same (marks q) (h.known q))
+
+pub marked_in : (ways others : List RequestState) (marks later : ℕ → ℕ) (model : Streams RequestState) (number id way : ℕ) (r : RequestState) → streams_of (over_in ways marks) ≡ model → AreMarked ways marks
+    → HasWays ways others → number ≡ id → number < 2 ^ 62 → IsOneMark number way marks later → way_at others way ≡ Some r → Sets model (streams_of (over_in others later)) id r
+marked_in ways others marks later model number id way r view h has is below one found_ =
+    subst (λ l. Sets l (streams_of (over_in others later)) id r) view (one_marked ways others marks later number id way r h has is below one found_)
+
+-- or none is in its place
+pub one_unmarked : (ways : List RequestState) (marks later : ℕ → ℕ) (number id : ℕ) → number ≡ id → number < 2 ^ 62 → IsOneMark number 0 marks later
+    → TakesOut (streams_of (over_in ways marks)) (streams_of (over_in ways later)) id
+one_unmarked ways marks later number id is below one =
+    takes_out (over_in ways marks) (over_in ways later) id (few number id is below) (ap (λ q. way_at ways (later q)) (sym is) ∙ ap (way_at ways) one.own)
+    (λ q differs. ap (way_at ways) (one.others q (λ same. differs (same ∙ is))))
+
+pub none_unmarked : (ways : List RequestState) (marks later : ℕ → ℕ) (number id : ℕ) → number ≡ id → number < 2 ^ 62 → HaveSameMarks marks later → marks number ≡ 0
+    → TakesOut (streams_of (over_in ways marks)) (streams_of (over_in ways later)) id
+none_unmarked ways marks later number id is below same none =
+    takes_out (over_in ways marks) (over_in ways later) id (few number id is below) (ap (λ q. way_at ways (later q)) (sym is) ∙ ap (way_at ways) (same number ∙ none)) (λ q differs. ap (way_at ways) (same q))
+
+-- or may be, whether its mark was set or was none
+pub unmarked : (ways : List RequestState) (marks later : ℕ → ℕ) (model : Streams RequestState) (number id : ℕ) (is_set : Bool) → streams_of (over_in ways marks) ≡ model → number ≡ id → number < 2 ^ 62
+    → (is_set ≡ true → IsOneMark number 0 marks later) → (is_set ≡ false → HaveSameMarks marks later) → (is_set ≡ false → marks number ≡ 0) → TakesOut model (streams_of (over_in ways later)) id
+unmarked ways marks later model number id true view is below set same none = subst (λ l. TakesOut l (streams_of (over_in ways later)) id) view (one_unmarked ways marks later number id is below (set refl))
+unmarked ways marks later model number id false view is below set same none =
+    subst (λ l. TakesOut l (streams_of (over_in ways later)) id) view (none_unmarked ways marks later number id is below (same refl) (none refl))
+
+pub way_found : (ways : List RequestState) (way : ℕ) → way ≢ 0 → way_at ways way ≡ slice_get ways (way - 1)
+way_found ways way some = let e : (way == 0) ≡ false = grind (arith, common_steps) in rw e refl
+
+behind : (ways : List RequestState) (n : ℕ) → way_at ways (suc n) ≡ slice_get ways n
+behind ways n =
+    let some : suc n ≢ 0 = omega arith in
+    let before : suc n - 1 ≡ n = omega arith in
+    way_found ways (suc n) some ∙ ap (slice_get ways) before
+
+-- a way more
+seen : (ways : List RequestState) (r : RequestState) (way : ℕ) → way ≤ length ways → way_at (ways ++ r ∷ []) way ≡ way_at ways way
+seen ways r zero least = refl
+seen ways r (suc n) least =
+    let within : n < length ways = omega (arith, least) in
+    let longer : n < length (ways ++ r ∷ []) = omega (arith, within, length-append ways (r ∷ [])) in
+    behind (ways ++ r ∷ []) n ∙ slice_get-get_or (ways ++ r ∷ []) n r longer ∙ ap Some (get_or_append_left ways (r ∷ []) r n within) ∙ sym (slice_get-get_or ways n r within) ∙ sym (behind ways n)
+
+pub grown : (ways : List RequestState) (r : RequestState) → HasWays ways (ways ++ r ∷ [])
+grown ways r = record { longer = omega (arith, length-append ways (r ∷ [])); same = seen ways r }
+
+at_last : (ways : List RequestState) (r : RequestState) (n : ℕ) → n ≡ length ways → slice_get (ways ++ r ∷ []) n ≡ Some r
+at_last ways r n is =
+    let within : n < length (ways ++ r ∷ []) = omega (arith, is, length-append ways (r ∷ [])) in
+    slice_get-get_or (ways ++ r ∷ []) n r within ∙ ap (λ k. Some (get_or (ways ++ r ∷ []) k r)) is ∙ ap Some (get_or-append_seam ways r [] r)
+
+pub grown_over : (ways : List RequestState) (r : RequestState) → IsOver r → (way : ℕ) → length ways < way → IfSome (way_at (ways ++ r ∷ []) way) IsOver
+grown_over ways r h zero more = absurd (omega (arith, more))
+grown_over ways r h (suc n) more = subst (λ o. IfSome o IsOver) (sym (behind (ways ++ r ∷ []) n)) (by_test (n == length ways) refl)
+  where
+    by_test : (t : Bool) → (n == length ways) ≡ t → IfSome (slice_get (ways ++ r ∷ []) n) IsOver
+    by_test true e = let is : n ≡ length ways = grind (arith, common_steps, e) in subst (λ o. IfSome o IsOver) (sym (at_last ways r n is)) h
+    by_test false e =
+        let differs : n ≢ length ways = grind (arith, common_steps, e) in
+        let past : length (ways ++ r ∷ []) ≤ n = omega (arith, more, differs, length-append ways (r ∷ [])) in
+        subst (λ o. IfSome o IsOver) (sym (slice_get_past (ways ++ r ∷ []) n past)) tt
+
+-- the number of a way is one more than its place
+pub at_place : (ways : List RequestState) (place way : ℕ) (r : RequestState) → way ≡ place + 1 → place < length ways → get_or ways place r ≡ r → way_at ways way ≡ Some r
+at_place ways place way r is within same =
+    rw is (let e : way_at ways (place + 1) ≡ slice_get ways place = grind (arith, common_steps) in e ∙ slice_get-get_or ways place r within ∙ ap Some same)
+
+over_each : (ways others : List RequestState) (marks : ℕ → ℕ) → AreMarked ways marks → HasWays ways others → ((way : ℕ) → length ways < way → IfSome (way_at others way) IsOver) → (way : ℕ)
+    → IfSome (way_at others way) IsOver
+over_each ways others marks h has over way = by_test (nat_lt (length ways) way) refl
+  where
+    by_test : (t : Bool) → nat_lt (length ways) way ≡ t → IfSome (way_at others way) IsOver
+    by_test true e = over way (grind (arith, common_steps, e))
+    by_test false e = let least : way ≤ length ways = grind (arith, common_steps, e) in subst (λ o. IfSome o IsOver) (sym (has.same way least)) (h.over way)
+
+-- marks name ways that are there still
+pub still_marked : (ways others : List RequestState) (marks later : ℕ → ℕ) → AreMarked ways marks → HasWays ways others → ((way : ℕ) → length ways < way → IfSome (way_at others way) IsOver) → HaveSameMarks marks later
+    → AreMarked others later
+still_marked ways others marks later h has over same = record {
+  over = λ way. over_each ways others marks h has over way;
+  known = λ id. let k = h.known id in let e = same id in omega (arith, k, e, has.longer);
+}
+
+pub marked_too : (ways others : List RequestState) (marks later : ℕ → ℕ) (number way : ℕ) → AreMarked ways marks → HasWays ways others → ((way : ℕ) → length ways < way → IfSome (way_at others way) IsOver)
+    → IsOneMark number way marks later → way ≤ length others → AreMarked others later
+marked_too ways others marks later number way h has over one known = record {
+  over = λ way. over_each ways others marks h has over way;
+  known = λ id. elim (cases_eq id number) [
+    | inl same ↦ let e = ap later same ∙ one.own in omega (arith, known, e)
+    | inr differs ↦ let k = h.known id in let e = one.others id differs in omega (arith, k, e, has.longer)
+  ];
+}
+
+-- whether the mark was set or was not
+pub still_or_too : (ways others : List RequestState) (marks later : ℕ → ℕ) (number way : ℕ) (is_set : Bool) → AreMarked ways marks → HasWays ways others
+    → ((way : ℕ) → length ways < way → IfSome (way_at others way) IsOver) → (is_set ≡ true → IsOneMark number way marks later) → (is_set ≡ false → HaveSameMarks marks later) → way ≤ length others → AreMarked others later
+still_or_too ways others marks later number way true h has over set same known = marked_too ways others marks later number way h has over (set refl) known
+still_or_too ways others marks later number way false h has over set same known = still_marked ways others marks later h has over (same refl)
+
+-- Nothing is taken of a stream that is over.
+pub over_advanced : (m : Streams RequestState) (id count : ℕ) (o : Option RequestState) → kept_at m id ≡ o → IfSome o IsOver
+    → IfSome (kept_at m id) (λ r. Sets m m id (record r { outgoing = taken_from r.outgoing (min count (length (bytes_of r.outgoing.pieces))) }))
+over_advanced m id count None is h = rw is tt
+over_advanced m id count (Some r) is h = rw is (record { here = is ∙ ap Some (sym (over_taken r count h)); others = λ q differs. refl })
+
+-- What refuses a call on a stream that is over, or that is not there.
+pub refused_head : (o : Option RequestState) → IfSome o IsOver → Some (refused_over o refusal.OutOfOrder) ≡ head_refused_at o
+refused_head None h = refl
+refused_head (Some r) h = rw (over_takes_head r h) refl
+
+pub refused_body : (o : Option RequestState) → IfSome o IsOver → Some (refused_over o refusal.OutOfOrder) ≡ body_refused_at o
+refused_body None h = refl
+refused_body (Some r) h = rw (over_takes_body r h) refl
+
+pub refused_end : (o : Option RequestState) → IfSome o IsOver → Some (refused_over o refusal.OutOfOrder) ≡ end_refused_at o
+refused_end None h = refl
+refused_end (Some r) h = rw (over_takes_end r h) refl
+
+pub refused_reset : (o : Option RequestState) → IfSome o IsOver → Some (refused_over o refusal.Ended) ≡ reset_refused_at o
+refused_reset None h = refl
+refused_reset (Some r) h = rw (over_sent r h) refl
+
+pub refused_cancel : (o : Option RequestState) → IfSome o IsOver → Some (refused_over o refusal.Ended) ≡ cancel_refused_at o
+refused_cancel None h = refl
+refused_cancel (Some r) h = rw (over_settled r h) refl
