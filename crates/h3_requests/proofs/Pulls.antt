@@ -1,6 +1,6 @@
 -- What a pull within the limit gives.
 use Rattle.std.proofs.Common.{◌≡◌, ℕ, Bool, true, false, List, [], ◌++◌, Some, refl, sym, ap, ◌∙◌, append-nil}
-use Rattle.std.specs.Prelude.{◌||◌, Option, None, nat_lt, IfSome}
+use Rattle.std.specs.Prelude.{◌||◌, Option, None, is_some, nat_lt, IfSome}
 use Rattle.h3_blocked.specs.Counting.{above, Replaces}
 use Rattle.h3_connection.specs.Incoming.{Incoming}
 use Rattle.h3_connection.specs.Codes.{decompression_failed}
@@ -62,8 +62,8 @@ gives_limited side own id r streams before given answer i after counts others in
     gives_by (limited own id r receivers p) answer after p.replies replies written (ap (limited own id r receivers) gives.is ∙ within ∙ judged p.replies) gives.replies
 
 must_settle : {P : Type 0} (result settled : Bool) → (result ≡ true → P) → (result ≡ false → settled ≡ false) → settled ≡ true → P
-must_settle true settled yes no is = yes refl
-must_settle false settled yes no is = absurd (let never : true ≡ false = sym is ∙ no refl in cc)
+must_settle true settled given not_given is = given refl
+must_settle false settled given not_given is = absurd (let never : true ≡ false = sym is ∙ not_given refl in cc)
 
 judged_over : (i : Incoming) (are_too_many : Bool) (given answer : Pull) → i.waits_for ≡ 0 → (are_too_many ≡ true → answer ≡ pull.Fault (Connection decompression_failed)) → (are_too_many ≡ false → answer ≡ given)
     → (replies : List DecoderInstruction) → if_too_many are_too_many (record { answer = given; incoming = i; replies = replies }) ≡ record { answer = answer; incoming = i; replies = replies }
@@ -77,8 +77,8 @@ pub answers_over : (r : RequestState) (are_too_many result : Bool) (given answer
     → (result ≡ true → (is_memory given ≡ false) × ((side : Side) (own : Announced) (id : ℕ) (d : DecoderState) → pull_stream side own id d r.incoming ≡ just given r.incoming))
     → (result ≡ false → is_settled_request (Some r.incoming) ≡ false) → (are_too_many ≡ true → answer ≡ pull.Fault (Connection decompression_failed)) → (are_too_many ≡ false → answer ≡ given)
     → AnswersOver r.incoming are_too_many answer
-answers_over r are_too_many result given answer h settled no many few =
-    let p = must_settle result (is_settled_request (Some r.incoming)) settled no (settles _ _ (over_settled r h)) in
+answers_over r are_too_many result given answer h settled not_settled many few =
+    let p = must_settle result (is_settled_request (Some r.incoming)) settled not_settled (settles r.incoming.is_over (is_some r.incoming.fault) (over_settled r h)) in
     record { given = given; settled = p.1; judged = judged_over r.incoming are_too_many given answer (over_waits (Some r) h) many few }
   where
     settles : (a b : Bool) → (a || b) ≡ true → (b || a) ≡ true

@@ -14,13 +14,11 @@ use Rattle.h3_connection.specs.State.{OutgoingState, RequestState, kept_at}
 use Rattle.h3_connection.specs.StreamSets.{Streams}
 use Rattle.h3_connection.specs.WaitingPieces.{bytes_of, without_front}
 use Rattle.h3_connection.specs.declared.event.Refusal.TheVariants as refusal
-use Rattle.h3_connection.specs.declared.place.SendPlace.{SendPlace}
-use Rattle.h3_incoming.specs.Left.{is_drained}
-use Rattle.h3_outgoing.specs.Sent.{is_sent_off, is_open, is_before_head, is_in_body, takes_head, takes_body, takes_end, taken_from}
+use Rattle.h3_outgoing.specs.Sent.{is_sent_off, is_open, takes_head, takes_body, takes_end, taken_from}
 use Rattle.h3_requests.specs.HasBytes.{has_bytes}
 use Rattle.h3_requests.specs.Listed.{streams_of}
 use Rattle.h3_requests.specs.Marks.{HaveSameMarks, IsOneMark}
-use Rattle.h3_requests.specs.Over.{is_over, IsOver, AreMarked, HasWays, over_in, way_at, ReceivesAlike, SendsAlike}
+use Rattle.h3_requests.specs.Over.{IsOver, AreMarked, HasWays, over_in, way_at, ReceivesAlike, SendsAlike}
 use Rattle.h3_requests.specs.Refused.{refused_over, head_refused_at, body_refused_at, end_refused_at, reset_refused_at, cancel_refused_at}
 use Rattle.h3_requests.proofs.Found.{few, found, sets, takes_out}
 use Rattle.h3_requests.proofs.Listed as listed

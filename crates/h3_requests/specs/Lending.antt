@@ -13,7 +13,7 @@ use Rattle.h3_requests.specs.declared.map.StreamMap.{StreamMap}
 abbrev pub Writes : (old new : Streams RequestState) → (under_way : Option RequestState) → ℕ → RequestState → Type 0
 Writes old new under_way id x =
     (IsSome under_way → Sets old new id x) × (under_way ≡ Some x → AllSame old new) × HaveDistinctIds new
-        × ((y : RequestState) → under_way ≡ Some y → kept_at old id ≡ Some y)
+    × ((y : RequestState) → under_way ≡ Some y → kept_at old id ≡ Some y)
 
 -- the stream is the last one that was written through r, and where r is none nothing has changed
 abbrev pub LendsStream : MutBor StreamMap → ℕ → Option (MutBor RequestState) → Fml

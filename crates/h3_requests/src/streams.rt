@@ -69,10 +69,7 @@ impl RequestStreams {
         ensures over { OnErr result (IfSome (kept_at self.old id) IsOver) }
         ensures err { OnErr result (self.new ≡ self.old) }
     {
-        let Ok(before) = self
-            .streams
-            .insert(alloc, id, RequestStream::new(alloc))
-        else {
+        let Ok(before) = self.streams.insert(alloc, id, RequestStream::new(alloc)) else {
             return Err(AllocError);
         };
         self.blocked.replace(before, 0);

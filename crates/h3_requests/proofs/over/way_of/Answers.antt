@@ -1,5 +1,5 @@
 -- One way more.
-use Rattle.std.proofs.Common.{◌≡◌, rules, sym, subst, List, ◌∷◌, [], ◌++◌, ℕ, length, ◌<◌}
+use Rattle.std.proofs.Common.{rules, sym, subst, List, ℕ, length, ◌<◌}
 use Rattle.std.specs.Prelude.{IfSome}
 use Rattle.h3_requests.specs.Over.{HasWays, IsOver, way_at}
 use Rattle.h3_requests.proofs.Ways.{grown, grown_over}

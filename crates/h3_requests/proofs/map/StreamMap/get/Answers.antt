@@ -1,5 +1,5 @@
 -- The stream is under way, or over, or not there.
-use Rattle.std.proofs.Common.{◌≡◌, Some, None, sym, ◌∙◌}
+use Rattle.std.proofs.Common.{Some, None, sym, ◌∙◌}
 use Rattle.h3_requests.proofs.Found.{under}
 use Rattle.h3_requests.proofs.map.StreamMap.get.Goals as goal
 

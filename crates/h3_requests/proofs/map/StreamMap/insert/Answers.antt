@@ -1,5 +1,5 @@
 -- The stream is set among those under way.
-use Rattle.std.proofs.Common.{◌≡◌, Some, None, refl, sym, subst, ◌∙◌, ap}
+use Rattle.std.proofs.Common.{Some, None, refl, sym, subst, ◌∙◌, ap}
 use Rattle.std.specs.Prelude.{IfSome}
 use Rattle.h3_blocked.specs.Counting.{waits_at}
 use Rattle.h3_connection.specs.State.{RequestState}

@@ -1,5 +1,4 @@
 -- Nothing is stored.
-use Rattle.std.proofs.Common.{◌≡◌}
 use Rattle.h3_requests.proofs.Found.{none_stored}
 use Rattle.h3_requests.proofs.map.StreamMap.new.Goals as goal
 

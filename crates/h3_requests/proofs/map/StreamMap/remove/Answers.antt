@@ -1,5 +1,5 @@
 -- The stream is taken out of both.
-use Rattle.std.proofs.Common.{◌≡◌, Some, None, sym, ◌∙◌, ap}
+use Rattle.std.proofs.Common.{Some, None, sym, ◌∙◌, ap}
 use Rattle.h3_blocked.specs.Counting.{waits_at}
 use Rattle.h3_connection.specs.State.{RequestState}
 use Rattle.h3_requests.proofs.Found.{distinct_in, few, taken_out, under}

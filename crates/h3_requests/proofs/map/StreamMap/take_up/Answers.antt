@@ -1,9 +1,9 @@
 -- A stream that is over is taken up as it is.
-use Rattle.std.proofs.Common.{◌≡◌, Bool, true, false, Some, None, refl, sym, ◌∙◌, ap}
+use Rattle.std.proofs.Common.{◌≡◌, true, false, Some, None, refl, sym, ◌∙◌, ap}
 use Rattle.std.specs.Prelude.{Option, is_some, option_copied}
 use Rattle.h3_connection.specs.State.{kept_at}
 use Rattle.h3_requests.specs.Stored.{either}
-use Rattle.h3_requests.proofs.Found.{few, same_stored, taken_up, under}
+use Rattle.h3_requests.proofs.Found.{same_stored, under}
 use Rattle.h3_requests.proofs.map.StreamMap.take_up.Goals as goal
 
 there_first : {X : Type 0} (o p : Option X) → is_some o ≡ true → is_some (either o p) ≡ true

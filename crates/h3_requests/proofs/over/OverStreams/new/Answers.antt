@@ -1,5 +1,4 @@
 -- Nothing is marked.
-use Rattle.std.proofs.Common.{◌≡◌}
 use Rattle.h3_requests.specs.Marks.{mark_at}
 use Rattle.h3_requests.proofs.Ways.{none_marked}
 use Rattle.h3_requests.proofs.over.OverStreams.new.Goals as goal

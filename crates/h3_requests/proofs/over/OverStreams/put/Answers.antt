@@ -1,5 +1,5 @@
 -- One stream is marked with its way, which may be a new one.
-use Rattle.std.proofs.Common.{arith, ◌≡◌, ◌<◌, refl}
+use Rattle.std.proofs.Common.{arith, ◌<◌, refl}
 use Rattle.h3_requests.specs.Marks.{mark_at}
 use Rattle.h3_requests.proofs.Ways.{marked_in, still_marked, still_or_too}
 use Rattle.h3_requests.proofs.over.OverStreams.put.Goals as goal

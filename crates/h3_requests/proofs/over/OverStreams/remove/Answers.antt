@@ -1,5 +1,4 @@
 -- Its mark goes.
-use Rattle.std.proofs.Common.{◌≡◌}
 use Rattle.h3_requests.specs.Marks.{mark_at}
 use Rattle.h3_requests.proofs.Ways.{over_known, unmarked}
 use Rattle.h3_requests.proofs.over.OverStreams.remove.Goals as goal

@@ -1,5 +1,4 @@
 -- The marks and the ways stay.
-use Rattle.std.proofs.Common.{◌≡◌}
 use Rattle.h3_requests.specs.Marks.{mark_at}
 use Rattle.h3_requests.proofs.Ways.{over_known}
 use Rattle.h3_requests.proofs.over.OverStreams.reserve.Goals as goal

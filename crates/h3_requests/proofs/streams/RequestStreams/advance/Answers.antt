@@ -14,6 +14,7 @@ pub invariant_of-self-2 : goal.invariant_of-self-2
 invariant_of-self-2 c =
     moved c.retire_if.ensures
     (settled _ _ _ _ _ c.args.id _ c.in-Some.stream.now _ (c.get_mut.follows.holds _) (search rules) (search rules) c.settle.ensures (search rules) c.self.invariant)
+
 -- nothing waits on a stream that is over
 pub returns-in_default-clause-there : goal.returns-in_default-clause-there
 returns-in_default-clause-there c =

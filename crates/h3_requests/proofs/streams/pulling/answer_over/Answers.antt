@@ -1,5 +1,5 @@
 -- What is settled, or that too many streams wait.
-use Rattle.std.proofs.Common.{◌≡◌, Bool, true, false, refl, sym, subst, ◌∙◌}
+use Rattle.std.proofs.Common.{◌≡◌, true, false, refl, sym, subst, ◌∙◌}
 use Rattle.std.specs.Prelude.{IfSome, option_copied}
 use Rattle.h3_connection.specs.State.{RequestState}
 use Rattle.h3_requests.specs.Limited.{AnswersOver}
