@@ -1,5 +1,5 @@
 //! The peer's encoder stream (RFC 9204, section 4.3), and the dynamic table that it fills.
-ghost use Rattle.std.specs.Prelude.{◌≡◌, ◌-◌, ◌<◌, ◌^◌, ◌++◌, [], Some, None, IfOk, IfErr, OnOk, OnErr};
+ghost use Rattle.std.specs.Prelude.{length, ◌≡◌, ◌-◌, ◌<◌, ◌^◌, ◌++◌, [], Some, None, IfOk, IfErr, OnOk, OnErr};
 ghost use Rattle.h3_qpack.specs.Increments.{increment_for};
 ghost use Rattle.h3_qpack.specs.DecoderState.{announcing};
 ghost use Rattle.h3_qpack.specs.SectionAnswers.{IsReasonFor};
