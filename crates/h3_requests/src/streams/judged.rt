@@ -107,7 +107,7 @@ impl RequestStreams {
         Ok(())
     }
 
-    /// The message is whole. It takes no memory. Refused are, in this order, a stream that is not there, and one whose final head was
+    /// The message is whole. It needs no memory. Refused are, in this order, a stream that is not there, and one whose final head was
     /// not sent, or whose sending has ended. An `Err` changes nothing.
     pub fn finish_stream(&mut self, id: StreamId) -> Result<(), Refusal>
         ensures ok { OnOk result (IfSome (kept_at self.old id) (λ r. Sets self.old self.new id (record r { outgoing = has_ended r.outgoing }))) }
@@ -127,7 +127,7 @@ impl RequestStreams {
         Ok(())
     }
 
-    /// Sending ends here: what waits is dropped. It takes no memory. Refused are, in this order, a stream that is not there, and one
+    /// Sending ends here: what waits is dropped. It needs no memory. Refused are, in this order, a stream that is not there, and one
     /// of which nothing is left to be sent. An `Err` changes nothing.
     pub fn reset_stream(&mut self, id: StreamId) -> Result<(), Refusal>
         ensures ok { OnOk result (IfSome (kept_at self.old id) (λ r. Sets self.old self.new id (record r { outgoing = was_cut_off r.outgoing }))) }
