@@ -1,3 +1,4 @@
+mod Behind
 pub mod LastIds
 pub mod SendingStands
 pub mod SendingRefusals

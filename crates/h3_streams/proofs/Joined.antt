@@ -10,6 +10,7 @@ use Rattle.h3_connection.specs.Calls.{Sets, AllSame}
 use Rattle.h3_connection.specs.State.{kept_at}
 use Rattle.h3_connection.specs.StreamSets.{Streams}
 use Rattle.h3_connection.specs.Unidirectional.{Unidirectional, Role, untold, is_critical, role_after, with_bytes, pull_unidirectional}
+use Rattle.h3_connection.specs.Unread.{held_of_role}
 use Rattle.h3_connection.specs.declared.event.Pull.{Pull}
 use Rattle.h3_connection.specs.declared.event.Pull.TheVariants.{NoMessages}
 use Rattle.h3_unidirectional.specs.Kinds.{plain, received_by, TellsFirst}
@@ -111,6 +112,17 @@ pub nothing_unread : (xs ys : Streams Unidirectional) (id : ℕ) (role : PlainRo
 nothing_unread xs ys id role h =
     let p = some_plain role (kept_at xs id) h in
     sym (ap (λ (o : Unidirectional). length (concat o.unread)) (stream_first xs ys id role h ∙ ap (λ o. unwrap_or o untold) p.1) ∙ ap (λ l. length (concat l)) p.3)
+
+plain_holds : (x : Unidirectional) (role : PlainRole) → held_of_role x (plain role) ≡ 0
+plain_holds x plain_role.Control = refl
+plain_holds x plain_role.Encoder = refl
+plain_holds x plain_role.Decoder = refl
+plain_holds x plain_role.Ignored = refl
+
+pub nothing_held : (xs ys : Streams Unidirectional) (id : ℕ) (role : PlainRole) → IsPlain role (kept_at xs id) → 0 ≡ held_of_role (peer_stream (xs ++ ys) id) (peer_stream (xs ++ ys) id).role
+nothing_held xs ys id role h =
+    let p = some_plain role (kept_at xs id) h in
+    sym (ap (λ (o : Unidirectional). held_of_role o o.role) (stream_first xs ys id role h ∙ ap (λ o. unwrap_or o untold) p.1) ∙ ap (held_of_role p.0) p.2 ∙ plain_holds p.0 role)
 
 plain_pull : (x : Unidirectional) (role : PlainRole) → pull_unidirectional x (plain role) ≡ (NoMessages, x)
 plain_pull x plain_role.Control = refl

@@ -4,6 +4,7 @@ ghost use Rattle.std.specs.List.{concat};
 ghost use Rattle.h3_connection.specs.Calls.{Sets, AllSame};
 ghost use Rattle.h3_connection.specs.State.{kept_at};
 ghost use Rattle.h3_connection.specs.Unidirectional.{is_closed};
+ghost use Rattle.h3_connection.specs.Unread.{held_of_role};
 ghost use Rattle.h3_streams.specs.Placed.{peer_stream, Pulls, Receives, Closes};
 
 use bytes::Bytes;
@@ -47,6 +48,16 @@ pub(crate) fn unread_len(streams: &BTreeMap<u64, UnidirectionalStream>, id: Stre
 {
     match streams.get(&id.into_inner()) {
         Some(stream) => stream.unread_len(),
+        None => 0,
+    }
+}
+
+/// How many bytes of it are held: of its type or its session.
+pub(crate) fn held(streams: &BTreeMap<u64, UnidirectionalStream>, id: StreamId) -> usize
+    ensures { result ≡ held_of_role (peer_stream streams.now.entries id) (peer_stream streams.now.entries id).role }
+{
+    match streams.get(&id.into_inner()) {
+        Some(stream) => stream.held(),
         None => 0,
     }
 }

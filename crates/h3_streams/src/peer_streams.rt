@@ -5,6 +5,7 @@ ghost use Rattle.h3_connection.specs.Calls.{AllSame};
 ghost use Rattle.h3_connection.specs.Keeping.{is_settled_peer};
 ghost use Rattle.h3_connection.specs.State.{kept_at};
 ghost use Rattle.h3_connection.specs.Unidirectional.{is_closed};
+ghost use Rattle.h3_connection.specs.Unread.{held_of_role};
 ghost use Rattle.h3_streams.specs.Placed.{peer_stream, Pulls, Receives, Closes};
 ghost use Rattle.h3_streams.specs.Plain.{plain_streams};
 
@@ -99,6 +100,16 @@ impl PeerStreams {
         match self.plain.role(id.into_inner()) {
             Some(_role) => 0,
             None => map::unread_len(&self.kept, id),
+        }
+    }
+
+    /// How many bytes of a stream are held: of its type or its session.
+    pub(crate) fn held(&self, id: StreamId) -> usize
+        ensures { result ≡ held_of_role (peer_stream self.now id) (peer_stream self.now id).role }
+    {
+        match self.plain.role(id.into_inner()) {
+            Some(_role) => 0,
+            None => map::held(&self.kept, id),
         }
     }
 

@@ -35,9 +35,6 @@ impl ConnectionStreams {
     fn held_by_stream(&self, id: StreamId) -> usize
         ensures { result ≡ held_of_role (stream_of_peer self.now id) (stream_of_peer self.now id).role }
     {
-        match self.unidirectional.get(&id.into_inner()) {
-            Some(stream) => stream.held(),
-            None => 0,
-        }
+        self.unidirectional.held(id)
     }
 }

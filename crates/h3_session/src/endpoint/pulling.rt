@@ -58,6 +58,7 @@ fn is_settled(stream: Option<&RequestStream>) -> bool
 }
 
 /// The next item of a request stream.
+#[tactic(auto, using(crate::proofs::Behind::pulls_behind))]
 fn pull_stream(
     requests: &mut RequestStreams,
     alloc: Global,
@@ -84,12 +85,13 @@ fn pull_stream(
         announced,
         id,
         decoding.decoder(),
-        replies.bytes_mut(),
+        replies.behind_mut(),
         out,
     )
 }
 
 // Gives up what comes on a stream where that is allowed, with one look-up, and tells the peer's encoder.
+#[tactic(auto, using(crate::proofs::Behind::cancels_behind))]
 fn cancel_stream(
     requests: &mut RequestStreams,
     alloc: Global,
@@ -101,7 +103,7 @@ fn cancel_stream(
     ensures why { IfErr result (λ r. r ≡ unwrap_or (cancel_refused_at (kept_at requests.old id)) OutOfMemory) }
     ensures err { OnErr result (AllSame requests.old requests.new × (replies.new ≡ replies.old)) }
 {
-    requests.cancel_stream(alloc, id, replies.bytes_mut())
+    requests.cancel_stream(alloc, id, replies.behind_mut())
 }
 
 impl Endpoint {

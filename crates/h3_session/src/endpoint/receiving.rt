@@ -134,6 +134,7 @@ fn server_opened_refusal(side: Side) -> Option<Refusal>
 
 /// What came on a request stream is its receiver's. A stream that is not there is opened. Where memory is refused nothing has
 /// changed, and the arrival comes back.
+#[tactic(auto, using(crate::proofs::Behind::written_behind))]
 fn receive(
     requests: &mut RequestStreams,
     alloc: Global,
@@ -154,7 +155,7 @@ fn receive(
             Err(_) => Err(Arrival::EndCame(id)),
         },
         Arrival::ResetCame(id, code) => {
-            match requests.reset_incoming(alloc, id, code, replies.bytes_mut()) {
+            match requests.reset_incoming(alloc, id, code, replies.behind_mut()) {
                 Ok(()) => Ok(()),
                 Err(_) => Err(Arrival::ResetCame(id, code)),
             }
