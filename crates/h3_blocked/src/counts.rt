@@ -1,112 +1,72 @@
-//! The counts that streams wait for.
-ghost use Rattle.std.specs.Prelude.{◌≡◌, ◌+◌, ◌<◌, ◌^◌, [], true, OnOk, nat_lt, length};
+//! The counts that streams wait for, in order.
+ghost use Rattle.std.specs.Prelude.{◌≡◌, ◌+◌, ◌<◌, ◌≤◌, length, nat_lt, nat_le, vec_len, vec_capacity};
+ghost use Rattle.std.specs.List.Sorted.{IsNonDecreasing, IsPartitionPoint};
 ghost use Rattle.h3_blocked.specs.Counting.{above, one_if, Replaces, HasCount};
-ghost use Rattle.h3_blocked.specs.Held.{HeldCounts};
 
-use crate::tree::{Node, greater, put_in, size, take_out, vacant};
-use std::alloc::{AllocError, Global};
-use std::marker::Model;
-
-/// The required insert counts that streams wait for (RFC 9204, section 2.1.2), one for each of these streams, and at most one
-/// place to spare, so that one more can be put in with no memory. What is asked of n counts takes some log n steps, whatever
-/// the counts are.
-#[derive(Drop)]
-pub struct BlockedCounts {
-    tree: Option<Box<Node>>,
-    place: Option<Box<Node>>,
-    alloc: Global,
+/// How many of the counts are greater than this one.
+pub fn above(counts: &[usize], count: usize) -> usize
+    requires sorted { IsNonDecreasing counts.now }
+    ensures { result ≡ above count counts.now }
+{
+    counts.len() - first_above(counts, count)
 }
 
-impl Model for BlockedCounts {
-    ghost use Rattle.std.specs.Prelude.{◌<◌, ◌^◌, length};
-    ghost use Rattle.h3_blocked.specs.Held.{HeldCounts, has_room_for};
-    ghost use Rattle.h3_blocked.specs.Trees.{listed};
-
-    ghost Value = { HeldCounts };
-
-    ghost view = { λ a. record { counts = listed a.tree; has_room = has_room_for a.place (listed a.tree) } };
-
-    ghost invariant = { λ a. length (listed a.tree) < 2 ^ 64 };
+/// Takes the one count out and puts the other one in. A count of 0 stands for none. No memory is asked for.
+pub fn replace(counts: &mut Vec<usize>, before: usize, after: usize)
+    requires sorted { IsNonDecreasing counts.old.items }
+    requires among { HasCount counts.old.items before }
+    requires room { before ≡ 0 → 0 < after → vec_len counts.old < vec_capacity counts.old }
+    ensures replaced { Replaces counts.old.items counts.new.items before after }
+    ensures sorted { IsNonDecreasing counts.new.items }
+    ensures len { vec_len counts.new + one_if (nat_lt 0 before) ≡ vec_len counts.old + one_if (nat_lt 0 after) }
+    ensures capacity { vec_capacity counts.new ≡ vec_capacity counts.old }
+{
+    if before == after {
+        return;
+    }
+    if before > 0 {
+        take_out(counts, before);
+    }
+    if after > 0 {
+        put_in(counts, after);
+    }
 }
 
-impl BlockedCounts {
-    /// No count. It takes no memory.
-    pub fn new(alloc: Global) -> BlockedCounts
-        ensures { result.counts ≡ [] }
-    {
-        BlockedCounts {
-            tree: None,
-            place: None,
-            alloc,
-        }
-    }
+/// Takes one such count out.
+fn take_out(counts: &mut Vec<usize>, count: usize)
+    requires sorted { IsNonDecreasing counts.old.items }
+    requires among { (0 < count) × HasCount counts.old.items count }
+    ensures replaced { Replaces counts.old.items counts.new.items count 0 }
+    ensures sorted { IsNonDecreasing counts.new.items }
+    ensures len { vec_len counts.new + 1 ≡ vec_len counts.old }
+    ensures capacity { vec_capacity counts.new ≡ vec_capacity counts.old }
+{
+    let place = first_above(counts.as_slice(), count);
+    counts.remove(place - 1);
+}
 
-    /// How many of the counts are greater than this one.
-    pub fn above(&self, count: usize) -> usize
-        ensures { result ≡ above count self.now.counts }
-    {
-        greater(&self.tree, count)
-    }
+/// Puts this count behind those that are not greater.
+fn put_in(counts: &mut Vec<usize>, count: usize)
+    requires sorted { IsNonDecreasing counts.old.items }
+    requires room { vec_len counts.old < vec_capacity counts.old }
+    ensures replaced { Replaces counts.old.items counts.new.items 0 count }
+    ensures sorted { IsNonDecreasing counts.new.items }
+    ensures len { vec_len counts.new ≡ vec_len counts.old + 1 }
+    ensures capacity { vec_capacity counts.new ≡ vec_capacity counts.old }
+{
+    let place = first_above(counts.as_slice(), count);
+    let _ = counts.insert(place, count);
+}
 
-    /// Room for one more count, so that it can be put in with no memory. The counts stay.
-    pub fn reserve(&mut self) -> Result<(), AllocError>
-        ensures room { OnOk result (self.new.has_room ≡ true) }
-        ensures same { self.new.counts ≡ self.old.counts }
-    {
-        if size(&self.tree) == usize::MAX {
-            return Err(AllocError);
-        }
-        if self.place.is_none() {
-            let Ok(place) = Box::new(self.alloc, vacant()) else {
-                return Err(AllocError);
-            };
-            self.place = Some(place);
-        }
-        Ok(())
-    }
-
-    /// Takes the one count out and puts the other one in. A count of 0 stands for none. No memory is asked for.
-    pub fn replace(&mut self, before: usize, after: usize)
-        requires among { HasCount self.old.counts before }
-        requires room { before ≡ 0 → 0 < after → self.old.has_room ≡ true }
-        ensures { Replaces self.old.counts self.new.counts before after }
-    {
-        if before == after {
-            return;
-        }
-        if before > 0 {
-            self.take(before);
-        }
-        if after > 0 {
-            self.put(after);
-        }
-    }
-
-    // Takes one such count out, whose place is to spare then.
-    fn take(&mut self, count: usize)
-        requires some { 0 < count }
-        requires among { HasCount self.old.counts count }
-        ensures replaced { Replaces self.old.counts self.new.counts count 0 }
-        ensures room { self.new.has_room ≡ true }
-    {
-        let Some(root) = self.tree.take() else {
-            unreachable!()
-        };
-        let (rest, place) = take_out(root, count);
-        self.tree = rest;
-        self.place = Some(place);
-    }
-
-    // Puts this count in.
-    fn put(&mut self, count: usize)
-        requires some { 0 < count }
-        requires room { self.old.has_room ≡ true }
-        ensures { Replaces self.old.counts self.new.counts 0 count }
-    {
-        let Some(place) = self.place.take() else {
-            unreachable!()
-        };
-        let rest = self.tree.take();
-        self.tree = Some(put_in(rest, place, count));
-    }
+/// Where the counts begin that are greater than this one.
+fn first_above(counts: &[usize], count: usize) -> usize
+    requires sorted { IsNonDecreasing counts.now }
+    ensures point { IsPartitionPoint (λ c. c ≤ count) (λ c. count < c) counts.now result }
+    ensures bound { result + above count counts.now ≡ length counts.now }
+{
+    counts.partition_point(
+        |c: &usize| -> bool
+            ensures { result ≡ nat_le c.now count }
+        { *c <= count },
+    )
 }

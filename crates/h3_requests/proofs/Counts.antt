@@ -1,6 +1,7 @@
 -- The counts go along when a call changes the streams.
 use Rattle.std.proofs.Common.{arith, ◌≡◌, ℕ, List, sym, ◌∙◌, ap, subst, refl}
 use Rattle.std.specs.Prelude.{Option, Some, None, option_map, count_by, nat_lt, is_some}
+use Rattle.std.specs.List.Sorted.{IsNonDecreasing}
 use Rattle.h3_blocked.specs.Counting.{above, HasCount, Replaces, one_if, waits_at}
 use Rattle.h3_blocked.specs.CountingLaws.{agrees_set, agrees_set_same, agrees_takes_out, has_count, waiting_list}
 use Rattle.h3_blocked.specs.Sums.{TakesOut, part_of, total-set}
@@ -12,7 +13,7 @@ use Rattle.h3_requests.specs.Counted.{AreCounted}
 use Rattle.h3_requests.specs.Lending.{Writes}
 use Rattle.h3_requests.specs.Limited.{AreReceivers}
 
--- the same counts, with more room
+-- the same counts, in a vector with more room
 pub counted_again : {counts others : List ℕ} {streams : Streams RequestState} → others ≡ counts → AreCounted counts streams → AreCounted others streams
 counted_again {streams} same h = subst (λ l. AreCounted l streams) (sym same) h
 
@@ -27,16 +28,16 @@ pub written : {under_way : Option RequestState} (counts : List ℕ) (old new : S
 written counts old new id before after writes there same h =
     let sets : Sets old new id after = writes.0 (ap is_some there) in
     let kept = kept_there old new id before after writes there in
-    record { agrees = agrees_set_same counts old new id after h.distinct writes.2 h.agrees sets (same ∙ sym (ap waits_at kept)); distinct = writes.2 }
+    record { sorted = h.sorted; agrees = agrees_set_same counts old new id after h.distinct writes.2 h.agrees sets (same ∙ sym (ap waits_at kept)); distinct = writes.2 }
 
 -- or its count was replaced
 pub replaced : {under_way : Option RequestState} (counts others : List ℕ) (old new : Streams RequestState) (id : ℕ) (before after : RequestState) → Writes old new under_way id after → under_way ≡ Some before
-    → Replaces counts others before.incoming.waits_for after.incoming.waits_for → AreCounted counts old → AreCounted others new
-replaced counts others old new id before after writes there replaces h =
+    → IsNonDecreasing others → Replaces counts others before.incoming.waits_for after.incoming.waits_for → AreCounted counts old → AreCounted others new
+replaced counts others old new id before after writes there sorted replaces h =
     let sets : Sets old new id after = writes.0 (ap is_some there) in
     let kept = kept_there old new id before after writes there in
     let goes : Replaces counts others (waits_at (kept_at old id)) after.incoming.waits_for = subst (λ o. Replaces counts others (waits_at o) after.incoming.waits_for) (sym kept) replaces in
-    record { agrees = agrees_set counts others old new id after h.distinct writes.2 h.agrees sets goes; distinct = writes.2 }
+    record { sorted = sorted; agrees = agrees_set counts others old new id after h.distinct writes.2 h.agrees sets goes; distinct = writes.2 }
 
 has_count_by : (counts : List ℕ) (streams : Streams RequestState) (id : ℕ) (o : Option RequestState) → kept_at streams id ≡ o → AreCounted counts streams → HasCount counts (waits_at o)
 has_count_by counts streams id None is h = λ some. absurd (omega (arith, some))
@@ -48,17 +49,17 @@ has_count_at counts streams id count is h = subst (HasCount counts) (sym is) (ha
 
 -- a stream came that waits for nothing, in the place of one whose count was taken out
 pub inserted : (counts others : List ℕ) (old new : Streams RequestState) (id count : ℕ) (r : RequestState) → Sets old new id r → HaveDistinctIds new → r.incoming.waits_for ≡ 0
-    → count ≡ waits_at (kept_at old id) → Replaces counts others count 0 → AreCounted counts old → AreCounted others new
-inserted counts others old new id count r sets distinct nothing is replaces h =
+    → count ≡ waits_at (kept_at old id) → IsNonDecreasing others → Replaces counts others count 0 → AreCounted counts old → AreCounted others new
+inserted counts others old new id count r sets distinct nothing is sorted replaces h =
     let goes : Replaces counts others (waits_at (kept_at old id)) r.incoming.waits_for = subst (Replaces counts others (waits_at (kept_at old id))) (sym nothing) (subst (λ n. Replaces counts others n 0) is replaces) in
-    record { agrees = agrees_set counts others old new id r h.distinct distinct h.agrees sets goes; distinct = distinct }
+    record { sorted = sorted; agrees = agrees_set counts others old new id r h.distinct distinct h.agrees sets goes; distinct = distinct }
 
 -- and one went, and its count
 pub removed : (counts others : List ℕ) (old new : Streams RequestState) (id count : ℕ) → TakesOut old new id → HaveDistinctIds new
-    → count ≡ waits_at (kept_at old id) → Replaces counts others count 0 → AreCounted counts old → AreCounted others new
-removed counts others old new id count takes distinct is replaces h =
+    → count ≡ waits_at (kept_at old id) → IsNonDecreasing others → Replaces counts others count 0 → AreCounted counts old → AreCounted others new
+removed counts others old new id count takes distinct is sorted replaces h =
     let goes : Replaces counts others (waits_at (kept_at old id)) 0 = subst (λ n. Replaces counts others n 0) is replaces in
-    record { agrees = agrees_takes_out counts others old new id h.distinct distinct h.agrees takes goes; distinct = distinct }
+    record { sorted = sorted; agrees = agrees_takes_out counts others old new id h.distinct distinct h.agrees takes goes; distinct = distinct }
 
 -- how many wait, of the receivers that a history has
 pub waits : (counts : List ℕ) (streams : Streams RequestState) (receivers : Streams Incoming) → AreCounted counts streams → AreReceivers receivers streams

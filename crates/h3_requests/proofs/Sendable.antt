@@ -1,6 +1,7 @@
 -- Which streams are ready goes along when a call changes the streams, and so do the counts.
 use Rattle.std.proofs.Common.{arith, ◌≡◌, ℕ, Bool, true, false, List, length, sym, ◌∙◌, ap, refl, subst, inl, inr}
 use Rattle.std.specs.Prelude.{◌≢◌, ◌&&◌, Option, Some, nat_lt, is_some}
+use Rattle.std.specs.List.Sorted.{IsNonDecreasing}
 use Rattle.std.proofs.lemmas.Bool.{cases_eq}
 use Rattle.std.proofs.lemmas.List.{length-drop}
 use Rattle.h3_blocked.specs.Counting.{Replaces, waits_at}
@@ -37,7 +38,7 @@ moved {counts} {s} same h = subst (AreKept counts s) (sym same) h
 pub room_kept : {counts : List ℕ} {s t : ReadyStreams} {streams : Streams RequestState} → ((q : ℕ) → is_ready t q ≡ is_ready s q) → AreKept counts s streams → AreKept counts t streams
 room_kept same h = record { counted = h.counted; ready = λ q. same q ∙ h.ready q }
 
--- the same counts, with more room
+-- the same counts, in a vector with more room
 pub kept_again : {counts others : List ℕ} {s : ReadyStreams} {streams : Streams RequestState} → others ≡ counts → AreKept counts s streams → AreKept others s streams
 kept_again same h = record { counted = counting.counted_again same h.counted; ready = h.ready }
 
@@ -59,11 +60,11 @@ written counts s old new id before after writes there same waits h =
 
 -- or its count was replaced
 pub replaced : {under_way : Option RequestState} (counts others : List ℕ) (s : ReadyStreams) (old new : Streams RequestState) (id : ℕ) (before after : RequestState) → Writes old new under_way id after → under_way ≡ Some before
-    → Replaces counts others before.incoming.waits_for after.incoming.waits_for → after.outgoing.pieces ≡ before.outgoing.pieces → AreKept counts s old
+    → IsNonDecreasing others → Replaces counts others before.incoming.waits_for after.incoming.waits_for → after.outgoing.pieces ≡ before.outgoing.pieces → AreKept counts s old
     → AreKept others s new
-replaced counts others s old new id before after writes there replaces waits h =
+replaced counts others s old new id before after writes there sorted replaces waits h =
     record {
-      counted = counting.replaced counts others old new id before after writes there replaces h.counted;
+      counted = counting.replaced counts others old new id before after writes there sorted replaces h.counted;
       ready = bytes_stay s old new id before after (writes.0 (ap is_some there)) (counting.kept_there old new id before after writes there) waits h.ready;
     }
 
@@ -80,20 +81,20 @@ settled counts s t old new id is before after writes there same one waits h =
 
 -- a stream came on which nothing has happened, in the place of one whose count was taken out
 pub inserted : (counts others : List ℕ) (s t : ReadyStreams) (old new : Streams RequestState) (id count : ℕ) (r : RequestState) → Sets old new id r → HaveDistinctIds new
-    → r.incoming.waits_for ≡ 0 → has_bytes (Some r) ≡ false → count ≡ waits_at (kept_at old id) → Replaces counts others count 0
+    → r.incoming.waits_for ≡ 0 → has_bytes (Some r) ≡ false → count ≡ waits_at (kept_at old id) → IsNonDecreasing others → Replaces counts others count 0
     → IsOneTest id false (is_ready s) (is_ready t) → AreKept counts s old → AreKept others t new
-inserted counts others s t old new id count r sets distinct nothing none is replaces one h =
+inserted counts others s t old new id count r sets distinct nothing none is sorted replaces one h =
     record {
-      counted = counting.inserted counts others old new id count r sets distinct nothing is replaces h.counted;
+      counted = counting.inserted counts others old new id count r sets distinct nothing is sorted replaces h.counted;
       ready = ready_at s t old new id false one (sym (ap has_bytes sets.here ∙ none)) sets.others h.ready;
     }
 
 -- and one went
 pub removed : (counts others : List ℕ) (s t : ReadyStreams) (old new : Streams RequestState) (id count : ℕ) → TakesOut old new id → HaveDistinctIds new
-    → count ≡ waits_at (kept_at old id) → Replaces counts others count 0 → IsOneTest id false (is_ready s) (is_ready t) → AreKept counts s old → AreKept others t new
-removed counts others s t old new id count takes distinct is replaces one h =
+    → count ≡ waits_at (kept_at old id) → IsNonDecreasing others → Replaces counts others count 0 → IsOneTest id false (is_ready s) (is_ready t) → AreKept counts s old → AreKept others t new
+removed counts others s t old new id count takes distinct is sorted replaces one h =
     record {
-      counted = counting.removed counts others old new id count takes distinct is replaces h.counted;
+      counted = counting.removed counts others old new id count takes distinct is sorted replaces h.counted;
       ready = ready_at s t old new id false one (sym (ap has_bytes takes.here)) takes.others h.ready;
     }
 

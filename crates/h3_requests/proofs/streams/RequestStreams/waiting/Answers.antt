@@ -8,5 +8,5 @@ use Rattle.h3_requests.proofs.streams.RequestStreams.waiting.Goals as goal
 
 pub returns : goal.returns
 returns c = λ receivers are.
-    c.above.ensures
+    c.above.ensures ∙ ap (above c.args.inserted) c.deref.ensures.value
     ∙ waits _ (streams_in c.self.inside.streams) receivers c.self.invariant.counted (subst (AreReceivers receivers) (sym c.self.view_is) are) c.args.inserted
