@@ -1,8 +1,8 @@
 #!/usr/bin/env python3
-"""Which definitions the contract of `h3_session::run` reaches, and whether docs/HEADLINE.md names them.
+"""Which definitions the contract of `h3_session::run` reaches, and whether docs/HEADLINE.md and docs/headline name them.
 
-    python3 scripts/headline.py           compares: one line 'ok ..' or 'failed ..' for each part of the page
-    python3 scripts/headline.py --write   writes the rows of the page anew: their lines and names. A row's second column stays
+    python3 scripts/headline.py           compares: one line 'ok ..' or 'failed ..' for each part of the pages
+    python3 scripts/headline.py --write   writes the rows of the pages anew: their lines and names. A row's second column stays
 
 From each name of the contract the `use` lines of the specs are followed, from definition to definition; a type of the code is taken from
 its crate's src. These types and those of the signature are followed through the fields that a contract sees of them (scripts/code_types.py), to
@@ -18,14 +18,27 @@ import code_types  # noqa: E402
 
 TOP = os.path.dirname(os.path.dirname(os.path.abspath(__file__)))
 CRATES = f"{TOP}/crates"
-PAGE = f"{TOP}/docs/HEADLINE.md"
 CONTRACT = f"{CRATES}/h3_session/src/run.rt"
-# The parts of the page: its headings, and from which names each part goes on. The last one takes what is left.
-PARTS = (("## What is answered", ("RunsUntilMemory", "Run", "Happens", "empty_world", "is_memory", "AreFew", "IsMadeSetup")), ("## The endpoints that are handed back", ("RunsInWorld",)), ("## The same answers by two endpoints", ("RunsTo", "AnswersEach", "new_ends")), ("## What each call leaves", None))
+# The parts: their headings, and from which names each part goes on. The last one takes what is left.
+PARTS = (
+    ("## What is answered", ("RunsUntilMemory", "Run", "Happens", "empty_world", "is_memory", "AreFew", "IsMadeSetup")),
+    ("## The endpoints that are handed back", ("RunsInWorld",)),
+    ("## The same answers by two endpoints", ("RunsTo", "AnswersEach", "new_ends")),
+    ("## What each call leaves", None),
+)
 # Behind these the values of the code: a heading, and from which types of the signature its rows come, and from those that which parts list.
-VALUES = (("## The values in the answers", ("Setup", "Event", "Answer"), PARTS[:1]), ("## The values that are handed back", ("Outcome",), PARTS[1:]))
-HEADINGS = [it[0] for it in PARTS + VALUES]
+VALUES = (
+    ("## The values in the answers", ("Setup", "Event", "Answer"), PARTS[:1]),
+    ("## The values that are handed back", ("Outcome",), PARTS[1:]),
+)
+# The pages, each with its parts in their order there.
+PAGES = {
+    "docs/HEADLINE.md": (PARTS[0][0], VALUES[0][0]),
+    "docs/headline/endpoints.md": (PARTS[1][0], VALUES[1][0]),
+    "docs/headline/calls.md": (PARTS[2][0], PARTS[3][0]),
+}
 MOST = 1500
+WIDTH = 140
 WORD = re.compile(r"[^\s(){}\[\],;.]+")
 USE = re.compile(r"^\s*(?:pub |ghost )?use Rattle\.([\w.]+?)(?:\.\{(.*)\}| as (\w+))?;?$")
 STARTS = re.compile(r"^(?:(?:abbrev|unfoldable|opaque|pub|record|data) )*([^\s(:{]+)")
@@ -225,63 +238,87 @@ def values(specs, known, rows_of):
     return out
 
 
-def row_text(row, about, found):
+def row_lines(row, about, found):
+    """a row of a table; where it is too long its names go on in rows with nothing in front of them"""
     lines, listed = found
-    return f"| {row} | {about} | {lines} | {', '.join(f'`{it}`' for it in listed)} |"
+    out, line = [], f"| {row} | {about} | {lines} |"
+    for place, name in enumerate(listed):
+        word = f" `{name}`" + ("," if place + 1 < len(listed) else "")
+        if len(line) + len(word) + 2 > WIDTH:
+            out.append(f"{line} |")
+            line = "| | | |"
+        line += word
+    return out + [f"{line} |"]
 
 
-def sections(page):
+def sections(page, headings):
     """the page from each part's heading up to the next part, with the text in front of the first"""
-    starts = [page.index(heading) for heading in HEADINGS]
-    return page[:starts[0]], [page[a:b] for a, b in zip(starts, starts[1:] + [len(page)])]
+    starts = [page.index(heading) for heading in headings]
+    return page[: starts[0]], [page[a:b] for a, b in zip(starts, starts[1:] + [len(page)])]
 
 
 def rows_in(section):
-    return [line for line in section.split("\n") if re.match(r"^\| `", line)]
+    """the rows of a part, each with the rows that go on with its names"""
+    rows = []
+    for line in section.split("\n"):
+        if line.startswith("| `"):
+            rows.append([line])
+        elif line.startswith("| | | |") and rows:
+            rows[-1].append(line)
+    return rows
 
 
-def compare(found, page):
-    bad = 0
-    for (heading, rows), section in zip(found, sections(page)[1]):
-        total = sum(lines for lines, _ in rows.values())
-        there = rows_in(section)
-        wanted = {row: row_text(row, "", it).split(" | ")[2:] for row, it in rows.items()}
-        listed = {line[2:].split(" | ")[0]: line.split(" | ")[2:] for line in there}
-        wrong = sorted(row for row in set(wanted) | set(listed) if wanted.get(row) != listed.get(row))
-        wrong += [f"{line[2:].split(' | ')[0]} has a ? for its sections" for line in there if line.split(" | ")[1] == "?"]
-        if f"{total:,} lines" not in section:
-            wrong.append(f"the sum, {total:,} lines")
-        if heading == PARTS[0][0] and total > MOST:
-            wrong.append(f"more than {MOST:,} lines")
-        print(f"{'failed' if wrong else 'ok'} HEADLINE.md, {heading[3:]}: {total:,} lines in {len(rows)} modules{': ' if wrong else ''}{', '.join(wrong[:8])}")
-        bad |= bool(wrong)
-    return bad
+def name_of(rows):
+    return rows[0][2:].split(" | ")[0]
 
 
-def write(found, page):
-    front, there = sections(page)
-    out = [front]
-    for (heading, rows), section in zip(found, there):
-        left, lines = dict(rows), []
-        for line in section.split("\n"):
-            row = line[2:].split(" | ")[0] if re.match(r"^\| `", line) else None
-            if row is None:
-                lines.append(line)
-            elif row in left:
-                lines.append(row_text(row, line.split(" | ")[1], left.pop(row)))
-        new = [row_text(row, "?", it) for row, it in left.items()]
-        text = "\n".join(lines).rstrip("\n") + "\n" + "".join(it + "\n" for it in new)
-        total = sum(count for count, _ in rows.values())
-        out.append(re.sub(r"[\d,]+ lines", f"{total:,} lines", text, count=1) + "\n")
-    with open(PAGE, "w", encoding="utf8") as file:
-        file.write("".join(out).rstrip("\n") + "\n")
-    return 0
+def about(rows):
+    return rows[0].split(" | ")[1]
+
+
+def compare(found, page, heading, section):
+    rows = found[heading]
+    total = sum(lines for lines, _ in rows.values())
+    there = {name_of(it): it for it in rows_in(section)}
+    wrong = sorted(row for row in rows if row not in there or row_lines(row, about(there[row]), rows[row]) != there[row])
+    wrong += sorted(set(there) - set(rows))
+    wrong += [f"{name} has a ? for its sections" for name, it in there.items() if about(it) == "?"]
+    if f"{total:,} lines" not in section:
+        wrong.append(f"the sum, {total:,} lines")
+    if heading == PARTS[0][0] and total > MOST:
+        wrong.append(f"more than {MOST:,} lines")
+    state = "failed" if wrong else "ok"
+    print(f"{state} {page}, {heading[3:]}: {total:,} lines in {len(rows)} modules{': ' if wrong else ''}{', '.join(wrong[:8])}")
+    return not wrong
+
+
+def written(rows, section):
+    """a part with its rows anew, and what it says of their sum"""
+    left, lines, known = dict(rows), [], {it[0]: it for it in rows_in(section)}
+    for line in section.split("\n"):
+        if line in known:
+            name = name_of(known[line])
+            if name in left:
+                lines += row_lines(name, about(known[line]), left.pop(name))
+        elif not line.startswith("| | | |"):
+            lines.append(line)
+    behind = max(place for place, line in enumerate(lines) if line.startswith("|")) + 1
+    lines[behind:behind] = [it for row, of in left.items() for it in row_lines(row, "?", of)]
+    total = sum(count for count, _ in rows.values())
+    return re.sub(r"[\d,]+ lines", f"{total:,} lines", "\n".join(lines), count=1)
 
 
 def main():
-    found = parts(Specs())
-    page = open(PAGE, encoding="utf8").read()
-    return write(found, page) if sys.argv[1:] == ["--write"] else compare(found, page)
+    found, fine = dict(parts(Specs())), True
+    for page, headings in PAGES.items():
+        with open(f"{TOP}/{page}", encoding="utf8") as file:
+            front, there = sections(file.read(), headings)
+        if sys.argv[1:] == ["--write"]:
+            with open(f"{TOP}/{page}", "w", encoding="utf8") as file:
+                file.write(front + "".join(written(found[heading], section) for heading, section in zip(headings, there)))
+        else:
+            fine &= all([compare(found, page, heading, section) for heading, section in zip(headings, there)])
+    return 0 if fine else 1
 
 
 if __name__ == "__main__":
