@@ -35,7 +35,7 @@ runs_in_world setup events answers client server law typed h few =
       server_stands = h.server_stands;
     }
 
-front_of_all : {X : Type 0} (P : X → Type 0) (n : ℕ) (xs : List X) → AllByRecursion P xs → AllByRecursion P (take n xs)
+pub front_of_all : {X : Type 0} (P : X → Type 0) (n : ℕ) (xs : List X) → AllByRecursion P xs → AllByRecursion P (take n xs)
 front_of_all P zero xs h = tt
 front_of_all P (suc n) [] h = tt
 front_of_all P (suc n) (x ∷ xs) h = (h.0, front_of_all P n xs h.1)

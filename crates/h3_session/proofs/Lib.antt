@@ -33,4 +33,5 @@ pub mod Runs
 pub mod Carrying
 pub mod Sendables
 pub mod Headlines
+pub mod Messages
 pub mod LentFrames

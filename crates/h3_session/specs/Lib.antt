@@ -11,4 +11,5 @@ pub mod Acting
 pub mod Copied
 pub mod Typed
 pub mod Headlines
+pub mod Messages
 pub mod Frames

@@ -6,6 +6,7 @@ ghost use Rattle.h3_world.specs.Few.{AreFew};
 ghost use Rattle.h3_world.specs.Headline.{is_memory};
 ghost use Rattle.h3_world.specs.Setup.{IsMadeSetup, JudgesPlainly};
 ghost use Rattle.h3_session.specs.Headlines.{RunsInWorld, RunsUntilMemory};
+ghost use Rattle.h3_session.specs.Messages.{HandsOutUntilMemory};
 ghost use Rattle.h3_session.specs.Acting.{ActsEach, RunsByCalls};
 ghost use Rattle.h3_session.specs.Running.{AnswersEach, RunsTo};
 
@@ -17,6 +18,7 @@ use self::acting::act;
 use self::typed::events_are_typed;
 use crate::endpoint::Endpoint;
 use h3_headline::laws::two_endpoints_run_in_a_world;
+use h3_headline::parts::endpoints_hand_out_what_was_sent;
 use h3_proto::stream::Side;
 use h3_world::event::{Answer, Event};
 use h3_world::setup::Setup;
@@ -78,6 +80,8 @@ fn beside<A: Drop, B: Drop>(first: A, second: Result<B, AllocError>) -> Result<(
 ///   as these left them.
 /// - `each`: there are as many answers as events, and those up to the first that tells of refused memory are the answers of two
 ///   endpoints of the definitions with the bytes carried between them.
+/// - `messages`: within the bounds of `headline`, as far as the first answer that tells of refused memory, no answer tells of a connection
+///   fault, what a side is handed out of a stream is a front of what the other side sent on it, and with the end it is all of that.
 /// - `front`: within the bounds of `headline`, these are the answers of a run of the world of a connection, in each step of which
 ///   all that `headline` says holds.
 ///
@@ -94,6 +98,7 @@ pub fn run(alloc: Global, setup: Setup, events: &[Event]) -> Result<Outcome, All
     requires { IsMadeSetup setup }
     ensures calls { IfOk result (λ out. RunsByCalls (new_ends setup) events.now out.answers.items out.client out.server) }
     ensures each { IfOk result (λ out. AnswersEach (new_ends setup) events.now out.answers.items) }
+    ensures messages { IfOk result (λ out. AreFew events.now → JudgesPlainly setup → HandsOutUntilMemory setup events.now out.answers.items) }
     ensures front { IfOk result (λ out. AreFew events.now → JudgesPlainly setup → RunsUntilMemory setup events.now out.answers.items) }
     ensures runs { IfOk result (λ out. list_any is_memory out.answers.items ≡ false →
         RunsTo (new_ends setup) events.now out.answers.items out.client out.server) }
@@ -101,6 +106,7 @@ pub fn run(alloc: Global, setup: Setup, events: &[Event]) -> Result<Outcome, All
         RunsInWorld setup events.now out.answers.items out.client out.server) }
 {
     two_endpoints_run_in_a_world();
+    endpoints_hand_out_what_was_sent();
     events_are_typed(events);
     let client = Endpoint::announcing(alloc, Side::Client, setup.client);
     let server = Endpoint::announcing(alloc, Side::Server, setup.server);

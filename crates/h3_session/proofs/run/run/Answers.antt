@@ -1,5 +1,6 @@
 use Rattle.h3_world.specs.Ends.{new_ends}
 use Rattle.h3_session.proofs.Headlines.{runs_in_world, runs_until_memory}
+use Rattle.h3_session.proofs.Messages.{until_memory}
 use Rattle.h3_session.proofs.Runs.{answers_each, ran, runs_to}
 use Rattle.h3_session.proofs.run.run.Goals as goal
 
@@ -13,6 +14,19 @@ returns-clause-each c =
     let calls = ran (λ v. v.items) (new_ends c.args.setup) c.args.events.now c.announcing-client.result c.announcing-server.result c.run_between-answers.result _ _ _ _ _ c.in_ok-client-2.answers
     c.announcing-client.ensures c.announcing-server.ensures c.in_ok-client.ensures.0 c.in_ok-client.ensures.1 c.run_between-answers.ensures c.in_ok-client-2.ensures.0 c.in_ok-client-2.ensures.1 in
     answers_each (new_ends c.args.setup) c.args.events.now c.in_ok-client-2.answers.items _ _ calls
+
+pub returns-clause-messages : goal.returns-clause-messages
+returns-clause-messages c = λ few plain.
+    let calls = ran (λ v. v.items) (new_ends c.args.setup) c.args.events.now c.announcing-client.result c.announcing-server.result c.run_between-answers.result _ _ _ _ _ c.in_ok-client-2.answers
+    c.announcing-client.ensures c.announcing-server.ensures c.in_ok-client.ensures.0 c.in_ok-client.ensures.1 c.run_between-answers.ensures c.in_ok-client-2.ensures.0 c.in_ok-client-2.ensures.1 in
+    let setup = c.args.setup in
+    until_memory setup c.args.events.now c.in_ok-client-2.answers.items
+    (λ front sendable. record {
+      no_connection_fault = c.endpoints_hand_out_what_was_sent.ensures-fault setup front c.requires plain sendable;
+      begins = λ side id. c.endpoints_hand_out_what_was_sent.ensures-front setup front side id c.requires plain sendable;
+      ends = λ side id ended. c.endpoints_hand_out_what_was_sent.ensures-end setup front side id c.requires plain sendable ended;
+    }) c.events_are_typed.ensures
+    (answers_each (new_ends setup) c.args.events.now c.in_ok-client-2.answers.items _ _ calls) few
 
 pub returns-clause-front : goal.returns-clause-front
 returns-clause-front c = λ few plain.
