@@ -291,6 +291,7 @@ static void *opened(quic_connection *quic, void *user) {
   h->end_id = setup->requests > 0 && setup->requests < ANY_ID / 4 ? 4 * setup->requests : UINT64_MAX;
   h3_config_default(&config);
   config.server = setup->server;
+  config.strict = 1; /* no program behind this one is handed a message that breaks a rule of RFC 9114, section 4 */
   bool made = h3_new(&h->endpoint, &config, NULL) == H3_OK;
   for (int i = 0; made && i < 3; i++) made = quic_open(quic, true) == (int64_t)h3_control_id(setup->server) + 4 * i;
   if (!made) {

@@ -106,12 +106,13 @@ func number(yes bool) C.uint32_t {
 }
 
 // NewEndpoint makes an endpoint with the limits of h3_config_default: heads and trailers of at most 65,536 bytes (RFC 9114, section 4.2.2), and a
-// dynamic table of 4,096 bytes, for which 16 streams may wait.
+// dynamic table of 4,096 bytes, for which 16 streams may wait. It hands out no message that breaks a rule of RFC 9114, sections 4.2 to 4.5.
 func NewEndpoint(server bool) (*Endpoint, error) {
 	var config C.h3_config
 	var detail C.uint64_t
 	C.h3_config_default(&config)
 	config.server = number(server)
+	config.strict = 1
 	endpoint := &Endpoint{}
 	return endpoint, refusal(C.h3_new(&endpoint.raw, &config, &detail), detail)
 }
