@@ -121,9 +121,9 @@ static bool tell(http3_request *request, const h3_item *item) {
   switch (item->kind) {
   case H3_HEAD:
   case H3_INTERIM:
+  case H3_TRAILER:
   case H3_TOO_LARGE_HEAD: h->setup->events->head(request, item); return true;
   case H3_BODY: tell_body(request, item); return true;
-  case H3_TRAILER: return true;
   case H3_SESSION: http3_give_up(request, H3_CODE_REQUEST_REJECTED); return true; /* no WebTransport here */
   case H3_PENDING: return false;
   case H3_WAITING: request->waiting = true; return false;

@@ -48,6 +48,8 @@ type Item struct {
 // The kinds that are asked for by name.
 const (
 	Head            = C.H3_HEAD
+	Interim         = C.H3_INTERIM
+	Trailer         = C.H3_TRAILER
 	Body            = C.H3_BODY
 	End             = C.H3_END
 	TooLargeHead    = C.H3_TOO_LARGE_HEAD
