@@ -37,7 +37,6 @@ is_silent() { ! grep -qE "Sanitizer|runtime error|panic|DATA RACE" "$work/$1"; }
 
 root=$top/build/trixie
 there=/tmp/interop # of the root: what its programs read and write
-inside() { chroot "$root" "$@"; }
 
 aioquic_cases() { # what the server is called, CASES, PORT, what is said behind the peer's name
   : > "$work/log"
@@ -47,30 +46,30 @@ aioquic_cases() { # what the server is called, CASES, PORT, what is said behind 
   done < "$work/cases"
   [ -s "$work/cases" ] || bad "$1, aioquic$4"
 }
-curl3() { inside curl --silent --show-error --http3-only --cacert $there/cert.pem "$@"; }
+curl3=(chroot "$root" curl --silent --http3-only --cacert $there/cert.pem)
 curl_says() { # TEXT, arguments of curl: status, a blank, and the bytes of the body
   local text=$1
   shift
-  [ "$(within 60 chroot "$root" curl --silent --http3-only --cacert $there/cert.pem -o /dev/null -w '%{http_version} %{response_code} %{size_download}' "$@")" = "3 $text" ]
+  [ "$(within 60 "${curl3[@]}" -o /dev/null -w '%{http_version} %{response_code} %{size_download}' "$@")" = "3 $text" ]
 }
 curl_many() { # PORT
   local urls=()
   for i in $(seq 0 99); do urls+=(-o "$there/small-$i" "$(url "$1" "/small/$i.txt")"); done
-  within 60 chroot "$root" curl --silent --http3-only --cacert $there/cert.pem -Z --parallel-max 50 "${urls[@]}" || return 1
+  within 60 "${curl3[@]}" -Z --parallel-max 50 "${urls[@]}" || return 1
   for i in $(seq 0 99); do cmp -s "$root$there/small-$i" "$folder/small/$i.txt" || return 1; done
 }
 curl_aborts() { # PORT: the upload is given up behind a second, and the server goes on
-  within 60 chroot "$root" curl --silent --http3-only --cacert $there/cert.pem --limit-rate 200k --max-time 1 --data-binary @$there/folder/big.bin "$(url "$1" /answer)"
+  within 60 "${curl3[@]}" --limit-rate 200k --max-time 1 --data-binary @$there/folder/big.bin "$(url "$1" /answer)"
   [ $? -eq 28 ] && curl_says "200 6" "$(url "$1" /hello.txt)"
 }
 curl_head() { # PORT
-  within 60 chroot "$root" curl --silent --http3-only --cacert $there/cert.pem -I "$(url "$1" /big.bin)" | tr -d '\r' > "$work/got"
+  within 60 "${curl3[@]}" -I "$(url "$1" /big.bin)" | tr -d '\r' > "$work/got"
   grep -q "^HTTP/3 200" "$work/got" && grep -qi "^content-length: 10000000$" "$work/got"
 }
 curl_large() { # PORT: 20 fields of 3,500 bytes
   local fields=()
   for i in $(seq 20); do fields+=(-H "x-large-$i: $(printf 'a%.0s' $(seq 3500))"); done
-  [ "$(within 60 chroot "$root" curl --silent --http3-only --cacert $there/cert.pem -o /dev/null -w '%{response_code}' "${fields[@]}" "$(url "$1" /hello.txt)")" = 431 ]
+  [ "$(within 60 "${curl3[@]}" -o /dev/null -w '%{response_code}' "${fields[@]}" "$(url "$1" /hello.txt)")" = 431 ]
 }
 gtls13() { # PORT, options and URLs
   local port=$1
@@ -91,16 +90,16 @@ clients13() { # what our server is called, PORT, PORT of one with --requests 150
   aioquic_cases "$1" client "$2" ""
   aioquic_cases "$1 --requests 150" limited "$3" ""
   aioquic_cases "$1" lost "$4" ", packets lost"
-  check "$1, curl: 10 MB" gives "$big" curl3 "$(url "$2" /big.bin)"
-  check "$1, curl: POST of 10 MB" gives "$work/posted" curl3 --data-binary @$there/folder/big.bin "$(url "$2" /answer)"
+  check "$1, curl: 10 MB" gives "$big" "${curl3[@]}" "$(url "$2" /big.bin)"
+  check "$1, curl: POST of 10 MB" gives "$work/posted" "${curl3[@]}" --data-binary @$there/folder/big.bin "$(url "$2" /answer)"
   check "$1, curl: HEAD" curl_head "$2"
   check "$1, curl: an upload that is aborted" curl_aborts "$2"
   check "$1, curl: 100 requests, 50 at once" curl_many "$2"
   check "$1, curl: no such file" curl_says "404 13" "$(url "$2" /none)"
   check "$1, curl: a PUT of 10 MB gives 405" curl_says "405 29" -X PUT --data-binary @$there/folder/big.bin "$(url "$2" /answer)"
   check "$1, curl: a head of 70,000 bytes gives 431" curl_large "$2"
-  check "$1, curl, packets lost: 10 MB" gives "$big" curl3 "$(url "$4" /big.bin)"
-  check "$1, curl, packets lost: POST of 10 MB" gives "$work/posted" curl3 --data-binary @$there/folder/big.bin "$(url "$4" /answer)"
+  check "$1, curl, packets lost: 10 MB" gives "$big" "${curl3[@]}" "$(url "$4" /big.bin)"
+  check "$1, curl, packets lost: POST of 10 MB" gives "$work/posted" "${curl3[@]}" --data-binary @$there/folder/big.bin "$(url "$4" /answer)"
   check "$1, gtlsclient 1.11: 10 MB" gtls13_file "$2"
   check "$1, gtlsclient 1.11: POST of 10 MB" gtls13_post "$2"
   check "$1, gtlsclient 1.11: 100 requests" gtls13_many "$2"

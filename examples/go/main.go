@@ -39,8 +39,8 @@ type wish struct {
 
 var verbose bool
 
-// ask sends a request, with a file as its body where there is one.
-func ask(request *Request, wish wish) error {
+// ask sends a request, with a file as its body where there is one. It gives it up behind so many bytes of the file (0: never).
+func ask(request *Request, wish wish, cancel int) error {
 	place := wish.place
 	fields := []Field{{":method", wish.method}, {":scheme", "https"}, {":authority", place.Host}, {":path", place.RequestURI()}}
 	if wish.file == "" {
@@ -57,6 +57,12 @@ func ask(request *Request, wish wish) error {
 	if err := request.SendHead(fields); err != nil {
 		return err
 	}
+	if cancel > 0 {
+		if _, err := io.CopyN(request, body, int64(cancel)); err != nil {
+			return err
+		}
+		return errGivenUp
+	}
 	if _, err := io.Copy(request, body); err != nil {
 		return err
 	}
@@ -64,8 +70,8 @@ func ask(request *Request, wish wish) error {
 }
 
 // tryToAsk gives a request up that cannot be sent. Where the server wanted no more of it, there may be a response all the same.
-func tryToAsk(request *Request, wish wish) error {
-	err := ask(request, wish)
+func tryToAsk(request *Request, wish wish, cancel int) error {
+	err := ask(request, wish, cancel)
 	if err == nil || request.IsStopped() {
 		return nil
 	}
@@ -125,7 +131,7 @@ func exchange(connection *Connection, wish wish, cancel int) ([]byte, error) {
 		return nil, err
 	}
 	sent := make(chan error, 1)
-	go func() { sent <- tryToAsk(request, wish) }()
+	go func() { sent <- tryToAsk(request, wish, cancel) }()
 	body, err := answer(request, cancel)
 	var fault Fault
 	if errors.As(err, &fault) && fault.Kind == FaultCanceled {
@@ -176,7 +182,7 @@ func fetch(words []string) error {
 	post := options.String("post", "", "a file that is posted")
 	count := options.Int("count", 1, "how many requests on the connection")
 	parallel := options.Int("parallel", 1, "how many at once")
-	cancel := options.Int("cancel", 0, "give the first request up behind so many bytes")
+	cancel := options.Int("cancel", 0, "give the first request up behind so many bytes of its response, or of its file")
 	head := options.Bool("head", false, "HEAD: the head alone")
 	options.BoolVar(&verbose, "verbose", false, "say what status each head has, and how many fields each trailer")
 	options.Parse(words)

@@ -15,7 +15,7 @@ has() { # FILE..: of the root
   for file; do [ -e "$root/$file" ] || return 1; done
 }
 has_crate() { has usr/bin/cargo usr/share/cargo/registry; }
-has_peers() { has usr/bin/curl usr/lib/python3/dist-packages/aioquic usr/sbin/nginx usr/sbin/haproxy usr/bin/gtlsclient usr/bin/gtlsserver; }
+has_peers() { has usr/bin/curl usr/lib/python3/dist-packages/aioquic usr/sbin/nginx usr/sbin/haproxy usr/bin/gtlsclient usr/sbin/gtlsserver; }
 
 make_root() {
   if has_crate && has_peers; then return; fi
