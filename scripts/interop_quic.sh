@@ -6,46 +6,7 @@ set -uo pipefail
 cd "$(dirname "$0")/.."
 top=$PWD
 lib=${LIB:-$top/build/c}
-work=$(mktemp -d)
-failed=0
-pids=()
-
-leave() {
-  for pid in "${pids[@]}"; do kill "$pid" 2>/dev/null && wait "$pid" 2>/dev/null; done
-  rm -rf "$work"
-}
-trap leave EXIT
-
-good() { echo "ok $1"; }
-bad() {
-  echo "failed $1"
-  failed=$((failed + 1))
-  [ ! -s "$work/log" ] || tail -n 5 "$work/log" | sed 's/^/  /' >&2
-}
-# check NAME COMMAND..
-check() {
-  local name=$1
-  shift
-  : > "$work/log"
-  if "$@"; then good "$name"; else bad "$name"; fi
-}
-within() { timeout -k 5 "$@" 2>> "$work/log"; }
-hash_of() { sha256sum "$1" | cut -d' ' -f1; }
-# gives FILE COMMAND..: the command ends well within a minute and prints the bytes of the file
-gives() {
-  local file=$1
-  shift
-  within 60 "$@" > "$work/got" && [ "$(hash_of "$work/got")" = "$(hash_of "$file")" ]
-}
-# works COMMAND..: the command ends well within a minute
-works() { within 60 "$@" > "$work/got"; }
-# refuses TEXT COMMAND..: the command ends with 1, and says this
-refuses() {
-  local text=$1
-  shift
-  within 60 "$@" > "$work/got"
-  [ $? -eq 1 ] && grep -q -- "$text" "$work/log"
-}
+. scripts/interop/checks.sh
 
 # ---- packages ----
 
@@ -58,12 +19,6 @@ fi
 
 export PKG_CONFIG_PATH=$lib GO111MODULE=off GOPATH=/usr/share/gocode GOCACHE=${GOCACHE:-$work/go}
 SANITIZERS="-O1 -g -fsanitize=address,undefined -fno-sanitize-recover=undefined"
-build() {
-  : > "$work/log"
-  if "$@" >> "$work/log" 2>&1; then return; fi
-  bad "build: $*"
-  exit 1
-}
 [ -n "${LIB:-}" ] || build make -s lib
 build make -s -C examples/c LIB="$lib" OUT="$work/checked" CFLAGS="$SANITIZERS"
 build make -s -C examples/c LIB="$lib" OUT="$work/plain"
@@ -83,18 +38,10 @@ peer=$work/peer
 
 # ---- what is served ----
 
-folder=$work/folder
-cert=$work/cert.pem
-key=$work/key.pem
-build openssl req -x509 -newkey ec -pkeyopt ec_paramgen_curve:P-256 -nodes -keyout "$key" -out "$cert" -days 13 -subj /CN=localhost \
-  -addext 'subjectAltName=DNS:localhost,IP:127.0.0.1'
+make_served
 ours=("$work/checked/fetch" --address 127.0.0.1 --trust "$cert")
 go_ours=("$work/h3go" fetch)
 under_valgrind=(valgrind -q --leak-check=full --error-exitcode=9)
-build python3 scripts/interop/folder.py "$folder"
-big=$folder/big.bin
-echo "10000000 $(hash_of "$big")" > "$work/posted"
-for _ in $(seq 1000); do cat "$folder/hello.txt"; done > "$work/thousand"
 cat "$big" "$big" > "$work/twice"
 head -n 50 "$work/thousand" > "$work/fifty"
 echo early > "$work/early"
@@ -104,31 +51,6 @@ ln -s ../secret.txt "$folder/link.txt"
 # ---- servers ----
 
 mapfile -t ports < <(python3 scripts/interop/ports.py 17)
-listens() { grep -qi ":$(printf %04X "$1") " /proc/net/udp /proc/net/udp6 2>/dev/null; }
-# A server for ten minutes at most, and thirty seconds after the signal that ends it. In the foreground, since `timeout` would else signal its
-# whole group, twice, and LeakSanitizer, which looks for leaks at a program's end from a process of its own, may then never end.
-limited() { exec timeout --foreground -k 30 600 "$@"; }
-# start PORT LOG COMMAND..: a server in the background, until it listens; `last` is its process
-start() {
-  local port=$1 log=$2
-  shift 2
-  limited "$@" > "$work/$log" 2>&1 &
-  last=$!
-  pids+=("$last")
-  for _ in $(seq 100); do
-    if listens "$port"; then return; fi
-    sleep 0.1
-  done
-  cp "$work/$log" "$work/log"
-  bad "a server that listens: $*"
-}
-# stop PROCESS: ends a server, and answers as it ended
-stop() {
-  kill -TERM "$1" && wait "$1"
-}
-# relay PORT TO: a way to a server on which packets are lost, and come in another order
-relay() { start "$1" "relay$1.log" python3 scripts/interop/relay.py "$1" "$2"; }
-url() { echo "https://localhost:$1$2"; }
 
 # ---- our server ----
 

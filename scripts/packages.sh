@@ -1,7 +1,8 @@
 #!/usr/bin/env bash
 # packages.sh SET..: are the Debian packages there that a command wants? Names all that are missing at once, with the line that installs them.
 # The sets: c (what `make test-c` is built with), peer (what bench/ is built with), examples-c, examples-go and examples-rust (what the programs of
-# examples/ are), examples (all of these), interop (what `make interop` runs them against), load (`make load`), upstream (`make upstream-root`).
+# examples/ are), examples (all of these), interop (what `make interop` runs them against), firefox (what it runs where that is there), load (`make load`),
+# upstream (`make upstream-root`).
 set -uo pipefail
 
 missing=()
@@ -48,6 +49,10 @@ for set in ${sets// examples / examples-c examples-go examples-rust }; do
       need ngtcp2-client gtlsclient
       need caddy caddy
       need chromium chromium
+      ;;
+    firefox)
+      need firefox-esr firefox-esr
+      need libnss3-tools certutil
       ;;
     upstream)
       need debootstrap /usr/sbin/debootstrap

@@ -3,6 +3,8 @@
  *   --trust FILE     whom to trust, instead of the system's authorities (PEM)
  *   --address PLACE  connect to this address and not to the URL's host
  *   --post FILE      POST with this file as the body
+ *   --head           HEAD: the head alone
+ *   --verbose        say on standard error what status each head has, and how many fields each trailer
  *   --count N        N requests on one connection; the bodies are written one behind another
  *   --parallel N     how many of them at once (1)
  *   --cancel BYTES   give the first request up when so many bytes of its response, or of its file, went over; its body is not written
@@ -34,6 +36,7 @@ typedef struct {
 
 typedef struct {
   const char *post, *address;
+  bool head_only, verbose;
   size_t count, parallel;
   unsigned long long cancel; /* 0: nothing is given up */
   int seconds;
@@ -98,6 +101,8 @@ static void on_ready(http3 *h, void *user) {
 
 static void on_head(http3_request *request, const h3_item *head) {
   (void)request;
+  if (fetch.verbose && head->kind == H3_TRAILER) fprintf(stderr, "trailer of %zu fields\n", head->fields);
+  else if (fetch.verbose) fprintf(stderr, "%s %u\n", head->kind == H3_INTERIM ? "interim" : "status", head->status);
   if (head->kind == H3_TOO_LARGE_HEAD) fail("fields that are too large, bytes:", head->number);
   else if (head->kind == H3_HEAD && head->status / 100 != 2) fail("status", head->status);
 }
@@ -165,8 +170,8 @@ static bool send_request(http3_request *request, exchange *exchange) {
   struct stat status;
   bool is_standard = strcmp(fetch.place.port, "443") == 0;
   snprintf(authority, sizeof authority, is_standard ? "%s" : "%s:%s", fetch.place.host, fetch.place.port);
-  http3_field fields[] = {{":method", fetch.post ? "POST" : "GET"}, {":scheme", "https"},        {":authority", authority},
-                          {":path", fetch.place.path},              {"user-agent", "h3-fetch"},  {"content-length", length}};
+  http3_field fields[] = {{":method", fetch.post ? "POST" : fetch.head_only ? "HEAD" : "GET"}, {":scheme", "https"}, {":authority", authority},
+                          {":path", fetch.place.path}, {"user-agent", "h3-fetch"}, {"content-length", length}};
   if (fetch.post) {
     exchange->file = fopen(fetch.post, "rb");
     if (!exchange->file || fstat(fileno(exchange->file), &status) != 0) {
@@ -215,7 +220,8 @@ static bool read_url(const char *url, place *place) {
 
 static bool read_options(int count, char **arguments, quic_identity *identity) {
   static const struct option options[] = {{"trust", 1, 0, 't'},  {"address", 1, 0, 'a'}, {"post", 1, 0, 'p'},    {"count", 1, 0, 'n'},
-                                          {"parallel", 1, 0, 'l'}, {"cancel", 1, 0, 'c'},  {"seconds", 1, 0, 's'}, {0, 0, 0, 0}};
+                                          {"parallel", 1, 0, 'l'}, {"cancel", 1, 0, 'c'},  {"seconds", 1, 0, 's'},
+                                          {"head", 0, 0, 'h'},   {"verbose", 0, 0, 'v'}, {0, 0, 0, 0}};
   for (int option; (option = getopt_long(count, arguments, "", options, NULL)) != -1;) switch (option) {
     case 't': identity->trusted = optarg; break;
     case 'a': fetch.address = optarg; break;
@@ -224,9 +230,11 @@ static bool read_options(int count, char **arguments, quic_identity *identity) {
     case 'l': fetch.parallel = strtoul(optarg, NULL, 10); break;
     case 'c': fetch.cancel = strtoull(optarg, NULL, 10); break;
     case 's': fetch.seconds = atoi(optarg); break;
+    case 'h': fetch.head_only = true; break;
+    case 'v': fetch.verbose = true; break;
     default: return false;
     }
-  return optind + 1 == count && fetch.count > 0 && fetch.parallel > 0 && read_url(arguments[optind], &fetch.place);
+  return !(fetch.post && fetch.head_only) && optind + 1 == count && fetch.count > 0 && fetch.parallel > 0 && read_url(arguments[optind], &fetch.place);
 }
 
 /* Requests until all are over, the connection is, or the time. */
@@ -249,8 +257,8 @@ int main(int count, char **arguments) {
   http3_setup setup = {.events = &events};
   quic_identity identity = {0};
   if (!read_options(count, arguments, &identity)) {
-    fprintf(stderr, "fetch [--trust FILE] [--address PLACE] [--post FILE] [--count N] [--parallel N] [--cancel BYTES] [--seconds N] "
-                    "https://HOST[:PORT][/PATH]\n");
+    fprintf(stderr, "fetch [--trust FILE] [--address PLACE] [--post FILE] [--count N] [--parallel N] [--cancel BYTES] [--seconds N] [--head] "
+                    "[--verbose] https://HOST[:PORT][/PATH]\n");
     return 2;
   }
   fetch.exchanges = calloc(fetch.count, sizeof *fetch.exchanges);

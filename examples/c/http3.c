@@ -121,9 +121,9 @@ static bool tell(http3_request *request, const h3_item *item) {
   switch (item->kind) {
   case H3_HEAD:
   case H3_INTERIM:
+  case H3_TRAILER:
   case H3_TOO_LARGE_HEAD: h->setup->events->head(request, item); return true;
   case H3_BODY: tell_body(request, item); return true;
-  case H3_TRAILER: return true;
   case H3_SESSION: http3_give_up(request, H3_CODE_REQUEST_REJECTED); return true; /* no WebTransport here */
   case H3_PENDING: return false;
   case H3_WAITING: request->waiting = true; return false;
@@ -291,6 +291,7 @@ static void *opened(quic_connection *quic, void *user) {
   h->end_id = setup->requests > 0 && setup->requests < ANY_ID / 4 ? 4 * setup->requests : UINT64_MAX;
   h3_config_default(&config);
   config.server = setup->server;
+  config.strict = 1; /* no program behind this one is handed a message that breaks a rule of RFC 9114, section 4 */
   bool made = h3_new(&h->endpoint, &config, NULL) == H3_OK;
   for (int i = 0; made && i < 3; i++) made = quic_open(quic, true) == (int64_t)h3_control_id(setup->server) + 4 * i;
   if (!made) {

@@ -24,7 +24,7 @@ typedef struct http3_request {
 /* What a program is told. Each may send, finish or give up any request. */
 typedef struct {
   void (*ready)(http3 *, void *user);                              /* the connection is there */
-  void (*head)(http3_request *, const h3_item *);                  /* H3_HEAD, read by http3_value; H3_INTERIM; H3_TOO_LARGE_HEAD */
+  void (*head)(http3_request *, const h3_item *);                  /* H3_HEAD, read by http3_value; H3_INTERIM; H3_TRAILER; H3_TOO_LARGE_HEAD */
   void (*body)(http3_request *, const uint8_t *bytes, size_t count);
   void (*end)(http3_request *);                                    /* the peer's message is whole */
   void (*failed)(http3_request *, const h3_item *);                /* it is not, and nothing more of it comes: an item of a fault */

@@ -136,7 +136,7 @@ static void answer_file(http3_request *request, const char *path) {
 
 static void on_head(http3_request *request, const h3_item *head) {
   char method[16], path[4096];
-  if (request->data) return; /* a trailer that is too large, which is passed over */
+  if (request->data) return; /* a trailer, which is passed over */
   work *work = request->data = calloc(1, sizeof *work);
   if (!work) return http3_give_up(request, H3_CODE_INTERNAL_ERROR);
   work->file = -1;

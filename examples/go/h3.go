@@ -48,6 +48,8 @@ type Item struct {
 // The kinds that are asked for by name.
 const (
 	Head            = C.H3_HEAD
+	Interim         = C.H3_INTERIM
+	Trailer         = C.H3_TRAILER
 	Body            = C.H3_BODY
 	End             = C.H3_END
 	TooLargeHead    = C.H3_TOO_LARGE_HEAD
@@ -106,12 +108,13 @@ func number(yes bool) C.uint32_t {
 }
 
 // NewEndpoint makes an endpoint with the limits of h3_config_default: heads and trailers of at most 65,536 bytes (RFC 9114, section 4.2.2), and a
-// dynamic table of 4,096 bytes, for which 16 streams may wait.
+// dynamic table of 4,096 bytes, for which 16 streams may wait. It hands out no message that breaks a rule of RFC 9114, sections 4.2 to 4.5.
 func NewEndpoint(server bool) (*Endpoint, error) {
 	var config C.h3_config
 	var detail C.uint64_t
 	C.h3_config_default(&config)
 	config.server = number(server)
+	config.strict = 1
 	endpoint := &Endpoint{}
 	return endpoint, refusal(C.h3_new(&endpoint.raw, &config, &detail), detail)
 }

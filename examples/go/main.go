@@ -3,8 +3,8 @@
 //	h3go serve [-requests N] ADDRESS CERTIFICATE KEY FOLDER
 //	    files below a folder; POST is answered with the count and SHA-256 of its body. -requests: at most so many on a connection, GOAWAY
 //	    goes out when 100 are left (100,000; 0: no limit). SIGTERM and SIGINT: GOAWAY, and what was begun ends, whatever its reader's speed; the second one cuts it off
-//	h3go fetch [-post FILE] [-count N] [-parallel N] [-cancel BYTES] TRUSTED URL
-//	    the bodies to standard output
+//	h3go fetch [-post FILE] [-head] [-count N] [-parallel N] [-cancel BYTES] [-verbose] TRUSTED URL
+//	    the bodies to standard output; -verbose: what status each head has, and how many fields each trailer, to standard error
 package main
 
 import (
@@ -30,23 +30,38 @@ func fail(err error) {
 	}
 }
 
-// ask sends a request, with a file as its body where there is one.
-func ask(request *Request, place *url.URL, file string) error {
-	fields := []Field{{":method", "GET"}, {":scheme", "https"}, {":authority", place.Host}, {":path", place.RequestURI()}}
-	if file == "" {
+// wish is what each request asks for.
+type wish struct {
+	place  *url.URL
+	method string
+	file   string // its body; empty: none
+}
+
+var verbose bool
+
+// ask sends a request, with a file as its body where there is one. It gives it up behind so many bytes of the file (0: never).
+func ask(request *Request, wish wish, cancel int) error {
+	place := wish.place
+	fields := []Field{{":method", wish.method}, {":scheme", "https"}, {":authority", place.Host}, {":path", place.RequestURI()}}
+	if wish.file == "" {
 		if err := request.SendHead(fields); err != nil {
 			return err
 		}
 		return request.Finish()
 	}
-	body, err := os.Open(file)
+	body, err := os.Open(wish.file)
 	if err != nil {
 		return err
 	}
 	defer body.Close()
-	fields[0].Value = "POST"
 	if err := request.SendHead(fields); err != nil {
 		return err
+	}
+	if cancel > 0 {
+		if _, err := io.CopyN(request, body, int64(cancel)); err != nil {
+			return err
+		}
+		return errGivenUp
 	}
 	if _, err := io.Copy(request, body); err != nil {
 		return err
@@ -55,8 +70,8 @@ func ask(request *Request, place *url.URL, file string) error {
 }
 
 // tryToAsk gives a request up that cannot be sent. Where the server wanted no more of it, there may be a response all the same.
-func tryToAsk(request *Request, place *url.URL, file string) error {
-	err := ask(request, place, file)
+func tryToAsk(request *Request, wish wish, cancel int) error {
+	err := ask(request, wish, cancel)
 	if err == nil || request.IsStopped() {
 		return nil
 	}
@@ -65,6 +80,16 @@ func tryToAsk(request *Request, place *url.URL, file string) error {
 }
 
 var errGivenUp = errors.New("given up")
+
+// say says what came in front of a body, or behind it.
+func say(item Item) {
+	switch item.Kind {
+	case Head, Interim:
+		fmt.Fprintln(os.Stderr, map[bool]string{true: "status", false: "interim"}[item.Kind == Head], item.Status)
+	case Trailer:
+		fmt.Fprintf(os.Stderr, "trailer of %d fields\n", len(item.Fields))
+	}
+}
 
 // answer gives the body of the response, or gives it up behind so many bytes (0: never).
 func answer(request *Request, cancel int) ([]byte, error) {
@@ -77,6 +102,9 @@ func answer(request *Request, cancel int) ([]byte, error) {
 		}
 		if err != nil {
 			return nil, err
+		}
+		if verbose {
+			say(item)
 		}
 		switch item.Kind {
 		case Head:
@@ -97,13 +125,13 @@ func answer(request *Request, cancel int) ([]byte, error) {
 }
 
 // exchange gives the body of the response as soon as it is whole, whatever became of the request's body (RFC 9114, section 4.1).
-func exchange(connection *Connection, place *url.URL, file string, cancel int) ([]byte, error) {
+func exchange(connection *Connection, wish wish, cancel int) ([]byte, error) {
 	request, err := connection.Open()
 	if err != nil {
 		return nil, err
 	}
 	sent := make(chan error, 1)
-	go func() { sent <- tryToAsk(request, place, file) }()
+	go func() { sent <- tryToAsk(request, wish, cancel) }()
 	body, err := answer(request, cancel)
 	var fault Fault
 	if errors.As(err, &fault) && fault.Kind == FaultCanceled {
@@ -118,7 +146,7 @@ type answered struct {
 }
 
 // several makes so many requests, of which so many at once, and hands each answer to the channel of its number.
-func several(connection *Connection, place *url.URL, file string, parallel, cancel int, answers []chan answered) {
+func several(connection *Connection, wish wish, parallel, cancel int, answers []chan answered) {
 	places := make(chan bool, parallel)
 	for i := range answers {
 		places <- true
@@ -127,7 +155,7 @@ func several(connection *Connection, place *url.URL, file string, parallel, canc
 			if i == 0 {
 				limit = cancel
 			}
-			body, err := exchange(connection, place, file, limit)
+			body, err := exchange(connection, wish, limit)
 			answers[i] <- answered{body, err}
 			<-places
 		}(i)
@@ -154,14 +182,22 @@ func fetch(words []string) error {
 	post := options.String("post", "", "a file that is posted")
 	count := options.Int("count", 1, "how many requests on the connection")
 	parallel := options.Int("parallel", 1, "how many at once")
-	cancel := options.Int("cancel", 0, "give the first request up behind so many bytes")
+	cancel := options.Int("cancel", 0, "give the first request up behind so many bytes of its response, or of its file")
+	head := options.Bool("head", false, "HEAD: the head alone")
+	options.BoolVar(&verbose, "verbose", false, "say what status each head has, and how many fields each trailer")
 	options.Parse(words)
-	if options.NArg() != 2 {
+	if options.NArg() != 2 || (*head && *post != "") {
 		return errors.New("fetch [OPTION..] TRUSTED URL")
 	}
 	place, err := url.Parse(options.Arg(1))
 	if err != nil {
 		return err
+	}
+	asked := wish{place: place, method: "GET", file: *post}
+	if *head {
+		asked.method = "HEAD"
+	} else if *post != "" {
+		asked.method = "POST"
 	}
 	connection, err := connect(options.Arg(0), place)
 	if err != nil {
@@ -172,7 +208,7 @@ func fetch(words []string) error {
 	for i := range answers {
 		answers[i] = make(chan answered, 1)
 	}
-	go several(connection, place, *post, *parallel, *cancel, answers)
+	go several(connection, asked, *parallel, *cancel, answers)
 	var failed error
 	for i := range answers {
 		got := <-answers[i]

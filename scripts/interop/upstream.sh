@@ -1,20 +1,35 @@
 #!/usr/bin/env bash
-# upstream.sh root: makes in build/trixie, once, a root of Debian 13 with its cargo, rustc and Rust crate h3 0.0.6 (as root; 3 minutes, 1.1 GB).
-# upstream.sh there: is it there?
+# upstream.sh root: makes in build/trixie, once, a root of Debian 13 (as root; some 5 minutes, 1.5 GB) with its cargo, rustc and Rust crate h3 0.0.6, and with
+#   the peers of scripts/interop_peers.sh: curl, aioquic, nginx, haproxy, and the programs of ngtcp2. What a root that is there lacks is added.
+# upstream.sh there: is the root there, with the Rust crate?
+# upstream.sh peers: is it there, with the peers?
 # upstream.sh: compares what h3 answers with what we do, over the same bytes (scripts/interop/upstream.py): lines 'ok NAME' and 'failed NAME'.
 set -euo pipefail
 cd "$(dirname "$0")/../.."
 root=build/trixie
 
+packages=(cargo rustc librust-h3-dev curl python3-aioquic nginx haproxy ngtcp2-client ngtcp2-server)
+
+has() { # FILE..: of the root
+  local file
+  for file; do [ -e "$root/$file" ] || return 1; done
+}
+has_crate() { has usr/bin/cargo usr/share/cargo/registry; }
+has_peers() { has usr/bin/curl usr/lib/python3/dist-packages/aioquic usr/sbin/nginx usr/sbin/haproxy usr/bin/gtlsclient usr/sbin/gtlsserver; }
+
 make_root() {
-  [ ! -d "$root" ] || return 0
+  if has_crate && has_peers; then return; fi
   bash scripts/packages.sh upstream
   [ "$(id -u)" -eq 0 ] || { echo "a root of Debian is made by root alone" >&2; return 1; }
-  rm -rf "$root.part"
-  mkdir -p build
-  debootstrap --variant=minbase trixie "$root.part" http://deb.debian.org/debian
-  chroot "$root.part" env DEBIAN_FRONTEND=noninteractive apt-get install -y --no-install-recommends cargo rustc librust-h3-dev
-  mv "$root.part" "$root"
+  if [ ! -d "$root" ]; then
+    rm -rf "$root.part"
+    mkdir -p build
+    debootstrap --variant=minbase trixie "$root.part" http://deb.debian.org/debian
+    printf '#!/bin/sh\nexit 101\n' > "$root.part/usr/sbin/policy-rc.d" # no package starts a service
+    chmod +x "$root.part/usr/sbin/policy-rc.d"
+    mv "$root.part" "$root"
+  fi
+  chroot "$root" env DEBIAN_FRONTEND=noninteractive apt-get install -y --no-install-recommends "${packages[@]}"
 }
 
 # the program over h3, compiled inside of that root from Debian's packages alone
@@ -42,7 +57,8 @@ ours() {
 
 case ${1:-} in
   root) make_root ;;
-  there) [ -d "$root" ] ;;
+  there) has_crate ;;
+  peers) has_peers ;;
   *)
     compile
     python3 scripts/interop/upstream.py "chroot $root /root/upstream/target/release/upstream" "${OURS:-$(ours)}"

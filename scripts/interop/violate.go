@@ -39,7 +39,19 @@ const (
 	get       = "\x01\x10\x00\x00\xd1\xd7\x50\x09localhost\xc1"
 	upperName = "\x01\x14\x00\x00\xd1\xd7\x50\x09localhost\xc1\x21X\x011"
 	status200 = "\x01\x03\x00\x00\xd9"
+	// lines of a field section (RFC 9204, sections 4.5.2 and 4.5.4): the request line of `get` but for its path, a path, status 200
+	getLine = "\xd1\xd7\x50\x09localhost"
+	path    = "\xc1"
+	ok      = "\xd9"
 )
+
+// line is a field line with a literal name (RFC 9204, section 4.5.6); names have 7 to 134 bytes, values at most 126
+func line(name, value string) string {
+	return "\x27" + string(rune(len(name)-7)) + name + string(rune(len(value))) + value
+}
+
+// head is a HEADERS frame of these lines, fewer than 62 bytes
+func head(lines string) string { return "\x01" + string(rune(len(lines)+2)) + "\x00\x00" + lines }
 
 var fromClient = []violation{
 	{name: "what is unknown is passed over (RFC 9114, section 9)", control: settings + "\x21\x01a", others: []string{"\x21abc"}, request: "\x21\x02ab" + get, end: true},
@@ -47,6 +59,13 @@ var fromClient = []violation{
 	{name: "no head (4.1.2)", control: settings, end: true, code: 0x10d, stream: true},
 	{name: "a name in upper case (4.2)", control: settings, request: upperName, end: true, code: 0x10e, stream: true},
 	{name: "the head of a response (4.3.1)", control: settings, request: status200, end: true, code: 0x10e, stream: true},
+	{name: "a field of a connection (4.2)", control: settings, request: head(getLine + path + line("connection", "close")), end: true, code: 0x10e, stream: true},
+	{name: "white space behind a value (4.2)", control: settings, request: head(getLine + path + line("x-white", "a ")), end: true, code: 0x10e, stream: true},
+	{name: "no :path (4.3.1)", control: settings, request: head(getLine), end: true, code: 0x10e, stream: true},
+	{name: "two :path (4.3)", control: settings, request: head(getLine + path + path), end: true, code: 0x10e, stream: true},
+	{name: ":path behind a regular field (4.3)", control: settings, request: head(getLine + line("x-front", "1") + path), end: true, code: 0x10e, stream: true},
+	{name: "a pseudo-header field that is not known (4.3)", control: settings, request: head(getLine + path + line(":unknown", "1")), end: true, code: 0x10e, stream: true},
+	{name: "two content-length (4.1.2)", control: settings, request: head(getLine + path + line("content-length", "0") + line("content-length", "1")), end: true, code: 0x10e, stream: true},
 	{name: "a second control stream (6.2.1)", control: settings, others: []string{settings}, code: 0x103},
 	{name: "the control stream without SETTINGS (6.2.1)", control: "\x00\x07\x01\x00", code: 0x10a},
 	{name: "the control stream ends (6.2.1)", control: settings, cut: true, code: 0x104},
@@ -79,6 +98,9 @@ var fromServer = []violation{
 	{name: "a dynamic entry that is not there (RFC 9204, section 2.2.3)", control: settings, request: "\x01\x03\x00\x00\x80", code: 0x200},
 	{name: "the head of a request (4.3.2)", control: settings, request: get, end: true},
 	{name: "no head (4.1)", control: settings, end: true},
+	{name: "a field of a connection (4.2)", control: settings, request: head(ok + line("connection", "close")), end: true},
+	{name: "two content-length (4.1.2)", control: settings, request: head(ok + line("content-length", "0") + line("content-length", "1")), end: true},
+	{name: ":status behind a regular field (4.3)", control: settings, request: head(line("x-front", "1") + ok), end: true},
 	{name: "a trailer with a pseudo-header field (4.3)", control: settings, request: status200 + status200, end: true},
 }
 

@@ -1,0 +1,356 @@
+"""aio.py: HTTP/3 by aioquic (Debian 13's python3-aioquic), for `make interop` to talk to.
+
+    aio.py serve PORT CERTIFICATE KEY FOLDER   GET and HEAD of files below a folder, POST with count and SHA-256; paths of their own: see `own_path`
+    aio.py client PORT TRUSTED BIG POSTED      a connection to a server for each case: a line 'ok CASE' or 'failed CASE: WHAT'. BIG is the file that
+                                               the server has as /big.bin, and POSTED what it answers to a POST of it as /answer
+    aio.py lost ..                             some of these cases, where packets are lost
+    aio.py limited ..                          a case for a server that takes 150 requests on a connection
+
+aioquic 1.2.0 sends what it is told to, tables included, and checks what it gets. It tells of no GOAWAY, holds the length of an answer to HEAD against
+its (empty) body, and takes an interim head of its own for a message's last one: the subclass and `send_interim` get around that."""
+import asyncio
+import hashlib
+import os
+import socket
+import ssl
+import sys
+
+from aioquic.asyncio import connect, serve
+from aioquic.asyncio.protocol import QuicConnectionProtocol
+from aioquic.buffer import encode_uint_var
+from aioquic.h3.connection import FrameType, H3Connection, HeadersState, encode_frame
+from aioquic.h3.events import DataReceived, HeadersReceived
+from aioquic.quic.configuration import QuicConfiguration
+from aioquic.quic.events import ConnectionTerminated, ProtocolNegotiated, StopSendingReceived, StreamReset
+
+CANCELLED = 0x10C
+MOST_SECONDS = 60
+PIECE = 64 * 1024
+
+
+class Connection(H3Connection):
+    """an H3Connection that notes GOAWAY, and does not count the body of an answer to HEAD"""
+
+    def __init__(self, quic):
+        self.goaways, self.heads = [], set()
+        super().__init__(quic)
+
+    def _handle_control_frame(self, frame_type, frame_data):
+        if frame_type == FrameType.GOAWAY:
+            self.goaways.append(frame_data)
+        super()._handle_control_frame(frame_type, frame_data)
+
+    def _check_content_length(self, stream):
+        if stream.stream_id not in self.heads:
+            super()._check_content_length(stream)
+
+    def send_interim(self, stream_id, headers):
+        self.send_headers(stream_id, headers)
+        self._get_or_create_stream(stream_id).headers_send_state = HeadersState.INITIAL
+
+    def send_goaway(self, end):
+        self._quic.send_stream_data(self._local_control_stream_id, encode_frame(FrameType.GOAWAY, encode_uint_var(end)))
+
+
+class Protocol(QuicConnectionProtocol):
+    """one connection: what came on each stream"""
+
+    def __init__(self, *arguments, **words):
+        super().__init__(*arguments, **words)
+        self.http, self.streams, self.over = None, {}, None
+
+    def connection_made(self, transport):
+        """room for the packets that come while Python is slow"""
+        transport.get_extra_info("socket").setsockopt(socket.SOL_SOCKET, socket.SO_RCVBUF, 1 << 22)
+        super().connection_made(transport)
+
+    def stream(self, stream_id):
+        return self.streams.setdefault(stream_id, {"heads": [], "body": bytearray(), "ended": False, "reset": None, "stopped": None, "changed": asyncio.Event()})
+
+    def quic_event_received(self, event):
+        if isinstance(event, ProtocolNegotiated):
+            self.http = Connection(self._quic)
+        if isinstance(event, ConnectionTerminated):
+            self.over = (event.error_code, event.reason_phrase)
+        if isinstance(event, StreamReset):
+            self.stream(event.stream_id)["reset"] = event.error_code
+        if isinstance(event, StopSendingReceived):
+            self.stream(event.stream_id)["stopped"] = event.error_code
+        for it in self.http.handle_event(event) if self.http else []:
+            self.took(it)
+        for stream in self.streams.values():
+            stream["changed"].set()
+
+    def took(self, it):
+        stream = self.stream(it.stream_id)
+        if isinstance(it, HeadersReceived):
+            stream["heads"].append(dict(it.headers))
+        elif isinstance(it, DataReceived):
+            stream["body"] += it.data
+        stream["ended"] |= getattr(it, "stream_ended", False)
+
+    async def until(self, stream_id, what):
+        """waits until `what` holds of a stream; an error where the connection is over before"""
+        stream = self.stream(stream_id)
+        while not what(stream):
+            if self.over:
+                raise RuntimeError(f"the connection is over: {self.over}")
+            stream["changed"].clear()
+            await stream["changed"].wait()
+        return stream
+
+
+# ---- the server ----
+
+
+def own_path(protocol, stream_id, path):
+    """the answers that are not files. True: this was one"""
+    http = protocol.http
+
+    def answer(status, *fields, body=None):
+        http.send_headers(stream_id, [(b":status", str(status).encode()), *fields], end_stream=body is None)
+        if body is not None:
+            http.send_data(stream_id, body, end_stream=True)
+
+    if path in ("/204", "/304"):
+        answer(int(path[1:]), (b"etag", b'"1"'))
+    elif path == "/103":
+        http.send_interim(stream_id, [(b":status", b"103"), (b"link", b"</style.css>; rel=preload; as=style")])
+        answer(200, body=b"hints\n")
+    elif path == "/trailers":
+        http.send_headers(stream_id, [(b":status", b"200")])
+        http.send_data(stream_id, b"trailers\n", end_stream=False)
+        http.send_headers(stream_id, [(b"x-count", b"9"), (b"x-sum", b"0")], end_stream=True)
+    elif path == "/reset":
+        http.send_headers(stream_id, [(b":status", b"200"), (b"content-length", b"10000000")])
+        http.send_data(stream_id, bytes(PIECE), end_stream=False)
+        asyncio.get_event_loop().call_later(0.2, lambda: (protocol._quic.reset_stream(stream_id, CANCELLED), protocol.transmit()))
+    elif path == "/goaway":
+        http.send_goaway(stream_id + 4)
+        answer(200, body=b"the last\n")
+    else:
+        return False
+    return True
+
+
+class Server(Protocol):
+    folder = ""
+
+    def took(self, it):
+        super().took(it)
+        stream = self.stream(it.stream_id)
+        if isinstance(it, HeadersReceived) and len(stream["heads"]) == 1:
+            stream["hash"], stream["count"] = hashlib.sha256(), 0
+        if isinstance(it, DataReceived):
+            stream["hash"].update(it.data)
+            stream["count"] += len(it.data)
+            stream["body"].clear()
+        head = stream["heads"][0]
+        path, method = head[b":path"].decode(), head[b":method"].decode()
+        if path == "/early" and not stream.get("early"):
+            stream["early"] = True
+            self.http.send_headers(it.stream_id, [(b":status", b"200")])
+            self.http.send_data(it.stream_id, b"early\n", end_stream=True)
+            self._quic.stop_stream(it.stream_id, 0x100)
+        elif stream["ended"] and path != "/early" and not own_path(self, it.stream_id, path):
+            self.answer(it.stream_id, method, path, stream)
+        self.transmit()
+
+    def answer(self, stream_id, method, path, stream):
+        if method == "POST":
+            body = f"{stream['count']} {stream['hash'].hexdigest()}\n".encode()
+        elif os.path.isfile(self.folder + path):
+            with open(self.folder + path, "rb") as file:
+                body = file.read()
+        else:
+            return self.http.send_headers(stream_id, [(b":status", b"404")], end_stream=True)
+        head = [(b":status", b"200"), (b"content-length", str(len(body)).encode()), (b"server", b"aioquic")]
+        self.http.send_headers(stream_id, head, end_stream=method == "HEAD")
+        if method != "HEAD":
+            self.http.send_data(stream_id, body, end_stream=True)
+
+
+async def serve_folder(port, certificate, key, folder):
+    configuration = QuicConfiguration(alpn_protocols=["h3"], is_client=False, max_data=1 << 22, max_stream_data=1 << 20)
+    configuration.load_cert_chain(certificate, key)
+    Server.folder = folder
+    await serve("127.0.0.1", int(port), configuration=configuration, create_protocol=Server)
+    await asyncio.Future()
+
+
+# ---- the client's cases ----
+
+
+class Client(Protocol):
+    authority = b""
+
+    def ask(self, method, path, *fields, end=True):
+        stream_id = self._quic.get_next_available_stream_id()
+        if method == "HEAD":
+            self.http.heads.add(stream_id)
+        head = [(b":method", method.encode()), (b":scheme", b"https"), (b":authority", self.authority), (b":path", path.encode())]
+        self.http.send_headers(stream_id, head + list(fields), end_stream=end)
+        self.transmit()
+        return stream_id
+
+    def send(self, stream_id, data, end):
+        self.http.send_data(stream_id, data, end_stream=end)
+        self.transmit()
+
+    async def whole(self, stream_id, status=200):
+        stream = await self.until(stream_id, lambda it: it["ended"] or it["reset"] is not None)
+        if stream["reset"] is not None:
+            raise RuntimeError(f"reset with {stream['reset']:#x}")
+        if stream["heads"][-1][b":status"] != str(status).encode():
+            raise RuntimeError(f"status {stream['heads'][-1]}")
+        return stream
+
+    async def text(self, path):
+        return (await self.whole(self.ask("GET", path)))["body"]
+
+
+def want(good, what):
+    if not good:
+        raise RuntimeError(what)
+
+
+async def case_get(client, words):
+    want(await client.text("/hello.txt") == b"hello\n", "another body")
+
+
+async def case_big(client, words):
+    with open(words["big"], "rb") as file:
+        want(await client.text("/big.bin") == file.read(), "another body")
+
+
+async def case_post(client, words):
+    stream_id = client.ask("POST", "/answer", end=False)
+    with open(words["big"], "rb") as file:
+        client.send(stream_id, file.read(), True)
+    with open(words["posted"], "rb") as file:
+        want((await client.whole(stream_id))["body"] == file.read(), "another hash")
+
+
+async def case_head(client, words):
+    stream = await client.whole(client.ask("HEAD", "/big.bin"))
+    want(stream["body"] == b"" and stream["heads"][0][b"content-length"] == b"10000000", "a body, or another length")
+
+
+async def case_many(client, words):
+    ids = [client.ask("GET", f"/small/{i}.txt") for i in range(100)]
+    for i, stream_id in enumerate(ids):
+        want((await client.whole(stream_id))["body"] == f"small {i}\n".encode(), f"another body, {i}")
+
+
+async def case_serial(client, words):
+    for _ in range(500):
+        want(await client.text("/hello.txt") == b"hello\n", "another body")
+
+
+async def case_fields(client, words):
+    fields = [(f"x-field-{i}".encode(), f"value {i} ".encode() * 3 + b"end") for i in range(100)]
+    for _ in range(3):
+        await client.whole(client.ask("GET", "/hello.txt", *fields))
+
+
+async def case_large(client, words):
+    fields = [(f"x-large-{i}".encode(), b"a" * 800) for i in range(20)]
+    for _ in range(3):
+        await client.whole(client.ask("GET", "/hello.txt", *fields))
+
+
+async def case_trailers(client, words):
+    stream_id = client.ask("POST", "/answer", (b"trailer", b"x-sum"), end=False)
+    client.send(stream_id, b"abc", False)
+    client.http.send_headers(stream_id, [(b"x-sum", b"3")], end_stream=True)
+    client.transmit()
+    want((await client.whole(stream_id))["body"] == b"3 " + hashlib.sha256(b"abc").hexdigest().encode() + b"\n", "another hash")
+
+
+async def case_upload_aborted(client, words):
+    for _ in range(20):
+        stream_id = client.ask("POST", "/answer", end=False)
+        client.send(stream_id, bytes(100_000), False)
+        await asyncio.sleep(0.02)
+        client._quic.reset_stream(stream_id, CANCELLED)
+        client.transmit()
+    await case_get(client, words)
+
+
+async def case_download_stopped(client, words):
+    for _ in range(20):
+        stream_id = client.ask("GET", "/big.bin")
+        await client.until(stream_id, lambda it: len(it["body"]) > 10_000)
+        client._quic.stop_stream(stream_id, CANCELLED)
+        client.transmit()
+        await client.until(stream_id, lambda it: it["reset"] is not None)
+    await case_get(client, words)
+
+
+async def case_stopped(client, words):
+    stream_id = client.ask("PUT", "/answer", end=False)
+    client.send(stream_id, bytes(3_000_000), False)
+    await client.whole(stream_id, 405)
+    await client.until(stream_id, lambda it: it["stopped"] is not None)
+    want(client.stream(stream_id)["stopped"] == 0x100, "another code than H3_NO_ERROR")
+    await case_get(client, words)
+
+
+async def case_goaway(client, words):
+    for _ in range(150):
+        want(await client.text("/hello.txt") == b"hello\n", "another body")
+    want(client.http.goaways == [encode_uint_var(600)], f"GOAWAY {client.http.goaways}")
+    stream_id = client.ask("GET", "/hello.txt")
+    stream = await client.until(stream_id, lambda it: it["reset"] is not None)
+    want(stream["reset"] == 0x10B, "another code than H3_REQUEST_REJECTED")
+
+
+CASES = {
+    "a small file": case_get,
+    "10 MB": case_big,
+    "POST of 10 MB": case_post,
+    "HEAD": case_head,
+    "100 requests at once": case_many,
+    "500 requests, one behind the other": case_serial,
+    "100 fields, three times": case_fields,
+    "a head of 16,000 bytes, three times": case_large,
+    "a request with a trailer": case_trailers,
+    "20 uploads that are aborted": case_upload_aborted,
+    "20 downloads that are stopped": case_download_stopped,
+    "a PUT that is answered with 405 and stopped": case_stopped,
+}
+LOST = {name: CASES[name] for name in ("10 MB", "POST of 10 MB", "100 requests at once", "20 uploads that are aborted")}
+LIMITED = {"GOAWAY behind 150 requests, and the next one is refused": case_goaway}
+
+
+async def try_case(case, port, trusted, words):
+    configuration = QuicConfiguration(alpn_protocols=["h3"], is_client=True, server_name="localhost", max_data=1 << 22, max_stream_data=1 << 20)
+    configuration.load_verify_locations(trusted)
+    configuration.verify_mode = ssl.CERT_REQUIRED
+    Client.authority = f"localhost:{port}".encode()
+    async with connect("127.0.0.1", int(port), configuration=configuration, create_protocol=Client) as client:
+        await asyncio.wait_for(case(client, words), MOST_SECONDS)
+
+
+async def try_all(cases, port, trusted, words):
+    good = True
+    for name, case in cases.items():
+        try:
+            await try_case(case, port, trusted, words)
+            print(f"ok {name}", flush=True)
+        except Exception as why:  # each case is told, whatever became of the one before
+            good = False
+            print(f"failed {name}: {type(why).__name__} {why}", flush=True)
+    return good
+
+
+def main():
+    words = sys.argv[1:]
+    if words[0] == "serve":
+        asyncio.run(serve_folder(*words[1:]))
+    else:
+        cases = {"client": CASES, "lost": LOST, "limited": LIMITED}[words[0]]
+        sys.exit(0 if asyncio.run(try_all(cases, words[1], words[2], {"big": words[3], "posted": words[4]})) else 1)
+
+
+main()

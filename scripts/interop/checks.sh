@@ -1,0 +1,88 @@
+# checks.sh, for scripts/interop_quic.sh and scripts/interop_peers.sh to read in at the top of the repository: what a check is, servers that are ended
+# at the end, a folder that is served and a certificate. Each check prints 'ok NAME' or 'failed NAME'. Sets `work`, a folder that is removed at the end.
+work=$(mktemp -d)
+failed=0
+pids=()
+
+leave() {
+  for pid in "${pids[@]}"; do kill "$pid" 2>/dev/null && wait "$pid" 2>/dev/null; done
+  rm -rf "$work"
+}
+trap leave EXIT
+
+good() { echo "ok $1"; }
+bad() {
+  echo "failed $1"
+  failed=$((failed + 1))
+  [ ! -s "$work/log" ] || tail -n 5 "$work/log" | sed 's/^/  /' >&2
+}
+# check NAME COMMAND..
+check() {
+  local name=$1
+  shift
+  : > "$work/log"
+  if "$@"; then good "$name"; else bad "$name"; fi
+}
+within() { timeout -k 5 "$@" 2>> "$work/log"; }
+hash_of() { sha256sum "$1" | cut -d' ' -f1; }
+# gives FILE COMMAND..: the command ends well within a minute and prints the bytes of the file
+gives() {
+  local file=$1
+  shift
+  within 60 "$@" > "$work/got" && [ "$(hash_of "$work/got")" = "$(hash_of "$file")" ]
+}
+# works COMMAND..: the command ends well within a minute
+works() { within 60 "$@" > "$work/got"; }
+# refuses TEXT COMMAND..: the command ends with 1, and says this
+refuses() {
+  local text=$1
+  shift
+  within 60 "$@" > "$work/got"
+  [ $? -eq 1 ] && grep -q -- "$text" "$work/log"
+}
+# build COMMAND..: what the checks stand on
+build() {
+  : > "$work/log"
+  if "$@" >> "$work/log" 2>&1; then return; fi
+  bad "build: $*"
+  exit 1
+}
+
+# make_served: the folder that is served, a certificate with its key, and what some answers are
+make_served() {
+  folder=$work/folder
+  cert=$work/cert.pem
+  key=$work/key.pem
+  build openssl req -x509 -newkey ec -pkeyopt ec_paramgen_curve:P-256 -nodes -keyout "$key" -out "$cert" -days 13 -subj /CN=localhost \
+    -addext 'subjectAltName=DNS:localhost,IP:127.0.0.1'
+  build python3 scripts/interop/folder.py "$folder"
+  big=$folder/big.bin
+  echo "10000000 $(hash_of "$big")" > "$work/posted"
+  for _ in $(seq 1000); do cat "$folder/hello.txt"; done > "$work/thousand"
+}
+
+listens() { grep -qi ":$(printf %04X "$1") " /proc/net/udp /proc/net/udp6 2>/dev/null; }
+# A server for ten minutes at most, and thirty seconds after the signal that ends it. In the foreground, since `timeout` would else signal its
+# whole group, twice, and LeakSanitizer, which looks for leaks at a program's end from a process of its own, may then never end.
+limited() { exec timeout --foreground -k 30 600 "$@"; }
+# start PORT LOG COMMAND..: a server in the background, until it listens; `last` is its process
+start() {
+  local port=$1 log=$2
+  shift 2
+  limited "$@" > "$work/$log" 2>&1 &
+  last=$!
+  pids+=("$last")
+  for _ in $(seq 100); do
+    if listens "$port"; then return; fi
+    sleep 0.1
+  done
+  cp "$work/$log" "$work/log"
+  bad "a server that listens: $*"
+}
+# stop PROCESS: ends a server, and answers as it ended
+stop() {
+  kill -TERM "$1" && wait "$1"
+}
+# relay PORT TO: a way to a server on which packets are lost, and come in another order
+relay() { start "$1" "relay$1.log" python3 scripts/interop/relay.py "$1" "$2"; }
+url() { echo "https://localhost:$1$2"; }
