@@ -28,7 +28,7 @@ function of which the check says no more than that it calls one that is not prov
 the functions as they are stand in it as copies. An edit of anything but one body (a constant, a clause, a definition) has a check to itself.
 
 The libraries below a crate are those that `rt ci` left, or what `rt lib` makes. With --beside, `rt ci` is running and writes to the file LOG: a crate's edits
-are tried once it says that those below are proved. With --unedited no edit is made: is each function that an edit names, and each copy, proved as it is over the
+are tried once it says that those below are proved, and those that a reader judged are left out, since they cost most and a search tells least of them. With --unedited no edit is made: is each function that an edit names, and each copy, proved as it is over the
 stubs?"""
 import collections
 import concurrent.futures
@@ -364,7 +364,8 @@ def tried(rt, bodies, crate, turns, answers):
     """the lines for a crate's edits"""
     lines, found = [], collections.Counter()
     try:
-        edits = [read_edit(rt, crate, it) for it in edits_of(crate)]
+        every = [read_edit(rt, crate, it) for it in edits_of(crate)]
+        edits = [it for it in every if turns.room.tries_judged or not it.judged]
         source = source_of(bodies, crate)
         for it in edits:
             it.body = body_of(source.functions, it)
@@ -375,7 +376,8 @@ def tried(rt, bodies, crate, turns, answers):
                 lines.append(f"ok {edit.label}: {why}" if is_well else f"failed {edit.label}: {why}")
                 found[re.split(r" at | \(|: ", why)[0]] += 1
         kinds_found = ", ".join(f"{count} {kind}" for kind, count in found.most_common())
-        lines.append(f"{crate.name}: {len(edits)} edits in {checks.count} checks, which took {checks.seconds:.0f} seconds: {kinds_found}")
+        left = f"; {len(every) - len(edits)} that a reader judged are left to 'make refused'" if len(every) > len(edits) else ""
+        lines.append(f"{crate.name}: {len(edits)} edits in {checks.count} checks, which took {checks.seconds:.0f} seconds: {kinds_found}{left}")
     except Broken as why:
         lines.append(f"failed {crate.name}/refused: {why}")
     return lines

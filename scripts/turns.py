@@ -17,6 +17,8 @@ def checks_within(rt, memory):
 class Alone:
     """Nothing else is proved on the machine."""
 
+    tries_judged = True
+
     def __init__(self, rt):
         self.lanes = max(1, checks_within(rt, rt.free()))
 
@@ -29,7 +31,9 @@ class Alone:
 
 
 class Beside:
-    """`rt ci` is under way, and its lines come in the file `log`."""
+    """`rt ci` is under way, and its lines come in the file `log`: this is the gate, whose time goes to edits of which the prover tells something."""
+
+    tries_judged = False
 
     def __init__(self, rt, log):
         self.log = log

@@ -1,17 +1,13 @@
 -- What is handed out in a run is what was sent.
-use Rattle.std.proofs.Common.{◌≡◌, ◌×◌, ℕ, true, false, List, take, sym, subst}
-use Rattle.std.specs.List.{AllByRecursion, list_any}
-use Rattle.h3_proto.specs.declared.stream.Side.{Side}
-use Rattle.h3_connection.specs.OwnIds.{other}
+use Rattle.std.proofs.Common.{List, take, sym, subst}
+use Rattle.std.specs.List.{AllByRecursion}
 use Rattle.h3_world.specs.declared.event.Answer.{Answer}
 use Rattle.h3_world.specs.declared.event.Event.{Event}
 use Rattle.h3_world.specs.declared.setup.Setup.{Setup}
 use Rattle.h3_world.specs.Ends.{new_ends, answers_of_ends}
 use Rattle.h3_world.specs.Few.{AreFew}
-use Rattle.h3_world.specs.Headline.{is_connection_fault}
 use Rattle.h3_world.specs.Sendable.{IsSendable}
-use Rattle.h3_headline.specs.Messages.{IsFrontOf, has_finished, has_pulled_end, pulled}
-use Rattle.h3_session.specs.Messages.{HandsOutUntilMemory, HandsOutWhatWasSent, sent_to}
+use Rattle.h3_session.specs.Messages.{HandsOutUntilMemory, HandsOutWhatWasSent}
 use Rattle.h3_session.specs.Running.{AnswersEach}
 use Rattle.h3_session.specs.Typed.{IsTyped}
 use Rattle.h3_session.proofs.Headlines.{front_of_all}

@@ -1,5 +1,5 @@
 -- What a run hands out, by its events and their answers alone (RFC 9114, section 4.1).
-use Rattle.std.specs.Prelude.{◌≡◌, ◌×◌, ℕ, true, false, List, map, take}
+use Rattle.std.specs.Prelude.{◌≡◌, ℕ, true, false, List, map, take}
 use Rattle.std.specs.List.{list_any}
 use Rattle.h3_proto.specs.declared.stream.Side.{Side}
 use Rattle.h3_connection.specs.Announcing.{section_of}

@@ -22,9 +22,9 @@ returns-clause-messages c = λ few plain.
     let setup = c.args.setup in
     until_memory setup c.args.events.now c.in_ok-client-2.answers.items
     (λ front sendable. record {
-      no_connection_fault = c.endpoints_hand_out_what_was_sent.ensures-fault setup front c.requires plain sendable;
-      begins = λ side id. c.endpoints_hand_out_what_was_sent.ensures-front setup front side id c.requires plain sendable;
-      ends = λ side id ended. c.endpoints_hand_out_what_was_sent.ensures-end setup front side id c.requires plain sendable ended;
+      no_connection_fault = c.endpoints_hand_out_what_was_sent.ensures.fault setup front c.requires plain sendable;
+      begins = λ side id. c.endpoints_hand_out_what_was_sent.ensures.front setup front side id c.requires plain sendable;
+      ends = λ side id ended. c.endpoints_hand_out_what_was_sent.ensures.end setup front side id c.requires plain sendable ended;
     }) c.events_are_typed.ensures
     (answers_each (new_ends setup) c.args.events.now c.in_ok-client-2.answers.items _ _ calls) few
 
