@@ -4,7 +4,9 @@ ghost use Rattle.h3_qpack.specs.DecodedSection.{decode_section, Fields, Missing}
 
 use crate::input::FieldList;
 use crate::report::{Failure, Report};
-use h3_field::waiting::{Wait, decoder_wait, encoder_wait};
+use h3_field::waiting::{
+    Wait, decoder_wait, decoder_wait_behind, encoder_wait, encoder_wait_behind,
+};
 use h3_qpack::{
     DecodedWithin, Decoder, DecoderError, DynamicTable, Encoder, HeaderField, SliceCursor,
     ack_header, set_dynamic_table_size,
@@ -58,7 +60,7 @@ impl Sender {
             Ok(()) => Ok(Sender {
                 encoder: Encoder::from(table),
                 unread: Vec::new(alloc),
-                wait: Wait::Unknown,
+                wait: Wait::Bytes(1),
             }),
             Err(e) => {
                 drop(table);
@@ -89,7 +91,7 @@ impl Sender {
         if self.unread.extend_from_slice(bytes).is_err() {
             return Err(Failure::Memory);
         }
-        self.wait = self.wait.behind(bytes);
+        self.wait = decoder_wait_behind(self.wait, bytes, &self.unread);
         if self.wait.goes_on() {
             return Ok(());
         }
@@ -141,7 +143,7 @@ impl Receiver {
         Ok(Receiver {
             decoder: Decoder::announced(alloc, capacity),
             unread: Vec::new(alloc),
-            wait: Wait::Unknown,
+            wait: Wait::Bytes(1),
             fields: Vec::new(alloc),
         })
     }
@@ -151,7 +153,7 @@ impl Receiver {
         if self.unread.extend_from_slice(bytes).is_err() {
             return Err(Failure::Memory);
         }
-        self.wait = self.wait.behind(bytes);
+        self.wait = encoder_wait_behind(self.wait, bytes, &self.unread);
         if self.wait.goes_on() {
             return Ok(());
         }

@@ -8,4 +8,3 @@ pub mod Standing
 pub mod SectionWriting
 pub mod SectionReadBack
 pub mod Decodings
-pub mod Waits

@@ -48,3 +48,4 @@ pub mod FieldLaws
 pub mod ShorterLaws
 pub mod Room
 pub mod Waiting
+pub mod WaitingLaws

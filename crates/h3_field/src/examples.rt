@@ -13,6 +13,8 @@ ghost use Rattle.h3_field.specs.Instruction.EncoderInstruction.{SetCapacity};
 ghost use Rattle.h3_field.specs.Instruction.DecoderInstruction.{Increment};
 ghost use Rattle.h3_field.specs.InstructionReading.{instruction, Repeat};
 ghost use Rattle.h3_field.specs.LineReading.{line, Indexed};
+ghost use Rattle.h3_field.specs.Waiting.{behind, encoder_wait, decoder_wait};
+ghost use Rattle.h3_field.specs.declared.waiting.Wait.TheVariants.{Nothing, Integer, Bytes};
 
 /// Prefixed integers, the second one from RFC 7541, appendix C.1.2.
 pub fn integers()
@@ -56,4 +58,20 @@ pub fn instructions()
     ensures short { instruction (31 ∷ []) ≡ Unfinished }
     ensures duplicate { instruction (2 ∷ 9 ∷ []) ≡ Whole (Repeat 2) (9 ∷ []) }
     ensures indexed { line (217 ∷ []) ≡ Whole (Indexed true 25) [] }
+{}
+
+/// What instructions wait for that are not whole: a capacity, an insertion whose name lacks a byte, the length of its value, four bytes
+/// of a value, a group of an acknowledgment; and one that is whole.
+pub fn waits()
+    ensures none { encoder_wait [] ≡ Bytes 1 }
+    ensures capacity { encoder_wait (63 ∷ []) ≡ Integer }
+    ensures name { encoder_wait (67 ∷ 97 ∷ 98 ∷ []) ≡ Bytes 1 }
+    ensures value { encoder_wait (67 ∷ 97 ∷ 98 ∷ 99 ∷ []) ≡ Bytes 1 }
+    ensures value_bytes { encoder_wait (192 ∷ 5 ∷ 97 ∷ []) ≡ Bytes 4 }
+    ensures acknowledgment { decoder_wait (255 ∷ 128 ∷ []) ≡ Integer }
+    ensures whole { encoder_wait (2 ∷ []) ≡ Nothing }
+    ensures empty_groups { behind Integer (128 ∷ 128 ∷ []) ≡ Some Integer }
+    ensures other_groups { behind Integer (128 ∷ 129 ∷ []) ≡ None }
+    ensures fewer_bytes { behind (Bytes 4) (98 ∷ 99 ∷ []) ≡ Some (Bytes 2) }
+    ensures enough_bytes { behind (Bytes 4) (98 ∷ 99 ∷ 100 ∷ 101 ∷ []) ≡ None }
 {}

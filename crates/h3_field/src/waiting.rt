@@ -1,9 +1,6 @@
 //! What an instruction that is not whole waits for, so that bytes which leave it unfinished need not be read again.
-ghost use Rattle.std.specs.Prelude.{◌≡◌, ◌<◌, ◌≤◌, ℕ, List, [], ◌++◌, true, length, IfSome, IfNone};
-ghost use Rattle.h3_field.specs.InstructionReading.{instruction, name_reference, literal_name, decoder_instruction};
-ghost use Rattle.h3_field.specs.IntegerReading.{integer};
-ghost use Rattle.h3_field.specs.StringReading.{string};
-ghost use Rattle.h3_field.specs.Waiting.{AreEmptyGroups, Keeps, ReadsTo, WaitsFor};
+ghost use Rattle.std.specs.Prelude.{◌≡◌, ◌≤◌, ℕ, List, ◌++◌, OnOk, IfOk, IfErr};
+ghost use Rattle.h3_field.specs.Waiting.{goes_on, are_empty_groups, behind, integer_wait, string_wait, number_wait, name_reference_wait, literal_name_wait, encoder_wait, decoder_wait};
 
 use crate::cursor::SliceCursor;
 use crate::prefix_int::{Error, decode};
@@ -11,131 +8,132 @@ use crate::prefix_int::{Error, decode};
 /// What an instruction that is not whole waits for.
 #[derive(Copy, Clone, PartialEq, Eq, Debug)]
 pub enum Wait {
-    /// It is not known: what comes next is read.
-    Unknown,
+    /// Nothing: it is whole, or bad, and stays so whatever comes behind it.
+    Nothing,
     /// The end of an integer, which groups of no worth do not bring (RFC 7541, section 5.1).
     Integer,
-    /// So many bytes at least.
+    /// So many bytes at least: the first one of an integer, or those that a string lacks.
     Bytes(usize),
 }
 
 /// Whether these are groups of an integer that are worth nothing, behind each of which another one has to come.
 fn are_empty_groups(bytes: &[u8]) -> bool
-    ensures { result ≡ true → AreEmptyGroups bytes.now }
+    ensures { result ≡ are_empty_groups bytes.now }
 {
     bytes.iter().all(|byte| *byte == 128)
 }
 
 impl Wait {
-    /// Whether the instruction is known to be unfinished, before more comes.
+    /// Whether more has to come before the instruction is whole or bad.
     pub fn goes_on(self) -> bool
-        ensures { result ≡ true → Keeps self [] }
+        ensures { result ≡ goes_on self }
     {
         match self {
-            Wait::Unknown => false,
+            Wait::Nothing => false,
             Wait::Integer => true,
             Wait::Bytes(count) => count > 0,
         }
     }
 
-    /// What it waits for behind these bytes.
-    pub fn behind(self, bytes: &[u8]) -> Wait
-        ensures { (more : List ℕ) → Keeps result more → Keeps self (bytes.now ++ more) }
+    /// What it waits for behind these bytes. None: they may have brought it, so they have to be looked at.
+    fn behind(self, bytes: &[u8]) -> Option<Wait>
+        ensures { result ≡ behind self bytes.now }
     {
         match self {
-            Wait::Unknown => Wait::Unknown,
-            Wait::Integer => {
-                if are_empty_groups(bytes) {
-                    Wait::Integer
-                } else {
-                    Wait::Unknown
-                }
-            }
+            Wait::Nothing => Some(Wait::Nothing),
+            Wait::Integer => are_empty_groups(bytes).then_some(Wait::Integer),
             Wait::Bytes(count) => {
                 if bytes.len() < count {
-                    Wait::Bytes(count - bytes.len())
+                    Some(Wait::Bytes(count - bytes.len()))
                 } else {
-                    Wait::Unknown
+                    None
                 }
             }
         }
     }
 }
 
-/// What an integer waits for.
-fn integer_wait(size: u8, bytes: &[u8]) -> Wait
-    requires some { 0 < length bytes.now }
+/// Takes the integer at the front. Where it is not whole or bad it answers what there is to wait for.
+fn take_integer(size: u8, buf: &mut SliceCursor<'_>) -> Result<usize, Wait>
     requires least { 1 ≤ size }
     requires most { size ≤ 8 }
-    ensures { WaitsFor (integer size) bytes.now result }
+    ensures ok { IfOk result (λ n. (next : ℕ → List ℕ → Wait) → integer_wait size next buf.old ≡ next n buf.new) }
+    ensures err { IfErr result (λ w. (next : ℕ → List ℕ → Wait) → integer_wait size next buf.old ≡ w) }
 {
-    match decode(size, &mut SliceCursor::new(bytes)) {
-        Ok(_) => Wait::Unknown,
-        Err(Error::Overflow) => Wait::Unknown,
-        Err(Error::UnexpectedEnd) => Wait::Integer,
+    let is_empty = buf.remaining() == 0;
+    match decode(size, buf) {
+        Ok((_, value)) => Ok(value as usize),
+        Err(Error::Overflow) => Err(Wait::Nothing),
+        Err(Error::UnexpectedEnd) => Err(if is_empty {
+            Wait::Bytes(1)
+        } else {
+            Wait::Integer
+        }),
     }
 }
 
-/// What a string at the front waits for. None where it is whole: then it is taken.
-fn string_wait(size: u8, buf: &mut SliceCursor<'_>) -> Option<Wait>
+/// Takes the string at the front, likewise.
+fn take_string(size: u8, buf: &mut SliceCursor<'_>) -> Result<(), Wait>
     requires least { 2 ≤ size }
     requires most { size ≤ 8 }
-    ensures some { IfSome result (λ w. WaitsFor (string size) buf.old w) }
-    ensures none { IfNone result (ReadsTo (string size buf.old) buf.new) }
+    ensures ok { OnOk result ((next : List ℕ → Wait) → string_wait size next buf.old ≡ next buf.new) }
+    ensures err { IfErr result (λ w. (next : List ℕ → Wait) → string_wait size next buf.old ≡ w) }
 {
-    if buf.remaining() == 0 {
-        return Some(Wait::Unknown);
-    }
-    let count = match decode(size - 1, buf) {
-        Ok((_, count)) => count as usize,
-        Err(Error::Overflow) => return Some(Wait::Unknown),
-        Err(Error::UnexpectedEnd) => return Some(Wait::Integer),
-    };
+    let count = take_integer(size - 1, buf)?;
     let left = buf.remaining();
     if left < count {
-        return Some(Wait::Bytes(count - left));
+        return Err(Wait::Bytes(count - left));
     }
     buf.advance(count);
-    None
+    Ok(())
+}
+
+/// What an integer alone waits for.
+fn number_wait(size: u8, bytes: &[u8]) -> Wait
+    requires least { 1 ≤ size }
+    requires most { size ≤ 8 }
+    ensures { result ≡ number_wait size bytes.now }
+{
+    match take_integer(size, &mut SliceCursor::new(bytes)) {
+        Ok(_) => Wait::Nothing,
+        Err(wait) => wait,
+    }
 }
 
 /// What Insert With Name Reference waits for (RFC 9204, section 4.3.2).
 fn name_reference_wait(bytes: &[u8]) -> Wait
-    requires { 0 < length bytes.now }
-    ensures { WaitsFor name_reference bytes.now result }
+    ensures { result ≡ name_reference_wait bytes.now }
 {
     let mut ahead = SliceCursor::new(bytes);
-    match decode(6, &mut ahead) {
-        Ok(_) => match string_wait(8, &mut ahead) {
-            Some(wait) => wait,
-            None => Wait::Unknown,
-        },
-        Err(Error::Overflow) => Wait::Unknown,
-        Err(Error::UnexpectedEnd) => Wait::Integer,
+    if let Err(wait) = take_integer(6, &mut ahead) {
+        return wait;
+    }
+    match take_string(8, &mut ahead) {
+        Ok(()) => Wait::Nothing,
+        Err(wait) => wait,
     }
 }
 
 /// What Insert With Literal Name waits for (RFC 9204, section 4.3.3).
 fn literal_name_wait(bytes: &[u8]) -> Wait
-    ensures { WaitsFor literal_name bytes.now result }
+    ensures { result ≡ literal_name_wait bytes.now }
 {
     let mut ahead = SliceCursor::new(bytes);
-    match string_wait(6, &mut ahead) {
-        Some(wait) => wait,
-        None => match string_wait(8, &mut ahead) {
-            Some(wait) => wait,
-            None => Wait::Unknown,
-        },
+    if let Err(wait) = take_string(6, &mut ahead) {
+        return wait;
+    }
+    match take_string(8, &mut ahead) {
+        Ok(()) => Wait::Nothing,
+        Err(wait) => wait,
     }
 }
 
-/// What the encoder instruction at the front waits for (RFC 9204, section 4.3). One that is whole or bad, or has no byte yet, is not
-/// known to wait.
+/// What the encoder instruction at the front waits for (RFC 9204, section 4.3): the first byte, where there is none.
 pub fn encoder_wait(bytes: &[u8]) -> Wait
-    ensures { WaitsFor instruction bytes.now result }
+    ensures { result ≡ encoder_wait bytes.now }
 {
     if bytes.is_empty() {
-        return Wait::Unknown;
+        return Wait::Bytes(1);
     }
     let first = bytes[0];
     if first >= 0b1000_0000 {
@@ -143,20 +141,41 @@ pub fn encoder_wait(bytes: &[u8]) -> Wait
     } else if first >= 0b0100_0000 {
         literal_name_wait(bytes)
     } else {
-        integer_wait(5, bytes)
+        number_wait(5, bytes)
     }
 }
 
 /// What the decoder instruction at the front waits for (RFC 9204, section 4.4), likewise.
 pub fn decoder_wait(bytes: &[u8]) -> Wait
-    ensures { WaitsFor decoder_instruction bytes.now result }
+    ensures { result ≡ decoder_wait bytes.now }
 {
     if bytes.is_empty() {
-        return Wait::Unknown;
+        return Wait::Bytes(1);
     }
     if bytes[0] >= 0b1000_0000 {
-        integer_wait(7, bytes)
+        number_wait(7, bytes)
     } else {
-        integer_wait(6, bytes)
+        number_wait(6, bytes)
+    }
+}
+
+/// What the encoder instruction at the front of `unread` waits for, where `came` came behind bytes of which it was `before`. While
+/// that goes on no other byte is looked at.
+pub fn encoder_wait_behind(before: Wait, came: &[u8], unread: &[u8]) -> Wait
+    ensures { (front : List ℕ) → before ≡ encoder_wait front → unread.now ≡ front ++ came.now → result ≡ encoder_wait unread.now }
+{
+    match before.behind(came) {
+        Some(wait) => wait,
+        None => encoder_wait(unread),
+    }
+}
+
+/// What the decoder instruction at the front of `unread` waits for, likewise.
+pub fn decoder_wait_behind(before: Wait, came: &[u8], unread: &[u8]) -> Wait
+    ensures { (front : List ℕ) → before ≡ decoder_wait front → unread.now ≡ front ++ came.now → result ≡ decoder_wait unread.now }
+{
+    match before.behind(came) {
+        Some(wait) => wait,
+        None => decoder_wait(unread),
     }
 }

@@ -1,16 +1,21 @@
 //! Scripts of what a client and a server do, and what comes of it.
 #![tactic(auto)]
 
+ghost use Rattle.std.specs.Prelude.{◌≤◌};
+ghost use Rattle.std.specs.Process.{exit_status};
+
 mod talk;
 
 pub use h3_script::script;
 pub use h3_script::text::answer_text;
 pub use h3_session::run::run;
 use std::process::ExitCode;
-pub use talk::talk;
+pub use talk::{exit_code, talk};
 
-fn main(rt: HostRuntime) -> ExitCode {
+fn main(rt: HostRuntime) -> ExitCode
+    ensures { exit_status result ≤ 2 }
+{
     let mut reader = rt.reader();
     let mut writer = std::io::writer(&rt);
-    ExitCode::from(talk(rt.alloc(), &mut reader, &mut writer))
+    exit_code(rt.alloc(), &mut reader, &mut writer)
 }

@@ -1,9 +1,9 @@
 -- What is read of bytes that are known to be no whole instruction: nothing.
-use Rattle.std.proofs.Common.{◌≡◌, ℕ, ◌-◌, false, List, [], ◌∷◌, ◌++◌, append-nil, length, None, refl, ap, sym, ◌∙◌, arith}
+use Rattle.std.proofs.Common.{◌≡◌, ℕ, ◌-◌, true, false, List, [], ◌∷◌, ◌++◌, append-nil, length, None, refl, ap, sym, ◌∙◌, arith}
 use Rattle.h3_field.specs.Reading.{Unfinished}
 use Rattle.h3_field.specs.InstructionReading.{instruction, decoder_instruction}
-use Rattle.h3_field.specs.Waiting.{Keeps, WaitsFor}
-use Rattle.h3_field.specs.declared.waiting.Wait.{Wait}
+use Rattle.h3_field.specs.Waiting.{goes_on, encoder_wait, decoder_wait}
+use Rattle.h3_field.specs.WaitingLaws.{unfinished_is, encoder_waits, decoder_waits}
 use Rattle.h3_qpack.specs.DecoderState.{DecoderState}
 use Rattle.h3_qpack.specs.EncoderHistory.{EncoderHistory}
 use Rattle.h3_qpack.specs.EncoderState.{encoder_state}
@@ -28,13 +28,13 @@ none_inserted count out =
     let none : count - count ≡ 0 = omega arith in
     rw none (sym (append-nil out))
 
-pub still_hears : (d : Decoding) (w : Wait) (out : List ℕ) → WaitsFor instruction d.unread w → Keeps w [] → Hears d d [] None out out
-still_hears d w out waits keeps =
-    let unfinished : instruction d.unread ≡ Unfinished = ap instruction (sym (append-nil d.unread)) ∙ waits [] keeps in
+pub still_hears : (d : Decoding) (out : List ℕ) → goes_on (encoder_wait d.unread) ≡ true → Hears d d [] None out out
+still_hears d out waits =
+    let unfinished = unfinished_is (instruction d.unread) (sym (encoder_waits d.unread) ∙ waits) in
     hears d d d.unread out out false (hear_unfinished d.decoder d.unread unfinished) refl (none_inserted d.decoder.table.inserted out)
 
-pub still_listens : (e : Encoding) (w : Wait) → WaitsFor decoder_instruction e.unread w → Keeps w [] → (s : EncoderHistory) → e.encoder ≡ encoder_state s → Listens s e.unread e None
-still_listens e w waits keeps s is =
-    let unfinished : decoder_instruction e.unread ≡ Unfinished = ap decoder_instruction (sym (append-nil e.unread)) ∙ waits [] keeps in
+pub still_listens : (e : Encoding) → goes_on (decoder_wait e.unread) ≡ true → (s : EncoderHistory) → e.encoder ≡ encoder_state s → Listens s e.unread e None
+still_listens e waits s is =
+    let unfinished = unfinished_is (decoder_instruction e.unread) (sym (decoder_waits e.unread) ∙ waits) in
     let all = listen_unfinished s e.unread unfinished in
     listens s e e.unread e.unread false refl (record { state = rw all is; rest = rw all refl; bad = rw all refl })

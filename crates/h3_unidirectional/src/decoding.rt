@@ -1,5 +1,6 @@
 //! The peer's encoder stream (RFC 9204, section 4.3), and the dynamic table that it fills.
-ghost use Rattle.std.specs.Prelude.{length, ◌≡◌, ◌-◌, ◌<◌, ◌^◌, ◌++◌, [], Some, None, IfOk, IfErr, OnOk, OnErr};
+ghost use Rattle.std.specs.Prelude.{length, ◌≡◌, ◌-◌, ◌<◌, ◌^◌, ◌++◌, [], false, Some, None, IfOk, IfErr, OnOk, OnErr};
+ghost use Rattle.h3_field.specs.Waiting.{goes_on, encoder_wait};
 ghost use Rattle.h3_qpack.specs.Increments.{increment_for};
 ghost use Rattle.h3_qpack.specs.DecoderState.{announcing};
 ghost use Rattle.h3_qpack.specs.SectionAnswers.{IsReasonFor};
@@ -9,7 +10,7 @@ ghost use Rattle.h3_unidirectional.specs.Faults.{IsFaultOf};
 ghost use Rattle.h3_unidirectional.specs.Fronts.{HearsFront, StopsHearing};
 
 use crate::waiting::{WaitingBytes, drop_front};
-use h3_field::waiting::{Wait, encoder_wait};
+use h3_field::waiting::{Wait, encoder_wait, encoder_wait_behind};
 use h3_proto::error::Code;
 use h3_qpack::{Decoder, DecoderError, SliceCursor};
 use std::alloc::{AllocError, Global};
@@ -32,10 +33,10 @@ impl Model for Decoding {
 
     ghost view = { λ d. record { decoder = d.decoder; unread = d.unread.items } };
 
-    ghost use Rattle.h3_field.specs.InstructionReading.{instruction};
-    ghost use Rattle.h3_field.specs.Waiting.{WaitsFor};
+    ghost use Rattle.std.specs.Prelude.{◌≡◌};
+    ghost use Rattle.h3_field.specs.Waiting.{encoder_wait};
 
-    ghost invariant = { λ d. WaitsFor instruction d.unread.items d.wait };
+    ghost invariant = { λ d. d.wait ≡ encoder_wait d.unread.items };
 }
 
 impl Decoding {
@@ -47,7 +48,7 @@ impl Decoding {
         Decoding {
             decoder: Decoder::announced(alloc, capacity),
             unread: Vec::new(alloc),
-            wait: Wait::Unknown,
+            wait: Wait::Bytes(1),
         }
     }
 
@@ -71,11 +72,13 @@ impl Decoding {
         ensures err { OnErr result (self.new ≡ self.old) }
     {
         self.unread.extend_from_slice(bytes)?;
-        self.wait = self.wait.behind(bytes);
+        self.wait = encoder_wait_behind(self.wait, bytes, self.unread.as_slice());
         Ok(())
     }
 
+    // Reads up to the first instruction that is bad or not whole. The one at the front is not unfinished.
     fn read_front(&mut self, replies: &mut Vec<u8>) -> Result<usize, DecoderError>
+        requires { goes_on (encoder_wait self.old.unread) ≡ false }
         ensures front { HearsFront self.old self.new }
         ensures ok { OnOk result (Hears self.old self.new [] None replies.old.items replies.new.items) }
         ensures err { IfErr result (IsReasonFor (Hears self.old self.new [] (Some encoder_stream_error) replies.old.items replies.new.items) (λ count. ⊥)) }
@@ -92,6 +95,7 @@ impl Decoding {
 
     #[tactic(auto, using(crate::proofs::Waits::is_fault))]
     fn read_into(&mut self, replies: &mut Vec<u8>) -> Result<Option<Code>, AllocError>
+        requires { goes_on (encoder_wait self.old.unread) ≡ false }
         ensures front { HearsFront self.old self.new }
         ensures ok { IfOk result (λ fault. Hears self.old self.new [] fault replies.old.items replies.new.items) }
         ensures increment { replies.new.items ≡ replies.old.items ++ increment_for (self.new.decoder.table.inserted - self.old.decoder.table.inserted) }
@@ -102,9 +106,10 @@ impl Decoding {
         }
     }
 
-    // Reads what is unread, as `read` does, whatever it waits for.
+    // Reads what is unread, as `read` does. The instruction at the front is not unfinished.
     #[tactic(auto, using(crate::proofs::Waits::waiting_ok, crate::proofs::Heard::hearing_stopped))]
     fn read_instructions(&mut self, out: &mut WaitingBytes) -> Result<Option<Code>, AllocError>
+        requires { goes_on (encoder_wait self.old.unread) ≡ false }
         ensures ok { IfOk result (λ fault. Hears self.old self.new [] fault out.old out.new) }
         ensures increment { out.new ≡ out.old ++ increment_for (self.new.decoder.table.inserted - self.old.decoder.table.inserted) }
         ensures refused { OnErr result (StopsHearing self.old self.new) }

@@ -1,6 +1,7 @@
 //! The own encoder, and the peer's decoder stream that tells it what was received (RFC 9204, section 4.4).
-ghost use Rattle.std.specs.Prelude.{◌≡◌, ◌<◌, ◌^◌, ◌++◌, [], length, Some, None, IfOk, IfErr, OnOk, OnErr};
+ghost use Rattle.std.specs.Prelude.{◌≡◌, ◌<◌, ◌^◌, ◌++◌, [], false, length, Some, None, IfOk, IfErr, OnOk, OnErr};
 ghost use Rattle.h3_field.specs.Field.{section_size};
+ghost use Rattle.h3_field.specs.Waiting.{goes_on, decoder_wait};
 ghost use Rattle.h3_qpack.specs.Drafting.{IsSent, IsCutOff};
 ghost use Rattle.h3_qpack.specs.EncoderHistory.{EncoderHistory, no_table, withdrawn, writing_on};
 ghost use Rattle.h3_qpack.specs.EncoderState.{encoder_state};
@@ -13,7 +14,7 @@ ghost use Rattle.h3_unidirectional.specs.Learned.{having_learned, usable_capacit
 
 use crate::waiting::{WaitingBytes, drop_front};
 use h3_field::HeaderField;
-use h3_field::waiting::{Wait, decoder_wait};
+use h3_field::waiting::{Wait, decoder_wait, decoder_wait_behind};
 use h3_proto::error::Code;
 use h3_proto::frame::{SettingId, Settings};
 use h3_proto::stream::StreamId;
@@ -38,10 +39,10 @@ impl Model for Encoding {
 
     ghost view = { λ e. record { encoder = e.encoder; unread = e.unread.items } };
 
-    ghost use Rattle.h3_field.specs.InstructionReading.{decoder_instruction};
-    ghost use Rattle.h3_field.specs.Waiting.{WaitsFor};
+    ghost use Rattle.std.specs.Prelude.{◌≡◌};
+    ghost use Rattle.h3_field.specs.Waiting.{decoder_wait};
 
-    ghost invariant = { λ e. WaitsFor decoder_instruction e.unread.items e.wait };
+    ghost invariant = { λ e. e.wait ≡ decoder_wait e.unread.items };
 }
 
 impl Encoding {
@@ -54,7 +55,7 @@ impl Encoding {
         Encoding {
             encoder,
             unread: Vec::new(alloc),
-            wait: Wait::Unknown,
+            wait: Wait::Bytes(1),
         }
     }
 
@@ -71,7 +72,7 @@ impl Encoding {
         ensures err { OnErr result (self.new ≡ self.old) }
     {
         self.unread.extend_from_slice(bytes)?;
-        self.wait = self.wait.behind(bytes);
+        self.wait = decoder_wait_behind(self.wait, bytes, self.unread.as_slice());
         Ok(())
     }
 
@@ -141,7 +142,9 @@ impl Encoding {
         self.encoder.withdraw(stream.into_inner(), count);
     }
 
+    // Reads up to the first instruction that is refused or not whole. The one at the front is not unfinished.
     fn read_front(&mut self) -> Result<(), EncoderError>
+        requires { goes_on (decoder_wait self.old.unread) ≡ false }
         ensures front { (s : EncoderHistory) → self.old.encoder ≡ encoder_state s → StopsListening s self.old self.new }
         ensures ok { OnOk result ((s : EncoderHistory) → self.old.encoder ≡ encoder_state s → Listens s self.old.unread self.new None) }
         ensures err { IfErr result (λ e. UnlessMemory e ((s : EncoderHistory) → self.old.encoder ≡ encoder_state s → Listens s self.old.unread self.new (Some decoder_stream_error))) }

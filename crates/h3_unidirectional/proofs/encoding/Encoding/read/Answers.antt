@@ -1,5 +1,7 @@
+use Rattle.std.proofs.Common.{ap, sym, ◌∙◌}
+use Rattle.h3_field.specs.Waiting.{goes_on}
 use Rattle.h3_unidirectional.proofs.Unfinished.{still_listens}
 use Rattle.h3_unidirectional.proofs.encoding.Encoding.read.Goals as goal
 
 pub returns-then-goes_on-clause-ok : goal.returns-then-goes_on-clause-ok
-returns-then-goes_on-clause-ok c = rw (← c.self.view_is) (still_listens _ c.self.inside.wait c.self.invariant (c.goes_on.ensures c.if-goes_on.true))
+returns-then-goes_on-clause-ok c = rw (← c.self.view_is) (still_listens _ (sym (ap goes_on c.self.invariant) ∙ sym c.goes_on.ensures ∙ c.if-goes_on.true))
