@@ -10,7 +10,7 @@ use Rattle.h3_connection.specs.declared.place.Place.{Place}
 use Rattle.h3_connection.specs.declared.place.Place.TheVariants.{InSession}
 use Rattle.h3_connection.specs.declared.setup.Announced.{Announced}
 use Rattle.h3_connection.specs.Incoming.{Incoming, is_body}
-use Rattle.h3_connection.specs.Pulling.{Pulled, just, connection_fault, begun_section, begun_payload, in_payload, new_section}
+use Rattle.h3_connection.specs.Pulling.{Pulled, just, connection_fault, begun_section, begun_payload, at_payload, new_section}
 use Rattle.h3_connection.specs.Skipping.{is_empty_data}
 use Rattle.h3_incoming.specs.Resuming.{Begins}
 use Rattle.h3_incoming.specs.declared.stream.frames.Begun.{Begun}
@@ -19,7 +19,7 @@ use Rattle.h3_incoming.specs.declared.stream.frames.Begun.TheVariants as begun
 -- what a pull answers of it
 abbrev pub begun_as : Side → Announced → ℕ → DecoderState → Incoming → Begun → Pulled
 begun_as side own id r i (begun.Section bytes) = new_section side own id r i bytes
-begun_as side own id r i (begun.Payload size) = in_payload (begun_payload i size)
+begun_as side own id r i (begun.Payload size) = at_payload id (begun_payload i size)
 begun_as side own id r i (begun.Session session) = just (pull.Item (item.Session session)) (record i { place = InSession })
 begun_as side own id r i (begun.Fault code) = connection_fault code i
 
