@@ -7,11 +7,15 @@ use Rattle.h3_wire.specs.declared.proto.frame.PayloadLen.{PayloadLen}
 use Rattle.h3_wire.specs.declared.proto.frame.Frame.{Frame}
 use Rattle.h3_proto.specs.declared.stream.Side.{Side}
 use Rattle.h3_qpack.specs.DecoderState.{DecoderState}
+use Rattle.h3_messages.specs.Content.{left_behind}
+use Rattle.h3_messages.specs.declared.content.Content.{Content}
+use Rattle.h3_connection.specs.declared.event.Pull.{Pull}
 use Rattle.h3_connection.specs.declared.setup.Announced.{Announced}
 use Rattle.h3_connection.specs.Codes.{refusal_code}
 use Rattle.h3_connection.specs.Incoming.{Incoming, is_body}
-use Rattle.h3_connection.specs.Pulling.{Pulled, connection_fault, at_frame, next_frame, between_frames}
+use Rattle.h3_connection.specs.Pulling.{Pulled, connection_fault, at_payload, begun_payload, at_frame, next_frame, between_frames}
 use Rattle.h3_incoming.specs.Finding.{Finds, PassesFrames}
+use Rattle.h3_incoming.specs.Gives.{Gives}
 use Rattle.h3_incoming.specs.Resuming.{Begins, Resumes}
 use Rattle.h3_incoming.specs.declared.stream.front.Found.TheVariants as found
 use Rattle.h3_incoming.proofs.FrontLaws.{Reads, with_left, passes, passes_frames, finds, found_now}
@@ -37,6 +41,14 @@ pulled_frame side own id r old stored left in_body f p reads h is =
     let passed = passes old stored left in_body reads in
     between_frame side own id r old mid f passed (found_now (is_body old.place) f (concat old.unread) (concat left) (finds old stored left in_body (found.Frame f) reads h))
     ∙ ap (λ q. at_frame side own id r side mid q f) (sym (place_passed old mid passed)) ∙ is
+
+-- the payload was begun
+pub begun_is : (i : Incoming) (size : ℕ) (content : Content) → content ≡ left_behind i.content size → (record i { body_left = size; content = content }) ≡ begun_payload i size
+begun_is i size content e = ap (λ c. let x : Incoming = record i { body_left = size; content = c } in x) e
+
+pub gives_begun : (id : ℕ) (i : Incoming) (size : ℕ) (content : Content) (answer : Pull) (new : Incoming) (before after : List ℕ) → content ≡ left_behind i.content size
+    → Gives (at_payload id (record i { body_left = size; content = content })) answer new before after → Gives (at_payload id (begun_payload i size)) answer new before after
+gives_begun id i size content answer new before after e h = subst (λ (x : Incoming). Gives (at_payload id x) answer new before after) (begun_is i size content e) h
 
 -- its payload is not empty in a body
 pub filled : (old stored : Incoming) (left : List (List ℕ)) (in_body is_empty : Bool) → Reads old stored left in_body → (in_body && is_empty) ≡ false → (is_body stored.place && is_empty) ≡ false
