@@ -142,12 +142,7 @@ fn judge_header(
 }
 
 // A head: a client reads responses, interim ones among them, and a server requests.
-fn judge_head(
-    side: Side,
-    behind: Content,
-    broken: Option<Malformation>,
-    header: Header,
-) -> Judged
+fn judge_head(side: Side, behind: Content, broken: Option<Malformation>, header: Header) -> Judged
     ensures { (id : ℕ) (i : Incoming) (replies : List DecoderInstruction) → i.place ≡ Place.BeforeHead → i.content ≡ behind
         → whole_head side id i replies broken header ≡ judged_as id i replies result }
 {
