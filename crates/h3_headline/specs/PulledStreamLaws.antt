@@ -149,7 +149,6 @@ module _ (lists : ListsAreTheirValue) (side : Side) (announced : Announced) (id 
                 pieces = reads.pieces;
                 place = reads.place;
                 content = reads.content;
-                content = reads.content;
                 place_next = part.place_next;
                 waits = same.waits_for ∙ waits;
                 whole = λ e. all_came p f sound e;
