@@ -26,7 +26,7 @@ returns-in-Ok-clause-ok c = λ id r i replies few at left.
     (subst (λ l. head_of l ≡ IsHead c.in-Ok.header) c.as_slice-list.ensures.value (c.lists_are_their_value.ensures.head _ _ c.in-Ok.ensures.ok)) at
     ∙ ap (λ b. head_or_trailer c.args.side id (with_content c.args.side c.args.announced.now i c.args.fields.items) replies b c.args.place c.in-Ok.header) rule
     ∙ c.judge_header.ensures id (with_content c.args.side c.args.announced.now i c.args.fields.items) replies at behind
-    ∙ judged_behind id i _ replies c.judge_header.result
+    ∙ judged_behind id i (with_content c.args.side c.args.announced.now i c.args.fields.items).content replies c.judge_header.result
 
 pub returns-clause-ok : goal.returns-clause-ok
 returns-clause-ok c =
