@@ -102,6 +102,17 @@
  * Send what waits on the own control, encoder and decoder stream before request streams where QUIC has no room for all: the peer's
  * heads may wait for it.
  *
+ * WHAT IS CHECKED, AND WHAT YOU MUST CHECK
+ *
+ * Each endpoint checks names and values, the side of a head, that a trailer has no pseudo-header field, and the order of frames. Where `strict` of
+ * h3_config is set (h3_config_default leaves it 0) it also checks of what it receives:
+ *   each head and trailer, by all rules of RFC 9114, sections 4.2 to 4.5: h3_malformation names them.
+ *   A server: content is as long as content-length says (section 4.1.2). Of DATA that is longer than what is left nothing is handed out, and no
+ *     H3_END and no H3_TRAILER comes before all of it: H3_BAD_CONTENT_LENGTH. Behind the head of a CONNECT request only DATA may come (4.4).
+ * You must check: as a client, that the content of a response is as long as its content-length says, and that none comes for HEAD, 204 and 304; of a
+ * head that is too large all of that; what you send; and where `strict` is 0 the whole list above. What was handed out of a body stays handed out
+ * where the message turns out malformed later: act on a request that must be whole behind its H3_END.
+ *
  * HOW A FAULT ENDS A STREAM OR THE CONNECTION
  *
  *   H3_CONNECTION of a delivery, or an item of kind H3_FAULT_CONNECTION: close the QUIC connection with the application error code that
@@ -228,7 +239,8 @@ typedef struct {
   uint32_t webtransport;
   uint32_t extended_connect;          /* RFC 9220 */
   uint32_t datagram;                  /* RFC 9297 */
-  uint32_t strict;                    /* whether heads and trailers are judged by all of RFC 9114, sections 4.2 to 4.5: see h3_malformation */
+  uint32_t strict;                    /* whether heads, trailers and, by a server, content are judged by all of RFC 9114, sections 4.1.2 and 4.2 to
+                                       * 4.5: see h3_malformation and WHAT IS CHECKED */
   uint32_t count_acknowledgments;     /* whether an acknowledgment tells the own encoder of insertions (RFC 9204, section 2.1.4): many decoders
                                        * tell of most by nothing else, and without it the encoder soon inserts no more. An increment that is
                                        * 0 or past what was inserted (section 4.4.3) then closes the connection, with code 0x202 */
@@ -374,7 +386,7 @@ enum h3_malformation {
   H3_WRONG_PSEUDO_FIELD = 7,    /* a pseudo-header field is not of this side (4.3) */
   H3_REPEATED_PSEUDO_FIELD = 8, /* a pseudo-header field comes twice (4.3) */
   H3_CONNECTION_FIELD = 9,      /* a connection-specific field, or a te that is not "trailers" in a request (4.2) */
-  H3_BAD_CONTENT_LENGTH = 10,   /* no number, twice, or not with this status (RFC 9110, section 8.6) */
+  H3_BAD_CONTENT_LENGTH = 10,   /* no number, twice, or not with this status (RFC 9110, section 8.6); at a server also: not as long as what came (4.1.2) */
   H3_BAD_PROTOCOL = 11,         /* :protocol without CONNECT, or where `extended_connect` is not set (RFC 8441, section 4; RFC 9220, section 3) */
   H3_BAD_CONNECT = 12,          /* CONNECT without :authority, or plain CONNECT with :scheme or :path (4.4) */
   H3_MISSING_PSEUDO_FIELD = 13, /* a request without :method, :scheme or :path, a response without :status (4.3.1, 4.3.2) */

@@ -11,9 +11,10 @@ use Rattle.h3_wire.specs.Pieces.{chunk_of, without}
 use Rattle.h3_wire.specs.PieceLaws.{concat-without, without-none}
 use Rattle.h3_connection.specs.declared.setup.Announced.{Announced}
 use Rattle.h3_connection.specs.declared.event.Item.TheVariants as item
+use Rattle.h3_connection.specs.declared.event.Malformation.TheVariants as malformation
 use Rattle.h3_connection.specs.declared.event.Pull.TheVariants as pull
 use Rattle.h3_connection.specs.Incoming.{Incoming}
-use Rattle.h3_connection.specs.Pulling.{Pulled, just, in_payload, body_of, raw, between_frames, in_message, next_item, pull_stream}
+use Rattle.h3_connection.specs.Pulling.{Pulled, just, malformed, in_payload, at_payload, body_of, raw, between_frames, in_message, next_item, pull_stream}
 use Rattle.h3_connection.specs.PullCuts.{piece_in, HaveBytes, DifferInCuts}
 use Rattle.h3_connection.specs.JoinedPulls.{Joined, behind, join_piece, joined_within, joined_pulls, JoinedAlike}
 use Rattle.h3_connection.proofs.UnknownFrames.{by_place, pull_next}
@@ -67,6 +68,7 @@ payload_on i p t h some = record {
   message = h.message;
   no_section = h.no_section;
   some = some;
+  within = h.within;
   whole = whole_on i.ended (length (p ++ concat t)) i.body_left (length (concat t)) (i.body_left - length p) h.whole (λ e. omega (arith, e, length-append p (concat t)));
 }
 
@@ -88,7 +90,8 @@ module _ (side : Side) (own : Announced) (id : ℕ) (r : DecoderState) where
   pub pull_of_payload : (i : Incoming) → Payload i → pull_stream side own id r i ≡ in_payload i
   pull_of_payload i h =
       pull_next side own id r i h.no_fault h.not_over ∙ by_place side own id r i i.place h.message ∙ ap (in_message side own id r i) h.no_section
-      ∙ ap (λ b. if b then in_payload i else between_frames side own id r i) (lt-ltb 0 i.body_left h.some)
+      ∙ ap (λ b. if b then at_payload id i else between_frames side own id r i) (lt-ltb 0 i.body_left h.some)
+      ∙ ap (λ b. if b then malformed id malformation.ContentLength i [] else in_payload i) h.within
 
   pub pull_of_session : (i : Incoming) → InASession i → pull_stream side own id r i ≡ raw i
   pull_of_session i h = pull_next side own id r i h.no_fault h.not_over ∙ ap (next_item side own id r i) h.session

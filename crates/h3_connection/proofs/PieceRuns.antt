@@ -35,6 +35,7 @@ payload_at j unread left h some enough = record {
   message = h.message;
   no_section = h.no_section;
   some = some;
+  within = h.within;
   whole = whole_on j.ended (length (concat j.unread)) j.body_left (length (concat unread)) left h.whole enough;
 }
 

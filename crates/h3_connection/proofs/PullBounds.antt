@@ -21,10 +21,12 @@ use Rattle.h3_connection.specs.Announcing.{section_of}
 use Rattle.h3_qpack.specs.DecodedSection.{DecodedSection, Fields, Missing, BadSection, decode_section}
 use Rattle.h3_connection.specs.Incoming.{Incoming, is_body}
 use Rattle.h3_connection.specs.Skipping.{skipped}
-use Rattle.h3_connection.specs.StrictMessages.{broken_rule}
-use Rattle.h3_connection.specs.Pulling.{Pulled, just, connection_fault, malformed, unless_broken, whole_head, whole_trailer, head_or_trailer, judged, read_section, decoded, at_section, new_section, at_end, at_frame, framed, next_frame, between_frames, in_message, next_item, pull_stream, in_payload, body_of, raw_of, raw, tried, past_section, begun_section, begun_payload, left_with, is_for, is_client, is_interim, told_size}
+use Rattle.h3_connection.specs.StrictMessages.{broken_rule, if_whole}
+use Rattle.h3_messages.specs.Content.{is_exceeded, may_end, takes_trailer}
+use Rattle.h3_connection.specs.Pulling.{Pulled, just, connection_fault, malformed, unless_broken, whole_head, whole_trailer, head_or_trailer, judged, read_section, decoded, at_section, new_section, at_trailer, at_end, at_frame, framed, next_frame, between_frames, in_message, next_item, pull_stream, in_payload, at_payload, body_of, raw_of, raw, tried, past_section, begun_section, begun_payload, with_content, left_with, is_for, is_client, is_interim, told_size}
 use Rattle.h3_connection.specs.declared.setup.Announced.{Announced}
 use Rattle.h3_connection.specs.declared.event.Malformation.{Malformation}
+use Rattle.h3_connection.specs.declared.event.Malformation.TheVariants as malformation
 use Rattle.h3_connection.specs.declared.event.Pull.{Pull}
 use Rattle.h3_connection.specs.declared.event.Pull.TheVariants as pull
 use Rattle.h3_connection.specs.declared.event.StreamFault.{StreamFault}
@@ -75,6 +77,9 @@ body_good i (Some bytes, pieces) h = good _ (ready_as i _ (refl, refl) h)
 payload_good : (i : Incoming) → Ready i → Good (in_payload i)
 payload_good i h = either (i.ended && nat_lt (length (concat i.unread)) i.body_left) _ _ (faulty _ i h.tries) (body_good i (chunk_of i.body_left i.unread) h)
 
+content_good : (id : ℕ) (i : Incoming) → Ready i → Good (at_payload id i)
+content_good id i h = either (is_exceeded i.content) _ _ (gives_up id malformation.ContentLength i [] h) (payload_good i h)
+
 raw_none : (b : Bool) (i : Incoming) (pieces : List (List ℕ)) → Ready i → Good (if b then just (pull.Item item.End) (record i { is_over = true }) else just pull.Pending i)
 raw_none b i pieces h = either b _ _ (good _ (ready_as i _ (refl, refl) h)) (good _ h)
 
@@ -119,7 +124,7 @@ tried_first i is = rw is refl
 
 module _ (side : Side) (own : Announced) (id : ℕ) (r : DecoderState) where
   read_good : (i : Incoming) (replies : List DecoderInstruction) (fields : List Field) → Ready i → Good (read_section side own id r i replies fields)
-  read_good i replies fields h = either (nat_lt (section_of own) (told_size fields)) _ _ (good _ (ready_as i _ (refl, refl) h)) (judged_good side id i replies (broken_rule side own i.place fields) (head_of fields) h)
+  read_good i replies fields h = either (nat_lt (section_of own) (told_size fields)) _ _ (good _ (ready_as i _ (refl, refl) h)) (judged_good side id (with_content side own i fields) replies (if_whole i.content (broken_rule side own i.place fields)) (head_of fields) (ready_as i (with_content side own i fields) (refl, refl) h))
 
   missing_good : (i : Incoming) (count : ℕ) (first : Bool) → (i.waits_for == 0) ≡ first → Ready i
       → Good (if first then just (pull.Waiting count) (record (tried i) { waits_for = count }) else connection_fault 0x200 (past_section i))
@@ -137,19 +142,25 @@ module _ (side : Side) (own : Announced) (id : ℕ) (r : DecoderState) where
   new_good : (i : Incoming) (bytes : List ℕ) → Ready i → Good (new_section side own id r i bytes)
   new_good i bytes h = at_good (begun_section i bytes) bytes (record { tries = h.tries; once = λ waits. absurd (omega (arith, waits)) })
 
+  trailer_good_at : (i : Incoming) (bytes : List ℕ) → Ready i → Good (at_trailer side own id r i bytes)
+  trailer_good_at i bytes h = either (takes_trailer i.content) _ _ (new_good i bytes h) (faulty _ i h.tries)
+
+  whole_good : (i : Incoming) → Ready i → Good (if may_end i.content then just (pull.Item item.End) (record i { unread = []; is_over = true }) else malformed id malformation.ContentLength i [])
+  whole_good i h = either (may_end i.content) _ _ (good _ (ready_as i _ (refl, refl) h)) (gives_up id _ i [] h)
+
   end_good : (i : Incoming) (place : Place) → Ready i → Good (at_end side own id r i place)
   end_good i BeforeHead h = gives_up id _ i [] h
-  end_good i InBody h = good _ (ready_as i _ (refl, refl) h)
-  end_good i AfterTrailer h = good _ (ready_as i _ (refl, refl) h)
-  end_good i InSession h = good _ (ready_as i _ (refl, refl) h)
+  end_good i InBody h = whole_good i h
+  end_good i AfterTrailer h = whole_good i h
+  end_good i InSession h = whole_good i h
 
   frame_good : (side' : Side) (i : Incoming) (place : Place) (f : Frame PayloadLen) → Ready i → Good (at_frame side own id r side' i place f)
   frame_good Client i BeforeHead (frame.Headers bytes) h = new_good i bytes h
   frame_good Server i BeforeHead (frame.Headers bytes) h = new_good i bytes h
-  frame_good Client i InBody (frame.Headers bytes) h = new_good i bytes h
-  frame_good Server i InBody (frame.Headers bytes) h = new_good i bytes h
-  frame_good Client i InBody (frame.Data len) h = payload_good (begun_payload i len.0) (ready_as i (begun_payload i len.0) (refl, refl) h)
-  frame_good Server i InBody (frame.Data len) h = payload_good (begun_payload i len.0) (ready_as i (begun_payload i len.0) (refl, refl) h)
+  frame_good Client i InBody (frame.Headers bytes) h = trailer_good_at i bytes h
+  frame_good Server i InBody (frame.Headers bytes) h = trailer_good_at i bytes h
+  frame_good Client i InBody (frame.Data len) h = content_good id (begun_payload i len.0) (ready_as i (begun_payload i len.0) (refl, refl) h)
+  frame_good Server i InBody (frame.Data len) h = content_good id (begun_payload i len.0) (ready_as i (begun_payload i len.0) (refl, refl) h)
   frame_good Server i BeforeHead (frame.WebTransportStream session) h = good _ (ready_as i _ (refl, refl) h)
   frame_good Client i place (frame.PushPromise promise) h = faulty _ i h.tries
   frame_good _ i place _ h = faulty _ i h.tries
@@ -169,7 +180,7 @@ module _ (side : Side) (own : Announced) (id : ℕ) (r : DecoderState) where
   message_good i None h =
       let bytes = skipped (is_body i.place) (concat i.unread) in
       let j = record i { unread = ending (length bytes) i.unread } in
-      either (nat_lt 0 i.body_left) _ _ (payload_good i h) (next_good j bytes (ready_as i j (refl, refl) h))
+      either (nat_lt 0 i.body_left) _ _ (content_good id i h) (next_good j bytes (ready_as i j (refl, refl) h))
 
   item_good : (i : Incoming) (place : Place) → Ready i → Good (next_item side own id r i place)
   item_good i InSession h = raw_good i (first_of i.unread) h

@@ -25,10 +25,12 @@ use Rattle.h3_connection.specs.Delivering.{kept}
 use Rattle.h3_connection.specs.Incoming.{Incoming, is_body}
 use Rattle.h3_connection.specs.Skipping.{is_empty_data, skipped}
 use Rattle.h3_connection.specs.SkippingLaws.{found_not_empty}
-use Rattle.h3_connection.specs.StrictMessages.{broken_rule}
-use Rattle.h3_connection.specs.Pulling.{Pulled, just, connection_fault, malformed, unless_broken, whole_head, whole_trailer, head_or_trailer, judged, read_section, decoded, at_section, new_section, at_end, at_frame, framed, next_frame, between_frames, in_message, next_item, pull_stream, in_payload, body_of, raw_of, raw, past_section, begun_section, begun_payload, left_with, is_for, is_client, is_interim, told_size}
+use Rattle.h3_connection.specs.StrictMessages.{broken_rule, if_whole}
+use Rattle.h3_messages.specs.Content.{is_exceeded, may_end, takes_trailer}
+use Rattle.h3_connection.specs.Pulling.{Pulled, just, connection_fault, malformed, unless_broken, whole_head, whole_trailer, head_or_trailer, judged, read_section, decoded, at_section, new_section, at_trailer, at_end, at_frame, framed, next_frame, between_frames, in_message, next_item, pull_stream, in_payload, at_payload, body_of, raw_of, raw, past_section, begun_section, begun_payload, with_content, left_with, is_for, is_client, is_interim, told_size}
 use Rattle.h3_connection.specs.declared.setup.Announced.{Announced}
 use Rattle.h3_connection.specs.declared.event.Malformation.{Malformation}
+use Rattle.h3_connection.specs.declared.event.Malformation.TheVariants as malformation
 use Rattle.h3_connection.specs.declared.event.Pull.{Pull}
 use Rattle.h3_connection.specs.declared.event.Pull.TheVariants as pull
 use Rattle.h3_connection.specs.declared.event.StreamFault.{StreamFault}
@@ -85,13 +87,14 @@ two_fronts (a ∷ x) (b ∷ y) r s e =
       | inr f ↦ inr (f.0, ap (λ l. a ∷ l) f.1 ∙ ap (λ c. c ∷ (y ++ f.0)) same.0)
     ]
 
--- A receiver in a payload that the end does not cut short.
+-- A receiver in a payload that the end does not cut short, and that is not longer than the content may be.
 pub record Payload (i : Incoming) : Type 0 where
   pub no_fault : i.fault ≡ None
   pub not_over : i.is_over ≡ false
   pub message : i.place ≢ InSession
   pub no_section : i.section ≡ None
   pub some : 0 < i.body_left
+  pub within : is_exceeded i.content ≡ false
   pub whole : (i.ended && nat_lt (length (concat i.unread)) i.body_left) ≡ false
 
 -- A receiver in a session.
@@ -185,8 +188,8 @@ no_pieces (p ∷ t) h e = absurd (omega (arith, h.0, e, length-append p (concat 
 pending : (i : Incoming) → (i.ended && nat_lt (length (concat i.unread)) i.body_left) ≡ false → i.unread ≡ [] → in_payload i ≡ just pull.Pending i
 pending i whole none = ap (λ b. if b then connection_fault frame_error i else body_of i (chunk_of i.body_left i.unread)) whole ∙ ap (λ t. body_of i (chunk_of i.body_left t)) none
 
-payload_alike : (size : ℕ) (i : Incoming) (u : List (List ℕ)) → 0 < i.body_left → i.place ≢ InSession → i.section ≡ None → Goes size i u → Pulls size (in_payload i) (in_payload (with_pieces i u))
-payload_alike size i u some message none g = by_test (i.ended && nat_lt (length (concat i.unread)) i.body_left) refl
+payload_alike : (size : ℕ) (i : Incoming) (u : List (List ℕ)) → 0 < i.body_left → i.place ≢ InSession → i.section ≡ None → is_exceeded i.content ≡ false → Goes size i u → Pulls size (in_payload i) (in_payload (with_pieces i u))
+payload_alike size i u some message none within g = by_test (i.ended && nat_lt (length (concat i.unread)) i.body_left) refl
   where
     j : Incoming
     j = with_pieces i u
@@ -200,7 +203,7 @@ payload_alike size i u some message none g = by_test (i.ended && nat_lt (length 
         (ap (λ b. if b then connection_fault frame_error i else body_of i (chunk_of i.body_left i.unread)) is)
         (ap (λ b. if b then connection_fault frame_error j else body_of j (chunk_of i.body_left u)) (test_of ∙ is)) (leaf size _ i u [] refl g.cuts)
     by_test false is = elim (cases_lt 0 (length (concat i.unread))) [
-      | inl there ↦ OfPayload i j (record { no_fault = g.no_fault; not_over = g.not_over; message = message; no_section = none; some = some; whole = is })
+      | inl there ↦ OfPayload i j (record { no_fault = g.no_fault; not_over = g.not_over; message = message; no_section = none; some = some; within = within; whole = is })
           (record { bytes = g.cuts.bytes; same = refl; first = g.cuts.first; second = g.cuts.second }) there g.few refl refl
       | inr empty ↦
           let second : length (concat u) ≤ 0 = omega (arith, empty, ap length g.cuts.bytes) in
@@ -210,6 +213,14 @@ payload_alike size i u some message none g = by_test (i.ended && nat_lt (length 
 
 gives_up : (size id : ℕ) (m : Malformation) (i : Incoming) (u : List (List ℕ)) (replies : List DecoderInstruction) → Pulls size (malformed id m i replies) (malformed id m (with_pieces i u) replies)
 gives_up size id m i u replies = emptied size (malformed id m i replies) refl tt
+
+content_alike : (size id : ℕ) (i : Incoming) (u : List (List ℕ)) → 0 < i.body_left → i.place ≢ InSession → i.section ≡ None → Goes size i u → Pulls size (at_payload id i) (at_payload id (with_pieces i u))
+content_alike size id i u some message none g = by_test (is_exceeded i.content) refl
+  where
+    by_test : (b : Bool) → is_exceeded i.content ≡ b
+        → Pulls size (if b then malformed id malformation.ContentLength i [] else in_payload i) (if b then malformed id malformation.ContentLength (with_pieces i u) [] else in_payload (with_pieces i u))
+    by_test true is = gives_up size id malformation.ContentLength i u []
+    by_test false is = payload_alike size i u some message none is g
 
 unbroken_alike : (size id : ℕ) (i : Incoming) (u : List (List ℕ)) (replies : List DecoderInstruction) (broken : Option Malformation) (p q : Pulled) → Pulls size p q
     → Pulls size (unless_broken id i replies broken p) (unless_broken id (with_pieces i u) replies broken q)
@@ -255,7 +266,7 @@ goes_ending i u n g =
 
 module _ (size : ℕ) (side : Side) (own : Announced) (id : ℕ) (r : DecoderState) where
   read_alike : (i : Incoming) (u : List (List ℕ)) (replies : List DecoderInstruction) (fields : List Field) → Cuts i.unread u → Pulls size (read_section side own id r i replies fields) (read_section side own id r (with_pieces i u) replies fields)
-  read_alike i u replies fields c = either size (nat_lt (section_of own) (told_size fields)) _ _ _ _ (leaf size _ _ u replies refl c) (judged_alike size side id i u replies (broken_rule side own i.place fields) (head_of fields) c)
+  read_alike i u replies fields c = either size (nat_lt (section_of own) (told_size fields)) _ _ _ _ (leaf size _ _ u replies refl c) (judged_alike size side id (with_content side own i fields) u replies (if_whole i.content (broken_rule side own i.place fields)) (head_of fields) c)
 
   decoded_alike : (i : Incoming) (u : List (List ℕ)) (d : DecodedSection) → Cuts i.unread u → Pulls size (decoded side own id r i d) (decoded side own id r (with_pieces i u) d)
   decoded_alike i u (Fields fields count) c = read_alike (past_section i) u _ fields c
@@ -268,23 +279,31 @@ module _ (size : ℕ) (side : Side) (own : Announced) (id : ℕ) (r : DecoderSta
   new_alike : (i : Incoming) (u : List (List ℕ)) (bytes : List ℕ) → Cuts i.unread u → Pulls size (new_section side own id r i bytes) (new_section side own id r (with_pieces i u) bytes)
   new_alike i u bytes c = section_alike (begun_section i bytes) u bytes c
 
+  trailer_frame_alike : (i : Incoming) (u : List (List ℕ)) (bytes : List ℕ) → Cuts i.unread u → Pulls size (at_trailer side own id r i bytes) (at_trailer side own id r (with_pieces i u) bytes)
+  trailer_frame_alike i u bytes c = either size (takes_trailer i.content) _ _ _ _ (new_alike i u bytes c) (leaf size _ i u [] refl c)
+
+  whole_alike : (i : Incoming) (u : List (List ℕ)) (b : Bool)
+      → Pulls size (if b then just (pull.Item item.End) (record i { unread = []; is_over = true }) else malformed id malformation.ContentLength i [])
+      (if b then just (pull.Item item.End) (record i { unread = []; is_over = true }) else malformed id malformation.ContentLength (with_pieces i u) [])
+  whole_alike i u b = either size b _ _ _ _ (emptied size (just (pull.Item item.End) (record i { unread = []; is_over = true })) refl tt) (gives_up size id malformation.ContentLength i u [])
+
   end_alike : (i : Incoming) (u : List (List ℕ)) (place : Place) → Pulls size (at_end side own id r i place) (at_end side own id r (with_pieces i u) place)
   end_alike i u BeforeHead = gives_up size id _ i u []
-  end_alike i u InBody = emptied size _ refl tt
-  end_alike i u AfterTrailer = emptied size _ refl tt
-  end_alike i u InSession = emptied size _ refl tt
+  end_alike i u InBody = whole_alike i u (may_end i.content)
+  end_alike i u AfterTrailer = whole_alike i u (may_end i.content)
+  end_alike i u InSession = whole_alike i u (may_end i.content)
 
   -- a frame of DATA that is not empty begins a payload
-  begun_alike : (i : Incoming) (u : List (List ℕ)) (n : ℕ) → (n == 0) ≡ false → i.place ≢ InSession → i.section ≡ None → Goes size i u → Pulls size (in_payload (begun_payload i n)) (in_payload (begun_payload (with_pieces i u) n))
+  begun_alike : (i : Incoming) (u : List (List ℕ)) (n : ℕ) → (n == 0) ≡ false → i.place ≢ InSession → i.section ≡ None → Goes size i u → Pulls size (at_payload id (begun_payload i n)) (at_payload id (begun_payload (with_pieces i u) n))
   begun_alike i u n full message none g =
-      payload_alike size (begun_payload i n) u (above_none n full) message none (record { no_fault = g.no_fault; not_over = g.not_over; cuts = g.cuts; few = g.few })
+      content_alike size id (begun_payload i n) u (above_none n full) message none (record { no_fault = g.no_fault; not_over = g.not_over; cuts = g.cuts; few = g.few })
 
   frame_alike : (side' : Side) (i : Incoming) (u : List (List ℕ)) (place : Place) (f : Frame PayloadLen) → (is_body place && is_empty_data f) ≡ false → i.place ≢ InSession → i.section ≡ None → Goes size i u
       → Pulls size (at_frame side own id r side' i place f) (at_frame side own id r side' (with_pieces i u) place f)
   frame_alike Client i u BeforeHead (frame.Headers bytes) full message none g = new_alike i u bytes g.cuts
   frame_alike Server i u BeforeHead (frame.Headers bytes) full message none g = new_alike i u bytes g.cuts
-  frame_alike Client i u InBody (frame.Headers bytes) full message none g = new_alike i u bytes g.cuts
-  frame_alike Server i u InBody (frame.Headers bytes) full message none g = new_alike i u bytes g.cuts
+  frame_alike Client i u InBody (frame.Headers bytes) full message none g = trailer_frame_alike i u bytes g.cuts
+  frame_alike Server i u InBody (frame.Headers bytes) full message none g = trailer_frame_alike i u bytes g.cuts
   frame_alike Client i u InBody (frame.Data len) full message none g = begun_alike i u len.0 full message none g
   frame_alike Server i u InBody (frame.Data len) full message none g = begun_alike i u len.0 full message none g
   frame_alike Server i u BeforeHead (frame.WebTransportStream session) full message none g = leaf size _ (record i { place = InSession }) u [] refl g.cuts
@@ -316,7 +335,7 @@ module _ (size : ℕ) (side : Side) (own : Announced) (id : ℕ) (r : DecoderSta
 
   message_alike : (i : Incoming) (u : List (List ℕ)) (section : Option (List ℕ)) → i.section ≡ section → i.place ≢ InSession → Goes size i u → Pulls size (in_message side own id r i section) (in_message side own id r (with_pieces i u) section)
   message_alike i u (Some bytes) is message g = section_alike i u bytes g.cuts
-  message_alike i u None is message g = if_left size i.body_left _ _ _ _ (λ some. payload_alike size i u some message is g) (between_alike i u message is g)
+  message_alike i u None is message g = if_left size i.body_left _ _ _ _ (λ some. content_alike size id i u some message is g) (between_alike i u message is g)
 
   item_alike : (i : Incoming) (u : List (List ℕ)) (place : Place) → i.place ≡ place → Goes size i u → Pulls size (next_item side own id r i place) (next_item side own id r (with_pieces i u) place)
   item_alike i u InSession is g =
@@ -387,6 +406,7 @@ payload_too i j d h = subst Payload (sym d.same) (record {
   message = h.message;
   no_section = h.no_section;
   some = h.some;
+  within = h.within;
   whole = ap (λ (l : List ℕ). i.ended && nat_lt (length l) i.body_left) d.bytes ∙ h.whole;
 })
 

@@ -19,10 +19,12 @@ use Rattle.h3_connection.specs.Announcing.{section_of}
 use Rattle.h3_connection.specs.HandedOut.{IsOver}
 use Rattle.h3_connection.specs.Incoming.{Incoming, is_body}
 use Rattle.h3_connection.specs.Skipping.{skipped}
-use Rattle.h3_connection.specs.StrictMessages.{broken_rule}
-use Rattle.h3_connection.specs.Pulling.{Pulled, just, connection_fault, unless_broken, whole_head, whole_trailer, head_or_trailer, judged, read_section, decoded, at_section, new_section, at_end, at_frame, framed, next_frame, in_message, next_item, pull_stream, in_payload, body_of, raw_of, tried, begun_section, begun_payload, left_with, is_for, is_client, is_interim, told_size}
+use Rattle.h3_connection.specs.StrictMessages.{broken_rule, if_whole}
+use Rattle.h3_messages.specs.Content.{is_exceeded, may_end, takes_trailer}
+use Rattle.h3_connection.specs.Pulling.{Pulled, just, connection_fault, malformed, unless_broken, whole_head, whole_trailer, head_or_trailer, judged, read_section, decoded, at_section, new_section, at_trailer, at_end, at_frame, framed, next_frame, in_message, next_item, pull_stream, in_payload, at_payload, body_of, raw_of, tried, begun_section, begun_payload, with_content, left_with, is_for, is_client, is_interim, told_size}
 use Rattle.h3_connection.specs.declared.setup.Announced.{Announced}
 use Rattle.h3_connection.specs.declared.event.Malformation.{Malformation}
+use Rattle.h3_connection.specs.declared.event.Malformation.TheVariants as malformation
 use Rattle.h3_connection.specs.declared.event.Pull.{Pull}
 use Rattle.h3_connection.specs.declared.event.Pull.TheVariants as pull
 use Rattle.h3_connection.specs.declared.event.StreamFault.{StreamFault}
@@ -69,6 +71,9 @@ body_ends i (Some bytes, pieces) n = goes (λ x. cc) n
 payload_ends : (i : Incoming) → i.is_over ≡ false → Ends (in_payload i)
 payload_ends i n = either (i.ended && nat_lt (length (concat i.unread)) i.body_left) (connection_fault 0x106 i) (body_of i (chunk_of i.body_left i.unread)) (goes (λ x. cc) n) (body_ends i (chunk_of i.body_left i.unread) n)
 
+content_ends : (id : ℕ) (i : Incoming) → i.is_over ≡ false → Ends (at_payload id i)
+content_ends id i n = either (is_exceeded i.content) (malformed id malformation.ContentLength i []) (in_payload i) (goes (λ x. cc) n) (payload_ends i n)
+
 raw_ends : (i : Incoming) (found : Option (List ℕ) × List (List ℕ)) → i.fault ≡ None → i.is_over ≡ false → Ends (raw_of i found)
 raw_ends i (None, pieces) no_fault n = given i.ended (just (pull.Item item.End) (record i { is_over = true })) (just pull.Pending i) (λ ended. over (just (pull.Item item.End) (record i { is_over = true })) no_fault ended refl) (goes (λ x. cc) n)
 raw_ends i (Some bytes, pieces) no_fault n = goes (λ x. cc) n
@@ -98,7 +103,7 @@ judged_ends side id i replies broken (IsHead h) n = section_ends side id i repli
 
 module _ (side : Side) (own : Announced) (id : ℕ) (r : DecoderState) where
   read_ends : (i : Incoming) (replies : List DecoderInstruction) (fields : List Field) → i.is_over ≡ false → Ends (read_section side own id r i replies fields)
-  read_ends i replies fields n = either (nat_lt (section_of own) (told_size fields)) _ _ (goes (λ x. cc) n) (judged_ends side id i replies (broken_rule side own i.place fields) (head_of fields) n)
+  read_ends i replies fields n = either (nat_lt (section_of own) (told_size fields)) _ _ (goes (λ x. cc) n) (judged_ends side id (with_content side own i fields) replies (if_whole i.content (broken_rule side own i.place fields)) (head_of fields) n)
 
   decoded_ends : (i : Incoming) (d : DecodedSection) → i.is_over ≡ false → Ends (decoded side own id r i d)
   decoded_ends i (Fields fields count) n = read_ends _ _ fields n
@@ -108,19 +113,28 @@ module _ (side : Side) (own : Announced) (id : ℕ) (r : DecoderState) where
   at_ends : (i : Incoming) (bytes : List ℕ) → i.is_over ≡ false → Ends (at_section side own id r i bytes)
   at_ends i bytes n = either (nat_lt r.table.inserted i.waits_for) _ _ (goes (λ x. cc) n) (decoded_ends i (decode_section r bytes) n)
 
+  trailer_frame_ends : (i : Incoming) (bytes : List ℕ) → i.is_over ≡ false → Ends (at_trailer side own id r i bytes)
+  trailer_frame_ends i bytes n = either (takes_trailer i.content) _ _ (at_ends (begun_section i bytes) bytes n) (goes (λ x. cc) n)
+
+  whole_ends : (i : Incoming) → i.fault ≡ None → i.ended ≡ true → i.is_over ≡ false
+      → Ends (if may_end i.content then just (pull.Item item.End) (record i { unread = []; is_over = true }) else malformed id malformation.ContentLength i [])
+  whole_ends i no_fault ended n =
+      either (may_end i.content) (just (pull.Item item.End) (record i { unread = []; is_over = true })) (malformed id malformation.ContentLength i [])
+      (over (just (pull.Item item.End) (record i { unread = []; is_over = true })) no_fault ended refl) (goes (λ x. cc) n)
+
   end_ends : (i : Incoming) (place : Place) → i.fault ≡ None → i.ended ≡ true → i.is_over ≡ false → Ends (at_end side own id r i place)
   end_ends i BeforeHead no_fault ended n = goes (λ x. cc) n
-  end_ends i InBody no_fault ended n = over (just (pull.Item item.End) (record i { unread = []; is_over = true })) no_fault ended refl
-  end_ends i AfterTrailer no_fault ended n = over (just (pull.Item item.End) (record i { unread = []; is_over = true })) no_fault ended refl
-  end_ends i InSession no_fault ended n = over (just (pull.Item item.End) (record i { unread = []; is_over = true })) no_fault ended refl
+  end_ends i InBody no_fault ended n = whole_ends i no_fault ended n
+  end_ends i AfterTrailer no_fault ended n = whole_ends i no_fault ended n
+  end_ends i InSession no_fault ended n = whole_ends i no_fault ended n
 
   frame_ends : (side' : Side) (i : Incoming) (place : Place) (f : Frame PayloadLen) → i.is_over ≡ false → Ends (at_frame side own id r side' i place f)
   frame_ends Client i BeforeHead (frame.Headers bytes) n = at_ends (begun_section i bytes) bytes n
   frame_ends Server i BeforeHead (frame.Headers bytes) n = at_ends (begun_section i bytes) bytes n
-  frame_ends Client i InBody (frame.Headers bytes) n = at_ends (begun_section i bytes) bytes n
-  frame_ends Server i InBody (frame.Headers bytes) n = at_ends (begun_section i bytes) bytes n
-  frame_ends Client i InBody (frame.Data len) n = payload_ends (begun_payload i len.0) n
-  frame_ends Server i InBody (frame.Data len) n = payload_ends (begun_payload i len.0) n
+  frame_ends Client i InBody (frame.Headers bytes) n = trailer_frame_ends i bytes n
+  frame_ends Server i InBody (frame.Headers bytes) n = trailer_frame_ends i bytes n
+  frame_ends Client i InBody (frame.Data len) n = content_ends id (begun_payload i len.0) n
+  frame_ends Server i InBody (frame.Data len) n = content_ends id (begun_payload i len.0) n
   frame_ends Server i BeforeHead (frame.WebTransportStream session) n = goes (λ x. cc) n
   frame_ends Client i place (frame.PushPromise promise) n = goes (λ x. cc) n
   frame_ends _ i place _ n = goes (λ x. cc) n
@@ -140,7 +154,7 @@ module _ (side : Side) (own : Announced) (id : ℕ) (r : DecoderState) where
   message_ends i None no_fault n =
       let bytes = skipped (is_body i.place) (concat i.unread) in
       let j = record i { unread = ending (length bytes) i.unread } in
-      either (nat_lt 0 i.body_left) (in_payload i) (next_frame side own id r j bytes) (payload_ends i n) (next_ends j bytes no_fault n)
+      either (nat_lt 0 i.body_left) (at_payload id i) (next_frame side own id r j bytes) (content_ends id i n) (next_ends j bytes no_fault n)
 
   item_ends : (i : Incoming) (place : Place) → i.fault ≡ None → i.is_over ≡ false → Ends (next_item side own id r i place)
   item_ends i InSession no_fault n = raw_ends i (first_of i.unread) no_fault n

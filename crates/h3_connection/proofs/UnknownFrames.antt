@@ -19,7 +19,7 @@ use Rattle.h3_connection.specs.declared.setup.Announced.{Announced}
 use Rattle.h3_connection.specs.Incoming.{Incoming, is_body}
 use Rattle.h3_connection.specs.Skipping.{skipped}
 use Rattle.h3_connection.specs.SkippingLaws.{skipped_known, skipped-length}
-use Rattle.h3_connection.specs.Pulling.{left_with, in_payload, next_frame, between_frames, in_message, next_item, pull_stream}
+use Rattle.h3_connection.specs.Pulling.{left_with, at_payload, next_frame, between_frames, in_message, next_item, pull_stream}
 use Rattle.h3_connection.specs.UnknownFrames.{has_meaning, IsUnknownFrame, BeginsUnknown, MayBeginFrame}
 
 neither : (a b : Bool) → (a || b) ≡ false → (a ≡ false) × (b ≡ false)
@@ -125,7 +125,7 @@ module _ (side : Side) (own : Announced) (id : ℕ) (r : DecoderState) where
   pub pull_between : (i : Incoming) → MayBeginFrame i → pull_stream side own id r i ≡ between_frames side own id r i
   pull_between i m =
       pull_next i m.no_fault m.not_over ∙ by_place i i.place m.message ∙ ap (in_message side own id r i) m.no_section
-      ∙ ap (λ n. if nat_lt 0 n then in_payload i else between_frames side own id r i) m.no_payload
+      ∙ ap (λ n. if nat_lt 0 n then at_payload id i else between_frames side own id r i) m.no_payload
 
   pub pull_unknown : (i : Incoming) (rest : List ℕ) → MayBeginFrame i → BeginsUnknown (concat i.unread) rest → pull_stream side own id r i ≡ pull_stream side own id r (left_with i rest)
   pull_unknown i rest m b =

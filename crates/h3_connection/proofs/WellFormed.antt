@@ -20,11 +20,14 @@ use Rattle.h3_wire.specs.declared.proto.frame.Frame.TheVariants as frame
 use Rattle.h3_connection.specs.Announcing.{section_of}
 use Rattle.h3_connection.specs.Incoming.{Incoming, is_body}
 use Rattle.h3_connection.specs.Skipping.{skipped}
-use Rattle.h3_connection.specs.StrictMessages.{broken_rule, malformation_by, violation_at}
+use Rattle.h3_connection.specs.StrictMessages.{broken_rule, if_whole, malformation_by, violation_at}
+use Rattle.h3_messages.specs.Content.{is_exceeded, may_end, takes_trailer}
+use Rattle.h3_messages.specs.declared.content.Content.{Content}
 use Rattle.h3_connection.specs.StrictPulls.{IsWellFormed, IsWellFormedHead, IsWellFormedTrailer, PullsWellFormed}
-use Rattle.h3_connection.specs.Pulling.{Pulled, just, connection_fault, unless_broken, whole_head, whole_trailer, head_or_trailer, judged, read_section, decoded, at_section, new_section, at_end, at_frame, framed, next_frame, in_message, next_item, pull_stream, in_payload, body_of, raw_of, tried, begun_section, begun_payload, left_with, is_for, is_client, is_interim, told_size}
+use Rattle.h3_connection.specs.Pulling.{Pulled, just, connection_fault, malformed, unless_broken, whole_head, whole_trailer, head_or_trailer, judged, read_section, decoded, at_section, new_section, at_trailer, at_end, at_frame, framed, next_frame, in_message, next_item, pull_stream, in_payload, at_payload, body_of, raw_of, tried, begun_section, begun_payload, with_content, left_with, is_for, is_client, is_interim, told_size}
 use Rattle.h3_connection.specs.declared.setup.Announced.{Announced}
 use Rattle.h3_connection.specs.declared.event.Malformation.{Malformation}
+use Rattle.h3_connection.specs.declared.event.Malformation.TheVariants as malformation
 use Rattle.h3_connection.specs.declared.event.Pull.{Pull}
 use Rattle.h3_connection.specs.declared.event.Pull.TheVariants as pull
 use Rattle.h3_connection.specs.declared.event.StreamFault.{StreamFault}
@@ -52,6 +55,14 @@ module _ (side : Side) (own : Announced) (strict : own.choices.strict_messages �
       no_violation (violation_at side own place fields)
       (sym (ap (λ b. let rule : Option Malformation = if b then option_map malformation_by (violation_at side own place fields) else None in rule) strict) ∙ e)
 
+  -- and where that the content is not whole is not told either
+  none_told : (content : Content) (broken : Option Malformation) → if_whole content broken ≡ None → broken ≡ None
+  none_told content broken = by_end (may_end content)
+    where
+      by_end : (b : Bool) → ◌≡◌ {A = Option Malformation} (if b then broken else Some malformation.ContentLength) None → broken ≡ None
+      by_end true e = e
+      by_end false e = absurd (cc)
+
   unbroken_well : (i : Incoming) (replies : List DecoderInstruction) (broken : Option Malformation) (p : Pulled) → (broken ≡ None → Well p) → Well (unless_broken id i replies broken p)
   unbroken_well i replies None p h = h refl
   unbroken_well i replies (Some why) p h = tt
@@ -65,20 +76,27 @@ module _ (side : Side) (own : Announced) (strict : own.choices.strict_messages �
   trailer_well : (i : Incoming) (replies : List DecoderInstruction) (broken : Option Malformation) (h : Head) → (broken ≡ None → IsWellFormedTrailer h) → Well (whole_trailer id i replies broken h)
   trailer_well i replies broken h k = either (has_pseudo h) _ _ tt (unbroken_well i replies broken _ k)
 
-  section_well : (i : Incoming) (replies : List DecoderInstruction) (place : Place) (fields : List Field) (h : Head) → head_of fields ≡ IsHead h
-      → Well (head_or_trailer side id i replies (broken_rule side own place fields) place h)
-  section_well i replies BeforeHead fields h is = head_well i replies _ h (λ e. (fields, is, none_broken BeforeHead fields e))
-  section_well i replies InBody fields h is = trailer_well i replies _ h (λ e. (fields, is, none_broken InBody fields e))
-  section_well i replies AfterTrailer fields h is = trailer_well i replies _ h (λ e. (fields, is, none_broken AfterTrailer fields e))
-  section_well i replies InSession fields h is = trailer_well i replies _ h (λ e. (fields, is, none_broken InSession fields e))
+  -- the rule that is told where the content stands so
+  abbrev rule : Content → Place → List Field → Option Malformation
+  rule content place fields = if_whole content (broken_rule side own place fields)
 
-  judged_well : (i : Incoming) (replies : List DecoderInstruction) (fields : List Field) (read : HeadRead) → head_of fields ≡ read
-      → Well (judged side id i replies (broken_rule side own i.place fields) read)
-  judged_well i replies fields (IsNone why) is = tt
-  judged_well i replies fields (IsHead h) is = section_well i replies i.place fields h is
+  no_rule : (content : Content) (place : Place) (fields : List Field) → rule content place fields ≡ None → violation_at side own place fields ≡ None
+  no_rule content place fields e = none_broken place fields (none_told content (broken_rule side own place fields) e)
+
+  section_well : (i : Incoming) (replies : List DecoderInstruction) (content : Content) (place : Place) (fields : List Field) (h : Head) → head_of fields ≡ IsHead h
+      → Well (head_or_trailer side id i replies (rule content place fields) place h)
+  section_well i replies content BeforeHead fields h is = head_well i replies _ h (λ e. (fields, is, no_rule content BeforeHead fields e))
+  section_well i replies content InBody fields h is = trailer_well i replies _ h (λ e. (fields, is, no_rule content InBody fields e))
+  section_well i replies content AfterTrailer fields h is = trailer_well i replies _ h (λ e. (fields, is, no_rule content AfterTrailer fields e))
+  section_well i replies content InSession fields h is = trailer_well i replies _ h (λ e. (fields, is, no_rule content InSession fields e))
+
+  judged_well : (i : Incoming) (replies : List DecoderInstruction) (content : Content) (fields : List Field) (read : HeadRead) → head_of fields ≡ read
+      → Well (judged side id i replies (rule content i.place fields) read)
+  judged_well i replies content fields (IsNone why) is = tt
+  judged_well i replies content fields (IsHead h) is = section_well i replies content i.place fields h is
 
   read_well : (i : Incoming) (replies : List DecoderInstruction) (fields : List Field) → Well (read_section side own id r i replies fields)
-  read_well i replies fields = either (nat_lt (section_of own) (told_size fields)) _ _ tt (judged_well i replies fields (head_of fields) refl)
+  read_well i replies fields = either (nat_lt (section_of own) (told_size fields)) _ _ tt (judged_well (with_content side own i fields) replies i.content fields (head_of fields) refl)
 
   decoded_well : (i : Incoming) (d : DecodedSection) → Well (decoded side own id r i d)
   decoded_well i (Fields fields count) = read_well _ _ fields
@@ -95,23 +113,32 @@ module _ (side : Side) (own : Announced) (strict : own.choices.strict_messages �
   payload_well : (i : Incoming) → Well (in_payload i)
   payload_well i = either (i.ended && nat_lt (length (concat i.unread)) i.body_left) (connection_fault 0x106 i) (body_of i (chunk_of i.body_left i.unread)) tt (body_well i (chunk_of i.body_left i.unread))
 
+  content_well : (i : Incoming) → Well (at_payload id i)
+  content_well i = either (is_exceeded i.content) (malformed id malformation.ContentLength i []) (in_payload i) tt (payload_well i)
+
   raw_well : (i : Incoming) (found : Option (List ℕ) × List (List ℕ)) → Well (raw_of i found)
   raw_well i (None, pieces) = either i.ended (just (pull.Item item.End) (record i { is_over = true })) (just pull.Pending i) tt tt
   raw_well i (Some bytes, pieces) = tt
 
+  trailer_frame_well : (i : Incoming) (bytes : List ℕ) → Well (at_trailer side own id r i bytes)
+  trailer_frame_well i bytes = either (takes_trailer i.content) _ (connection_fault 0x105 i) (at_well (begun_section i bytes) bytes) tt
+
+  whole_well : (i : Incoming) → Well (if may_end i.content then just (pull.Item item.End) (record i { unread = []; is_over = true }) else malformed id malformation.ContentLength i [])
+  whole_well i = either (may_end i.content) (just (pull.Item item.End) (record i { unread = []; is_over = true })) (malformed id malformation.ContentLength i []) tt tt
+
   end_well : (i : Incoming) (place : Place) → Well (at_end side own id r i place)
   end_well i BeforeHead = tt
-  end_well i InBody = tt
-  end_well i AfterTrailer = tt
-  end_well i InSession = tt
+  end_well i InBody = whole_well i
+  end_well i AfterTrailer = whole_well i
+  end_well i InSession = whole_well i
 
   frame_well : (side' : Side) (i : Incoming) (place : Place) (f : Frame PayloadLen) → Well (at_frame side own id r side' i place f)
   frame_well Client i BeforeHead (frame.Headers bytes) = at_well (begun_section i bytes) bytes
   frame_well Server i BeforeHead (frame.Headers bytes) = at_well (begun_section i bytes) bytes
-  frame_well Client i InBody (frame.Headers bytes) = at_well (begun_section i bytes) bytes
-  frame_well Server i InBody (frame.Headers bytes) = at_well (begun_section i bytes) bytes
-  frame_well Client i InBody (frame.Data len) = payload_well (begun_payload i len.0)
-  frame_well Server i InBody (frame.Data len) = payload_well (begun_payload i len.0)
+  frame_well Client i InBody (frame.Headers bytes) = trailer_frame_well i bytes
+  frame_well Server i InBody (frame.Headers bytes) = trailer_frame_well i bytes
+  frame_well Client i InBody (frame.Data len) = content_well (begun_payload i len.0)
+  frame_well Server i InBody (frame.Data len) = content_well (begun_payload i len.0)
   frame_well Server i BeforeHead (frame.WebTransportStream session) = tt
   frame_well Client i place (frame.PushPromise promise) = tt
   frame_well _ i place _ = tt
@@ -131,7 +158,7 @@ module _ (side : Side) (own : Announced) (strict : own.choices.strict_messages �
   message_well i None =
       let bytes = skipped (is_body i.place) (concat i.unread) in
       let j = record i { unread = ending (length bytes) i.unread } in
-      either (nat_lt 0 i.body_left) (in_payload i) (next_frame side own id r j bytes) (payload_well i) (next_well j bytes)
+      either (nat_lt 0 i.body_left) (at_payload id i) (next_frame side own id r j bytes) (content_well i) (next_well j bytes)
 
   item_well : (i : Incoming) (place : Place) → Well (next_item side own id r i place)
   item_well i InSession = raw_well i (first_of i.unread)

@@ -1,5 +1,7 @@
 -- One request stream at its receiver.
 use Rattle.std.specs.Prelude.{◌≡◌, ℕ, Bool, true, false, List, [], Option, Some, None}
+use Rattle.h3_messages.specs.declared.content.Content.{Content}
+use Rattle.h3_messages.specs.declared.content.Content.TheVariants.{Unsaid}
 use Rattle.h3_connection.specs.declared.event.StreamFault.{StreamFault}
 use Rattle.h3_connection.specs.declared.place.Place.{Place}
 use Rattle.h3_connection.specs.declared.place.Place.TheVariants.{BeforeHead, InBody}
@@ -12,6 +14,8 @@ pub record Incoming : Type 0 where
   pub section : Option (List ℕ)
   -- how much of a begun payload of DATA is still to come out
   pub body_left : ℕ
+  -- how much content is left behind that, where the endpoint asks for strict messages: as long as nothing says it, any
+  pub content : Content
   pub place : Place
   -- the required insert count that the section waited for, or 0
   pub waits_for : ℕ
@@ -30,6 +34,7 @@ nothing_came =
       unread = [];
       section = None;
       body_left = 0;
+      content = Unsaid;
       place = BeforeHead;
       waits_for = 0;
       tries = 0;
@@ -41,7 +46,7 @@ nothing_came =
 
 -- nothing more of it is read, and what is there is thrown away
 abbrev pub given_up : Incoming → StreamFault → Incoming
-given_up i fault = record i { unread = []; section = None; body_left = 0; waits_for = 0; fault = Some fault }
+given_up i fault = record i { unread = []; section = None; body_left = 0; content = Unsaid; waits_for = 0; fault = Some fault }
 
 -- some bytes at the front were passed, and nothing else has changed
 pub record Passes (old new : Incoming) : Type 0 where

@@ -123,7 +123,7 @@ with_more i pieces false = with_pieces i pieces
 -- The stream goes on as if it had not been asked: whatever comes later, and whatever the table then is, its next pull does the
 -- same. It may have passed frames that give nothing, or hold the section of a frame that it read.
 pub record Resumes (side : Side) (own : Announced) (id : ℕ) (old new : Incoming) : Type 0 where
-  pub same : new ≡ record old { unread = new.unread; section = new.section; body_left = new.body_left }
+  pub same : new ≡ record old { unread = new.unread; section = new.section; body_left = new.body_left; content = new.content }
   pub pulls : (r : DecoderState) (pieces : List (List ℕ)) (ended : Bool) → pull_stream side own id r (with_more old pieces ended) ≡ pull_stream side own id r (with_more new pieces ended)
 
 -- What is stored is this endpoint, but for one request stream, which goes on as if it had not been asked.

@@ -23,7 +23,8 @@ use Rattle.h3_connection.specs.Incoming.{Incoming, given_up, is_body}
 use Rattle.h3_connection.specs.declared.place.Place.{Place}
 use Rattle.h3_connection.specs.declared.place.Place.TheVariants.{BeforeHead, InBody, AfterTrailer, InSession}
 use Rattle.h3_connection.specs.Skipping.{skipped}
-use Rattle.h3_connection.specs.StrictMessages.{broken_rule}
+use Rattle.h3_connection.specs.StrictMessages.{broken_rule, content_at, if_whole}
+use Rattle.h3_messages.specs.Content.{left_behind, is_exceeded, may_end, takes_trailer}
 use Rattle.h3_connection.specs.declared.setup.Announced.{Announced}
 use Rattle.h3_connection.specs.declared.event.Item.TheVariants as item
 use Rattle.h3_connection.specs.declared.event.Pull.{Pull}
@@ -132,9 +133,13 @@ past_section i = record (tried i) { waits_for = 0; section = None }
 abbrev pub begun_section : Incoming → List ℕ → Incoming
 begun_section i bytes = record i { section = Some bytes; waits_for = 0 }
 
--- the head of DATA was read. That bodies have the length that `content-length` says (RFC 9114, section 4.1.2) is not enforced
+-- the head of DATA was read, and its payload counts as content
 abbrev pub begun_payload : Incoming → ℕ → Incoming
-begun_payload i size = record i { body_left = size }
+begun_payload i size = record i { body_left = size; content = left_behind i.content size }
+
+-- the head or trailer of these fields was read
+abbrev pub with_content : Side → Announced → Incoming → List Field → Incoming
+with_content side own i fields = record i { content = content_at side own i.place i.content fields }
 
 -- these bytes are left
 abbrev pub left_with : Incoming → List ℕ → Incoming
@@ -145,10 +150,14 @@ abbrev pub body_of : Incoming → Option (List ℕ) × List (List ℕ) → Pulle
 body_of i (None, pieces) = just pull.Pending i
 body_of i (Some bytes, pieces) = just (pull.Item (item.Body bytes)) (record i { unread = pieces; body_left = i.body_left - length bytes })
 
--- inside a payload. One that the end cuts short is a fault (RFC 9114, section 7.1)
+-- the payload that is under way. One that the end cuts short is a fault (RFC 9114, section 7.1)
 abbrev pub in_payload : Incoming → Pulled
 in_payload i =
     if i.ended && nat_lt (length (concat i.unread)) i.body_left then connection_fault frame_error i else body_of i (chunk_of i.body_left i.unread)
+
+-- inside a payload. One that is longer than the content may be makes the message malformed (RFC 9114, section 4.1.2): none of it is handed out
+abbrev pub at_payload : ℕ → Incoming → Pulled
+at_payload id i = if is_exceeded i.content then malformed id malformation.ContentLength i [] else in_payload i
 
 -- bytes of a session: whole pieces
 abbrev pub raw_of : Incoming → Option (List ℕ) × List (List ℕ) → Pulled
@@ -163,7 +172,7 @@ module _ (side : Side) (own : Announced) (id : ℕ) (r : DecoderState) where
   read_section i replies fields =
       if nat_lt (section_of own) (told_size fields)
       then record { answer = pull.Item (item.TooLarge (told_size fields)); incoming = record i { place = next_place side i.place fields }; replies = replies }
-      else judged side id i replies (broken_rule side own i.place fields) (head_of fields)
+      else judged side id (with_content side own i fields) replies (if_whole i.content (broken_rule side own i.place fields)) (head_of fields)
 
   -- A section was tried. One that is bad, or that misses entries a second time, is a fault of the connection, and no more tried.
   abbrev pub decoded : Incoming → DecodedSection → Pulled
@@ -183,16 +192,20 @@ module _ (side : Side) (own : Announced) (id : ℕ) (r : DecoderState) where
   abbrev pub new_section : Incoming → List ℕ → Pulled
   new_section i bytes = at_section (begun_section i bytes) bytes
 
-  -- no more bytes came
+  -- a section's frame was read where a trailer may stand: in a tunnel none may (RFC 9114, section 4.4)
+  abbrev pub at_trailer : Incoming → List ℕ → Pulled
+  at_trailer i bytes = if takes_trailer i.content then new_section i bytes else connection_fault frame_unexpected i
+
+  -- no more bytes came. A message whose content is not whole then is malformed (RFC 9114, section 4.1.2)
   abbrev pub at_end : Incoming → Place → Pulled
   at_end i BeforeHead = malformed id malformation.NoHead i []
-  at_end i _ = just (pull.Item item.End) (record i { unread = []; is_over = true })
+  at_end i _ = if may_end i.content then just (pull.Item item.End) (record i { unread = []; is_over = true }) else malformed id malformation.ContentLength i []
 
   -- a frame that was read, at its place (RFC 9114, sections 4.1 and 7.2)
   abbrev pub at_frame : Side → Incoming → Place → Frame PayloadLen → Pulled
   at_frame _ i BeforeHead (frame.Headers bytes) = new_section i bytes
-  at_frame _ i InBody (frame.Headers bytes) = new_section i bytes
-  at_frame _ i InBody (frame.Data len) = in_payload (begun_payload i len.0)
+  at_frame _ i InBody (frame.Headers bytes) = at_trailer i bytes
+  at_frame _ i InBody (frame.Data len) = at_payload id (begun_payload i len.0)
   at_frame Server i BeforeHead (frame.WebTransportStream session) = just (pull.Item (item.Session session)) (record i { place = InSession })
   at_frame Client i place (frame.PushPromise promise) = connection_fault id_error i
   at_frame _ i place _ = connection_fault frame_unexpected i
@@ -215,7 +228,7 @@ module _ (side : Side) (own : Announced) (id : ℕ) (r : DecoderState) where
 
   abbrev pub in_message : Incoming → Option (List ℕ) → Pulled
   in_message i (Some bytes) = at_section i bytes
-  in_message i None = if nat_lt 0 i.body_left then in_payload i else between_frames i
+  in_message i None = if nat_lt 0 i.body_left then at_payload id i else between_frames i
 
   abbrev pub next_item : Incoming → Place → Pulled
   next_item i InSession = raw i

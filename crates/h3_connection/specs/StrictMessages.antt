@@ -1,7 +1,10 @@
--- Which rule of well-formed messages a field list breaks at an endpoint that asks for them (RFC 9114, sections 4.1.2 and 4.2 to 4.5). One that
--- does not asks for none.
-use Rattle.std.specs.Prelude.{Bool, List, if◌then◌else◌, option_map, Option, None}
+-- Which rule of well-formed messages a field list breaks at an endpoint that asks for them (RFC 9114, sections 4.1.2 and 4.2 to 4.5), and how much
+-- content follows it. One that does not asks for none, and for any content.
+use Rattle.std.specs.Prelude.{Bool, List, if◌then◌else◌, option_map, Option, Some, None}
 use Rattle.h3_field.specs.Field.{Field}
+use Rattle.h3_messages.specs.Content.{content_of_request, may_end}
+use Rattle.h3_messages.specs.declared.content.Content.{Content}
+use Rattle.h3_messages.specs.declared.content.Content.TheVariants.{Unsaid}
 use Rattle.h3_messages.specs.Messages.{violation_of_request, violation_of_response, violation_of_trailer}
 use Rattle.h3_messages.specs.declared.violation.Violation.{Violation}
 use Rattle.h3_messages.specs.declared.violation.Violation.TheVariants as violation
@@ -43,3 +46,20 @@ violation_at side own _ fields = violation_of_trailer fields
 abbrev pub broken_rule : Side → Announced → Place → List Field → Option Malformation
 broken_rule side own place fields =
     if own.choices.strict_messages then option_map malformation_by (violation_at side own place fields) else None
+
+-- What content a server expects behind the head of a request. That of a response is not judged
+abbrev pub content_of_head : Side → List Field → Content
+content_of_head Client fields = Unsaid
+content_of_head Server fields = content_of_request fields
+
+-- a trailer says nothing of it
+abbrev pub content_behind : Side → Place → Content → List Field → Content
+content_behind side BeforeHead content fields = content_of_head side fields
+content_behind side _ content fields = content
+
+abbrev pub content_at : Side → Announced → Place → Content → List Field → Content
+content_at side own place content fields = if own.choices.strict_messages then content_behind side place content fields else content
+
+-- A trailer comes behind all content that the head says (RFC 9114, section 4.1.2). In front of a head no content is expected
+abbrev pub if_whole : Content → Option Malformation → Option Malformation
+if_whole content broken = if may_end content then broken else Some malformation.ContentLength

@@ -11,7 +11,7 @@ use Rattle.h3_connection.specs.Endpoint.{EndpointHistory, new_endpoint}
 use Rattle.h3_connection.specs.CallLists.{Call, Result}
 use Rattle.h3_connection.specs.CallLists.Call.{OpenRequest, SendHead, SendBody, Finish, Reset, Goaway, Outgoing, Deliver, DeliverEnd, DeliverReset, PullStream, Cancel, Show}
 use Rattle.h3_connection.specs.CallLists.Result.{Opened, Done, Refused, Waits, Pulled, Shown}
-use Rattle.h3_connection_rows.specs.Worked.{hex, field, head, plain}
+use Rattle.h3_connection_rows.specs.Worked.{hex, field, head, plain, strict}
 
 abbrev pub response_with_a_body_sent_endpoint : EndpointHistory
 response_with_a_body_sent_endpoint = new_endpoint Server (plain 1000 0 0)
@@ -635,4 +635,50 @@ interim_head_in_a_trailers_place_answers =
     Done ∷
     Pulled (pulls.Item (item.Head (head (field (codes ":status") (codes "200") ∷ [])))) ∷
     Pulled (pulls.Fault (fault.Stream (stream_fault.Malformed malformation.PseudoInTrailer))) ∷
+    []
+
+-- A strict server counts content (RFC 9114, 4.1.2): as much as was said, more, and less; and behind CONNECT only DATA comes (4.4).
+abbrev pub content_counted_endpoint : EndpointHistory
+content_counted_endpoint = new_endpoint Server (strict 1000)
+
+abbrev pub content_counted : List Call
+content_counted =
+    Deliver 0 (hex (codes "010b0000d4d7500161c154013200026869")) ∷
+    DeliverEnd 0 ∷
+    PullStream 0 ∷
+    PullStream 0 ∷
+    PullStream 0 ∷
+    Deliver 4 (hex (codes "010b0000d4d7500161c154013100026869")) ∷
+    PullStream 4 ∷
+    PullStream 4 ∷
+    Deliver 8 (hex (codes "010b0000d4d7500161c154013500026869")) ∷
+    DeliverEnd 8 ∷
+    PullStream 8 ∷
+    PullStream 8 ∷
+    PullStream 8 ∷
+    Deliver 12 (hex (codes "01060000cf500161000268690106000021780131")) ∷
+    PullStream 12 ∷
+    PullStream 12 ∷
+    PullStream 12 ∷
+    []
+
+abbrev pub content_counted_answers : List Result
+content_counted_answers =
+    Done ∷
+    Done ∷
+    Pulled (pulls.Item (item.Head (head (field (codes ":method") (codes "POST") ∷ field (codes ":scheme") (codes "https") ∷ field (codes ":authority") (codes "a") ∷ field (codes ":path") (codes "/") ∷ field (codes "content-length") (codes "2") ∷ [])))) ∷
+    Pulled (pulls.Item (item.Body (hex (codes "6869")))) ∷
+    Pulled (pulls.Item item.End) ∷
+    Done ∷
+    Pulled (pulls.Item (item.Head (head (field (codes ":method") (codes "POST") ∷ field (codes ":scheme") (codes "https") ∷ field (codes ":authority") (codes "a") ∷ field (codes ":path") (codes "/") ∷ field (codes "content-length") (codes "1") ∷ [])))) ∷
+    Pulled (pulls.Fault (fault.Stream (stream_fault.Malformed malformation.ContentLength))) ∷
+    Done ∷
+    Done ∷
+    Pulled (pulls.Item (item.Head (head (field (codes ":method") (codes "POST") ∷ field (codes ":scheme") (codes "https") ∷ field (codes ":authority") (codes "a") ∷ field (codes ":path") (codes "/") ∷ field (codes "content-length") (codes "5") ∷ [])))) ∷
+    Pulled (pulls.Item (item.Body (hex (codes "6869")))) ∷
+    Pulled (pulls.Fault (fault.Stream (stream_fault.Malformed malformation.ContentLength))) ∷
+    Done ∷
+    Pulled (pulls.Item (item.Head (head (field (codes ":method") (codes "CONNECT") ∷ field (codes ":authority") (codes "a") ∷ [])))) ∷
+    Pulled (pulls.Item (item.Body (hex (codes "6869")))) ∷
+    Pulled (pulls.Fault (fault.Connection 0x105)) ∷
     []

@@ -39,6 +39,10 @@ plain section capacity blocked =
       choices = no_choices;
     }
 
+-- the same, and strict messages
+abbrev pub strict : ℕ → Announced
+strict section = record (plain section 0 0) { choices = record no_choices { strict_messages = true } }
+
 -- answers with each head as its field list reads
 abbrev pub item_as_list : Item → Item
 item_as_list (item.Head h) = item.Head (head (head_fields h))

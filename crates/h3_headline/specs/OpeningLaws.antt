@@ -138,7 +138,7 @@ unused_kept =
       was_reset = refl;
       is_over = refl;
       waits_for = refl;
-      reads = λ alive. record { unread = (refl, refl); waits = refl; pieces = tt; place = refl };
+      reads = λ alive. record { unread = (refl, refl); waits = refl; pieces = tt; place = refl; content = refl };
       given_up = λ lost. record { unread = refl; section = refl; waits = refl };
     }
 

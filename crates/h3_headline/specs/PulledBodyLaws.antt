@@ -6,9 +6,12 @@ use Rattle.std.proofs.lemmas.Grind.{common_steps}
 use Rattle.std.proofs.lemmas.List.{take_at, drop_at, take-append-le, drop-append-le, length-drop, length-take, drop-drop, drop_all}
 use Rattle.h3_wire.specs.Pieces.{chunk_of}
 use Rattle.h3_connection.specs.Incoming.{Incoming}
-use Rattle.h3_connection.specs.Pulling.{just, in_payload, body_of, connection_fault}
+use Rattle.h3_connection.specs.Pulling.{just, malformed, in_payload, at_payload, body_of, connection_fault}
 use Rattle.h3_connection.specs.Codes.{frame_error}
+use Rattle.h3_messages.specs.Content.{is_exceeded}
+use Rattle.h3_messages.specs.declared.content.Content.TheVariants.{Unsaid}
 use Rattle.h3_connection.specs.declared.event.Item.TheVariants as item
+use Rattle.h3_connection.specs.declared.event.Malformation.TheVariants as malformation
 use Rattle.h3_connection.specs.declared.event.Pull.{Pull}
 use Rattle.h3_connection.specs.declared.event.Pull.TheVariants as pull
 use Rattle.h3_world.specs.Flow.{Flow, Part, Section, part_bytes, flow_bytes}
@@ -30,6 +33,7 @@ pub record IsInPiece (f : Flow) (bytes : List ℕ) (own : ℕ) (i : Incoming) : 
   pub section : i.section ≡ None
   pub pieces : AllByRecursion HasBytes i.unread
   pub place : i.place ≡ place_after (take f.parts_out f.sent)
+  pub content : i.content ≡ Unsaid
   pub place_next : place_after (take (f.parts_out + 1) f.sent) ≡ place_after (take f.parts_out f.sent)
   pub waits : i.waits_for ≡ 0
   -- once the end came all bytes did
@@ -50,8 +54,10 @@ not_short f bytes own i h = by_tests i.ended refl (nat_lt (length (concat i.unre
         let all : concat i.unread ++ [] ≡ drop f.body_out bytes ++ rest = ap (λ l. concat i.unread ++ l) (sym none) ∙ h.unread in
         absurd (omega (arith, below _ _ k, h.size, ap length all, length-append (concat i.unread) [], length-append (drop f.body_out bytes) rest))
 
-payload_is : (f : Flow) (bytes : List ℕ) (own : ℕ) (i : Incoming) → IsInPiece f bytes own i → in_payload i ≡ body_of i (chunk_of i.body_left i.unread)
-payload_is f bytes own i h = ap (λ b. if b then connection_fault frame_error i else body_of i (chunk_of i.body_left i.unread)) (not_short f bytes own i h)
+payload_is : (id : ℕ) (f : Flow) (bytes : List ℕ) (own : ℕ) (i : Incoming) → IsInPiece f bytes own i → at_payload id i ≡ body_of i (chunk_of i.body_left i.unread)
+payload_is id f bytes own i h =
+    ap (λ c. if is_exceeded c then malformed id malformation.ContentLength i [] else in_payload i) h.content
+    ∙ ap (λ b. if b then connection_fault frame_error i else body_of i (chunk_of i.body_left i.unread)) (not_short f bytes own i h)
 
 before_inside : (f : Flow) (n : ℕ) (part : Option Part) (bytes : List ℕ) (own : ℕ) (left : List ℕ) → part ≡ Some (Body bytes own) → 0 < n → n ≡ length (drop f.body_out bytes)
     → left ≡ drop f.body_out bytes ++ flat_map part_bytes (drop (f.parts_out + 1) f.sent) → StandsBefore f n part left
@@ -74,6 +80,7 @@ nothing_came_of_it most id f came bytes own i h none =
       waits = no_section g i i.section _ h.section refl;
       pieces = h.pieces;
       place = h.place;
+      content = h.content;
     }))
 
 -- A front of what is left was handed out.
@@ -148,6 +155,7 @@ handed most id f came bytes own i front pieces h k =
           waits = no_section g (after_front i front pieces) i.section (section_of_part (next_part g)) h.section refl;
           pieces = k.kept;
           place = h.place ∙ sym h.place_next;
+          content = h.content;
         })
     by_size false e behind =
         let g : Flow = record f { body_out = f.body_out + length front; waits_for = 0 } in
@@ -163,11 +171,12 @@ handed most id f came bytes own i front pieces h k =
           waits = no_section g (after_front i front pieces) i.section (section_of_part (next_part f)) h.section refl;
           pieces = k.kept;
           place = h.place;
+          content = h.content;
         })
 
 -- **The pull inside a piece of the body.**
-pub payload_comes : (most id : ℕ) (f : Flow) (came : ℕ) (bytes : List ℕ) (own : ℕ) (i : Incoming) → IsInPiece f bytes own i → ComesTo most id f came (Some (Body bytes own)) (in_payload i)
-payload_comes most id f came bytes own i h = subst (ComesTo most id f came (Some (Body bytes own))) (sym (payload_is f bytes own i h)) (by_pieces i.unread refl)
+pub payload_comes : (most id : ℕ) (f : Flow) (came : ℕ) (bytes : List ℕ) (own : ℕ) (i : Incoming) → IsInPiece f bytes own i → ComesTo most id f came (Some (Body bytes own)) (at_payload id i)
+payload_comes most id f came bytes own i h = subst (ComesTo most id f came (Some (Body bytes own))) (sym (payload_is id f bytes own i h)) (by_pieces i.unread refl)
   where
     by_pieces : (pieces : List (List ℕ)) → i.unread ≡ pieces → ComesTo most id f came (Some (Body bytes own)) (body_of i (chunk_of i.body_left i.unread))
     by_pieces [] is = subst (λ u. ComesTo most id f came (Some (Body bytes own)) (body_of i (chunk_of i.body_left u))) (sym is) (nothing_came_of_it most id f came bytes own i h is)

@@ -10,6 +10,7 @@ use Rattle.h3_wire.specs.UnfinishedLaws.{IsUnfinishedFront}
 use Rattle.h3_wire.specs.declared.proto.frame.PayloadLen.{PayloadLen}
 use Rattle.h3_wire.specs.declared.proto.frame.Frame.{Frame}
 use Rattle.h3_proto.specs.declared.stream.Side.{Side}
+use Rattle.h3_messages.specs.declared.content.Content.TheVariants.{Unsaid}
 use Rattle.h3_connection.specs.Incoming.{Incoming, is_body}
 use Rattle.h3_connection.specs.Pulling.{just, left_with, begun_section, at_end, at_frame, framed, next_frame, between_frames, connection_fault}
 use Rattle.h3_connection.specs.Codes.{frame_error}
@@ -40,6 +41,7 @@ pub record IsBefore (p : Party) (f : Flow) (i : Incoming) : Type 0 where
   pub no_wait : f.waits_for ≡ 0
   pub pieces : AllByRecursion HasBytes i.unread
   pub place : i.place ≡ place_after (take f.parts_out f.sent)
+  pub content : i.content ≡ Unsaid
   pub same : ReceivesFlow f i
 
 abbrev before_bytes : Flow → ℕ
@@ -116,5 +118,6 @@ section_there kind p f part s i h at next is bytes sent own there =
       unread = ap (λ l. l ++ drop f.delivered (flow_bytes f)) (left_behind i (frame_encoding 1 s.encoded) there) ∙ longer.rest_is;
       pieces = without_pieces _ i.unread h.pieces;
       place = h.place;
+      content = h.content;
       place_next = at.place_next;
     }

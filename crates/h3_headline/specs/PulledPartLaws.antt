@@ -16,10 +16,14 @@ use Rattle.h3_wire.specs.declared.proto.frame.Frame.TheVariants as frame
 use Rattle.h3_proto.specs.declared.stream.Side.{Side}
 use Rattle.h3_proto.specs.declared.stream.Side.TheVariants.{Client, Server}
 use Rattle.h3_connection.specs.Announcing.{section_of}
+use Rattle.h3_messages.specs.Content.{left_behind as left_after_data, may_end, takes_trailer}
+use Rattle.h3_messages.specs.declared.content.Content.TheVariants.{Unsaid}
 use Rattle.h3_connection.specs.Incoming.{Incoming}
-use Rattle.h3_connection.specs.Pulling.{just, left_with, begun_section, begun_payload, in_payload, new_section, at_end, at_frame, between_frames, past_section, acknowledgment}
+use Rattle.h3_connection.specs.Pulling.{just, malformed, connection_fault, left_with, begun_section, begun_payload, at_payload, new_section, at_end, at_frame, between_frames, past_section, acknowledgment}
 use Rattle.h3_connection.specs.declared.event.Item.{Item}
+use Rattle.h3_connection.specs.Codes.{frame_unexpected}
 use Rattle.h3_connection.specs.declared.event.Item.TheVariants as item
+use Rattle.h3_connection.specs.declared.event.Malformation.TheVariants as malformation
 use Rattle.h3_connection.specs.declared.event.Pull.TheVariants as pull
 use Rattle.h3_connection.specs.declared.place.Place.{Place}
 use Rattle.h3_connection.specs.declared.place.Place.TheVariants.{BeforeHead, InBody}
@@ -60,9 +64,9 @@ module _ (lists : ListsAreTheirValue) (side : Side) (announced : Announced) (id 
   -- A section is next.
   section_comes : (kind : header.Head → Item) (p : Party) (f : Flow) (part : Part) (s : Section) (i : Incoming) → IsBefore p f i → IsPartAt p f.sent f.parts_out part → next_part f ≡ Some part
       → IsSectionPart kind s part → part_bytes part ≡ frame_encoding 1 s.encoded → IsSentSection p s → s.own_length ≡ before_bytes f + length (part_bytes part)
-      → ((j : Incoming) → at_frame side announced id r side j i.place (frame.Headers s.encoded) ≡ new_section side announced id r j s.encoded)
+      → ((j : Incoming) → j.content ≡ Unsaid → at_frame side announced id r side j i.place (frame.Headers s.encoded) ≡ new_section side announced id r j s.encoded)
       → decode_section r s.encoded ≡ tried_as came s
-      → ((x : Incoming) → x.place ≡ i.place → IsReadAs side announced id r kind part s x (acknowledgment id s.count))
+      → ((x : Incoming) → x.place ≡ i.place → x.content ≡ Unsaid → IsReadAs side announced id r kind part s x (acknowledgment id s.count))
       → ComesTo (section_of announced) id f came (Some part) (between_frames side announced id r i)
   section_comes kind p f part s i h at next is bytes sent own frames decodes reads = elim (cases_lt (length (concat i.unread)) (length (frame_encoding 1 s.encoded))) [
     | inl short ↦
@@ -83,8 +87,8 @@ module _ (lists : ListsAreTheirValue) (side : Side) (announced : Announced) (id 
         let x = begun_section (left_with i left) s.encoded in
         let some : 0 < length (frame_encoding 1 s.encoded) = section_bytes s.encoded in
         subst (ComesTo (section_of announced) id f came (Some part))
-        (sym (whole_frame side announced id r i (frame.Headers s.encoded) left found refl (omega (arith, some, there)) ∙ frames (left_with i left)))
-        (first_try side announced id r kind f came part s x (section_there kind p f part s i h at next is bytes sent own there) refl refl decodes (reads (past_section x) refl))
+        (sym (whole_frame side announced id r i (frame.Headers s.encoded) left found refl (omega (arith, some, there)) ∙ frames (left_with i left) h.content))
+        (first_try side announced id r kind f came part s x (section_there kind p f part s i h at next is bytes sent own there) refl refl decodes (reads (past_section x) refl h.content))
   ]
     where
       section_bytes : (bytes : List ℕ) → 0 < length (frame_encoding 1 bytes)
@@ -95,11 +99,11 @@ module _ (lists : ListsAreTheirValue) (side : Side) (announced : Announced) (id 
   headers_before_head Client j bytes = refl
   headers_before_head Server j bytes = refl
 
-  headers_in_body : (d : Side) (j : Incoming) (bytes : List ℕ) → at_frame side announced id r d j InBody (frame.Headers bytes) ≡ new_section side announced id r j bytes
-  headers_in_body Client j bytes = refl
-  headers_in_body Server j bytes = refl
+  headers_in_body : (d : Side) (j : Incoming) (bytes : List ℕ) → j.content ≡ Unsaid → at_frame side announced id r d j InBody (frame.Headers bytes) ≡ new_section side announced id r j bytes
+  headers_in_body Client j bytes unsaid = ap (λ c. if takes_trailer c then new_section side announced id r j bytes else connection_fault frame_unexpected j) unsaid
+  headers_in_body Server j bytes unsaid = ap (λ c. if takes_trailer c then new_section side announced id r j bytes else connection_fault frame_unexpected j) unsaid
 
-  data_in_body : (d : Side) (j : Incoming) (size : ℕ) → at_frame side announced id r d j InBody (frame.Data (record { 0 = size })) ≡ in_payload (begun_payload j size)
+  data_in_body : (d : Side) (j : Incoming) (size : ℕ) → at_frame side announced id r d j InBody (frame.Data (record { 0 = size })) ≡ at_payload id (begun_payload j size)
   data_in_body Client j size = refl
   data_in_body Server j size = refl
 
@@ -143,6 +147,7 @@ module _ (lists : ListsAreTheirValue) (side : Side) (announced : Announced) (id 
           section = h.section;
           pieces = without_pieces _ i.unread h.pieces;
           place = h.place;
+          content = ap (λ c. left_after_data c (length bytes)) h.content;
           place_next = at.place_next;
           waits = h.waits;
           whole = λ e. all_came p f h.sound e;
@@ -169,9 +174,12 @@ module _ (lists : ListsAreTheirValue) (side : Side) (announced : Announced) (id 
           let n : f.parts_out + 1 - 1 ≡ f.parts_out = omega arith in
           rw (lt-ltb 0 (f.parts_out + 1) (omega arith)) (ap (λ m. is_end (slice_get f.sent m)) n ∙ ap is_end next)
 
+      whole_end : (if may_end i.content then just (pull.Item item.End) (record i { unread = []; is_over = true }) else malformed id malformation.ContentLength i []) ≡ just (pull.Item item.End) (record i { unread = []; is_over = true })
+      whole_end = ap (λ c. if may_end c then just (pull.Item item.End) (record i { unread = []; is_over = true }) else malformed id malformation.ContentLength i []) h.content
+
       handed_end : (place : Place) → IsPlaceOf End place → at_end side announced id r i place ≡ just (pull.Item item.End) (record i { unread = []; is_over = true })
-      handed_end place (inl e) = ap (at_end side announced id r i) e
-      handed_end place (inr e) = ap (at_end side announced id r i) e
+      handed_end place (inl e) = ap (at_end side announced id r i) e ∙ whole_end
+      handed_end place (inr e) = ap (at_end side announced id r i) e ∙ whole_end
 
       by_end : (b : Bool) → f.ended ≡ b → drop f.delivered (flow_bytes f) ≡ [] → ComesTo (section_of announced) id f came (Some End) (if i.ended then at_end side announced id r i i.place else just pull.Pending i)
       by_end true e gone =
@@ -187,6 +195,7 @@ module _ (lists : ListsAreTheirValue) (side : Side) (announced : Announced) (id 
             waits = subst (λ o. WaitsIn g j o (section_of_part (next_part g))) (sym h.section) refl;
             pieces = tt;
             place = h.place ∙ sym at.place_next;
+            content = h.content;
           })))
       by_end false e gone =
           subst (ComesTo (section_of announced) id f came (Some End))
@@ -236,19 +245,19 @@ module _ (lists : ListsAreTheirValue) (side : Side) (announced : Announced) (id 
       let at = part_at p f (Interim s) h.sound next in
       let place = h.place ∙ at.place_is in
       section_comes item.Interim p f (Interim s) s i h at next (interim_part s) refl at.sent.0 at.sent.1
-      (λ j. ap (λ q. at_frame side announced id r side j q (frame.Headers s.encoded)) place ∙ headers_before_head side j s.encoded) decodes
-      (λ x same. reads_interim lists side announced plain id r s x (acknowledgment id s.count) at.sent.0.reads_back at.sent.0.small readable (same ∙ place))
+      (λ j unsaid. ap (λ q. at_frame side announced id r side j q (frame.Headers s.encoded)) place ∙ headers_before_head side j s.encoded) decodes
+      (λ x same unsaid. reads_interim lists side announced plain id r s x (acknowledgment id s.count) at.sent.0.reads_back at.sent.0.small readable (same ∙ place) unsaid)
   before_comes plain p f (Some (Head s)) i h next decodes readable =
       let at = part_at p f (Head s) h.sound next in
       let place = h.place ∙ at.place_is in
       section_comes item.Head p f (Head s) s i h at next (head_part s) refl at.sent.0 at.sent.1
-      (λ j. ap (λ q. at_frame side announced id r side j q (frame.Headers s.encoded)) place ∙ headers_before_head side j s.encoded) decodes
-      (λ x same. reads_head lists side announced plain id r s x (acknowledgment id s.count) at.sent.0.reads_back at.sent.0.small readable (same ∙ place))
+      (λ j unsaid. ap (λ q. at_frame side announced id r side j q (frame.Headers s.encoded)) place ∙ headers_before_head side j s.encoded) decodes
+      (λ x same unsaid. reads_head lists side announced plain id r s x (acknowledgment id s.count) at.sent.0.reads_back at.sent.0.small readable (same ∙ place) unsaid)
   before_comes plain p f (Some (Body bytes own)) i h next decodes readable = body_comes p f bytes own i h (part_at p f (Body bytes own) h.sound next) next
   before_comes plain p f (Some (Trailer s)) i h next decodes readable =
       let at = part_at p f (Trailer s) h.sound next in
       let place = h.place ∙ at.place_is in
       section_comes item.Trailer p f (Trailer s) s i h at next (trailer_part s) refl at.sent.0 at.sent.1
-      (λ j. ap (λ q. at_frame side announced id r side j q (frame.Headers s.encoded)) place ∙ headers_in_body side j s.encoded) decodes
-      (λ x same. reads_trailer lists side announced plain id r s x (acknowledgment id s.count) at.sent.0.reads_back at.sent.0.small readable (same ∙ place))
+      (λ j unsaid. ap (λ q. at_frame side announced id r side j q (frame.Headers s.encoded)) place ∙ headers_in_body side j s.encoded unsaid) decodes
+      (λ x same unsaid. reads_trailer lists side announced plain id r s x (acknowledgment id s.count) at.sent.0.reads_back at.sent.0.small readable (same ∙ place) unsaid)
   before_comes plain p f (Some End) i h next decodes readable = end_comes p f i h (part_at p f End h.sound next) next

@@ -18,9 +18,10 @@ use Rattle.h3_wire.specs.Encoded.{frame_encoding}
 use Rattle.h3_proto.specs.declared.stream.Side.{Side}
 use Rattle.h3_proto.specs.declared.stream.Side.TheVariants.{Client, Server}
 use Rattle.h3_connection.specs.Announcing.{section_of}
+use Rattle.h3_messages.specs.declared.content.Content.TheVariants.{Unsaid}
 use Rattle.h3_connection.specs.Incoming.{Incoming}
-use Rattle.h3_connection.specs.StrictMessages.{broken_rule, malformation_by, violation_at}
-use Rattle.h3_connection.specs.Pulling.{Pulled, just, is_client, is_interim, next_place, judged, read_section, decoded, at_section, acknowledgment, past_section, tried, connection_fault, malformed, head_or_trailer}
+use Rattle.h3_connection.specs.StrictMessages.{broken_rule, content_behind, if_whole, malformation_by, violation_at}
+use Rattle.h3_connection.specs.Pulling.{Pulled, just, is_client, is_interim, next_place, judged, with_content, read_section, decoded, at_section, acknowledgment, past_section, tried, connection_fault, malformed, head_or_trailer}
 use Rattle.h3_connection.specs.Codes.{decompression_failed}
 use Rattle.h3_connection.specs.declared.event.Malformation.{Malformation}
 use Rattle.h3_connection.specs.declared.event.Malformation.TheVariants as malformation
@@ -80,6 +81,7 @@ pub record IsAtSection (kind : header.Head → Item) (f : Flow) (part : Part) (s
   pub unread : concat i.unread ++ drop f.delivered (flow_bytes f) ≡ flat_map part_bytes (drop (f.parts_out + 1) f.sent)
   pub pieces : AllByRecursion HasBytes i.unread
   pub place : i.place ≡ place_after (take f.parts_out f.sent)
+  pub content : i.content ≡ Unsaid
   pub place_next : place_after (take (f.parts_out + 1) f.sent) ≡ place_behind (place_after (take f.parts_out f.sent)) part
 
 told_is : (fields : List Field) → section_size fields < 2 ^ 56 → told_size fields ≡ section_size fields
@@ -107,6 +109,7 @@ receives_behind kind f part s i place h at =
       waits = refl;
       pieces = h.pieces;
       place = at ∙ sym h.place_next;
+      content = h.content;
     })
 
 -- no pause is before it once its insertions came
@@ -129,10 +132,14 @@ module _ (lists : ListsAreTheirValue) (side : Side) (announced : Announced) (pla
   none_broken place fields = ap (λ b. let rule : Option Malformation = if b then option_map malformation_by (violation_at side announced place fields) else None in rule) plain
 
   -- a list that reads back is judged by its head
-  judged_is : (x : Incoming) (replies : List DecoderInstruction) (fields : List Field) → ReadsBack fields
-      → judged side id x replies (broken_rule side announced x.place fields) (head_of fields) ≡ head_or_trailer side id x replies None x.place (head_of_fields fields)
-  judged_is x replies fields back =
-      ap (λ b. judged side id x replies b (head_of fields)) (none_broken x.place fields) ∙ ap (judged side id x replies None) (lists fields (head_of_fields fields) (back.0, refl))
+  judged_is : (x : Incoming) (replies : List DecoderInstruction) (fields : List Field) → x.content ≡ Unsaid → ReadsBack fields
+      → judged side id (with_content side announced x fields) replies (if_whole x.content (broken_rule side announced x.place fields)) (head_of fields)
+      ≡ head_or_trailer side id x replies None x.place (head_of_fields fields)
+  judged_is x replies fields unsaid back =
+      ap (λ b. let y : Incoming = record x { content = if b then content_behind side x.place x.content fields else x.content } in
+      judged side id y replies (if_whole x.content (broken_rule side announced x.place fields)) (head_of fields)) plain
+      ∙ ap (λ c. judged side id x replies (if_whole c (broken_rule side announced x.place fields)) (head_of fields)) unsaid
+      ∙ ap (λ b. judged side id x replies b (head_of fields)) (none_broken x.place fields) ∙ ap (judged side id x replies None) (lists fields (head_of_fields fields) (back.0, refl))
 
   above : (a b : ℕ) → nat_lt a b ≡ true → a < b
   above a b e = grind (arith, common_steps, e)
@@ -140,13 +147,13 @@ module _ (lists : ListsAreTheirValue) (side : Side) (announced : Announced) (pla
   at_most : (a b : ℕ) → nat_lt a b ≡ false → b ≤ a
   at_most a b e = grind (arith, common_steps, e)
 
-  read_by : (kind : header.Head → Item) (part : Part) (s : Section) (x : Incoming) (replies : List DecoderInstruction) → ReadsBack s.fields → section_size s.fields < 2 ^ 56
+  read_by : (kind : header.Head → Item) (part : Part) (s : Section) (x : Incoming) (replies : List DecoderInstruction) → x.content ≡ Unsaid → ReadsBack s.fields → section_size s.fields < 2 ^ 56
       → next_place side x.place s.fields ≡ place_behind x.place part
       → head_or_trailer side id x replies None x.place (head_of_fields s.fields) ≡ record { answer = pull.Item (kind (head_of_fields s.fields)); incoming = record x { place = place_behind x.place part }; replies = replies }
       → ((size : ℕ) → size ≡ section_size s.fields → section_of announced < section_size s.fields → IsSectionItem kind (section_of announced) s.fields (item.TooLarge size))
       → (section_size s.fields ≤ section_of announced → IsSectionItem kind (section_of announced) s.fields (kind (head_of_fields s.fields)))
       → IsReadAs side announced id r kind part s x replies
-  read_by kind part s x replies back small place head large whole = by_size (nat_lt (section_of announced) (told_size s.fields)) refl
+  read_by kind part s x replies unsaid back small place head large whole = by_size (nat_lt (section_of announced) (told_size s.fields)) refl
     where
       answer_at : Item → Place → Pulled
       answer_at i place = record { answer = pull.Item i; incoming = record x { place = place }; replies = replies }
@@ -154,14 +161,14 @@ module _ (lists : ListsAreTheirValue) (side : Side) (announced : Announced) (pla
       by_size : (b : Bool) → nat_lt (section_of announced) (told_size s.fields) ≡ b → IsReadAs side announced id r kind part s x replies
       by_size true e = record {
         item_is = item.TooLarge (told_size s.fields);
-        reads = ap (λ b. if b then answer_at (item.TooLarge (told_size s.fields)) (next_place side x.place s.fields) else judged side id x replies (broken_rule side announced x.place s.fields) (head_of s.fields)) e
+        reads = ap (λ b. if b then answer_at (item.TooLarge (told_size s.fields)) (next_place side x.place s.fields) else judged side id (with_content side announced x s.fields) replies (if_whole x.content (broken_rule side announced x.place s.fields)) (head_of s.fields)) e
             ∙ ap (answer_at (item.TooLarge (told_size s.fields))) place;
         of_fields = large (told_size s.fields) (told_is s.fields small) (omega (arith, above _ _ e, told_is s.fields small));
       }
       by_size false e = record {
         item_is = kind (head_of_fields s.fields);
-        reads = ap (λ b. if b then answer_at (item.TooLarge (told_size s.fields)) (next_place side x.place s.fields) else judged side id x replies (broken_rule side announced x.place s.fields) (head_of s.fields)) e
-            ∙ judged_is x replies s.fields back ∙ head;
+        reads = ap (λ b. if b then answer_at (item.TooLarge (told_size s.fields)) (next_place side x.place s.fields) else judged side id (with_content side announced x s.fields) replies (if_whole x.content (broken_rule side announced x.place s.fields)) (head_of s.fields)) e
+            ∙ judged_is x replies s.fields unsaid back ∙ head;
         of_fields = whole (omega (arith, at_most _ _ e, told_is s.fields small));
       }
 
@@ -169,12 +176,12 @@ module _ (lists : ListsAreTheirValue) (side : Side) (announced : Announced) (pla
   client_is b Client e = refl
   client_is b Server e = absurd (cc)
 
-  pub reads_interim : (s : Section) (x : Incoming) (replies : List DecoderInstruction) → ReadsBack s.fields → section_size s.fields < 2 ^ 56 → IsReadable side (Interim s) → x.place ≡ BeforeHead
+  pub reads_interim : (s : Section) (x : Incoming) (replies : List DecoderInstruction) → ReadsBack s.fields → section_size s.fields < 2 ^ 56 → IsReadable side (Interim s) → x.place ≡ BeforeHead → x.content ≡ Unsaid
       → IsReadAs side announced id r item.Interim (Interim s) s x replies
-  reads_interim s x replies back small readable at =
+  reads_interim s x replies back small readable at unsaid =
       let h = head_of_fields s.fields in
       let is : side ≡ Client = client_is true side readable.0 in
-      read_by item.Interim (Interim s) s x replies back small
+      read_by item.Interim (Interim s) s x replies unsaid back small
       (ap (λ p. next_place side p s.fields) at ∙ ap (λ d. next_place d BeforeHead s.fields) is
       ∙ ap (λ b. if b then BeforeHead else InBody) (interim_by_last s.fields back.0 ∙ readable.2) ∙ sym at)
       (ap (λ p. head_or_trailer side id x replies None p h) at
@@ -187,11 +194,11 @@ module _ (lists : ListsAreTheirValue) (side : Side) (announced : Announced) (pla
       item_at : Item → Incoming → Pulled
       item_at i y = record { answer = pull.Item i; incoming = y; replies = replies }
 
-  pub reads_head : (s : Section) (x : Incoming) (replies : List DecoderInstruction) → ReadsBack s.fields → section_size s.fields < 2 ^ 56 → IsReadable side (Head s) → x.place ≡ BeforeHead
+  pub reads_head : (s : Section) (x : Incoming) (replies : List DecoderInstruction) → ReadsBack s.fields → section_size s.fields < 2 ^ 56 → IsReadable side (Head s) → x.place ≡ BeforeHead → x.content ≡ Unsaid
       → IsReadAs side announced id r item.Head (Head s) s x replies
-  reads_head s x replies back small readable at =
+  reads_head s x replies back small readable at unsaid =
       let h = head_of_fields s.fields in
-      read_by item.Head (Head s) s x replies back small
+      read_by item.Head (Head s) s x replies unsaid back small
       (ap (λ p. next_place side p s.fields) at ∙ by_side side readable.1)
       (ap (λ p. head_or_trailer side id x replies None p h) at
       ∙ ap (λ b. if not b then malformed id malformation.WrongSide x replies else (if is_client side && is_interim h.status then item_at (item.Interim h) x else item_at (item.Head h) (record x { place = InBody }))) readable.0
@@ -206,11 +213,11 @@ module _ (lists : ListsAreTheirValue) (side : Side) (announced : Announced) (pla
       by_side Client e = ap (λ b. if b then BeforeHead else InBody) (interim_by_last s.fields back.0 ∙ e)
       by_side Server e = refl
 
-  pub reads_trailer : (s : Section) (x : Incoming) (replies : List DecoderInstruction) → ReadsBack s.fields → section_size s.fields < 2 ^ 56 → IsReadable side (Trailer s) → x.place ≡ InBody
+  pub reads_trailer : (s : Section) (x : Incoming) (replies : List DecoderInstruction) → ReadsBack s.fields → section_size s.fields < 2 ^ 56 → IsReadable side (Trailer s) → x.place ≡ InBody → x.content ≡ Unsaid
       → IsReadAs side announced id r item.Trailer (Trailer s) s x replies
-  reads_trailer s x replies back small readable at =
+  reads_trailer s x replies back small readable at unsaid =
       let h = head_of_fields s.fields in
-      read_by item.Trailer (Trailer s) s x replies back small
+      read_by item.Trailer (Trailer s) s x replies unsaid back small
       (ap (λ p. next_place side p s.fields) at ∙ by_side side)
       (ap (λ p. head_or_trailer side id x replies None p h) at
       ∙ ap (λ b. if b then malformed id malformation.PseudoInTrailer x replies else item_at (item.Trailer h) (record x { place = AfterTrailer })) readable)
@@ -276,6 +283,7 @@ module _ (side : Side) (announced : Announced) (id : ℕ) (r : DecoderState) whe
                 (refl, omega (arith, missing_is s.count came e), refl, ap (λ b. if b then 1 else i.tries + 1) none)));
             pieces = h.pieces;
             place = h.place;
+            content = h.content;
           })))
 
   -- **A section for whose insertions the last pull waited.**

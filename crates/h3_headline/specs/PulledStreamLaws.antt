@@ -10,7 +10,7 @@ use Rattle.h3_wire.specs.Encoded.{head_encoding, frame_encoding}
 use Rattle.h3_proto.specs.declared.stream.Side.{Side}
 use Rattle.h3_connection.specs.Announcing.{section_of}
 use Rattle.h3_connection.specs.Incoming.{Incoming}
-use Rattle.h3_connection.specs.Pulling.{just, in_payload, at_section, between_frames, in_message, next_item, pull_stream, past_section, acknowledgment}
+use Rattle.h3_connection.specs.Pulling.{just, at_payload, at_section, between_frames, in_message, next_item, pull_stream, past_section, acknowledgment}
 use Rattle.h3_connection.specs.declared.event.Fault.TheVariants.{Stream}
 use Rattle.h3_connection.specs.declared.event.Item.{Item}
 use Rattle.h3_connection.specs.declared.event.Item.TheVariants as item
@@ -80,17 +80,17 @@ module _ (lists : ListsAreTheirValue) (side : Side) (announced : Announced) (id 
 
   -- no section is there
   no_section_comes : IsPlain announced → (p : Party) (f : Flow) (part : Option Part) (i : Incoming) → IsSoundFlow p f → GoesOn f i → ReceivesFlow f i → ReadsFlow f i → next_part f ≡ part → i.section ≡ None → DecodesNext lists side announced id r came part → IsReadableNext lists side announced id r came part
-      → ComesTo (section_of announced) id f came part (if nat_lt 0 i.body_left then in_payload i else between_frames side announced id r i)
+      → ComesTo (section_of announced) id f came part (if nat_lt 0 i.body_left then at_payload id i else between_frames side announced id r i)
   no_section_comes plain p f part i sound on same reads next none decodes readable = by_left i.body_left refl (subst (λ o. StandsBefore f i.body_left o (unread_of i.section)) next reads.unread) (subst (λ o. WaitsIn f i o (section_of_part (next_part f))) none reads.waits)
     where
       unread_of : Option (List ℕ) → List ℕ
       unread_of o = section_frame o ++ concat i.unread ++ drop f.delivered (flow_bytes f)
 
       by_left : (n : ℕ) → i.body_left ≡ n → StandsBefore f i.body_left part (unread_of i.section) → f.waits_for ≡ 0
-          → ComesTo (section_of announced) id f came part (if nat_lt 0 i.body_left then in_payload i else between_frames side announced id r i)
+          → ComesTo (section_of announced) id f came part (if nat_lt 0 i.body_left then at_payload id i else between_frames side announced id r i)
       by_left zero e at waits =
           let front = subst (λ n. StandsBefore f n part (unread_of i.section)) e at in
-          subst (ComesTo (section_of announced) id f came part) (sym (ap (λ b. if b then in_payload i else between_frames side announced id r i) (le-ltb 0 i.body_left (omega (arith, e)))))
+          subst (ComesTo (section_of announced) id f came part) (sym (ap (λ b. if b then at_payload id i else between_frames side announced id r i) (le-ltb 0 i.body_left (omega (arith, e)))))
           (before_comes lists side announced id r came plain p f part i (record {
             on = on;
             sound = sound;
@@ -102,13 +102,14 @@ module _ (lists : ListsAreTheirValue) (side : Side) (announced : Announced) (id 
             no_wait = waits;
             pieces = reads.pieces;
             place = reads.place;
+            content = reads.content;
             same = same;
           }) next decodes readable)
       by_left (suc n) e at waits =
-          subst (ComesTo (section_of announced) id f came part) (sym (ap (λ b. if b then in_payload i else between_frames side announced id r i) (lt-ltb 0 i.body_left (omega (arith, e)))))
+          subst (ComesTo (section_of announced) id f came part) (sym (ap (λ b. if b then at_payload id i else between_frames side announced id r i) (lt-ltb 0 i.body_left (omega (arith, e)))))
           (by_part part next (subst (λ m. StandsBefore f m part (unread_of i.section)) e at))
         where
-          by_part : (o : Option Part) → next_part f ≡ o → StandsBefore f (suc n) o (unread_of i.section) → ComesTo (section_of announced) id f came o (in_payload i)
+          by_part : (o : Option Part) → next_part f ≡ o → StandsBefore f (suc n) o (unread_of i.section) → ComesTo (section_of announced) id f came o (at_payload id i)
           by_part None next at = absurd at
           by_part (Some (Interim s)) next at = absurd at
           by_part (Some (Head s)) next at = absurd at
@@ -147,6 +148,7 @@ module _ (lists : ListsAreTheirValue) (side : Side) (announced : Announced) (id 
                 section = none;
                 pieces = reads.pieces;
                 place = reads.place;
+                content = reads.content;
                 place_next = part.place_next;
                 waits = same.waits_for ∙ waits;
                 whole = λ e. all_came p f sound e;
@@ -183,6 +185,7 @@ module _ (lists : ListsAreTheirValue) (side : Side) (announced : Announced) (id 
         unread = behind (frame_encoding 1 s.encoded) (concat i.unread ++ drop f.delivered (flow_bytes f)) rest all;
         pieces = reads.pieces;
         place = reads.place;
+        content = reads.content;
         place_next = at.place_next;
       }) (same.waits_for ∙ h.0) inserted (subst (λ n. ReceivesFlow (record f { waits_for = n }) i) h.0 same) decodes read)
     where
@@ -208,15 +211,15 @@ module _ (lists : ListsAreTheirValue) (side : Side) (announced : Announced) (id 
   section_comes plain p f (Some (Interim s)) i bytes sound on same reads next there inserted decodes readable h w =
       let at = part_at p f (Interim s) sound next in
       waited item.Interim p f (Interim s) s i bytes sound on same reads next (interim_part s) refl at.sent.0 (own_came f s h.0 h.1 w) there h (λ n left k. k) inserted decodes
-      (reads_interim lists side announced plain id r s (past_section i) (acknowledgment id s.count) at.sent.0.reads_back at.sent.0.small readable (reads.place ∙ at.place_is))
+      (reads_interim lists side announced plain id r s (past_section i) (acknowledgment id s.count) at.sent.0.reads_back at.sent.0.small readable (reads.place ∙ at.place_is) reads.content)
   section_comes plain p f (Some (Head s)) i bytes sound on same reads next there inserted decodes readable h w =
       let at = part_at p f (Head s) sound next in
       waited item.Head p f (Head s) s i bytes sound on same reads next (head_part s) refl at.sent.0 (own_came f s h.0 h.1 w) there h (λ n left k. k) inserted decodes
-      (reads_head lists side announced plain id r s (past_section i) (acknowledgment id s.count) at.sent.0.reads_back at.sent.0.small readable (reads.place ∙ at.place_is))
+      (reads_head lists side announced plain id r s (past_section i) (acknowledgment id s.count) at.sent.0.reads_back at.sent.0.small readable (reads.place ∙ at.place_is) reads.content)
   section_comes plain p f (Some (Trailer s)) i bytes sound on same reads next there inserted decodes readable h w =
       let at = part_at p f (Trailer s) sound next in
       waited item.Trailer p f (Trailer s) s i bytes sound on same reads next (trailer_part s) refl at.sent.0 (own_came f s h.0 h.1 w) there h (λ n left k. k) inserted decodes
-      (reads_trailer lists side announced plain id r s (past_section i) (acknowledgment id s.count) at.sent.0.reads_back at.sent.0.small readable (reads.place ∙ at.place_is))
+      (reads_trailer lists side announced plain id r s (past_section i) (acknowledgment id s.count) at.sent.0.reads_back at.sent.0.small readable (reads.place ∙ at.place_is) reads.content)
 
   -- **A stream that was not given up and whose end was not handed out.**
   pub stream_comes : IsPlain announced → (p : Party) (f : Flow) (i : Incoming) → IsSoundFlow p f → ReceivesFlow f i → f.fault ≡ None → is_over f ≡ false → r.table.inserted ≡ came

@@ -83,6 +83,7 @@ nothing_seen p f sound unseen alive =
         waits = unseen_waits p f sound none.0;
         pieces = tt;
         place = sym (ap (λ n. place_after (take n f.sent)) none.1);
+        content = refl;
       };
       given_up = λ e. absurd (none_there (ap is_some alive) e);
     }
@@ -164,6 +165,7 @@ bytes_come f i bytes count h is =
           waits = waits_come f i (if is_some i.fault then [] else with_piece i.unread bytes) count i.section (section_of_part (next_part f)) r.waits;
           pieces = subst (AllByRecursion HasBytes) (sym (unread_is none)) (pieces_and i.unread bytes r.pieces);
           place = r.place;
+          content = r.content;
         }
 
 -- The end comes.
@@ -183,6 +185,7 @@ end_comes f i h =
         waits = waits_end i.section (section_of_part (next_part f)) (h.reads alive).waits;
         pieces = (h.reads alive).pieces;
         place = (h.reads alive).place;
+        content = (h.reads alive).content;
       };
       given_up = λ lost. record { unread = (h.given_up lost).unread; section = (h.given_up lost).section; waits = (h.given_up lost).waits };
     }

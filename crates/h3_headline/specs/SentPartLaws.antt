@@ -97,6 +97,7 @@ kept_appended p f part i sound h =
         waits = waits_more f part i i.section (next_part f) refl r.waits;
         pieces = r.pieces;
         place = r.place ∙ sym (ap place_after (take_front f.parts_out f.sent (part ∷ []) sound.out));
+        content = r.content;
       };
       given_up = λ lost. record { unread = (h.given_up lost).unread; section = (h.given_up lost).section; waits = (h.given_up lost).waits };
     }
@@ -126,6 +127,7 @@ kept_cut f i h =
         waits = waits_cut i.section (section_of_part (next_part f)) (h.reads alive).waits;
         pieces = (h.reads alive).pieces;
         place = (h.reads alive).place;
+        content = (h.reads alive).content;
       };
       given_up = λ lost. record { unread = (h.given_up lost).unread; section = (h.given_up lost).section; waits = (h.given_up lost).waits };
     }

@@ -21,6 +21,7 @@ use Rattle.h3_connection.specs.PeerReading.{Peer, is_above, is_no_goaway}
 use Rattle.h3_connection.specs.StreamSets.{HaveDistinctIds, stream_at}
 use Rattle.h3_connection.specs.Unidirectional.{Unidirectional, Role, untold}
 use Rattle.h3_connection.specs.Unidirectional.Role.{Untold, Control, Encoder, Decoder}
+use Rattle.h3_messages.specs.declared.content.Content.TheVariants.{Unsaid}
 use Rattle.h3_connection.specs.declared.place.Place.{Place}
 use Rattle.h3_connection.specs.declared.place.Place.TheVariants.{BeforeHead, InBody, AfterTrailer}
 use Rattle.h3_world.specs.declared.setup.Setup.{Setup}
@@ -81,6 +82,8 @@ pub record ReadsFlow (f : Flow) (i : Incoming) : Type 0 where
   -- no piece is empty
   pub pieces : AllByRecursion HasBytes i.unread
   pub place : i.place ≡ place_after (take f.parts_out f.sent)
+  -- any content may come, as it does where messages are judged plainly
+  pub content : i.content ≡ Unsaid
 
 -- Nothing is kept of one that was given up.
 pub record KeepsNothing (i : Incoming) : Type 0 where

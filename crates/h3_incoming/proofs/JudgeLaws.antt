@@ -1,5 +1,5 @@
 -- What a field section is at its place.
-use Rattle.std.proofs.Common.{◌≡◌, ℕ, ◌<◌, ◌≤◌, false, nat_lt, if◌then◌else◌, List, [], ◌∷◌, inl, inr, ap, sym, ◌∙◌, subst}
+use Rattle.std.proofs.Common.{◌≡◌, ℕ, ◌<◌, ◌≤◌, false, nat_lt, if◌then◌else◌, List, [], ◌∷◌, inl, inr, refl, ap, sym, ◌∙◌, subst}
 use Rattle.std.proofs.lemmas.Bool.{lt-ltb, le-ltb}
 use Rattle.std.specs.Prelude.{Option, Some, None, IfSome, Result, Ok, Err, IfOk, codes, Bool}
 use Rattle.h3_field.specs.Field.{Field}
@@ -18,7 +18,8 @@ use Rattle.h3_connection.specs.declared.event.Pull.TheVariants as pull
 use Rattle.h3_connection.specs.declared.place.Place.{Place}
 use Rattle.h3_connection.specs.declared.setup.Announced.{Announced}
 use Rattle.h3_connection.specs.Announcing.{section_of}
-use Rattle.h3_connection.specs.StrictMessages.{broken_rule}
+use Rattle.h3_messages.specs.declared.content.Content.{Content}
+use Rattle.h3_connection.specs.StrictMessages.{broken_rule, if_whole}
 use Rattle.h3_qpack.specs.DecodedSection.{DecodedSection, decode_section}
 use Rattle.h3_connection.specs.Incoming.{Incoming}
 use Rattle.h3_incoming.specs.Gives.{Gives}
@@ -27,8 +28,9 @@ use Rattle.h3_qpack.specs.declared.within.DecodedWithin.{DecodedWithin}
 use Rattle.h3_qpack.specs.declared.within.DecodedWithin.TheVariants as within
 use Rattle.h3_field.specs.declared.decoder.Decoded.{Decoded}
 use Rattle.h3_incoming.specs.declared.judge.Judged.{Judged}
+use Rattle.h3_incoming.specs.declared.judge.Judged.TheVariants as judge
 use Rattle.h3_incoming.specs.Judging.{Tells, judged_as}
-use Rattle.h3_connection.specs.Pulling.{Pulled, is_memory, malformed, malformation_of, next_place, head_or_trailer, judged, read_section, decoded, at_section}
+use Rattle.h3_connection.specs.Pulling.{Pulled, is_memory, malformed, malformation_of, next_place, head_or_trailer, judged, with_content, read_section, decoded, at_section}
 
 -- a refusal that tells no malformation is for want of memory
 memory_at : (at : FieldKind) (h : Head) (f : Field) (e : HeaderError) → RefusesAt at h f e → told e ≡ None → RefusesAt at h f error.OutOfMemory
@@ -54,15 +56,20 @@ tells_none fields e why law (inl here) = law here
 tells_none fields e why law (inr is) = is
 
 -- what is said of the fields that are kept is said of the section
-pub judged_within : {E : Type 0} (result : Result Judged E) (side : Side) (own : Announced) (place : Place) (d : Decoded) (w : DecodedWithin) → w ≡ within.Fields d
-    → IfOk result (λ j. (id : ℕ) (r : DecoderState) (i : Incoming) (replies : List DecoderInstruction) → told_size d.fields.items ≤ section_of own → i.place ≡ place
+pub judged_within : {E : Type 0} (result : Result Judged E) (side : Side) (own : Announced) (place : Place) (content : Content) (d : Decoded) (w : DecodedWithin) → w ≡ within.Fields d
+    → IfOk result (λ j. (id : ℕ) (r : DecoderState) (i : Incoming) (replies : List DecoderInstruction) → told_size d.fields.items ≤ section_of own → i.place ≡ place → i.content ≡ content
     → read_section side own id r i replies d.fields.items ≡ judged_as id i replies j)
     → IfOk result (λ j. (id : ℕ) (r : DecoderState) (i : Incoming) (replies : List DecoderInstruction) (dyn_ref : Bool) (fields : List Field)
-    → IsWithin (section_of own) (codes ":status") dyn_ref fields w → i.place ≡ place → read_section side own id r i replies fields ≡ judged_as id i replies j)
-judged_within (Err e) side own place d w is h = h
-judged_within (Ok j) side own place d w is h = λ id r i replies dyn_ref fields k at.
+    → IsWithin (section_of own) (codes ":status") dyn_ref fields w → i.place ≡ place → i.content ≡ content → read_section side own id r i replies fields ≡ judged_as id i replies j)
+judged_within (Err e) side own place content d w is h = h
+judged_within (Ok j) side own place content d w is h = λ id r i replies dyn_ref fields k at left.
     let size = subst (λ x. IsWithin (section_of own) (codes ":status") dyn_ref fields x) is k in
-    subst (λ fs. read_section side own id r i replies fs ≡ judged_as id i replies j) size.1 (h id r i replies (subst (λ fs. told_size fs ≤ section_of own) (sym size.1) size.0) at)
+    subst (λ fs. read_section side own id r i replies fs ≡ judged_as id i replies j) size.1 (h id r i replies (subst (λ fs. told_size fs ≤ section_of own) (sym size.1) size.0) at left)
+
+-- what is made of it overwrites the content
+pub judged_behind : (id : ℕ) (i : Incoming) (content : Content) (replies : List DecoderInstruction) (j : Judged) → judged_as id (record i { content = content }) replies j ≡ judged_as id i replies j
+judged_behind id i content replies (judge.HandsOut item place left) = refl
+judged_behind id i content replies (judge.Malformed why) = refl
 
 module _ (side : Side) (own : Announced) (id : ℕ) (r : DecoderState) where
   -- a section that is too large
@@ -70,21 +77,22 @@ module _ (side : Side) (own : Announced) (id : ℕ) (r : DecoderState) where
       → size ≡ told_size fields → i.place ≡ place → behind ≡ next_place side place fields
       → read_section side own id r i replies fields ≡ record { answer = pull.Item (item.TooLarge size); incoming = record i { place = behind }; replies = replies }
   read_large i replies fields place behind size large is at next =
-      ap (λ b. if b then record { answer = pull.Item (item.TooLarge (told_size fields)); incoming = record i { place = next_place side i.place fields }; replies = replies } else judged side id i replies (broken_rule side own i.place fields) (head_of fields)) (lt-ltb (section_of own) (told_size fields) large)
+      ap (λ b. if b then record { answer = pull.Item (item.TooLarge (told_size fields)); incoming = record i { place = next_place side i.place fields }; replies = replies } else judged side id (with_content side own i fields) replies (if_whole i.content (broken_rule side own i.place fields)) (head_of fields)) (lt-ltb (section_of own) (told_size fields) large)
       ∙ ap (λ n. let p : Pulled = record { answer = pull.Item (item.TooLarge n); incoming = record i { place = next_place side i.place fields }; replies = replies } in p) (sym is)
       ∙ ap (λ q. let p : Pulled = record { answer = pull.Item (item.TooLarge size); incoming = record i { place = q }; replies = replies } in p) (ap (λ q. next_place side q fields) at ∙ sym next)
 
   -- one that is not, and that is no head
   pub read_none : (i : Incoming) (replies : List DecoderInstruction) (fields : List Field) (why : HeadRefusal) → told_size fields ≤ section_of own → head_of fields ≡ IsNone why
       → read_section side own id r i replies fields ≡ malformed id (malformation_of why) i replies
-  read_none i replies fields why few e = rw (le-ltb (section_of own) (told_size fields) few) (ap (judged side id i replies (broken_rule side own i.place fields)) e)
+  read_none i replies fields why few e = rw (le-ltb (section_of own) (told_size fields) few) (ap (judged side id (with_content side own i fields) replies (if_whole i.content (broken_rule side own i.place fields))) e)
 
   -- a section that is small enough, and a head
   pub read_head : (i : Incoming) (replies : List DecoderInstruction) (fields : List Field) (place : Place) (h : Head) → told_size fields ≤ section_of own
-      → head_of fields ≡ IsHead h → i.place ≡ place → read_section side own id r i replies fields ≡ head_or_trailer side id i replies (broken_rule side own place fields) place h
+      → head_of fields ≡ IsHead h → i.place ≡ place → read_section side own id r i replies fields ≡ head_or_trailer side id (with_content side own i fields) replies (if_whole i.content (broken_rule side own place fields)) place h
   read_head i replies fields place h few e at =
       rw (le-ltb (section_of own) (told_size fields) few)
-      (ap (judged side id i replies (broken_rule side own i.place fields)) e ∙ ap (λ q. head_or_trailer side id i replies (broken_rule side own q fields) q h) at)
+      (ap (judged side id (with_content side own i fields) replies (if_whole i.content (broken_rule side own i.place fields))) e
+      ∙ ap (λ q. head_or_trailer side id (with_content side own i fields) replies (if_whole i.content (broken_rule side own q fields)) q h) at)
 
   pub tried_section : (i : Incoming) (bytes : List ℕ) (section : DecodedSection) → nat_lt r.table.inserted i.waits_for ≡ false → decode_section r bytes ≡ section
       → at_section side own id r i bytes ≡ decoded side own id r i section

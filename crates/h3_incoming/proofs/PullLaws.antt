@@ -16,6 +16,8 @@ use Rattle.h3_proto.specs.declared.stream.Side.{Side}
 use Rattle.h3_qpack.specs.DecoderState.{DecoderState}
 use Rattle.h3_connection.specs.declared.event.Fault.TheVariants.{Stream}
 use Rattle.h3_connection.specs.declared.event.Item.TheVariants as item
+use Rattle.h3_connection.specs.declared.event.Malformation.TheVariants as malformation
+use Rattle.h3_messages.specs.Content.{is_exceeded}
 use Rattle.h3_connection.specs.declared.event.Pull.{Pull}
 use Rattle.h3_connection.specs.declared.event.Pull.TheVariants as pull
 use Rattle.h3_connection.specs.declared.event.StreamFault.{StreamFault}
@@ -25,7 +27,7 @@ use Rattle.h3_connection.specs.declared.setup.Announced.{Announced}
 use Rattle.h3_connection.specs.Codes.{refusal_code}
 use Rattle.h3_connection.specs.Incoming.{Incoming, Passes, is_body}
 use Rattle.h3_connection.specs.Skipping.{skipped}
-use Rattle.h3_connection.specs.Pulling.{Pulled, is_memory, just, connection_fault, left_with, raw, in_payload, at_section, at_frame, framed, next_frame, between_frames, in_message, next_item, pull_stream}
+use Rattle.h3_connection.specs.Pulling.{Pulled, is_memory, just, connection_fault, left_with, raw, malformed, in_payload, at_payload, at_section, at_frame, framed, next_frame, between_frames, in_message, next_item, pull_stream}
 use Rattle.h3_incoming.specs.Finding.{Finds}
 use Rattle.h3_incoming.specs.Gives.{Gives}
 use Rattle.h3_incoming.specs.Placing.{is_session}
@@ -39,6 +41,18 @@ gives_as p q answer new before after e h = subst (λ x. Gives x answer new befor
 pub gives_just : (p : Pulled) (answer : Pull) (new : Incoming) (before after : List ℕ) → p ≡ just answer new → after ≡ before → Gives p answer new before after
 gives_just p answer new before after e same =
     gives_as p (just answer new) answer new before after e (record { is = refl; replies = same ∙ sym (append-nil before) })
+
+-- a payload that is not longer than the content may be
+pub gives_bytes : (id : ℕ) (i : Incoming) (answer : Pull) (new : Incoming) (before after : List ℕ) → is_exceeded i.content ≡ false → in_payload i ≡ just answer new → after ≡ before
+    → Gives (at_payload id i) answer new before after
+gives_bytes id i answer new before after within e same =
+    gives_just (at_payload id i) answer new before after (ap (λ b. if b then malformed id malformation.ContentLength i [] else in_payload i) within ∙ e) same
+
+-- and one that is
+pub gives_too_much : (id : ℕ) (i : Incoming) (answer : Pull) (new : Incoming) (before after : List ℕ) → is_exceeded i.content ≡ true
+    → Gives (malformed id malformation.ContentLength i []) answer new before after → Gives (at_payload id i) answer new before after
+gives_too_much id i answer new before after over h =
+    gives_as (at_payload id i) (malformed id malformation.ContentLength i []) answer new before after (ap (λ b. if b then malformed id malformation.ContentLength i [] else in_payload i) over) h
 
 -- the receiver that passed some frames is that of the bytes that are left
 pub left_is : (i new : Incoming) → Passes i new → new ≡ left_with i (concat new.unread)
@@ -105,16 +119,16 @@ module _ (side : Side) (own : Announced) (id : ℕ) (r : DecoderState) where
   pull_of_section i bytes e over message next = pull_of_message i e over message ∙ ap (in_message side own id r i) next
 
   pub pull_of_payload : (i : Incoming) → i.fault ≡ None → i.is_over ≡ false → is_session i.place ≡ false → i.section ≡ None → 0 < i.body_left
-      → pull_stream side own id r i ≡ in_payload i
+      → pull_stream side own id r i ≡ at_payload id i
   pull_of_payload i e over message none some =
       pull_of_message i e over message ∙ ap (in_message side own id r i) none
-      ∙ ap (λ b. if b then in_payload i else between_frames side own id r i) (lt-ltb 0 i.body_left some)
+      ∙ ap (λ b. if b then at_payload id i else between_frames side own id r i) (lt-ltb 0 i.body_left some)
 
   pub pull_of_frame : (i : Incoming) → i.fault ≡ None → i.is_over ≡ false → is_session i.place ≡ false → i.section ≡ None → i.body_left ≡ 0
       → pull_stream side own id r i ≡ between_frames side own id r i
   pull_of_frame i e over message none closed =
       pull_of_message i e over message ∙ ap (in_message side own id r i) none
-      ∙ ap (λ n. if nat_lt 0 n then in_payload i else between_frames side own id r i) closed
+      ∙ ap (λ n. if nat_lt 0 n then at_payload id i else between_frames side own id r i) closed
 
   -- what a front that is no unfinished one gives
   next_is : (i : Incoming) (bytes : List ℕ) (x : Front) → frame_at bytes ≡ x → IsFinished x → next_frame side own id r i bytes ≡ framed side own id r i x

@@ -7,15 +7,19 @@ use Rattle.h3_wire.specs.declared.proto.frame.PayloadLen.{PayloadLen}
 use Rattle.h3_wire.specs.declared.proto.frame.Frame.{Frame}
 use Rattle.h3_proto.specs.declared.stream.Side.{Side}
 use Rattle.h3_qpack.specs.DecoderState.{DecoderState}
+use Rattle.h3_messages.specs.Content.{left_behind}
+use Rattle.h3_messages.specs.declared.content.Content.{Content}
+use Rattle.h3_connection.specs.declared.event.Pull.{Pull}
 use Rattle.h3_connection.specs.declared.setup.Announced.{Announced}
 use Rattle.h3_connection.specs.Codes.{refusal_code}
 use Rattle.h3_connection.specs.Incoming.{Incoming, is_body}
-use Rattle.h3_connection.specs.Pulling.{Pulled, connection_fault, at_frame, next_frame, between_frames}
+use Rattle.h3_connection.specs.Pulling.{Pulled, connection_fault, at_payload, begun_payload, at_frame, next_frame, between_frames}
 use Rattle.h3_incoming.specs.Finding.{Finds, PassesFrames}
+use Rattle.h3_incoming.specs.Gives.{Gives}
 use Rattle.h3_incoming.specs.Resuming.{Begins, Resumes}
 use Rattle.h3_incoming.specs.declared.stream.front.Found.TheVariants as found
 use Rattle.h3_incoming.proofs.FrontLaws.{Reads, with_left, passes, passes_frames, finds, found_now}
-use Rattle.h3_incoming.proofs.PullLaws.{between_unfinished, between_refused, between_frame, place_passed}
+use Rattle.h3_incoming.proofs.PullLaws.{gives_as, between_unfinished, between_refused, between_frame, place_passed}
 use Rattle.h3_incoming.proofs.ResumeLaws.{IsBetween, resumes_passed, resumes_begun}
 
 pub pulled_unfinished : (side : Side) (own : Announced) (id : ℕ) (r : DecoderState) (old stored : Incoming) (left : List (List ℕ)) (in_body : Bool) → Reads old stored left in_body
@@ -38,6 +42,18 @@ pulled_frame side own id r old stored left in_body f p reads h is =
     between_frame side own id r old mid f passed (found_now (is_body old.place) f (concat old.unread) (concat left) (finds old stored left in_body (found.Frame f) reads h))
     ∙ ap (λ q. at_frame side own id r side mid q f) (sym (place_passed old mid passed)) ∙ is
 
+-- the payload was begun
+begun_is : (i : Incoming) (size : ℕ) (content : Content) → content ≡ left_behind i.content size → (record i { body_left = size; content = content }) ≡ begun_payload i size
+begun_is i size content e = ap (λ c. let x : Incoming = record i { body_left = size; content = c } in x) e
+
+pub gives_payload : (side : Side) (own : Announced) (id : ℕ) (r : DecoderState) (old stored : Incoming) (left : List (List ℕ)) (in_body : Bool) (f : Frame PayloadLen) (size : ℕ) (content : Content)
+    (answer : Pull) (new : Incoming) (before after : List ℕ) → Reads old stored left in_body → Finds in_body (found.Frame f) (concat stored.unread) (concat left)
+    → at_frame side own id r side (with_left stored left) stored.place f ≡ at_payload id (begun_payload (with_left stored left) size) → content ≡ left_behind stored.content size
+    → Gives (at_payload id (record (with_left stored left) { body_left = size; content = content })) answer new before after → Gives (between_frames side own id r old) answer new before after
+gives_payload side own id r old stored left in_body f size content answer new before after reads h is e gives =
+    gives_as _ _ answer new before after (pulled_frame side own id r old stored left in_body f _ reads h is)
+    (subst (λ (x : Incoming). Gives (at_payload id x) answer new before after) (begun_is (with_left stored left) size content e) gives)
+
 -- its payload is not empty in a body
 pub filled : (old stored : Incoming) (left : List (List ℕ)) (in_body is_empty : Bool) → Reads old stored left in_body → (in_body && is_empty) ≡ false → (is_body stored.place && is_empty) ≡ false
 filled old stored left in_body is_empty reads h =
@@ -54,3 +70,9 @@ pub resumes_behind : (old stored new begun : Incoming) (left : List (List ℕ)) 
 resumes_behind old stored new begun left in_body f reads between h begins same =
     subst (λ (x : Incoming). Resumes old x) (sym same)
     (resumes_begun old (with_left stored left) begun f between (passes old stored left in_body reads) (finds old stored left in_body (found.Frame f) reads h) begins)
+
+pub resumes_payload : (old stored new : Incoming) (left : List (List ℕ)) (in_body : Bool) (f : Frame PayloadLen) (size : ℕ) (content : Content) → Reads old stored left in_body → IsBetween old
+    → Finds in_body (found.Frame f) (concat stored.unread) (concat left) → Begins stored.place f (with_left stored left) (begun_payload (with_left stored left) size) → content ≡ left_behind stored.content size
+    → new ≡ record (with_left stored left) { body_left = size; content = content } → Resumes old new
+resumes_payload old stored new left in_body f size content reads between h begins e same =
+    resumes_behind old stored new (begun_payload (with_left stored left) size) left in_body f reads between h begins (same ∙ begun_is (with_left stored left) size content e)

@@ -1,5 +1,5 @@
 -- A pull that memory cut short loses nothing.
-use Rattle.std.proofs.Common.{◌≡◌, ℕ, zero, suc, ◌<◌, ◌≤◌, Bool, true, false, ◌&&◌, ◌==◌, List, ◌++◌, length, refl, ap, sym, ◌∙◌, subst, arith, inl, inr, ◌⊎◌}
+use Rattle.std.proofs.Common.{◌≡◌, ℕ, zero, suc, ◌<◌, ◌≤◌, Bool, true, false, if◌then◌else◌, ◌&&◌, ◌==◌, List, ◌++◌, length, refl, ap, sym, ◌∙◌, subst, arith, inl, inr, ◌⊎◌}
 use Rattle.std.specs.Prelude.{None}
 use Rattle.std.specs.List.{concat}
 use Rattle.std.proofs.lemmas.List.{length-drop}
@@ -18,7 +18,8 @@ use Rattle.h3_connection.specs.declared.place.Place.TheVariants.{BeforeHead, InB
 use Rattle.h3_connection.specs.declared.setup.Announced.{Announced}
 use Rattle.h3_connection.specs.Incoming.{Incoming, Passes, is_body, given_up}
 use Rattle.h3_connection.specs.Skipping.{skipped, is_empty_data}
-use Rattle.h3_connection.specs.Pulling.{begun_section, begun_payload, left_with, in_payload, new_section, at_frame, next_frame, between_frames, pull_stream}
+use Rattle.h3_connection.specs.Codes.{frame_unexpected}
+use Rattle.h3_connection.specs.Pulling.{begun_section, begun_payload, left_with, at_payload, new_section, connection_fault, at_frame, next_frame, between_frames, pull_stream}
 use Rattle.h3_incoming.specs.Finding.{Finds, PassesFrames}
 use Rattle.h3_incoming.specs.Placing.{is_session}
 use Rattle.h3_incoming.specs.Resuming.{Begins, Resumes, delivered}
@@ -121,14 +122,16 @@ some_left n h = elim (cases_zero n) [ inl z ↦ absurd (differ n z h) | inr s �
     differ n z h = let wrong : (0 == 0) ≡ false = subst (λ m. (m == 0) ≡ false) z h in cc
 
 payload_alike : (side : Side) (own : Announced) (id : ℕ) (r : DecoderState) (pieces : List (List ℕ)) (ends : Bool) (mid : Incoming) (size : ℕ) → IsBetween mid → 0 < size
-    → pull_stream side own id r (delivered (begun_payload mid size) pieces ends) ≡ in_payload (begun_payload (delivered mid pieces ends) size)
+    → pull_stream side own id r (delivered (begun_payload mid size) pieces ends) ≡ at_payload id (begun_payload (delivered mid pieces ends) size)
 payload_alike side own id r pieces ends mid size b some = pull_of_payload side own id r (delivered (begun_payload mid size) pieces ends) b.no_fault b.goes_on b.message b.none some
 
 begun_alike : (side : Side) (own : Announced) (id : ℕ) (r : DecoderState) (pieces : List (List ℕ)) (ends : Bool) (mid new : Incoming) (f : Frame PayloadLen) (place : Place)
     → IsBetween mid → Begins place f mid new → (is_body place && is_empty_data f) ≡ false
     → pull_stream side own id r (delivered new pieces ends) ≡ at_frame side own id r side (delivered mid pieces ends) place f
 begun_alike side own id r pieces ends mid new (frame.Headers bytes) BeforeHead b h some = ap (λ (i : Incoming). pull_stream side own id r (delivered i pieces ends)) h.1 ∙ section_alike side own id r pieces ends mid bytes b
-begun_alike side own id r pieces ends mid new (frame.Headers bytes) InBody b h some = ap (λ (i : Incoming). pull_stream side own id r (delivered i pieces ends)) h.1 ∙ section_alike side own id r pieces ends mid bytes b
+begun_alike side own id r pieces ends mid new (frame.Headers bytes) InBody b h some =
+    ap (λ (i : Incoming). pull_stream side own id r (delivered i pieces ends)) h.1 ∙ section_alike side own id r pieces ends mid bytes b
+    ∙ sym (ap (λ takes. if takes then new_section side own id r (delivered mid pieces ends) bytes else connection_fault frame_unexpected (delivered mid pieces ends)) h.0)
 begun_alike side own id r pieces ends mid new (frame.Headers bytes) AfterTrailer b h some = absurd (not_true h.0)
 begun_alike side own id r pieces ends mid new (frame.Headers bytes) InSession b h some = absurd (not_true h.0)
 begun_alike side own id r pieces ends mid new (frame.Data len) InBody b h some = ap (λ (i : Incoming). pull_stream side own id r (delivered i pieces ends)) h.1 ∙ payload_alike side own id r pieces ends mid len.0 b (some_left len.0 some)

@@ -9,8 +9,9 @@ use Rattle.h3_connection.specs.declared.event.Pull.TheVariants as pull
 use Rattle.h3_connection.specs.declared.place.Place.{Place}
 use Rattle.h3_connection.specs.declared.place.Place.TheVariants.{InSession}
 use Rattle.h3_connection.specs.declared.setup.Announced.{Announced}
+use Rattle.h3_messages.specs.declared.content.Content.{Content}
 use Rattle.h3_connection.specs.Incoming.{Incoming, is_body}
-use Rattle.h3_connection.specs.Pulling.{Pulled, just, connection_fault, begun_section, begun_payload, in_payload, new_section}
+use Rattle.h3_connection.specs.Pulling.{Pulled, just, connection_fault, begun_section, begun_payload, at_payload, new_section}
 use Rattle.h3_connection.specs.Skipping.{is_empty_data}
 use Rattle.h3_incoming.specs.Resuming.{Begins}
 use Rattle.h3_incoming.specs.declared.stream.frames.Begun.{Begun}
@@ -19,13 +20,13 @@ use Rattle.h3_incoming.specs.declared.stream.frames.Begun.TheVariants as begun
 -- what a pull answers of it
 abbrev pub begun_as : Side → Announced → ℕ → DecoderState → Incoming → Begun → Pulled
 begun_as side own id r i (begun.Section bytes) = new_section side own id r i bytes
-begun_as side own id r i (begun.Payload size) = in_payload (begun_payload i size)
+begun_as side own id r i (begun.Payload size) = at_payload id (begun_payload i size)
 begun_as side own id r i (begun.Session session) = just (pull.Item (item.Session session)) (record i { place = InSession })
 begun_as side own id r i (begun.Fault code) = connection_fault code i
 
 -- A section or a payload is begun by its frame. A payload is empty only in a frame that is passed.
-abbrev pub IsBegunBy : Place → Frame PayloadLen → Begun → Type 0
-IsBegunBy place f (begun.Section bytes) = (i : Incoming) → Begins place f i (begun_section i bytes)
-IsBegunBy place f (begun.Payload size) = ((i : Incoming) → Begins place f i (begun_payload i size)) × ((is_body place && is_empty_data f) ≡ false → 0 < size)
-IsBegunBy place f (begun.Session session) = Unit {0}
-IsBegunBy place f (begun.Fault code) = Unit {0}
+abbrev pub IsBegunBy : Place → Content → Frame PayloadLen → Begun → Type 0
+IsBegunBy place content f (begun.Section bytes) = (i : Incoming) → i.content ≡ content → Begins place f i (begun_section i bytes)
+IsBegunBy place content f (begun.Payload size) = ((i : Incoming) → Begins place f i (begun_payload i size)) × ((is_body place && is_empty_data f) ≡ false → 0 < size)
+IsBegunBy place content f (begun.Session session) = Unit {0}
+IsBegunBy place content f (begun.Fault code) = Unit {0}

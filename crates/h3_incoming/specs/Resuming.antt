@@ -7,6 +7,8 @@ use Rattle.h3_connection.specs.declared.event.StreamFault.{StreamFault}
 use Rattle.h3_connection.specs.declared.place.Place.{Place}
 use Rattle.h3_connection.specs.declared.place.Place.TheVariants.{BeforeHead, InBody}
 use Rattle.h3_connection.specs.Incoming.{Incoming, given_up, is_body}
+use Rattle.h3_messages.specs.Content.{takes_trailer}
+use Rattle.h3_messages.specs.declared.content.Content.{Content}
 use Rattle.h3_wire.specs.declared.proto.frame.PayloadLen.{PayloadLen}
 use Rattle.h3_wire.specs.declared.proto.frame.Frame.{Frame}
 use Rattle.h3_wire.specs.declared.proto.frame.Frame.TheVariants as frame
@@ -16,15 +18,15 @@ use Rattle.h3_connection.specs.Pulling.{pull_stream, begun_section, begun_payloa
 abbrev pub delivered : Incoming → List (List ℕ) → Bool → Incoming
 delivered i pieces ends = record i { unread = i.unread ++ pieces; ended = i.ended || ends }
 
--- a section may come there, as a head or a trailer
-abbrev pub permits_section : Place → Bool
-permits_section BeforeHead = true
-permits_section InBody = true
-permits_section _ = false
+-- a section may come there, as a head or a trailer; in a tunnel none
+abbrev pub permits_section : Place → Content → Bool
+permits_section BeforeHead content = true
+permits_section InBody content = takes_trailer content
+permits_section _ content = false
 
 -- What a frame gives was begun, and nothing of it was handed out.
 abbrev pub Begins : Place → Frame PayloadLen → Incoming → Incoming → Type 0
-Begins place (frame.Headers bytes) old new = (permits_section place ≡ true) × (new ≡ begun_section old bytes)
+Begins place (frame.Headers bytes) old new = (permits_section place old.content ≡ true) × (new ≡ begun_section old bytes)
 Begins place (frame.Data len) old new = (is_body place ≡ true) × (new ≡ begun_payload old len.0)
 Begins place _ old new = ⊥
 

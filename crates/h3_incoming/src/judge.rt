@@ -13,11 +13,12 @@ ghost use Rattle.h3_connection.specs.Pulling.{read_section, whole_head, whole_tr
 ghost use Rattle.h3_field.specs.Field.{Field};
 ghost use Rattle.h3_incoming.specs.Judging.{Tells, judged_as};
 
-use crate::strict::broken_rule;
+use crate::strict::{broken_rule, content_at, if_whole};
 use h3_connection::event::{Item, Malformation};
 use h3_connection::place::Place;
 use h3_connection::setup::Announced;
 use h3_header::{BadPart, Header, HeaderError, first_bad_part};
+use h3_messages::Content;
 use h3_proto::stream::Side;
 use h3_qpack::{DecodedWithin, HeaderField, LargeSection};
 use std::alloc::{AllocError, Global};
@@ -25,8 +26,8 @@ use std::alloc::{AllocError, Global};
 /// What a field section is at its place.
 #[derive(Drop)]
 pub(crate) enum Judged {
-    /// It is handed out as this item, and this is the place behind it.
-    HandsOut(Item, Place),
+    /// It is handed out as this item, and this is the place behind it, and the content that is left to come.
+    HandsOut(Item, Place, Content),
     Malformed(Malformation),
 }
 
@@ -46,27 +47,28 @@ pub(crate) fn judge(
     side: Side,
     announced: &Announced,
     place: Place,
+    content: Content,
     decoded: DecodedWithin,
 ) -> Result<Judged, AllocError>
     ensures { IfOk result (λ j. (id : ℕ) (r : DecoderState) (i : Incoming) (replies : List DecoderInstruction) (dyn_ref : Bool) (fields : List Field)
-        → IsWithin (section_of announced.now) (codes ":status") dyn_ref fields decoded → i.place ≡ place → read_section side announced.now id r i replies fields ≡ judged_as id i replies j) }
+        → IsWithin (section_of announced.now) (codes ":status") dyn_ref fields decoded → i.place ≡ place → i.content ≡ content → read_section side announced.now id r i replies fields ≡ judged_as id i replies j) }
 {
     match decoded {
         DecodedWithin::Fields(decoded) => {
-            judge_fields(alloc, side, announced, place, decoded.fields)
+            judge_fields(alloc, side, announced, place, content, decoded.fields)
         }
-        DecodedWithin::TooLarge(large) => Ok(judge_large(side, place, large)),
+        DecodedWithin::TooLarge(large) => Ok(judge_large(side, place, content, large)),
     }
 }
 
-// A section that is too large.
-fn judge_large(side: Side, place: Place, large: LargeSection) -> Judged
+// A section that is too large. Nothing is known of its content.
+fn judge_large(side: Side, place: Place, content: Content, large: LargeSection) -> Judged
     ensures { (own : Announced) (id : ℕ) (r : DecoderState) (i : Incoming) (replies : List DecoderInstruction) (dyn_ref : Bool) (fields : List Field)
-        → section_of own < told_size fields → IsLarge (codes ":status") dyn_ref fields large → i.place ≡ place
+        → section_of own < told_size fields → IsLarge (codes ":status") dyn_ref fields large → i.place ≡ place → i.content ≡ content
         → read_section side own id r i replies fields ≡ judged_as id i replies result }
 {
     let behind = place_behind(side, place, large.last_value);
-    Judged::HandsOut(Item::TooLarge(large.mem_size), behind)
+    Judged::HandsOut(Item::TooLarge(large.mem_size), behind, content)
 }
 
 // A section that is not. Want of memory is told only of a list of which a front is good, and whose next field may ask for memory; and of no
@@ -76,18 +78,20 @@ fn judge_fields(
     side: Side,
     announced: &Announced,
     place: Place,
+    content: Content,
     fields: Vec<HeaderField>,
 ) -> Result<Judged, AllocError>
     ensures ok { IfOk result (λ j. (id : ℕ) (r : DecoderState) (i : Incoming) (replies : List DecoderInstruction)
-        → told_size fields.items ≤ section_of announced.now → i.place ≡ place → read_section side announced.now id r i replies fields.items ≡ judged_as id i replies j) }
+        → told_size fields.items ≤ section_of announced.now → i.place ≡ place → i.content ≡ content → read_section side announced.now id r i replies fields.items ≡ judged_as id i replies j) }
     ensures memory { OnErr result (RefusesOne (trailer_head []) fields.items HeaderError.OutOfMemory) }
     ensures good { OnErr result (IsHeadUnlessMany fields.items) }
 {
     h3_header::laws::lists_are_their_value();
     let list = fields.as_slice();
-    let broken = broken_rule(side, announced, place, list);
+    let broken = if_whole(content, broken_rule(side, announced, place, list));
+    let behind = content_at(side, announced, place, content, list);
     match Header::of_fields(alloc, list) {
-        Ok(header) => Ok(judge_header(side, place, broken, header)),
+        Ok(header) => Ok(judge_header(side, place, behind, broken, header)),
         Err(e) => judge_refusal(list, e),
     }
 }
@@ -118,20 +122,28 @@ fn malformation_by(part: BadPart) -> Malformation
     }
 }
 
-// A head or a trailer, whose list breaks this rule or none.
-fn judge_header(side: Side, place: Place, broken: Option<Malformation>, header: Header) -> Judged
-    ensures { (id : ℕ) (i : Incoming) (replies : List DecoderInstruction) → i.place ≡ place
+// A head or a trailer, whose list breaks this rule or none, and behind which so much content is left.
+fn judge_header(
+    side: Side,
+    place: Place,
+    behind: Content,
+    broken: Option<Malformation>,
+    header: Header,
+) -> Judged
+    ensures { (id : ℕ) (i : Incoming) (replies : List DecoderInstruction) → i.place ≡ place → i.content ≡ behind
         → head_or_trailer side id i replies broken place header ≡ judged_as id i replies result }
 {
     match place {
-        Place::BeforeHead => judge_head(side, broken, header),
-        Place::InBody | Place::AfterTrailer | Place::InSession => judge_trailer(broken, header),
+        Place::BeforeHead => judge_head(side, behind, broken, header),
+        Place::InBody | Place::AfterTrailer | Place::InSession => {
+            judge_trailer(behind, broken, header)
+        }
     }
 }
 
 // A head: a client reads responses, interim ones among them, and a server requests.
-fn judge_head(side: Side, broken: Option<Malformation>, header: Header) -> Judged
-    ensures { (id : ℕ) (i : Incoming) (replies : List DecoderInstruction) → i.place ≡ Place.BeforeHead
+fn judge_head(side: Side, behind: Content, broken: Option<Malformation>, header: Header) -> Judged
+    ensures { (id : ℕ) (i : Incoming) (replies : List DecoderInstruction) → i.place ≡ Place.BeforeHead → i.content ≡ behind
         → whole_head side id i replies broken header ≡ judged_as id i replies result }
 {
     if !is_for(side, &header) {
@@ -141,9 +153,9 @@ fn judge_head(side: Side, broken: Option<Malformation>, header: Header) -> Judge
         drop(header);
         Judged::Malformed(why)
     } else if is_client(side) && is_interim(&header) {
-        Judged::HandsOut(Item::Interim(header), Place::BeforeHead)
+        Judged::HandsOut(Item::Interim(header), Place::BeforeHead, behind)
     } else {
-        Judged::HandsOut(Item::Head(header), Place::InBody)
+        Judged::HandsOut(Item::Head(header), Place::InBody, behind)
     }
 }
 
@@ -167,8 +179,8 @@ fn is_client(side: Side) -> bool
 }
 
 // A trailer, which has no pseudo-header field (RFC 9114, section 4.3).
-fn judge_trailer(broken: Option<Malformation>, header: Header) -> Judged
-    ensures { (id : ℕ) (i : Incoming) (replies : List DecoderInstruction) → whole_trailer id i replies broken header ≡ judged_as id i replies result }
+fn judge_trailer(behind: Content, broken: Option<Malformation>, header: Header) -> Judged
+    ensures { (id : ℕ) (i : Incoming) (replies : List DecoderInstruction) → i.content ≡ behind → whole_trailer id i replies broken header ≡ judged_as id i replies result }
 {
     if header.has_pseudo() {
         return Judged::Malformed(Malformation::PseudoInTrailer);
@@ -176,7 +188,7 @@ fn judge_trailer(broken: Option<Malformation>, header: Header) -> Judged
     if let Some(why) = broken {
         return Judged::Malformed(why);
     }
-    Judged::HandsOut(Item::Trailer(header), Place::AfterTrailer)
+    Judged::HandsOut(Item::Trailer(header), Place::AfterTrailer, behind)
 }
 
 // A status from 100 to 199 (RFC 9110, section 15.2).

@@ -10,6 +10,7 @@ use crate::replies::reply;
 use bytes::Bytes;
 use h3_connection::event::StreamFault;
 use h3_connection::place::Place;
+use h3_messages::Content;
 use h3_proto::stream::StreamId;
 use h3_wire::frame::FrameBuffer;
 use std::alloc::{AllocError, Global};
@@ -31,6 +32,8 @@ pub struct IncomingStream {
     section: Option<Bytes>,
     // how much of a begun payload of DATA is still to come out
     body_left: usize,
+    // how much content is left behind that
+    content: Content,
     place: Place,
     // the required insert count that the section waited for, or 0
     waits_for: usize,
@@ -54,6 +57,7 @@ impl Model for IncomingStream {
       unread = s.unread.pieces;
       section = s.section;
       body_left = s.body_left;
+      content = s.content;
       place = s.place;
       waits_for = s.waits_for;
       tries = s.tries;
@@ -85,6 +89,7 @@ impl IncomingStream {
             unread: FrameBuffer::new(alloc),
             section: None,
             body_left: 0,
+            content: Content::Unsaid,
             place: Place::BeforeHead,
             waits_for: 0,
             tries: 0,
@@ -165,6 +170,7 @@ impl IncomingStream {
         self.unread = FrameBuffer::new(alloc);
         self.section = None;
         self.body_left = 0;
+        self.content = Content::Unsaid;
         self.waits_for = 0;
         self.fault = Some(fault);
     }

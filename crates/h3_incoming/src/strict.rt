@@ -1,11 +1,12 @@
-//! Which rule of well-formed messages a field list breaks, where the endpoint asks for them (RFC 9114, sections 4.1.2 and 4.2 to 4.5).
+//! Which rule of well-formed messages a field list breaks, and how much content follows it, where the endpoint asks for them (RFC 9114, sections
+//! 4.1.2 and 4.2 to 4.5).
 ghost use Rattle.std.specs.Prelude.{◌≡◌};
-ghost use Rattle.h3_connection.specs.StrictMessages.{broken_rule, malformation_by, violation_at};
+ghost use Rattle.h3_connection.specs.StrictMessages.{broken_rule, malformation_by, violation_at, content_of_head, content_behind, content_at, if_whole};
 
 use h3_connection::event::Malformation;
 use h3_connection::place::Place;
 use h3_connection::setup::Announced;
-use h3_messages::{Violation, request_violation, response_violation, trailer_violation};
+use h3_messages::{Content, Violation, request_violation, response_violation, trailer_violation};
 use h3_proto::stream::Side;
 use h3_qpack::HeaderField;
 
@@ -43,6 +44,53 @@ fn violation_at(
         },
         Place::InBody | Place::AfterTrailer | Place::InSession => trailer_violation(fields),
     }
+}
+
+/// The content behind a field list at its place, where such content was left in front of it. An endpoint that asks for no strict messages looks
+/// at no field.
+pub(crate) fn content_at(
+    side: Side,
+    announced: &Announced,
+    place: Place,
+    content: Content,
+    fields: &[HeaderField],
+) -> Content
+    ensures { result ≡ content_at side announced.now place content fields.now }
+{
+    if announced.choices.strict_messages {
+        return content_behind(side, place, content, fields);
+    }
+    content
+}
+
+// A head says how much content follows, and a trailer nothing.
+fn content_behind(side: Side, place: Place, content: Content, fields: &[HeaderField]) -> Content
+    ensures { result ≡ content_behind side place content fields.now }
+{
+    match place {
+        Place::BeforeHead => content_of_head(side, fields),
+        Place::InBody | Place::AfterTrailer | Place::InSession => content,
+    }
+}
+
+// That of a request; that of a response is not judged.
+fn content_of_head(side: Side, fields: &[HeaderField]) -> Content
+    ensures { result ≡ content_of_head side fields.now }
+{
+    match side {
+        Side::Client => Content::Unsaid,
+        Side::Server => Content::of_request(fields),
+    }
+}
+
+/// The rule that is broken where a trailer may not come yet, and else this one (RFC 9114, section 4.1.2).
+pub(crate) fn if_whole(content: Content, broken: Option<Malformation>) -> Option<Malformation>
+    ensures { result ≡ if_whole content broken }
+{
+    if content.may_end() {
+        return broken;
+    }
+    Some(Malformation::ContentLength)
 }
 
 fn malformation_by(violation: Violation) -> Malformation

@@ -1,7 +1,7 @@
 -- Worked rows of content, computed by the definitions.
 use Rattle.std.specs.Prelude.{◌≡◌, true, false, [], ◌∷◌, codes, refl}
-use Rattle.h3_messages.specs.Content.{asked_by, content_of_request, content_of_response, takes_data, may_end, takes_trailer}
-use Rattle.h3_messages.specs.declared.content.Content.TheVariants.{Unsaid, Exactly, NoContent, Tunnel}
+use Rattle.h3_messages.specs.Content.{asked_by, content_of_request, content_of_response, left_behind, is_exceeded, may_end, takes_trailer}
+use Rattle.h3_messages.specs.declared.content.Content.TheVariants.{Unsaid, Exactly, NoContent, Tunnel, Exceeded}
 use Rattle.h3_messages.specs.declared.content.Asked.TheVariants.{Head, Connect, Other}
 use Rattle.h3_messages.proofs.Written.{field}
 
@@ -20,17 +20,21 @@ not_modified_has_none = refl
 pub request_unsaid : content_of_request (field (codes ":method") (codes "GET") ∷ field (codes ":scheme") (codes "https") ∷ field (codes ":authority") (codes "a") ∷ field (codes ":path") (codes "/") ∷ []) ≡ Unsaid
 request_unsaid = refl
 
-pub too_much : takes_data (Exactly 3) 2 2 ≡ false
+-- of three bytes two came, and two more are one too many: 9114 4.1.2
+pub too_much : left_behind (left_behind (Exactly 3) 2) 2 ≡ Exceeded
 too_much = refl
 
-pub reached : may_end (Exactly 3) 3 ≡ true
+pub reached : may_end (left_behind (left_behind (Exactly 3) 2) 1) ≡ true
 reached = refl
 
-pub not_reached : may_end (Exactly 3) 2 ≡ false
+pub not_reached : may_end (left_behind (Exactly 3) 2) ≡ false
 not_reached = refl
 
-pub none_for_head : takes_data NoContent 0 1 ≡ false
+pub none_for_head : is_exceeded (left_behind NoContent 1) ≡ true
 none_for_head = refl
+
+pub an_empty_one_is_none : left_behind NoContent 0 ≡ NoContent
+an_empty_one_is_none = refl
 
 -- methods are case-sensitive: 9110 9.1
 pub get_in_small_letters : asked_by (codes "head") ≡ Other

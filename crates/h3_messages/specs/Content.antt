@@ -1,11 +1,11 @@
 -- How much content a message has (RFC 9114, section 4.1.2; RFC 9110, sections 6.4.1, 8.6 and 9.3.6), and what comes of it.
-use Rattle.std.specs.Prelude.{ℕ, ◌+◌, Bool, true, false, ◌||◌, List, codes, bytes_eq, slice_index, nat_le, ◌==◌, if◌then◌else◌}
+use Rattle.std.specs.Prelude.{ℕ, ◌-◌, Bool, true, false, ◌||◌, List, codes, bytes_eq, slice_index, nat_le, ◌==◌, if◌then◌else◌}
 use Rattle.h3_field.specs.Field.{Field}
 use Rattle.h3_messages.specs.Messages.{value_of, number_of, is_length, is_connect}
 use Rattle.h3_messages.specs.declared.content.Asked.{Asked}
 use Rattle.h3_messages.specs.declared.content.Asked.TheVariants.{Head, Connect, Other}
 use Rattle.h3_messages.specs.declared.content.Content.{Content}
-use Rattle.h3_messages.specs.declared.content.Content.TheVariants.{Unsaid, Exactly, NoContent, Tunnel}
+use Rattle.h3_messages.specs.declared.content.Content.TheVariants.{Unsaid, Exactly, NoContent, Tunnel, Exceeded}
 
 -- method names are case-sensitive (RFC 9110, 9.1)
 abbrev pub asked_by : List ℕ → Asked
@@ -37,17 +37,24 @@ content_expected Other status size = content_of_status status size
 abbrev pub content_of_response : Asked → List Field → Content
 content_of_response asked fields = content_expected asked (value_of (codes ":status") fields) (value_of (codes "content-length") fields)
 
--- DATA of so many bytes may come behind so many: the sum of DATA lengths does not pass content-length (4.1.2)
-abbrev pub takes_data : Content → ℕ → ℕ → Bool
-takes_data Unsaid came size = true
-takes_data (Exactly all) came size = nat_le (came + size) all
-takes_data NoContent came size = size == 0
-takes_data Tunnel came size = true
+-- What is left of it behind DATA of so many bytes: the sum of their lengths does not pass content-length (4.1.2)
+abbrev pub left_behind : Content → ℕ → Content
+left_behind (Exactly left) size = if nat_le size left then Exactly (left - size) else Exceeded
+left_behind NoContent size = if size == 0 then NoContent else Exceeded
+left_behind Unsaid size = Unsaid
+left_behind Tunnel size = Tunnel
+left_behind Exceeded size = Exceeded
 
--- the content may end here, by the stream's end or a trailer: it equals content-length (4.1.2)
-abbrev pub may_end : Content → ℕ → Bool
-may_end (Exactly all) came = came == all
-may_end _ came = true
+-- more came than there may be
+abbrev pub is_exceeded : Content → Bool
+is_exceeded Exceeded = true
+is_exceeded _ = false
+
+-- the content may end here, by the stream's end or a trailer: what came equals content-length (4.1.2)
+abbrev pub may_end : Content → Bool
+may_end (Exactly left) = left == 0
+may_end Exceeded = false
+may_end _ = true
 
 -- once CONNECT has completed only DATA is permitted, and any other known frame is H3_FRAME_UNEXPECTED (4.4)
 abbrev pub takes_trailer : Content → Bool

@@ -1,23 +1,25 @@
 //! How much content a message has, and what comes of it (RFC 9114, 4.1.2; RFC 9110, 6.4.1, 8.6 and 9.3.6).
 ghost use Rattle.std.specs.Prelude.{◌≡◌};
-ghost use Rattle.h3_messages.specs.Content.{asked_by, said, content_of_request, is_without_content, content_of_status, content_expected, content_of_response, takes_data, may_end, takes_trailer};
+ghost use Rattle.h3_messages.specs.Content.{asked_by, said, content_of_request, is_without_content, content_of_status, content_expected, content_of_response, left_behind, is_exceeded, may_end, takes_trailer};
 
 use crate::fields::value_of;
 use crate::request::is_connect;
 use crate::text::{byte_at, length_of};
 use h3_field::HeaderField;
 
-/// How much content follows a head.
+/// How much content is left to come behind a head.
 #[derive(Clone, Copy, Debug, PartialEq, Eq)]
 pub enum Content {
     /// As much as comes: no `content-length` says it.
     Unsaid,
-    /// As many bytes as `content-length` says.
+    /// So many bytes: what `content-length` says, less what came.
     Exactly(u64),
     /// None, whatever `content-length` says.
     NoContent,
     /// A tunnel's bytes, and no trailer (RFC 9114, 4.4).
     Tunnel,
+    /// More came than there may be (RFC 9114, 4.1.2).
+    Exceeded,
 }
 
 /// What a client's stream remembers of its request's method.
@@ -66,27 +68,47 @@ impl Content {
         content_expected(asked, status, size)
     }
 
-    /// Whether DATA of this many bytes may come behind so many (RFC 9114, 4.1.2).
-    pub fn takes_data(self, came: u64, size: u64) -> bool
-        ensures { result ≡ takes_data self came size }
+    /// What is left behind DATA of so many bytes (RFC 9114, 4.1.2).
+    pub fn left_behind(self, size: u64) -> Content
+        ensures { result ≡ left_behind self size }
     {
         match self {
-            Content::Unsaid => true,
-            Content::Exactly(all) => came <= all && size <= all - came,
-            Content::NoContent => size == 0,
-            Content::Tunnel => true,
+            Content::Exactly(left) => {
+                if size <= left {
+                    return Content::Exactly(left - size);
+                }
+                Content::Exceeded
+            }
+            Content::NoContent => {
+                if size == 0 {
+                    return Content::NoContent;
+                }
+                Content::Exceeded
+            }
+            Content::Unsaid => Content::Unsaid,
+            Content::Tunnel => Content::Tunnel,
+            Content::Exceeded => Content::Exceeded,
         }
     }
 
-    /// Whether the content may end behind so many bytes, by the stream's end or a trailer (RFC 9114, 4.1.2).
-    pub fn may_end(self, came: u64) -> bool
-        ensures { result ≡ may_end self came }
+    /// Whether more came than there may be.
+    pub fn is_exceeded(self) -> bool
+        ensures { result ≡ is_exceeded self }
     {
         match self {
-            Content::Exactly(all) => came == all,
-            Content::Unsaid => true,
-            Content::NoContent => true,
-            Content::Tunnel => true,
+            Content::Exceeded => true,
+            Content::Unsaid | Content::Exactly(_) | Content::NoContent | Content::Tunnel => false,
+        }
+    }
+
+    /// Whether the content may end here, by the stream's end or a trailer (RFC 9114, 4.1.2).
+    pub fn may_end(self) -> bool
+        ensures { result ≡ may_end self }
+    {
+        match self {
+            Content::Exactly(left) => left == 0,
+            Content::Exceeded => false,
+            Content::Unsaid | Content::NoContent | Content::Tunnel => true,
         }
     }
 
@@ -96,9 +118,7 @@ impl Content {
     {
         match self {
             Content::Tunnel => false,
-            Content::Unsaid => true,
-            Content::Exactly(_) => true,
-            Content::NoContent => true,
+            Content::Unsaid | Content::Exactly(_) | Content::NoContent | Content::Exceeded => true,
         }
     }
 }

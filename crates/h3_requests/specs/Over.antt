@@ -33,6 +33,7 @@ pub record HasWays (old new : List RequestState) : Type 0 where
 -- What stands of two streams that are over is the same at the receiver,
 pub record ReceivesAlike (a b : Incoming) : Type 0 where
   pub place : a.place ≡ b.place
+  pub content : a.content ≡ b.content
   pub tries : a.tries ≡ b.tries
   pub ended : a.ended ≡ b.ended
   pub was_reset : a.was_reset ≡ b.was_reset

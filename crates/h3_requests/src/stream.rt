@@ -128,6 +128,7 @@ fn receives_alike(stream: &IncomingStream, other: &IncomingStream) -> bool
     ensures { result ≡ true → ReceivesAlike stream.now other.now }
 {
     stream.place() == other.place()
+        && stream.content() == other.content()
         && stream.tries() == other.tries()
         && stream.ended() == other.ended()
         && stream.was_reset() == other.was_reset()

@@ -43,7 +43,7 @@ more_is : (i : Incoming) (pieces : List (List ℕ)) (ends : Bool) → i.fault �
 more_is i pieces true none = ap (λ (j : Incoming). record j { ended = true }) (pieces_are i pieces none) ∙ ap (λ b. record i { unread = i.unread ++ some_pieces pieces; ended = b }) (or_true i.ended)
 more_is i pieces false none = pieces_are i pieces none ∙ ap (λ b. record i { unread = i.unread ++ some_pieces pieces; ended = b }) (or_false i.ended)
 
-same_but : (old new : Incoming) → Resumes old new → new ≡ record old { unread = new.unread; section = new.section; body_left = new.body_left }
+same_but : (old new : Incoming) → Resumes old new → new ≡ record old { unread = new.unread; section = new.section; body_left = new.body_left; content = new.content }
 same_but old new h =
     ap (λ x. record new { place = x }) h.place
     ∙ ap (λ x. record new { place = old.place; waits_for = x }) h.waits_for

@@ -1,20 +1,50 @@
 //! The payload of DATA that is under way, and the bytes of a session.
 ghost use Rattle.std.specs.Prelude.{◌≡◌, ◌<◌, true, false, [], None};
 ghost use Rattle.h3_connection.specs.declared.event.Item.TheVariants.{End};
-ghost use Rattle.h3_connection.specs.Pulling.{just, in_payload, raw, is_memory};
+ghost use Rattle.h3_connection.specs.Pulling.{just, in_payload, at_payload, raw, is_memory};
+ghost use Rattle.h3_messages.specs.Content.{is_exceeded};
+ghost use Rattle.h3_incoming.specs.Gives.{Gives};
 ghost use Rattle.h3_incoming.specs.Placing.{is_session};
 
 use super::IncomingStream;
 use crate::answer::{end, fail, pause, put};
-use h3_connection::event::{Fault, Item, Pull};
+use h3_connection::event::{Fault, Item, Malformation, Pull};
 use h3_proto::error::Code;
+use h3_proto::stream::StreamId;
 use h3_wire::frame::FrameBuffer;
 use std::alloc::Global;
 use std::mem;
 
 impl IncomingStream {
-    /// The next bytes of the payload under way. One that the end cuts short is a fault of the connection (RFC 9114, section 7.1).
-    pub(super) fn pull_payload(&mut self, out: &mut Pull)
+    /// The next bytes of the payload under way. Of one that is longer than the content may be none is handed out: the message is malformed (RFC
+    /// 9114, section 4.1.2).
+    pub(super) fn pull_payload(
+        &mut self,
+        alloc: Global,
+        id: StreamId,
+        replies: &mut Vec<u8>,
+        out: &mut Pull,
+    )
+        requires open { 0 < self.old.body_left }
+        requires goes_on { self.old.is_over ≡ false }
+        ensures answer { is_memory out.new ≡ false → Gives (at_payload id self.old) out.new self.new replies.old.items replies.new.items }
+        ensures memory { is_memory out.new ≡ true → (self.new ≡ self.old) × (replies.new.items ≡ replies.old.items) }
+    {
+        if self.has_too_much() {
+            return self.refuse_message(alloc, id, Malformation::ContentLength, replies, out);
+        }
+        self.pull_bytes(out)
+    }
+
+    // Whether the payload under way is longer than the content may be.
+    fn has_too_much(&self) -> bool
+        ensures { result ≡ is_exceeded self.now.content }
+    {
+        self.content.is_exceeded()
+    }
+
+    // The next bytes of a payload that is not. One that the end cuts short is a fault of the connection (RFC 9114, section 7.1).
+    fn pull_bytes(&mut self, out: &mut Pull)
         requires open { 0 < self.old.body_left }
         requires goes_on { self.old.is_over ≡ false }
         ensures answer { is_memory out.new ≡ false → in_payload self.old ≡ just out.new self.new }

@@ -15,11 +15,11 @@ ghost use Rattle.h3_incoming.specs.Placing.{is_session, promise_code};
 use super::IncomingStream;
 use super::front::{Found, front};
 use crate::answer::{fail, pause, put};
-use crate::replies::reply;
 use bytes::Bytes;
 use h3_connection::event::{Fault, Item, Malformation, Pull};
 use h3_connection::place::Place;
 use h3_connection::setup::Announced;
+use h3_messages::Content;
 use h3_proto::error::Code;
 use h3_proto::frame::SettingsError;
 use h3_proto::stream::{Side, StreamId};
@@ -56,15 +56,17 @@ impl IncomingStream {
             Err(_) => fail(out, Fault::Memory),
             Ok(Found::Unfinished) => self.pull_end(alloc, id, replies, out),
             Ok(Found::Refused(e)) => fail(out, Fault::Connection(refused_code(e))),
-            Ok(Found::Frame(frame)) => match begun_by(side, self.place, frame) {
+            Ok(Found::Frame(frame)) => match begun_by(side, self.place, self.content, frame) {
                 Begun::Section(section) => {
                     self.section = Some(section);
                     self.waits_for = 0;
                     self.pull_section(alloc, side, announced, id, decoder, replies, out)
                 }
                 Begun::Payload(size) => {
+                    let behind = self.content.left_behind(size as u64);
                     self.body_left = size;
-                    self.pull_payload(out)
+                    self.content = behind;
+                    self.pull_payload(alloc, id, replies, out)
                 }
                 Begun::Session(session) => {
                     self.place = Place::InSession;
@@ -100,11 +102,10 @@ impl IncomingStream {
             return;
         }
         if let Place::BeforeHead = self.place {
-            if reply(alloc, id, false, true, replies).is_err() {
-                fail(out, Fault::Memory);
-                return;
-            }
-            return self.fail_message(alloc, Malformation::NoHead, out);
+            return self.refuse_message(alloc, id, Malformation::NoHead, replies, out);
+        }
+        if !self.content.may_end() {
+            return self.refuse_message(alloc, id, Malformation::ContentLength, replies, out);
         }
         self.finish(alloc, out)
     }
@@ -122,13 +123,14 @@ enum Begun {
 }
 
 // What a frame begins at its place (RFC 9114, sections 4.1 and 7.2).
-fn begun_by(side: Side, place: Place, frame: Frame<PayloadLen>) -> Begun
-    ensures is { (own : Announced) (id : ℕ) (r : DecoderState) (i : Incoming) → at_frame side own id r side i place frame ≡ begun_as side own id r i result }
-    ensures begins { IsBegunBy place frame result }
+fn begun_by(side: Side, place: Place, content: Content, frame: Frame<PayloadLen>) -> Begun
+    ensures is { (own : Announced) (id : ℕ) (r : DecoderState) (i : Incoming) → i.content ≡ content → at_frame side own id r side i place frame ≡ begun_as side own id r i result }
+    ensures begins { IsBegunBy place content frame result }
 {
     match frame {
         Frame::Headers(section) => match place {
-            Place::BeforeHead | Place::InBody => Begun::Section(section),
+            Place::BeforeHead => Begun::Section(section),
+            Place::InBody => begun_by_trailer(content, section),
             Place::AfterTrailer | Place::InSession => Begun::Fault(Code::H3_FRAME_UNEXPECTED),
         },
         Frame::Data(len) => match place {
@@ -148,10 +150,23 @@ fn begun_by(side: Side, place: Place, frame: Frame<PayloadLen>) -> Begun
     }
 }
 
+// In a tunnel no trailer may stand (RFC 9114, section 4.4).
+fn begun_by_trailer(content: Content, section: Bytes) -> Begun
+    ensures is { (side : Side) (own : Announced) (id : ℕ) (r : DecoderState) (i : Incoming) → i.content ≡ content
+        → at_frame side own id r side i Place.InBody (Frame.Headers section) ≡ begun_as side own id r i result }
+    ensures begins { IsBegunBy Place.InBody content (Frame.Headers section) result }
+{
+    if content.takes_trailer() {
+        return Begun::Section(section);
+    }
+    drop(section);
+    Begun::Fault(Code::H3_FRAME_UNEXPECTED)
+}
+
 // At a server a session may stand in the place of a message.
 fn begun_by_session(side: Side, place: Place, session: SessionId) -> Begun
     ensures is { (own : Announced) (id : ℕ) (r : DecoderState) (i : Incoming) → at_frame side own id r side i place (Frame.WebTransportStream session) ≡ begun_as side own id r i result }
-    ensures begins { IsBegunBy place (Frame.WebTransportStream session) result }
+    ensures begins { (content : Content) → IsBegunBy place content (Frame.WebTransportStream session) result }
 {
     if let Side::Client = side {
         return Begun::Fault(Code::H3_FRAME_UNEXPECTED);

@@ -4,6 +4,7 @@ ghost use Rattle.h3_incoming.specs.Left.{is_drained};
 
 use super::IncomingStream;
 use h3_connection::place::Place;
+use h3_messages::Content;
 use h3_wire::frame::FrameBuffer;
 use std::alloc::Global;
 
@@ -13,6 +14,13 @@ impl IncomingStream {
         ensures { result ≡ self.now.place }
     {
         self.place
+    }
+
+    /// How much content of its message is left to come, where the endpoint asks for strict messages.
+    pub fn content(&self) -> Content
+        ensures { result ≡ self.now.content }
+    {
+        self.content
     }
 
     /// Whether nothing is left of it: no bytes, no field section and no payload under way. It waits for nothing then. It is told of
@@ -33,6 +41,7 @@ impl IncomingStream {
             unread: FrameBuffer::new(alloc),
             section: None,
             body_left: 0,
+            content: self.content,
             place: self.place,
             waits_for: 0,
             tries: self.tries,

@@ -49,7 +49,7 @@ impl IncomingStream {
             return self.pull_section(alloc, side, announced, id, decoder, replies, out);
         }
         if self.is_in_payload() {
-            return self.pull_payload(out);
+            return self.pull_payload(alloc, id, replies, out);
         }
         self.pull_frame(alloc, side, announced, id, decoder, replies, out)
     }

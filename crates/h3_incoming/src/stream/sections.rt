@@ -1,5 +1,5 @@
 //! The field section that is next.
-ghost use Rattle.std.specs.Prelude.{◌≡◌, ℕ, List, true, false, codes, IfSome, is_some, nat_lt};
+ghost use Rattle.std.specs.Prelude.{◌≡◌, ℕ, List, [], true, false, codes, IfSome, is_some, nat_lt};
 ghost use Rattle.h3_field.specs.Field.{Field};
 ghost use Rattle.h3_qpack.specs.DecoderState.{DecoderState};
 ghost use Rattle.h3_qpack.specs.DecodedSection.{Missing};
@@ -9,7 +9,7 @@ ghost use Rattle.h3_connection.specs.declared.event.Fault.TheVariants.{Stream, C
 ghost use Rattle.h3_connection.specs.Codes.{decompression_failed};
 ghost use Rattle.h3_connection.specs.declared.event.StreamFault.TheVariants.{Malformed};
 ghost use Rattle.h3_connection.specs.Incoming.{given_up};
-ghost use Rattle.h3_connection.specs.Pulling.{is_memory, at_section, decoded, read_section, past_section, acknowledgment, just};
+ghost use Rattle.h3_connection.specs.Pulling.{is_memory, malformed, at_section, decoded, read_section, past_section, acknowledgment, just};
 ghost use Rattle.h3_incoming.specs.Judging.{judged_as};
 ghost use Rattle.h3_incoming.specs.Gives.{Gives};
 
@@ -80,7 +80,7 @@ impl IncomingStream {
         ensures memory { is_memory out.new ≡ true → (self.new ≡ self.old) × (replies.new.items ≡ replies.old.items) }
     {
         let acknowledges = names_entries(&decoded);
-        match judge(alloc, side, announced, self.place, decoded) {
+        match judge(alloc, side, announced, self.place, self.content, decoded) {
             Err(_) => fail(out, Fault::Memory),
             Ok(judged) => self.answer_section(alloc, id, acknowledges, judged, replies, out),
         }
@@ -102,13 +102,14 @@ impl IncomingStream {
         ensures memory { is_memory out.new ≡ true → (self.new ≡ self.old) × (replies.new.items ≡ replies.old.items) }
     {
         match judged {
-            Judged::HandsOut(item, place) => {
+            Judged::HandsOut(item, place, content) => {
                 if reply(alloc, id, acknowledges, false, replies).is_err() {
                     drop(item);
                     fail(out, Fault::Memory);
                     return;
                 }
                 self.place = place;
+                self.content = content;
                 self.pass_section();
                 put(out, Pull::Item(item));
             }
@@ -123,8 +124,27 @@ impl IncomingStream {
         }
     }
 
-    /// The message is malformed: the stream gives no more (RFC 9114, section 4.1.2).
-    pub(super) fn fail_message(&mut self, alloc: Global, why: Malformation, out: &mut Pull)
+    /// The message is malformed. The peer's encoder is told of it first, so that refused memory changes nothing.
+    pub(super) fn refuse_message(
+        &mut self,
+        alloc: Global,
+        id: StreamId,
+        why: Malformation,
+        replies: &mut Vec<u8>,
+        out: &mut Pull,
+    )
+        ensures answer { is_memory out.new ≡ false → Gives (malformed id why self.old []) out.new self.new replies.old.items replies.new.items }
+        ensures memory { is_memory out.new ≡ true → (self.new ≡ self.old) × (replies.new.items ≡ replies.old.items) }
+    {
+        if reply(alloc, id, false, true, replies).is_err() {
+            fail(out, Fault::Memory);
+            return;
+        }
+        self.fail_message(alloc, why, out)
+    }
+
+    // The message is malformed: the stream gives no more (RFC 9114, section 4.1.2).
+    fn fail_message(&mut self, alloc: Global, why: Malformation, out: &mut Pull)
         ensures stream { self.new ≡ given_up self.old (Malformed why) }
         ensures answer { out.new ≡ Pull.Fault (Stream (Malformed why)) }
     {

@@ -114,3 +114,7 @@ returns-clause-interim_head_above_the_own_size c = refl
 pub returns-clause-interim_head_in_a_trailers_place : goal.returns-clause-interim_head_in_a_trailers_place
 unfolding encoding static_field static_name chars encode varint_at split_of bits code_word octets huffman static_table frame_at frame_of known is_token_byte is_utf8 kind_of head_of unhuffman hear listen fields_in decode_section skipped read_peer pull_stream
 returns-clause-interim_head_in_a_trailers_place c = refl
+
+pub returns-clause-content_counted : goal.returns-clause-content_counted
+unfolding encoding static_field static_name chars encode varint_at split_of bits code_word octets huffman static_table frame_at frame_of known is_token_byte is_utf8 kind_of head_of unhuffman hear listen fields_in decode_section skipped read_peer pull_stream
+returns-clause-content_counted c = refl

@@ -2,7 +2,7 @@ use Rattle.std.proofs.Common.{refl, sym, ◌∙◌, subst}
 use Rattle.h3_incoming.specs.Resuming.{Resumes}
 use Rattle.h3_incoming.proofs.FrontLaws.{Reads}
 use Rattle.h3_incoming.proofs.PullLaws.{gives_as, gives_just}
-use Rattle.h3_incoming.proofs.PulledFrame.{pulled_unfinished, pulled_refused, pulled_frame, resumes_before, resumes_behind}
+use Rattle.h3_incoming.proofs.PulledFrame.{pulled_unfinished, pulled_refused, pulled_frame, gives_payload, resumes_before, resumes_behind, resumes_payload}
 use Rattle.h3_incoming.proofs.ResumeLaws.{IsBetween}
 use Rattle.h3_incoming.proofs.stream.IncomingStream.pull_frame.Goals as goal
 
@@ -37,7 +37,7 @@ pub returns-in-Section-clause-answer : goal.returns-in-Section-clause-answer
 returns-in-Section-clause-answer c = λ h.
     let reads : Reads c.args.self.now _ _ _ = record { is = c.self.view_is; body = c.is_in_body-in_body.ensures; rest = c.front.ensures.rest } in
     let finds = rw c.in-Ok-Frame.field-0-is at c.in-Ok-Frame.ensures.finds in
-    gives_as _ _ _ _ _ _ (pulled_frame c.args.side c.args.announced.now c.args.id c.args.decoder.now _ _ _ _ c.in-Ok-Frame.frame _ reads finds (c.in-Section.ensures.is c.args.announced.now c.args.id c.args.decoder.now _)) (c.pull_section.ensures.answer h)
+    gives_as _ _ _ _ _ _ (pulled_frame c.args.side c.args.announced.now c.args.id c.args.decoder.now _ _ _ _ c.in-Ok-Frame.frame _ reads finds (c.in-Section.ensures.is c.args.announced.now c.args.id c.args.decoder.now _ refl)) (c.pull_section.ensures.answer h)
 
 pub returns-in-Section-clause-memory : goal.returns-in-Section-clause-memory
 returns-in-Section-clause-memory c = λ h.
@@ -45,29 +45,31 @@ returns-in-Section-clause-memory c = λ h.
     let reads : Reads c.args.self.now _ _ _ = record { is = c.self.view_is; body = c.is_in_body-in_body.ensures; rest = c.front.ensures.rest } in
     let finds = rw c.in-Ok-Frame.field-0-is at c.in-Ok-Frame.ensures.finds in
     let same = c.pull_section.ensures.memory h in
-    (resumes_behind _ _ _ _ _ _ c.in-Ok-Frame.frame reads between finds (c.in-Section.ensures.begins _) same.0, same.1)
+    (resumes_behind _ _ _ _ _ _ c.in-Ok-Frame.frame reads between finds (c.in-Section.ensures.begins _ refl) same.0, same.1)
 
 pub returns-in-Payload-clause-answer : goal.returns-in-Payload-clause-answer
 returns-in-Payload-clause-answer c = λ h.
     let reads : Reads c.args.self.now _ _ _ = record { is = c.self.view_is; body = c.is_in_body-in_body.ensures; rest = c.front.ensures.rest } in
     let finds = rw c.in-Ok-Frame.field-0-is at c.in-Ok-Frame.ensures.finds in
-    gives_just _ _ _ _ _ (pulled_frame c.args.side c.args.announced.now c.args.id c.args.decoder.now _ _ _ _ c.in-Ok-Frame.frame _ reads finds (c.in-Payload.ensures.is c.args.announced.now c.args.id c.args.decoder.now _) ∙ c.pull_payload.ensures.answer h) refl
+    gives_payload c.args.side c.args.announced.now c.args.id c.args.decoder.now _ _ _ _ c.in-Ok-Frame.frame c.in-Payload.size c.left_behind-behind.result _ _ _ _ reads finds
+    (c.in-Payload.ensures.is c.args.announced.now c.args.id c.args.decoder.now _ refl) c.left_behind-behind.ensures (c.pull_payload.ensures.answer h)
 
 pub returns-in-Payload-clause-memory : goal.returns-in-Payload-clause-memory
 returns-in-Payload-clause-memory c = λ h.
     let between : IsBetween c.args.self.now = record { no_fault = c.requires.open; goes_on = c.requires.goes_on; message = c.requires.message; none = c.requires.none; closed = c.requires.closed; waits = c.requires.waits } in
     let reads : Reads c.args.self.now _ _ _ = record { is = c.self.view_is; body = c.is_in_body-in_body.ensures; rest = c.front.ensures.rest } in
     let finds = rw c.in-Ok-Frame.field-0-is at c.in-Ok-Frame.ensures.finds in
-    (resumes_behind _ _ _ _ _ _ c.in-Ok-Frame.frame reads between finds (c.in-Payload.ensures.begins.0 _) (c.pull_payload.ensures.memory h), refl)
+    let same = c.pull_payload.ensures.memory h in
+    (resumes_payload _ _ _ _ _ c.in-Ok-Frame.frame c.in-Payload.size c.left_behind-behind.result reads between finds (c.in-Payload.ensures.begins.0 _) c.left_behind-behind.ensures same.0, same.1)
 
 pub returns-in-Session-clause-answer : goal.returns-in-Session-clause-answer
 returns-in-Session-clause-answer c = λ h.
     let reads : Reads c.args.self.now _ _ _ = record { is = c.self.view_is; body = c.is_in_body-in_body.ensures; rest = c.front.ensures.rest } in
     let finds = rw c.in-Ok-Frame.field-0-is at c.in-Ok-Frame.ensures.finds in
-    rw c.put.ensures (gives_just _ _ _ _ _ (pulled_frame c.args.side c.args.announced.now c.args.id c.args.decoder.now _ _ _ _ c.in-Ok-Frame.frame _ reads finds (c.in-Session.ensures.is c.args.announced.now c.args.id c.args.decoder.now _)) refl)
+    rw c.put.ensures (gives_just _ _ _ _ _ (pulled_frame c.args.side c.args.announced.now c.args.id c.args.decoder.now _ _ _ _ c.in-Ok-Frame.frame _ reads finds (c.in-Session.ensures.is c.args.announced.now c.args.id c.args.decoder.now _ refl)) refl)
 
 pub returns-in-Fault-clause-answer : goal.returns-in-Fault-clause-answer
 returns-in-Fault-clause-answer c = λ h.
     let reads : Reads c.args.self.now _ _ _ = record { is = c.self.view_is; body = c.is_in_body-in_body.ensures; rest = c.front.ensures.rest } in
     let finds = rw c.in-Ok-Frame.field-0-is at c.in-Ok-Frame.ensures.finds in
-    rw c.fail-in-Fault.ensures (gives_just _ _ _ _ _ (pulled_frame c.args.side c.args.announced.now c.args.id c.args.decoder.now _ _ _ _ c.in-Ok-Frame.frame _ reads finds (c.in-Fault.ensures.is c.args.announced.now c.args.id c.args.decoder.now _)) refl)
+    rw c.fail-in-Fault.ensures (gives_just _ _ _ _ _ (pulled_frame c.args.side c.args.announced.now c.args.id c.args.decoder.now _ _ _ _ c.in-Ok-Frame.frame _ reads finds (c.in-Fault.ensures.is c.args.announced.now c.args.id c.args.decoder.now _ refl)) refl)

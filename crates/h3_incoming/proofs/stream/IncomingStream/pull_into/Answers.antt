@@ -25,9 +25,9 @@ returns-then-has_section c = record {
 
 pub returns-then-is_in_payload : goal.returns-then-is_in_payload
 returns-then-is_in_payload c = record {
-  answer = λ h. gives_just _ _ _ _ _ (pull_of_payload c.args.side c.args.announced.now c.args.id c.args.decoder.now c.args.self.now (sym c.fault.ensures ∙ c.in_default.is) (sym c.is_over.ensures ∙ c.if-is_over.false)
-      (sym c.is_in_session.ensures ∙ c.if-is_in_session.false) (none_there _ (sym c.has_section.ensures.value ∙ c.if-has_section.false)) (some_left _ (sym c.is_in_payload.ensures ∙ c.if-is_in_payload.true)) ∙ c.pull_payload.ensures.answer h) refl;
-  memory = λ h. (resumes_same _ _ (c.pull_payload.ensures.memory h), refl);
+  answer = λ h. gives_as _ _ _ _ _ _ (pull_of_payload c.args.side c.args.announced.now c.args.id c.args.decoder.now c.args.self.now (sym c.fault.ensures ∙ c.in_default.is) (sym c.is_over.ensures ∙ c.if-is_over.false)
+      (sym c.is_in_session.ensures ∙ c.if-is_in_session.false) (none_there _ (sym c.has_section.ensures.value ∙ c.if-has_section.false)) (some_left _ (sym c.is_in_payload.ensures ∙ c.if-is_in_payload.true))) (c.pull_payload.ensures.answer h);
+  memory = λ h. (resumes_same _ _ (c.pull_payload.ensures.memory h).0, (c.pull_payload.ensures.memory h).1);
 }
 
 pub returns : goal.returns
