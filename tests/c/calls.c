@@ -175,7 +175,8 @@ static void begin(char **words, size_t count) {
     c.strict |= !strcmp(words[i], "strict");
     c.extended_connect |= !strcmp(words[i], "connect");
   }
-  c.count_acknowledgments = 0; /* as Rust's default, which the rows go by */
+  c.count_acknowledgments = 0; /* as Rust's defaults, which the rows go by */
+  c.encoder_table = UINT32_MAX;
   h3_endpoint made = H3_NONE_YET;
   uint32_t n = h3_new(&made, &c, &detail);
   answer(n, detail);

@@ -10,7 +10,7 @@ use Rattle.h3_qpack.specs.SectionEncoding.{sent_section}
 
 -- an encoder that has written nothing
 abbrev pub fresh : ℕ → ℕ → EncoderHistory
-fresh capacity limit = record no_table { capacity = capacity; limit = limit }
+fresh capacity limit = record no_table { announced = capacity; capacity = capacity; limit = limit }
 
 abbrev pub sample : List Field
 sample =
