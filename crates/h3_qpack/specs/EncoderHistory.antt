@@ -14,11 +14,9 @@ pub record UnacknowledgedSection : Type 0 where
   pub references : List ℕ
 
 pub record EncoderHistory : Type 0 where
-  -- the most that its table may have, which is chosen once
+  -- the most that its table may have, chosen once; what the decoder announced, by which counts are encoded (RFC 9204, 4.5.1.1); what it set
   pub most_capacity : ℕ
-  -- the greatest capacity that the decoder announced. Encoded required insert counts go by it (RFC 9204, sections 3.2.3 and 4.5.1.1)
   pub announced : ℕ
-  -- the capacity that it set (RFC 9204, section 4.3.1)
   pub capacity : ℕ
   -- how many sections may be blocked at the decoder
   pub limit : ℕ
@@ -35,11 +33,9 @@ pub record EncoderHistory : Type 0 where
 
 -- an encoder that may not use a table yet, and then as large a one as is announced: a greater capacity than this is not used
 abbrev pub no_table : EncoderHistory
-no_table =
-    record { most_capacity = 2 ^ 30 - 1; announced = 0; capacity = 0; limit = 0; inserted = []; known_received = 0; required_insert_counts = []; tracked = []; canceled = []; counts_acknowledgments = false }
+no_table = record { most_capacity = 2 ^ 30 - 1; announced = 0; capacity = 0; limit = 0; inserted = []; known_received = 0; required_insert_counts = []; tracked = []; canceled = []; counts_acknowledgments = false }
 
--- The decoder announced this capacity, and that so many sections may be blocked: the encoder sets the lesser of the capacity and
--- the most that its table may have (RFC 9204, section 3.2.3).
+-- The decoder announced this: the encoder sets the lesser of the capacity and the most that its table may have (RFC 9204, section 3.2.3).
 abbrev pub using_table : EncoderHistory → ℕ → ℕ → EncoderHistory
 using_table s announced limit = record s { announced = announced; capacity = min s.most_capacity announced; limit = limit }
 

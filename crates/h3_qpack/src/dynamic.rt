@@ -261,8 +261,7 @@ impl DynamicTable {
         ensures { self.new ≡ record self.old { table = with_capacity self.old.table (min self.old.most_capacity announced); announced = announced; limit = limit } }
     {
         self.entries.evicted();
-        self.entries
-            .set_capacity(self.most_capacity.min(announced));
+        self.entries.set_capacity(self.most_capacity.min(announced));
         self.announced = announced;
         self.limit = limit;
     }

@@ -23,15 +23,12 @@ use Rattle.h3_world.specs.Sending.{given_up}
 abbrev pub further : Party → Side → ℕ → ℕ → Party
 further p side id count = record p { own = own_advanced p.own side id count }
 
--- An encoder that learns such limits sets the lesser of the capacity and the most that its table may have, and uses the table from then
--- on (RFC 9204, sections 3.2.3 and 4.3.1).
+-- An encoder that learns such limits sets a capacity, and uses the table from then on (RFC 9204, section 4.3.1).
 abbrev pub having_learned : Party → Limits → Party
 having_learned p limits =
     if has_table p.encoder.most_capacity limits
-    then record {
-      own = record p.own { instructions = p.own.instructions ++ SetCapacity (min p.encoder.most_capacity limits.table) ∷ [] };
-      encoder = using_table p.encoder limits.table limits.blocked;
-    } else p
+    then record { own = record p.own { instructions = p.own.instructions ++ SetCapacity (min p.encoder.most_capacity limits.table) ∷ [] }; encoder = using_table p.encoder limits.table limits.blocked }
+    else p
 
 -- The receiver after own streams of the writer got further, from the old world to the new one: it learns the settings, its
 -- encoder reads the decoder instructions, and its decoder counts the insertions (RFC 9204, section 4.4.3).
