@@ -344,10 +344,10 @@ static void goaway_rows(size_t count) {
   drop();
 }
 
-/* A client announces a table of 2^30 - 1 bytes for which 16 streams may wait, says once that the first insertion came, and nothing of all others:
+/* A client announces a table of 2^30 - 1 bytes for which 100 streams may wait, says once that the first insertion came, and nothing of all others:
  * what the server's encoder keeps, and what each new value of a name costs it behind as many entries as it made. */
 static void peer_table_rows(uint32_t encoder_table, const char *size) {
-  enum { SECTIONS = 40, FIELDS = 4000, NAME = 7, VALUE = 6 };
+  enum { SECTIONS = 130, TIMED = 20, FIELDS = 1000, NAME = 7, VALUE = 6 };
   static h3_field_size sizes[FIELDS + 1] = {{7, 3}};
   static char bytes[10 + FIELDS * (NAME + VALUE) + 1];
   double before, began = 0, taken = 0;
@@ -357,7 +357,7 @@ static void peer_table_rows(uint32_t encoder_table, const char *size) {
   c.encoder_table = encoder_table;
   before = held;
   done("h3_new", 1, h3_new(&ends[SERVER], &c, NULL));
-  done("h3_deliver", 2, h3_deliver(&ends[SERVER], h3_control_id(CLIENT), "\0\4\7\1\xbf\xff\xff\xff\7\20", 10, NULL));
+  done("h3_deliver", 2, h3_deliver(&ends[SERVER], h3_control_id(CLIENT), "\0\4\10\1\xbf\xff\xff\xff\7\x40\x64", 11, NULL));
   for (size_t i = 0; i < SECTIONS; i++) {
     size_t len = 10, fields = i ? FIELDS : 1, n;
     uint64_t id = 4 * i;
@@ -370,9 +370,9 @@ static void peer_table_rows(uint32_t encoder_table, const char *size) {
     done("h3_deliver", id, h3_deliver(&ends[SERVER], id, "\1\10\0\0\xd1\xd7\xc1\x50\1a", 10, NULL));
     done("h3_deliver_end", id, h3_deliver_end(&ends[SERVER], id, NULL));
     pull_to_the_end(SERVER, id);
-    if (i >= 20) began = now();
+    if (i >= SECTIONS - TIMED) began = now();
     done("h3_send_head", id, h3_send_head(&ends[SERVER], id, sizes, fields + 1, bytes, len, NULL));
-    if (i >= 20) taken += now() - began;
+    if (i >= SECTIONS - TIMED) taken += now() - began;
     done("h3_finish", id, h3_finish(&ends[SERVER], id, NULL));
     for (uint64_t from = 0; h3_next_waiting(&ends[SERVER], from, &from) == H3_OK;) {
       done("h3_outgoing", from, h3_outgoing(&ends[SERVER], from, buffer, sizeof buffer, &n, &fin));
@@ -381,7 +381,7 @@ static void peer_table_rows(uint32_t encoder_table, const char *size) {
     if (!i) done("h3_deliver", 10, h3_deliver(&ends[SERVER], h3_decoder_id(CLIENT), "\3\1", 2, NULL));
   }
   row("an encoder whose peer announces all, and tells of nothing", size, (held - before) / 1024, "KB", encoder_table == 4096 ? 64 : 0);
-  row("a new value of a name, behind the entries of that name", size, taken / (20.0 * FIELDS) * 1e9, "ns a field", 0);
+  row("a new value of a name, behind the entries of that name", size, taken / ((double)TIMED * FIELDS) * 1e9, "ns a field", 0);
   h3_free(&ends[SERVER]);
 }
 

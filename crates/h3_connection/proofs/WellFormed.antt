@@ -8,7 +8,6 @@ use Rattle.h3_qpack.specs.DecoderState.{DecoderState}
 use Rattle.h3_qpack.specs.DecodedSection.{DecodedSection, Fields, Missing, BadSection, decode_section}
 use Rattle.h3_header.specs.Head.{Head, has_pseudo}
 use Rattle.h3_header.specs.HeadRead.{HeadRead, IsHead, IsNone, head_of}
-use Rattle.h3_messages.specs.Messages.{violation_of_trailer}
 use Rattle.h3_messages.specs.declared.violation.Violation.{Violation}
 use Rattle.h3_proto.specs.declared.stream.Side.{Side}
 use Rattle.h3_proto.specs.declared.stream.Side.TheVariants.{Client, Server}
@@ -22,10 +21,9 @@ use Rattle.h3_connection.specs.Incoming.{Incoming, is_body}
 use Rattle.h3_connection.specs.Skipping.{skipped}
 use Rattle.h3_connection.specs.StrictMessages.{broken_rule, malformation_by, violation_at}
 use Rattle.h3_connection.specs.StrictPulls.{IsWellFormed, IsWellFormedHead, IsWellFormedTrailer, PullsWellFormed}
-use Rattle.h3_connection.specs.Pulling.{Pulled, just, connection_fault, unless_broken, whole_head, whole_trailer, head_or_trailer, judged, read_section, decoded, at_section, new_section, at_end, at_frame, framed, next_frame, in_message, next_item, pull_stream, in_payload, body_of, raw_of, tried, begun_section, begun_payload, left_with, is_for, is_client, is_interim, told_size}
+use Rattle.h3_connection.specs.Pulling.{Pulled, just, connection_fault, unless_broken, whole_head, whole_trailer, head_or_trailer, judged, read_section, decoded, at_section, at_end, at_frame, framed, next_frame, in_message, next_item, pull_stream, in_payload, body_of, raw_of, begun_section, begun_payload, left_with, is_for, is_client, is_interim, told_size}
 use Rattle.h3_connection.specs.declared.setup.Announced.{Announced}
 use Rattle.h3_connection.specs.declared.event.Malformation.{Malformation}
-use Rattle.h3_connection.specs.declared.event.Pull.{Pull}
 use Rattle.h3_connection.specs.declared.event.Pull.TheVariants as pull
 use Rattle.h3_connection.specs.declared.event.StreamFault.{StreamFault}
 use Rattle.h3_connection.specs.declared.event.Fault.TheVariants as fault

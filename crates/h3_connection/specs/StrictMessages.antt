@@ -1,6 +1,6 @@
 -- Which rule of well-formed messages a field list breaks at an endpoint that asks for them (RFC 9114, sections 4.1.2 and 4.2 to 4.5). One that
 -- does not asks for none.
-use Rattle.std.specs.Prelude.{Bool, List, if◌then◌else◌, option_map, Option, None}
+use Rattle.std.specs.Prelude.{List, if◌then◌else◌, option_map, Option, None}
 use Rattle.h3_field.specs.Field.{Field}
 use Rattle.h3_messages.specs.Messages.{violation_of_request, violation_of_response, violation_of_trailer}
 use Rattle.h3_messages.specs.declared.violation.Violation.{Violation}
