@@ -344,6 +344,47 @@ static void goaway_rows(size_t count) {
   drop();
 }
 
+/* A client announces a table of 2^30 - 1 bytes for which 100 streams may wait, says once that the first insertion came, and nothing of all others:
+ * what the server's encoder keeps, and what each new value of a name costs it behind as many entries as it made. */
+static void peer_table_rows(uint32_t encoder_table, const char *size) {
+  enum { SECTIONS = 130, TIMED = 20, FIELDS = 1000, NAME = 7, VALUE = 6 };
+  static h3_field_size sizes[FIELDS + 1] = {{7, 3}};
+  static char bytes[10 + FIELDS * (NAME + VALUE) + 1];
+  double before, began = 0, taken = 0;
+  h3_config c;
+  h3_config_default(&c);
+  c.server = 1;
+  c.encoder_table = encoder_table;
+  before = held;
+  done("h3_new", 1, h3_new(&ends[SERVER], &c, NULL));
+  done("h3_deliver", 2, h3_deliver(&ends[SERVER], h3_control_id(CLIENT), "\0\4\10\1\xbf\xff\xff\xff\7\x40\x64", 11, NULL));
+  for (size_t i = 0; i < SECTIONS; i++) {
+    size_t len = 10, fields = i ? FIELDS : 1, n;
+    uint64_t id = 4 * i;
+    uint32_t fin;
+    memcpy(bytes, ":status200", len);
+    for (size_t j = 1; j <= fields; j++, len += NAME + VALUE) {
+      sizes[j] = (h3_field_size){NAME, VALUE};
+      snprintf(bytes + len, NAME + VALUE + 1, "x-trace%06zu", (i * FIELDS + j) % 1000000);
+    }
+    done("h3_deliver", id, h3_deliver(&ends[SERVER], id, "\1\10\0\0\xd1\xd7\xc1\x50\1a", 10, NULL));
+    done("h3_deliver_end", id, h3_deliver_end(&ends[SERVER], id, NULL));
+    pull_to_the_end(SERVER, id);
+    if (i >= SECTIONS - TIMED) began = now();
+    done("h3_send_head", id, h3_send_head(&ends[SERVER], id, sizes, fields + 1, bytes, len, NULL));
+    if (i >= SECTIONS - TIMED) taken += now() - began;
+    done("h3_finish", id, h3_finish(&ends[SERVER], id, NULL));
+    for (uint64_t from = 0; h3_next_waiting(&ends[SERVER], from, &from) == H3_OK;) {
+      done("h3_outgoing", from, h3_outgoing(&ends[SERVER], from, buffer, sizeof buffer, &n, &fin));
+      done("h3_advance", from, h3_advance(&ends[SERVER], from, n));
+    }
+    if (!i) done("h3_deliver", 10, h3_deliver(&ends[SERVER], h3_decoder_id(CLIENT), "\3\1", 2, NULL));
+  }
+  row("an encoder whose peer announces all, and tells of nothing", size, (held - before) / 1024, "KB", encoder_table == 4096 ? 64 : 0);
+  row("a new value of a name, behind the entries of that name", size, taken / ((double)TIMED * FIELDS) * 1e9, "ns a field", 0);
+  h3_free(&ends[SERVER]);
+}
+
 int main(int argc, char **argv) {
   size_t count = argc > 1 ? (size_t)strtoull(argv[1], NULL, 10) : 100000;
   if (count < 2000) {
@@ -360,6 +401,8 @@ int main(int argc, char **argv) {
   backlog_rows();
   released_rows();
   goaway_rows(100000);
+  peer_table_rows(4096, "4096 at most");
+  peer_table_rows(UINT32_MAX, "all of it");
   printf("\n%d rows above what is wanted\n", below);
   return below > 0;
 }

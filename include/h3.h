@@ -244,10 +244,14 @@ typedef struct {
   uint32_t count_acknowledgments;     /* whether an acknowledgment tells the own encoder of insertions (RFC 9204, section 2.1.4): many decoders
                                        * tell of most by nothing else, and without it the encoder soon inserts no more. An increment that is
                                        * 0 or past what was inserted (section 4.4.3) then closes the connection, with code 0x202 */
+  uint32_t encoder_table;             /* the most bytes that the dynamic table of the own encoder has, however many the peer announces: the
+                                       * lesser of both is set and used (RFC 9204, section 3.2.3). 0: it uses none, and writes nothing on its
+                                       * stream. What the peer asks to be kept is at most this; 2^30 - 1 and more: all that it announces */
 } h3_config;
 
 /* A client whose limits are fit for a peer that is not trusted: it takes field sections of at most 65,536 bytes, and has a dynamic table of 4,096
- * bytes, for which 16 streams may wait. It counts acknowledgments. All else is 0. SECURITY.md says what each limit bounds. */
+ * bytes, for which 16 streams may wait. It counts acknowledgments, and the table of its own encoder has at most 4,096 bytes. All else is 0.
+ * SECURITY.md says what each limit bounds. */
 static inline void h3_config_default(h3_config *config);
 
 /* Makes an endpoint in *endpoint, which is overwritten: what it held before is not freed. Its control stream begins with the settings.

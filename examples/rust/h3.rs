@@ -36,6 +36,8 @@ pub struct Config {
     pub strict: u32,
     /// 1: an acknowledgment tells the encoder of insertions (RFC 9204, section 2.1.4).
     pub count_acknowledgments: u32,
+    /// The most bytes that the dynamic table of the own encoder has (RFC 9204, section 3.2.3).
+    pub encoder_table: u32,
 }
 
 impl Config {
@@ -55,6 +57,7 @@ impl Config {
             datagram: 0,
             strict: 0,
             count_acknowledgments: 0,
+            encoder_table: 0,
         };
         // SAFETY: it writes the numbers of the config, and nothing else.
         unsafe { h3_raw_config_default(&mut config) };

@@ -369,6 +369,30 @@ static void of_increments(void) {
   }
 }
 
+/* the lesser of what the peer announces, 4,096 bytes, and of what is given is set, and nothing where that is 0 */
+static void of_encoder_tables(void) {
+  static const struct {
+    uint32_t most;
+    const char *wrote;
+    size_t len;
+  } of[] = {{0, "\2", 1}, {1, "\2\41", 2}, {64, "\2\x3f\x21", 3}, {4096, "\2\x3f\xe1\x1f", 4}, {UINT32_MAX, "\2\x3f\xe1\x1f", 4}};
+  for (size_t i = 0; i < sizeof of / sizeof *of; i++) {
+    h3_endpoint e = H3_NONE_YET;
+    h3_config c;
+    uint8_t bytes[8];
+    size_t n = 0;
+    uint32_t fin;
+    h3_config_default(&c);
+    HOLDS(c.encoder_table == 4096);
+    c.encoder_table = of[i].most;
+    IS(h3_new(&e, &c, NULL), H3_OK);
+    IS(h3_deliver(&e, 3, "\0\4\5\1\x50\0\7\20", 8, NULL), H3_OK);
+    IS(h3_outgoing(&e, h3_encoder_id(0), bytes, sizeof bytes, &n, &fin), H3_OK);
+    HOLDS(n == of[i].len && !memcmp(bytes, of[i].wrote, n));
+    h3_free(&e);
+  }
+}
+
 int main(void) {
   h3_endpoint e = H3_NONE_YET;
   h3_config c;
@@ -388,6 +412,7 @@ int main(void) {
   of_items();
   of_waiting();
   of_increments();
+  of_encoder_tables();
   if (!bad) puts("ok arguments: wrong arguments of every kind are answered, and nothing is done");
   return bad;
 }

@@ -167,6 +167,8 @@ static void begin(char **words, size_t count) {
   h3_config c;
   uint64_t detail;
   h3_config_default(&c);
+  c.count_acknowledgments = 0; /* as Rust's defaults, which the rows go by */
+  c.encoder_table = UINT32_MAX;
   c.server = words[1][0] == 's';
   c.max_field_section_size = strtoull(words[2], NULL, 10);
   c.table = strtoull(words[3], NULL, 10);
@@ -174,8 +176,9 @@ static void begin(char **words, size_t count) {
   for (size_t i = 5; i < count; i++) {
     c.strict |= !strcmp(words[i], "strict");
     c.extended_connect |= !strcmp(words[i], "connect");
+    c.count_acknowledgments |= !strcmp(words[i], "counted");
+    if (!strcmp(words[i], "small")) c.encoder_table = 40;
   }
-  c.count_acknowledgments = 0; /* as Rust's default, which the rows go by */
   h3_endpoint made = H3_NONE_YET;
   uint32_t n = h3_new(&made, &c, &detail);
   answer(n, detail);

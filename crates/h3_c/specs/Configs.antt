@@ -17,7 +17,7 @@ use Rattle.h3_c.specs.Numbers.{ok, new_told}
 use Rattle.h3_c.specs.Seen.{Seen}
 
 -- `h3_config_default`: a client, whose numbers bound what a stranger can make it hold: a field section of 64 KiB, and a table of 4,096 bytes for
--- which 16 streams may wait
+-- which 16 streams may wait. The own encoder's table has as much at most
 abbrev pub default_config : GivenConfig
 default_config =
     record {
@@ -33,6 +33,7 @@ default_config =
       datagram = 0;
       strict = 0;
       count_acknowledgments = 1;
+      encoder_table = 4096;
     }
 
 -- a number other than 0 means yes
@@ -53,7 +54,7 @@ config_of given =
         enable_datagram = is_on given.datagram;
         max_webtransport_sessions = given.max_webtransport_sessions;
       };
-      choices = record { strict_messages = is_on given.strict; acknowledgments_counted = is_on given.count_acknowledgments };
+      choices = record { strict_messages = is_on given.strict; acknowledgments_counted = is_on given.count_acknowledgments; encoder_table = given.encoder_table };
     }
 
 abbrev pub limits_of : GivenConfig → Limits

@@ -25,6 +25,7 @@ pub struct GivenConfig {
     pub datagram: u32,
     pub strict: u32,
     pub count_acknowledgments: u32,
+    pub encoder_table: u32,
 }
 
 impl Default for GivenConfig {
@@ -44,6 +45,7 @@ impl Default for GivenConfig {
             datagram: 0,
             strict: 0,
             count_acknowledgments: 1,
+            encoder_table: 4096,
         }
     }
 }
@@ -70,6 +72,7 @@ fn config_of(given: &GivenConfig) -> Config
         .with_max_webtransport_sessions(given.max_webtransport_sessions)
         .with_strict_messages(given.strict != 0)
         .with_acknowledgments_counted(given.count_acknowledgments != 0)
+        .with_encoder_table(u64::from(given.encoder_table))
 }
 
 /// The endpoint that is asked for.

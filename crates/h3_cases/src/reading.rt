@@ -77,6 +77,8 @@ fn config(told: &mut Told, section: u64, choices: &[&str]) -> Config {
         config = match *choice {
             "strict" => config.with_strict_messages(true),
             "connect" => config.with_extended_connect(true),
+            "counted" => config.with_acknowledgments_counted(true),
+            "small" => config.with_encoder_table(40),
             _ => {
                 told.unreadable();
                 config

@@ -1,6 +1,6 @@
 -- Over whole lists of calls: once a pull of a stream answered the end, every later pull of it does.
 use Rattle.std.proofs.Common.{◌≡◌, ℕ, Bool, true, false, if◌then◌else◌, List, [], ◌∷◌, refl, sym, ◌∙◌, ap, subst, Option, Some, None}
-use Rattle.std.specs.Prelude.{◌==◌, unwrap_or}
+use Rattle.std.specs.Prelude.{unwrap_or}
 use Rattle.h3_proto.specs.declared.stream.Side.{Side}
 use Rattle.h3_connection.specs.declared.event.Refusal.{Refusal}
 use Rattle.h3_connection.specs.declared.event.Pull.{Pull}
@@ -8,11 +8,11 @@ use Rattle.h3_connection.specs.declared.event.Pull.TheVariants as answer
 use Rattle.h3_connection.specs.declared.event.Item.TheVariants as item
 use Rattle.h3_connection.specs.declared.setup.Announced.{Announced}
 use Rattle.h3_connection.specs.Bounds.{IsBounded}
-use Rattle.h3_connection.specs.CallLists.{Call, Result, called, done, was_pulled, endpoint_after}
+use Rattle.h3_connection.specs.CallLists.{Call, called, done, was_pulled, endpoint_after}
 use Rattle.h3_connection.specs.CallLists.Call.{OpenRequest, SendHead, SendBody, SendTrailer, Finish, Reset, Goaway, Advance, Outgoing, Deliver, DeliverEnd, DeliverReset, PullStream, Cancel, Show}
 use Rattle.h3_connection.specs.CallLists.Result.{Done}
 use Rattle.h3_connection.specs.Control.{Found}
-use Rattle.h3_connection.specs.Delivering.{unidirectional_at, with_unidirectional, taken, closed_by, closing, delivery_refusal, read_unidirectional, bytes_at, end_at, reset_at}
+use Rattle.h3_connection.specs.Delivering.{unidirectional_at, with_unidirectional, taken, closing, delivery_refusal, read_unidirectional, bytes_at, end_at, reset_at}
 use Rattle.h3_connection.specs.Endpoint.{EndpointHistory, Kind, kind_of, new_endpoint}
 use Rattle.h3_connection.specs.Endpoint.Kind.{Request, ServerOpened, OwnUnidirectional, PeerUnidirectional}
 use Rattle.h3_connection.specs.HandedOut.{RequestIsOver, EndsSoundly}
@@ -21,15 +21,15 @@ use Rattle.h3_connection.specs.Isolation.{FindsNoFault}
 use Rattle.h3_connection.specs.Pulling.{is_client}
 use Rattle.h3_connection.specs.Sending.{pull, pull_at, pull_unless, pull_request, pull_peer, pulled_unidirectional}
 use Rattle.h3_connection.specs.StreamSets.{stream_at}
-use Rattle.h3_connection.specs.Unidirectional.{Unidirectional, Role, untold, is_critical, role_after, with_bytes, raw, pull_session, if_over, pull_unidirectional}
+use Rattle.h3_connection.specs.Unidirectional.{Unidirectional, Role, untold, role_after, with_bytes, raw, pull_session, if_over, pull_unidirectional}
 use Rattle.h3_connection.specs.Unidirectional.Role.{Untold, Control, Encoder, Decoder, Session, Push, Ignored}
 use Rattle.h3_connection.specs.UnknownStreams.{is_on}
 use Rattle.h3_connection.proofs.AlikePieces.{was_end, open_pull, told_is}
 use Rattle.h3_connection.proofs.Bounded.{calls_on, call_on, new_on}
 use Rattle.h3_connection.proofs.EndStays.{over_after, pulls_end, begins_over}
-use Rattle.h3_connection.proofs.EndedWell.{KnownOf, EndsSo, Below, known_from_new}
+use Rattle.h3_connection.proofs.EndedWell.{KnownOf, known_from_new}
 use Rattle.h3_connection.proofs.SameSetups.{same_setup}
-use Rattle.h3_connection.proofs.Seen.{at_same, eq_refl}
+use Rattle.h3_connection.proofs.Seen.{at_same}
 use Rattle.h3_connection.proofs.SeenEncoder.{to_eq}
 use Rattle.h3_connection.proofs.UnknownStreams.{other_call}
 

@@ -3,7 +3,6 @@ use Rattle.std.proofs.Common.{arith, ◌≡◌, ◌≤◌, ◌<◌, ℕ, ◌+◌
 use Rattle.std.specs.Prelude.{◌==◌, is_some, is_none, unwrap_or, not, ◌&&◌}
 use Rattle.h3_proto.specs.declared.stream.Side.{Side}
 use Rattle.h3_proto.specs.declared.stream.Side.TheVariants.{Client, Server}
-use Rattle.h3_header.specs.Head.{Head, head_fields}
 use Rattle.h3_qpack.specs.DecoderState.{DecoderState}
 use Rattle.h3_connection.specs.declared.event.Refusal.{Refusal}
 use Rattle.h3_connection.specs.declared.event.Refusal.TheVariants as refusal
@@ -11,7 +10,6 @@ use Rattle.h3_connection.specs.declared.event.StreamFault.{StreamFault}
 use Rattle.h3_connection.specs.declared.event.StreamFault.TheVariants as stream_fault
 use Rattle.h3_connection.specs.declared.event.Pull.{Pull}
 use Rattle.h3_connection.specs.declared.event.Pull.TheVariants as answer
-use Rattle.h3_connection.specs.declared.event.Item.TheVariants as item
 use Rattle.h3_connection.specs.declared.event.Fault.TheVariants as fault
 use Rattle.h3_connection.specs.declared.setup.Announced.{Announced}
 use Rattle.h3_connection.specs.Bounds.{OfStream}
@@ -19,15 +17,14 @@ use Rattle.h3_connection.specs.CallLists.{Call, Result, called, done, was_pulled
 use Rattle.h3_connection.specs.CallLists.Call.{OpenRequest, SendHead, SendBody, SendTrailer, Finish, Reset, Goaway, Advance, Outgoing, Deliver, DeliverEnd, DeliverReset, PullStream, Cancel, Show}
 use Rattle.h3_connection.specs.CallLists.Result.{Opened, Done}
 use Rattle.h3_connection.specs.Control.{Found}
-use Rattle.h3_connection.specs.Delivering.{opened_at, closed_refusal, request_refusal, taken, delivery_refusal, bytes_at, end_at, reset_at, kept, with_end, given_up_by, given_up_once}
+use Rattle.h3_connection.specs.Delivering.{opened_at, closed_refusal, request_refusal, taken, delivery_refusal, kept, with_end, given_up_by, given_up_once}
 use Rattle.h3_connection.specs.Endpoint.{EndpointHistory, Kind, kind_of, new_endpoint}
 use Rattle.h3_connection.specs.Endpoint.Kind.{Request, ServerOpened, OwnUnidirectional, PeerUnidirectional}
-use Rattle.h3_connection.specs.HandedOut.{IsOver, RequestIsOver, EndsSoundly}
 use Rattle.h3_connection.specs.Incoming.{Incoming, nothing_came}
-use Rattle.h3_connection.specs.Isolation.{Before, GoesOn, FindsNoFault, Sight, IsSight, StepIsSeen, sees, seen, seen_cancel_refusal, with_seen, seen_incoming, unless_refused, seen_pull, seen_encoder_bytes, seen_encoder_closing, first_sight, encoders_in}
+use Rattle.h3_connection.specs.Isolation.{Before, GoesOn, FindsNoFault, Sight, IsSight, StepIsSeen, sees, seen, with_seen, seen_incoming, unless_refused, seen_pull, seen_encoder_bytes, seen_encoder_closing, first_sight, encoders_in}
 use Rattle.h3_connection.specs.Outgoing.{Outgoing as Out}
 use Rattle.h3_connection.specs.Pulling.{Pulled, pull_stream, is_client}
-use Rattle.h3_connection.specs.Sending.{does, open_refusal, first_of, pull, pull_at, pull_unless, pull_request, pull_peer, pulled, within_limit, after_answer, advance_at, sent_bytes, counted}
+use Rattle.h3_connection.specs.Sending.{does, open_refusal, pull_at, pull_unless, pull_request, pull_peer, within_limit, after_answer, advance_at, sent_bytes, counted}
 use Rattle.h3_connection.specs.StreamSets.{stream_at}
 use Rattle.h3_connection.specs.Unidirectional.{Unidirectional}
 use Rattle.h3_connection.proofs.Brought.{goes_from_new, encoders_are_peers}

@@ -1,7 +1,6 @@
 -- A unidirectional stream of unknown type changes the answers of no other calls.
-use Rattle.std.proofs.Common.{◌≡◌, ℕ, Bool, true, false, if◌then◌else◌, List, [], ◌∷◌, ◌++◌, length, refl, ap, sym, ◌∙◌, subst, append-nil, Option, Some, None}
+use Rattle.std.proofs.Common.{◌≡◌, ℕ, Bool, true, false, if◌then◌else◌, List, [], ◌∷◌, ◌++◌, refl, ap, sym, ◌∙◌, subst, Option, Some, None}
 use Rattle.std.specs.Prelude.{◌==◌, is_some, unwrap_or}
-use Rattle.h3_header.specs.Head.{Head, head_fields}
 use Rattle.h3_connection.specs.declared.event.Refusal.{Refusal}
 use Rattle.h3_connection.specs.declared.event.Refusal.TheVariants as refusal
 use Rattle.h3_connection.specs.declared.event.Pull.{Pull}
@@ -14,23 +13,21 @@ use Rattle.h3_connection.specs.CallCuts.{with_streams}
 use Rattle.h3_connection.specs.CallLists.{Call, Result, called, answers, done, was_pulled}
 use Rattle.h3_connection.specs.CallLists.Call.{OpenRequest, SendHead, SendBody, SendTrailer, Finish, Reset, Goaway, Advance, Outgoing, Deliver, DeliverEnd, DeliverReset, PullStream, Cancel, Show}
 use Rattle.h3_connection.specs.CallLists.Result.{Opened, Done, Refused}
-use Rattle.h3_connection.specs.CallLists.Result.{Pulled as WasPulled}
 use Rattle.h3_connection.specs.Control.{Found, read_control, read_encoder, read_decoder}
-use Rattle.h3_connection.specs.Delivering.{closed_refusal, refusal_at, delivery_refusal, opened_at, opened, incoming_at, unidirectional_at, with_incoming, with_unidirectional, taken, closed_by, unless_second, heard_as, read_unidirectional, kept, with_end, bytes_at, closing, end_at, given_up_once, give_up, reset_at, deliver, deliver_end, deliver_reset}
+use Rattle.h3_connection.specs.Delivering.{closed_refusal, refusal_at, delivery_refusal, opened_at, incoming_at, unidirectional_at, with_incoming, with_unidirectional, taken, closed_by, unless_second, heard_as, read_unidirectional, kept, with_end, bytes_at, closing, end_at, give_up, reset_at}
 use Rattle.h3_connection.specs.Endpoint.{EndpointHistory, Kind, kind_of, new_endpoint, is_second, replied}
 use Rattle.h3_connection.specs.Endpoint.Kind.{Request, ServerOpened, OwnUnidirectional, PeerUnidirectional}
 use Rattle.h3_connection.specs.Incoming.{Incoming}
 use Rattle.h3_connection.specs.Isolation.{brought_by, brought_on}
 use Rattle.h3_connection.specs.Outgoing.{Outgoing as Out}
-use Rattle.h3_connection.specs.Pulling.{Pulled, pull_stream}
-use Rattle.h3_connection.specs.Sending.{does, open_refusal, head_refusal, body_refusal, trailer_refusal, finish_refusal, reset_refusal, goaway_refusal, cancel_refusal, sent_bytes, counted, advance_at, after_answer, within_limit, pulled, pull_request, pulled_unidirectional, pull_peer, pull_at, pull_unless, pull}
+use Rattle.h3_connection.specs.Pulling.{pull_stream}
+use Rattle.h3_connection.specs.Sending.{does, open_refusal, head_refusal, body_refusal, trailer_refusal, finish_refusal, reset_refusal, goaway_refusal, cancel_refusal, advance_at, after_answer, within_limit, pull_request, pulled_unidirectional, pull_peer, pull_at, pull_unless}
 use Rattle.h3_connection.specs.StreamSets.{Streams, stream_at, set_stream}
 use Rattle.h3_connection.specs.Unidirectional.{Unidirectional, Role, untold, is_closed, is_critical, role_after, with_bytes, pull_unidirectional}
 use Rattle.h3_connection.specs.Unidirectional.Role.{Untold, Control, Encoder, Decoder, Session, Push, Ignored}
 use Rattle.h3_connection.specs.UnknownStreams.{IsUnread, is_on, without_stream, answers_without}
 use Rattle.h3_connection.proofs.AlikeReading.{control_with, decoder_with}
-use Rattle.h3_connection.proofs.ReadingCuts.{read_if}
-use Rattle.h3_connection.proofs.RoleCuts.{then_role, role_cut}
+use Rattle.h3_connection.proofs.RoleCuts.{role_cut}
 use Rattle.h3_connection.proofs.Closed.{stays}
 use Rattle.h3_connection.proofs.SameSetups.{same_setup}
 use Rattle.h3_connection.proofs.Seen.{at_same, at_other, eq_refl}

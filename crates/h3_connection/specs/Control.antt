@@ -1,11 +1,12 @@
 -- What the control, encoder and decoder streams of any peer do. Each reading gives the endpoint after it, and the code of a
 -- connection fault where there is one.
-use Rattle.std.specs.Prelude.{ℕ, ◌^◌, Bool, ◌&&◌, List, [], ◌∷◌, ◌++◌, if◌then◌else◌, ◌==◌, nat_lt, Option, Some, None, unwrap_or, is_some}
+use Rattle.std.specs.Prelude.{ℕ, ◌^◌, Bool, ◌&&◌, List, [], ◌∷◌, ◌++◌, if◌then◌else◌, ◌==◌, nat_lt, min, Option, Some, None, unwrap_or, is_some}
 use Rattle.h3_field.specs.Instruction.{DecoderInstruction}
 use Rattle.h3_field.specs.Instruction.DecoderInstruction.{Increment}
 use Rattle.h3_field.specs.Instruction.EncoderInstruction.{SetCapacity}
 use Rattle.h3_proto.specs.Settings.{value_of}
 use Rattle.h3_connection.specs.Codes.{encoder_stream_error, decoder_stream_error}
+use Rattle.h3_qpack.specs.EncoderHistory.{using_table}
 use Rattle.h3_qpack.specs.Hearing.{Listened, listen}
 use Rattle.h3_connection.specs.Listeners.{fault_if, heard_more, after_hearing, insertions_heard}
 use Rattle.h3_connection.specs.PeerReading.{PeerFound, with_unread, read_peer}
@@ -33,15 +34,16 @@ read_decoder e bytes =
     if is_some e.peer.settings then listened_to e (listen e.encoder (e.decoder_unread ++ bytes))
     else (record e { decoder_unread = e.decoder_unread ++ bytes }, None)
 
--- the table may be used with these limits (RFC 9204, section 3.2.3)
-abbrev pub is_usable : ℕ → ℕ → Bool
-is_usable capacity blocked = nat_lt 0 capacity && nat_lt capacity (2 ^ 30) && nat_lt blocked (2 ^ 16)
+-- the table may be used with these limits, where it has at most so much (RFC 9204, section 3.2.3)
+abbrev pub is_usable : ℕ → ℕ → ℕ → Bool
+is_usable most capacity blocked = nat_lt 0 (min most capacity) && nat_lt capacity (2 ^ 30) && nat_lt blocked (2 ^ 16)
 
+-- it is used, and its capacity written
 abbrev pub with_table : EndpointHistory → ℕ → ℕ → EndpointHistory
 with_table e capacity blocked =
     record e {
-      encoder = record e.encoder { capacity = capacity; limit = blocked };
-      own = record e.own { instructions = e.own.instructions ++ SetCapacity capacity ∷ [] };
+      encoder = using_table e.encoder capacity blocked;
+      own = record e.own { instructions = e.own.instructions ++ SetCapacity (min e.encoder.most_capacity capacity) ∷ [] };
     }
 
 -- the endpoint knows its peer's settings, and uses the table where these allow it
@@ -49,7 +51,7 @@ abbrev pub learned : EndpointHistory → List (ℕ × ℕ) → EndpointHistory
 learned e pairs =
     let capacity = unwrap_or (value_of 1 pairs) 0 in
     let blocked = unwrap_or (value_of 7 pairs) 0 in
-    if is_usable capacity blocked then with_table e capacity blocked else e
+    if is_usable e.encoder.most_capacity capacity blocked then with_table e capacity blocked else e
 
 -- what settings that came now do. What the peer's decoder said before is read once they came
 abbrev pub if_learned : Option (List (ℕ × ℕ)) → Option (List (ℕ × ℕ)) → EndpointHistory → EndpointHistory

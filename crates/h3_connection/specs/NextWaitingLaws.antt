@@ -1,5 +1,5 @@
 -- The least number that passes a test, when the test is written in other words or is that of two.
-use Rattle.std.specs.Prelude.{◌≡◌, ◌≤◌, ◌<◌, ◌||◌, ℕ, Bool, Option, Some, None}
+use Rattle.std.specs.Prelude.{◌≡◌, ℕ, Bool, Option, Some, None}
 use Rattle.std.proofs.Common.{◌∙◌}
 use Rattle.h3_connection.specs.NextWaiting.{IsLeast}
 

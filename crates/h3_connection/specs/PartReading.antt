@@ -10,7 +10,7 @@ use Rattle.h3_connection.specs.Endpoint.{EndpointHistory, replied, is_second, ki
 use Rattle.h3_connection.specs.Endpoint.Kind.{PeerUnidirectional}
 use Rattle.h3_qpack.specs.Hearing.{hear, listen}
 use Rattle.h3_connection.specs.Incoming.{Incoming}
-use Rattle.h3_connection.specs.Keeping.{read_arrival, keeping, unkept}
+use Rattle.h3_connection.specs.Keeping.{read_arrival, keeping}
 use Rattle.h3_connection.specs.Listeners.{Decoding}
 use Rattle.h3_connection.specs.PeerReading.{Peer, with_unread, read_peer}
 use Rattle.h3_connection.specs.Pulling.{pull_stream}

@@ -1,5 +1,5 @@
 -- What a pull of one request stream answers: by that stream's receiver and the table alone.
-use Rattle.std.specs.Prelude.{ℕ, ◌+◌, ◌-◌, ◌^◌, Bool, true, false, not, ◌&&◌, List, [], ◌∷◌, ◌++◌, length, min, slice_index, codes, bytes_eq, if◌then◌else◌, ◌==◌, nat_lt, nat_le, Option, Some, None}
+use Rattle.std.specs.Prelude.{ℕ, ◌+◌, ◌-◌, Bool, true, false, not, ◌&&◌, List, [], ◌∷◌, ◌++◌, length, slice_index, codes, if◌then◌else◌, ◌==◌, nat_lt, nat_le, Option, Some, None}
 use Rattle.std.specs.List.{concat, list_all}
 use Rattle.h3_field.specs.Field.{Field}
 use Rattle.h3_field.specs.Instruction.{DecoderInstruction}

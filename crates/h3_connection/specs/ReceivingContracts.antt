@@ -1,6 +1,6 @@
 -- What each call that receives promises: for every history that is stored, the exact answer, what stands after it, and what is
 -- left where memory was refused.
-use Rattle.std.specs.Prelude.{◌≡◌, ◌≢◌, ◌⊎◌, ℕ, true, false, List, [], ◌∷◌, ◌++◌, Option, Some, None, Result, Ok, Err}
+use Rattle.std.specs.Prelude.{◌≡◌, ◌≢◌, ◌⊎◌, ℕ, true, false, List, [], ◌∷◌, ◌++◌, None, Result, Err}
 use Rattle.h3_connection.specs.Answers.{delivery_refused, lacks_memory}
 use Rattle.h3_connection.specs.Arrivals.{Arrival, BytesCame, EndCame, ResetCame, stream_of}
 use Rattle.h3_connection.specs.Calls.{IsSame}

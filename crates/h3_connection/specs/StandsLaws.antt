@@ -1,17 +1,17 @@
 -- What is stored stands for the endpoint's history, when one part of both changes.
-use Rattle.std.proofs.Common.{◌≡◌, ℕ, List, Option, Some, None, refl, ap, sym, subst, ◌∙◌, inl, inr}
-use Rattle.std.specs.Prelude.{◌≢◌, ◌⊎◌, true, option_map, unwrap_or, IsSome, IfSome, All}
+use Rattle.std.proofs.Common.{◌≡◌, ℕ, Option, Some, None, refl, ap, sym, subst, ◌∙◌, inl, inr}
+use Rattle.std.specs.Prelude.{◌≢◌, ◌⊎◌, true, option_map, unwrap_or, IsSome, IfSome}
 use Rattle.std.proofs.lemmas.Bool.{cases_eq}
 use Rattle.std.proofs.lemmas.List.Elements.{All-weaker}
 use Rattle.h3_proto.specs.declared.stream.Side.{Side}
-use Rattle.h3_connection.specs.Arrivals.{Arrival, stream_of}
-use Rattle.h3_connection.specs.Calls.{Sets, AllSame}
+use Rattle.h3_connection.specs.Arrivals.{stream_of}
+use Rattle.h3_connection.specs.Calls.{Sets}
 use Rattle.h3_connection.specs.Delivering.{with_incoming, with_unidirectional, unidirectional_at}
 use Rattle.h3_connection.specs.Endpoint.{EndpointHistory}
 use Rattle.h3_connection.specs.Incoming.{Incoming}
 use Rattle.h3_connection.specs.Outgoing.{Outgoing}
 use Rattle.h3_connection.specs.Sending.{with_outgoing}
-use Rattle.h3_connection.specs.State.{EndpointState, RequestState, OwnState, StandsFor, OwnStands, TakesWhatIsThere, IsOfOutgoing, IsReached, IsToldPeer, KeepsOpen, SameAt, kept_at}
+use Rattle.h3_connection.specs.State.{EndpointState, RequestState, OwnState, StandsFor, OwnStands, IsOfOutgoing, IsReached, IsToldPeer, KeepsOpen, SameAt, kept_at}
 use Rattle.h3_connection.specs.StreamSets.{Streams, stream_at, set_stream}
 use Rattle.h3_connection.specs.StreamSetLaws.{other_id, set-here, set-other, set-distinct}
 use Rattle.h3_connection.specs.Unidirectional.{Unidirectional, untold, is_critical}

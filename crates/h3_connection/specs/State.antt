@@ -1,9 +1,8 @@
 -- What an endpoint stores, and which histories that stands for.
-use Rattle.std.specs.Prelude.{if◌then◌else◌, ◌≡◌, ℕ, ◌+◌, Bool, List, [], length, Option, Some, None, option_map, ◌≤◌, flat_map, ◌++◌, true, false, unwrap_or, All, IsSome, IfSome}
+use Rattle.std.specs.Prelude.{if◌then◌else◌, ◌≡◌, ℕ, Bool, List, [], length, Option, Some, None, option_map, ◌≤◌, flat_map, ◌++◌, true, false, unwrap_or, All, IsSome, IfSome}
 use Rattle.h3_coding.specs.Encodings.{encoding}
 use Rattle.h3_wire.specs.StreamHeaders.{control_encoding}
 use Rattle.h3_field.specs.Instruction.{encoder_bytes, decoder_bytes}
-use Rattle.std.specs.List.{concat}
 use Rattle.std.specs.Map.{lookup}
 use Rattle.std.specs.BTreeMap.{is_at}
 use Rattle.std.specs.Ordering.{nat_cmp}
@@ -13,7 +12,7 @@ use Rattle.h3_connection.specs.Incoming.{Incoming}
 use Rattle.h3_connection.specs.Lasts.{last_id}
 use Rattle.h3_connection.specs.Listeners.{Decoding, Encoding}
 use Rattle.h3_connection.specs.Unidirectional.{Unidirectional, untold, is_critical}
-use Rattle.h3_connection.specs.Outgoing.{Outgoing, OwnPart, is_unsent, last_is_trailer, part_bytes, part_bytes_waiting}
+use Rattle.h3_connection.specs.Outgoing.{Outgoing, OwnPart, is_unsent, last_is_trailer, part_bytes}
 use Rattle.h3_connection.specs.WaitingPieces.{pieces_waiting}
 use Rattle.h3_wire.specs.Outgoing.{Outgoing as Piece}
 use Rattle.h3_connection.specs.OwnIds.{control_id, encoder_id, decoder_id}

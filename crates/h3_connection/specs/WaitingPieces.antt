@@ -1,5 +1,5 @@
 -- What waits on a request stream, in pieces: one for each frame that was written and not wholly taken.
-use Rattle.std.specs.Prelude.{ℕ, zero, suc, ◌+◌, ◌-◌, Bool, List, [], ◌∷◌, ◌++◌, length, drop, flat_map, if◌then◌else◌, nat_lt, map}
+use Rattle.std.specs.Prelude.{ℕ, zero, suc, ◌-◌, List, [], ◌∷◌, length, drop, flat_map, if◌then◌else◌, nat_lt, map}
 use Rattle.h3_wire.specs.Encoded.{head_encoding}
 use Rattle.h3_wire.specs.Outgoing.{Outgoing as Piece, all_of, first_part}
 use Rattle.h3_connection.specs.Outgoing.{Outgoing, OwnPart, OwnInterim, OwnHead, OwnBody, OwnTrailer}

@@ -9,7 +9,7 @@ use Rattle.h3_field.specs.Instruction.{EncoderInstruction, DecoderInstruction}
 use Rattle.h3_field.specs.Instruction.EncoderInstruction.{SetCapacity, InsertWithStaticName, InsertWithEntryName, InsertLiteral, Duplicate}
 use Rattle.h3_field.specs.Instruction.DecoderInstruction.{Acknowledge, CancelStream, Increment}
 use Rattle.h3_qpack.specs.DecoderState.{DecoderState, greatest_capacity, insertion_of, inserting, decoder_after, decoder_after_all}
-use Rattle.h3_qpack.specs.EncoderHistory.{EncoderHistory, encoder_after, encoder_after_all, is_refused}
+use Rattle.h3_qpack.specs.EncoderHistory.{EncoderHistory, using_table, encoder_after, encoder_after_all, is_refused}
 use Rattle.h3_qpack.specs.Instructions.{AreAccepted}
 use Rattle.h3_qpack.specs.Schedule.{SessionEvent, SessionStep, SessionRun, beginning}
 use Rattle.h3_qpack.specs.Schedule.SessionEvent.{DecoderInstructionRead}
@@ -42,17 +42,17 @@ not_refused s (Increment count) is e h =
     some_within false count most known some fits = refl
 
 -- each is accepted behind the others
-pub run_accepted : (laws : StreamLaws) (counts : Bool) (events : List SessionEvent) (s : Session) (is : List DecoderInstruction) → SessionRun (beginning counts 0 0) events s → s.decoder_instructions ≡ is → AreAccepted s.encoder is
-run_accepted laws counts events s [] run e = tt
-run_accepted laws counts events s (i ∷ is) run e =
+pub run_accepted : (laws : StreamLaws) (counts : Bool) (most : ℕ) (events : List SessionEvent) (s : Session) (is : List DecoderInstruction) → SessionRun (beginning counts most 0 0) events s → s.decoder_instructions ≡ is → AreAccepted s.encoder is
+run_accepted laws counts most events s [] run e = tt
+run_accepted laws counts most events s (i ∷ is) run e =
     let next = after_decoder_instruction s i is in
-    let longer = run_then (beginning counts 0 0) s next events (DecoderInstructionRead i is) run (e, refl) in
-    (not_refused s i is e (laws.sound counts 0 0 events s run), run_accepted laws counts (events ++ DecoderInstructionRead i is ∷ []) next is longer refl)
+    let longer = run_then (beginning counts most 0 0) s next events (DecoderInstructionRead i is) run (e, refl) in
+    (not_refused s i is e (laws.sound counts most 0 0 events s run), run_accepted laws counts most (events ++ DecoderInstructionRead i is ∷ []) next is longer refl)
 
 -- The side's encoder refuses nothing of what it has not read.
 pub replies_accepted : (laws : StreamLaws) (setup : Setup) (w : World) (side : Side) → HasSession setup w side → AreAccepted (party w side).encoder (replies_left setup w side)
 replies_accepted laws setup w side h =
-    subst (λ s. AreAccepted s (replies_left setup w side)) h.follows.encoder (run_accepted laws h.counts h.events h.session (replies_left setup w side) h.run h.follows.decoder_instructions)
+    subst (λ s. AreAccepted s (replies_left setup w side)) h.follows.encoder (run_accepted laws h.counts h.most h.events h.session (replies_left setup w side) h.run h.follows.decoder_instructions)
 
 -- nor of a front of that
 pub accepted_front : (s : EncoderHistory) (is js : List DecoderInstruction) → AreAccepted s (is ++ js) → AreAccepted s is
@@ -61,7 +61,7 @@ accepted_front s (i ∷ is) js h = (h.0, accepted_front (encoder_after s i) is j
 
 -- The limits of an encoder play no part in what it refuses.
 abbrev pub limited : EncoderHistory → ℕ → ℕ → EncoderHistory
-limited s capacity limit = record s { capacity = capacity; limit = limit }
+limited s capacity limit = using_table s capacity limit
 
 after_limited : (s : EncoderHistory) (capacity limit : ℕ) (i : DecoderInstruction) → encoder_after (limited s capacity limit) i ≡ limited (encoder_after s i) capacity limit
 after_limited s capacity limit (Acknowledge stream) = refl

@@ -1,5 +1,5 @@
 -- What a side announces is what the other side keeps of it.
-use Rattle.std.proofs.Common.{◌≡◌, ℕ, ◌+◌, ◌*◌, ◌^◌, ◌<◌, ◌≤◌, ◌==◌, nat_le, nat_lt, not, Bool, true, false, if◌then◌else◌, List, [], ◌∷◌, ◌++◌, length, Result, Ok, Err, refl, sym, ap, ◌∙◌, subst, arith, length-append, append_assoc}
+use Rattle.std.proofs.Common.{◌≡◌, ℕ, ◌+◌, ◌*◌, ◌^◌, ◌<◌, ◌≤◌, ◌==◌, nat_le, nat_lt, not, Bool, true, false, if◌then◌else◌, List, [], ◌∷◌, ◌++◌, length, min, Result, Ok, Err, refl, sym, ap, ◌∙◌, subst, arith, length-append, append_assoc}
 use Rattle.std.specs.Prelude.{unwrap_or}
 use Rattle.std.proofs.lemmas.Bool.{ne_eqb}
 use Rattle.std.proofs.lemmas.Grind.{common_steps}
@@ -145,13 +145,13 @@ few_pairs true grease s capacity blocked = omega arith
 few_pairs false grease s capacity blocked = omega arith
 
 -- the capacity opens the encoder's stream where there is a table
-usable : (table blocked : ℕ) → table < 2 ^ 30 → blocked < 2 ^ 16 → is_usable table blocked ≡ not (table == 0)
-usable table blocked h k = grind (arith, common_steps, h, k)
+usable : (most table blocked : ℕ) → table < 2 ^ 30 → blocked < 2 ^ 16 → is_usable most table blocked ≡ not (min most table == 0)
+usable most table blocked h k = grind (arith, common_steps, h, k)
 
-opening_same : (limits : Limits) → limits.table < 2 ^ 30 → limits.blocked < 2 ^ 16 → opening limits ≡ exchange.opening limits.table
-opening_same limits h k = ap (λ b. if b then SetCapacity limits.table ∷ [] else []) (usable limits.table limits.blocked h k) ∙ by_test (limits.table == 0)
+opening_same : (most : ℕ) (limits : Limits) → limits.table < 2 ^ 30 → limits.blocked < 2 ^ 16 → opening most limits ≡ exchange.opening (min most limits.table)
+opening_same most limits h k = ap (λ b. if b then SetCapacity (min most limits.table) ∷ [] else []) (usable most limits.table limits.blocked h k) ∙ by_test (min most limits.table == 0)
   where
-    by_test : (b : Bool) → (if not b then SetCapacity limits.table ∷ [] else []) ≡ (if b then [] else SetCapacity limits.table ∷ [])
+    by_test : (b : Bool) → (if not b then SetCapacity (min most limits.table) ∷ [] else []) ≡ (if b then [] else SetCapacity (min most limits.table) ∷ [])
     by_test true = refl
     by_test false = refl
 
@@ -161,7 +161,7 @@ pub record Announces (a : Announced) : Type 0 where
   pub small : length (payload_of a.settings) < 2 ^ 62
   pub table : unwrap_or (value_of 1 (with_meaning a.settings)) 0 ≡ a.limits.table
   pub blocked : unwrap_or (value_of 7 (with_meaning a.settings)) 0 ≡ a.limits.blocked
-  pub opening : opening a.limits ≡ exchange.opening a.limits.table
+  pub opening : (most : ℕ) → opening most a.limits ≡ exchange.opening (min most a.limits.table)
   pub low : a.limits.table < 2 ^ 30
 
 pub announces : (a : Announced) → IsMade a → Announces a
@@ -185,7 +185,7 @@ announces a made =
       small = omega (arith, length-payload a.settings, pairs);
       table = ap (λ ps. unwrap_or (value_of 1 ps) 0) meaning;
       blocked = ap (λ ps. unwrap_or (value_of 7 ps) 0) meaning;
-      opening = opening_same a.limits p.table p.blocked;
+      opening = λ most. opening_same most a.limits p.table p.blocked;
       low = p.table;
     }
 

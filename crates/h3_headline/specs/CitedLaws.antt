@@ -24,14 +24,14 @@ pub record IsRead (capacity : ℕ) (instructions : List EncoderInstruction) : Ty
   pub reads : decoder_after_all (Some (announcing capacity)) instructions ≡ Some decoder
 
 pub record StreamLaws : Type 0 where
-  pub sound : (counts : Bool) (capacity limit : ℕ) (events : List SessionEvent) (s : Session) → SessionRun (beginning counts capacity limit) events s → IsSound s
+  pub sound : (counts : Bool) (most announced limit : ℕ) (events : List SessionEvent) (s : Session) → SessionRun (beginning counts most announced limit) events s → IsSound s
   pub heard_fronts : (r new : DecoderState) (all : List EncoderInstruction) (n : ℕ) → AllByRecursion IsWrittenInstruction all → decoder_after_all (Some r) (take (whole_in encoder_bytes n all) all) ≡ Some new →
       hear r (take n (flat_map encoder_bytes all)) ≡ heard new (rest_in encoder_bytes n all) false
   pub listened_fronts : (s : EncoderHistory) (all : List DecoderInstruction) (n : ℕ) → AllByRecursion IsReply all → AreAccepted s (decoder_instructions_in n all) →
       listen s (take n (flat_map decoder_bytes all)) ≡ listened (encoder_after_all s (decoder_instructions_in n all)) (rest_in decoder_bytes n all) false
-  pub tables_read : (capacity : ℕ) (instructions : List EncoderInstruction) (inserted : List Field) (k : ℕ) → IsReadAs capacity capacity instructions inserted → k ≤ length (opening capacity ++ instructions) →
-      (r : DecoderState) × (decoder_after_all (Some (announcing capacity)) (take k (opening capacity ++ instructions)) ≡ Some r) × HasInsertions capacity (take (k - length (opening capacity)) inserted) r
-  pub written : (counts : Bool) (capacity limit : ℕ) (events : List SessionEvent) (s : Session) (b : UndecodedSection) → SessionRun (beginning counts capacity limit) events s → oldest b.stream s.sections ≡ Some b →
+  pub tables_read : (announced capacity : ℕ) (instructions : List EncoderInstruction) (inserted : List Field) (k : ℕ) → capacity ≤ announced → IsReadAs announced capacity instructions inserted → k ≤ length (opening capacity ++ instructions) →
+      (r : DecoderState) × (decoder_after_all (Some (announcing announced)) (take k (opening capacity ++ instructions)) ≡ Some r) × HasInsertions announced capacity (take (k - length (opening capacity)) inserted) r
+  pub written : (counts : Bool) (most announced limit : ℕ) (events : List SessionEvent) (s : Session) (b : UndecodedSection) → SessionRun (beginning counts most announced limit) events s → oldest b.stream s.sections ≡ Some b →
       AllByRecursion IsFieldOfBytes b.fields → section_size b.fields < 2 ^ 62 → length (encoded_section b.encoder b.fields) < 2 ^ 63 → IsWritten s b
-  pub values : (counts : Bool) (capacity limit announced : ℕ) (events : List SessionEvent) (s : Session) (b : UndecodedSection) (r : DecoderState) → SessionRun (beginning counts capacity limit) events s → IsDecoderAt announced s r →
+  pub values : (counts : Bool) (most announced limit other : ℕ) (events : List SessionEvent) (s : Session) (b : UndecodedSection) (r : DecoderState) → SessionRun (beginning counts most announced limit) events s → IsDecoderAt other s r →
       oldest b.stream s.sections ≡ Some b → is_canceled s b.stream ≡ false → IsWritten s b → decode_section r (encoded_section b.encoder b.fields) ≡ tried s b

@@ -28,7 +28,7 @@ use Rattle.h3_headline.specs.Standing.{IsReadable}
 -- the law of h3_qpack on what a decoder makes of a section whenever it is tried
 abbrev pub SectionsHaveValues : Type 0
 SectionsHaveValues =
-    (counts : Bool) (capacity limit announced : ℕ) (events : List SessionEvent) (s : Session) (b : UndecodedSection) (r : DecoderState) → SessionRun (beginning counts capacity limit) events s → IsDecoderAt announced s r →
+    (counts : Bool) (most announced limit other : ℕ) (events : List SessionEvent) (s : Session) (b : UndecodedSection) (r : DecoderState) → SessionRun (beginning counts most announced limit) events s → IsDecoderAt other s r →
     oldest b.stream s.sections ≡ Some b → is_canceled s b.stream ≡ false → IsWritten s b → decode_section r (encoded_section b.encoder b.fields) ≡ tried s b
 
 -- the first of the sections on a stream is its oldest one
@@ -67,7 +67,7 @@ section_decodes values setup w writer id announced r h alive decoder written s r
     let oldest_is : oldest o.b.stream h.session.sections ≡ Some o.b = ap (λ i. oldest i h.session.sections) o.stream ∙ o.oldest_is in
     let kept : is_canceled h.session o.b.stream ≡ false = ap (is_canceled h.session) o.stream ∙ h.follows.canceled id ∙ ap is_some alive in
     ap (decode_section r) (sym (ap (λ (x : EncodedSection). x.encoded) o.is))
-    ∙ values h.counts 0 0 announced h.events h.session o.b r h.run decoder oldest_is kept (written o.b oldest_is kept)
+    ∙ values h.counts h.most 0 0 announced h.events h.session o.b r h.run decoder oldest_is kept (written o.b oldest_is kept)
     ∙ ap (λ (x : EncodedSection). if nat_le x.count h.session.received then Fields x.fields x.count else Missing x.count) o.is
     ∙ ap (λ n. if nat_le s.count n then Fields s.fields s.count else Missing s.count) h.follows.received
 

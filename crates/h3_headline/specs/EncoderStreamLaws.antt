@@ -1,6 +1,7 @@
 -- What came of an encoder's stream is read as its instructions, and none is refused.
-use Rattle.std.proofs.Common.{◌≡◌, inl, inr, ℕ, zero, suc, ◌-◌, ◌≤◌, Bool, true, false, if◌then◌else◌, List, [], ◌∷◌, ◌++◌, length, take, drop, flat_map, Some, refl, sym, ap, ◌∙◌, subst, arith}
+use Rattle.std.proofs.Common.{◌≡◌, inl, inr, ℕ, zero, suc, ◌-◌, ◌≤◌, Bool, true, false, if◌then◌else◌, List, [], ◌∷◌, ◌++◌, length, min, take, drop, flat_map, Some, refl, sym, ap, ◌∙◌, subst, arith}
 use Rattle.std.specs.List.{AllByRecursion}
+use Rattle.std.proofs.lemmas.Grind.{common_steps}
 use Rattle.std.proofs.lemmas.List.{nil_from_length}
 use Rattle.h3_field.specs.Instruction.{EncoderInstruction, encoder_bytes}
 use Rattle.h3_qpack.specs.DecoderState.{DecoderState, announcing, decoder_after_all}
@@ -28,27 +29,34 @@ nothing_read : (capacity k : ℕ) → IsRead capacity (take k [])
 nothing_read capacity zero = record { decoder = announcing capacity; reads = refl }
 nothing_read capacity (suc k) = record { decoder = announcing capacity; reads = refl }
 
-none_read_as : (capacity : ℕ) → IsReadAs capacity capacity [] []
-none_read_as capacity = record { one_each = refl; tables = tables }
+none_read_as : (announced capacity : ℕ) → IsReadAs announced capacity [] []
+none_read_as announced capacity = record { one_each = refl; tables = tables }
   where
-    tables : (k : ℕ) → k ≤ 0 → table_after_all capacity (Some (table_of capacity [])) (take k []) ≡ Some (table_of capacity (take k []))
+    tables : (k : ℕ) → k ≤ 0 → table_after_all announced (Some (table_of capacity [])) (take k []) ≡ Some (table_of capacity (take k []))
     tables zero h = refl
     tables (suc k) h = absurd (omega (arith, h))
 
--- the instructions of the session, by the announced capacity
-pub read_as : (capacity : ℕ) (s : Session) (e : EncoderHistory) → s.encoder ≡ e → HasCapacity capacity e → IsReadAs s.encoder.capacity s.encoder.capacity s.instructions s.encoder.inserted → IsReadAs capacity capacity s.instructions s.encoder.inserted
-read_as capacity s e same (inl is) h = subst (λ c. IsReadAs c c s.instructions s.encoder.inserted) (ap (λ (x : EncoderHistory). x.capacity) same ∙ is) h
-read_as capacity s e same (inr none) h =
-    let fields : s.encoder.inserted ≡ [] = ap (λ (x : EncoderHistory). x.inserted) same ∙ none.1 in
+pub least_right : (a b : ℕ) → min a b ≤ b
+least_right a b = grind (arith, common_steps)
+
+-- the instructions of the session, by the announced capacity and the one that is used
+pub read_as : (announced : ℕ) (s : Session) → HasCapacity announced s.encoder → IsReadAs s.encoder.announced s.encoder.capacity s.instructions s.encoder.inserted
+    → IsReadAs announced (min s.encoder.most_capacity announced) s.instructions s.encoder.inserted
+read_as announced s (inl is) h =
+    subst (λ c. IsReadAs announced c s.instructions s.encoder.inserted) is.1 (subst (λ a. IsReadAs a s.encoder.capacity s.instructions s.encoder.inserted) is.0 h)
+read_as announced s (inr none) h =
+    let capacity = min s.encoder.most_capacity announced in
+    let fields : s.encoder.inserted ≡ [] = none.1 in
     let one : length s.instructions ≡ length s.encoder.inserted = h.one_each in
     let instructions : s.instructions ≡ [] = nil_from_length s.instructions (one ∙ ap length fields) in
-    subst (λ is. IsReadAs capacity capacity is s.encoder.inserted) (sym instructions) (subst (λ fs. IsReadAs capacity capacity [] fs) (sym fields) (none_read_as capacity))
+    subst (λ is. IsReadAs announced capacity is s.encoder.inserted) (sym instructions) (subst (λ fs. IsReadAs announced capacity [] fs) (sym fields) (none_read_as announced capacity))
 
 -- once a side knows the other side's settings: what it wrote is how its stream begins, and the instructions of its session
 pub opened_instructions : (setup : Setup) (w : World) (writer : Side) → IsMadeSetup setup → (h : HasSession setup w writer) → settings_came setup w (other writer) ≡ true
-    → (party w writer).own.instructions ≡ exchange.opening (announced_at setup (other writer)).limits.table ++ h.session.instructions
+    → (party w writer).own.instructions ≡ exchange.opening (min h.session.encoder.most_capacity (announced_at setup (other writer)).limits.table) ++ h.session.instructions
 opened_instructions setup w writer made h e =
-    h.follows.instructions ∙ ap (λ b. (if b then opening (limits_for setup writer) else []) ++ h.session.instructions) e ∙ ap (λ is. is ++ h.session.instructions) (announces_at setup (other writer) made).opening
+    h.follows.instructions ∙ ap (λ b. (if b then opening h.session.encoder.most_capacity (limits_for setup writer) else []) ++ h.session.instructions) e
+    ∙ ap (λ is. is ++ h.session.instructions) ((announces_at setup (other writer) made).opening h.session.encoder.most_capacity)
 
 -- The other side's decoder reads any front of the side's instructions.
 pub instructions_read : (laws : StreamLaws) (setup : Setup) (w : World) (writer : Side) (k : ℕ) → IsMadeSetup setup → IsSoundParty setup w writer → k ≤ length (party w writer).own.instructions
@@ -62,9 +70,9 @@ instructions_read laws setup w writer k made sound within = by_known (settings_c
     by_known true e =
         let h = sound.session in
         let s = h.session in
-        let reads = read_as capacity s (party w writer).encoder h.follows.encoder sound.writer.capacity (laws.sound h.counts 0 0 h.events s h.run).read in
+        let reads = read_as capacity s (subst (HasCapacity capacity) (sym h.follows.encoder) sound.writer.capacity) (laws.sound h.counts h.most 0 0 h.events s h.run).read in
         let all = opened_instructions setup w writer made h e in
-        let front = laws.tables_read capacity s.instructions s.encoder.inserted k reads (subst (λ is. k ≤ length is) all within) in
+        let front = laws.tables_read capacity (min s.encoder.most_capacity capacity) s.instructions s.encoder.inserted k (least_right s.encoder.most_capacity capacity) reads (subst (λ is. k ≤ length is) all within) in
         subst (λ is. IsRead capacity (take k is)) (sym all) (record { decoder = front.0; reads = front.1 })
     by_known false e = subst (λ is. IsRead capacity (take k is)) (sym (sound.writer.unknown e).2) (nothing_read capacity k)
 

@@ -1,6 +1,6 @@
 -- What an endpoint makes of further bytes of the other side's control stream: once the settings came, it uses the table where they
 -- allow it, and reads what the other side's decoder said before.
-use Rattle.std.proofs.Common.{◌≡◌, ℕ, ◌+◌, ◌-◌, ◌<◌, ◌≤◌, nat_le, Bool, true, false, if◌then◌else◌, List, [], ◌∷◌, ◌++◌, length, take, drop, flat_map, append-nil, Option, Some, None, refl, sym, ap, ◌∙◌, subst, arith}
+use Rattle.std.proofs.Common.{◌≡◌, ℕ, ◌+◌, ◌-◌, ◌<◌, ◌≤◌, nat_le, Bool, true, false, if◌then◌else◌, List, [], ◌∷◌, ◌++◌, length, min, take, drop, flat_map, append-nil, Option, Some, None, refl, sym, ap, ◌∙◌, subst, arith}
 use Rattle.std.specs.Prelude.{◌==◌, is_some, unwrap_or}
 use Rattle.std.specs.List.{AllByRecursion}
 use Rattle.std.proofs.lemmas.Grind.{common_steps}
@@ -9,7 +9,7 @@ use Rattle.h3_field.specs.Instruction.{DecoderInstruction, decoder_bytes}
 use Rattle.h3_field.specs.Instruction.EncoderInstruction.{SetCapacity}
 use Rattle.h3_field.specs.InstructionAnswer.{IsReply}
 use Rattle.h3_proto.specs.Settings.{value_of}
-use Rattle.h3_qpack.specs.EncoderHistory.{EncoderHistory, encoder_after_all}
+use Rattle.h3_qpack.specs.EncoderHistory.{EncoderHistory, using_table, encoder_after_all}
 use Rattle.h3_qpack.specs.Hearing.{listened, listen}
 use Rattle.h3_qpack.specs.Instructions.{AreAccepted}
 use Rattle.h3_qpack.specs.WholeInstructions.{whole_in, rest_in, decoder_instructions_in}
@@ -37,21 +37,21 @@ use Rattle.h3_headline.specs.Standing.{AreGoaways, HasControl, came_on, replies_
 
 -- an encoder that learns such limits, and what it writes
 abbrev pub learned_encoder : Limits → EncoderHistory → EncoderHistory
-learned_encoder limits s = if has_table limits then record s { capacity = limits.table; limit = limits.blocked } else s
+learned_encoder limits s = if has_table s.most_capacity limits then using_table s limits.table limits.blocked else s
 
-abbrev pub learned_own : Limits → Own → Own
-learned_own limits own = if has_table limits then record own { instructions = own.instructions ++ SetCapacity limits.table ∷ [] } else own
+abbrev pub learned_own : ℕ → Limits → Own → Own
+learned_own most limits own = if has_table most limits then record own { instructions = own.instructions ++ SetCapacity (min most limits.table) ∷ [] } else own
 
 -- the endpoint that knows them now
 abbrev pub knowing : EndpointHistory → Limits → EndpointHistory
-knowing e limits = record e { encoder = learned_encoder limits e.encoder; own = learned_own limits e.own }
+knowing e limits = record e { encoder = learned_encoder limits e.encoder; own = learned_own e.encoder.most_capacity limits e.own }
 
 -- and that has read what the other side's decoder said
 abbrev pub learning : EndpointHistory → Limits → ℕ → List DecoderInstruction → EndpointHistory
 learning e limits came replies =
     record e {
       encoder = encoder_after_all (learned_encoder limits e.encoder) (decoder_instructions_in (came - 1) replies);
-      own = learned_own limits e.own;
+      own = learned_own e.encoder.most_capacity limits e.own;
       decoder_unread = rest_in decoder_bytes (came - 1) replies;
     }
 
@@ -65,27 +65,27 @@ abbrev without_fault : EndpointHistory → Found
 without_fault e = (e, None)
 
 abbrev limited_by : EndpointHistory → ℕ → ℕ → EndpointHistory
-limited_by e capacity blocked = if is_usable capacity blocked then with_table e capacity blocked else e
+limited_by e capacity blocked = if is_usable e.encoder.most_capacity capacity blocked then with_table e capacity blocked else e
 
 knows_limits : (e : EndpointHistory) (a : Announced) → Announces a → learned e (with_meaning a.settings) ≡ knowing e a.limits
 knows_limits e a h =
-    ap (λ n. limited_by e n (unwrap_or (value_of 7 (with_meaning a.settings)) 0)) h.table ∙ ap (λ n. limited_by e a.limits.table n) h.blocked ∙ by_test (has_table a.limits)
+    ap (λ n. limited_by e n (unwrap_or (value_of 7 (with_meaning a.settings)) 0)) h.table ∙ ap (λ n. limited_by e a.limits.table n) h.blocked ∙ by_test (has_table e.encoder.most_capacity a.limits)
   where
     by_test : (b : Bool) → (if b then with_table e a.limits.table a.limits.blocked else e)
         ≡ record e {
-          encoder = if b then record e.encoder { capacity = a.limits.table; limit = a.limits.blocked } else e.encoder;
-          own = if b then record e.own { instructions = e.own.instructions ++ SetCapacity a.limits.table ∷ [] } else e.own;
+          encoder = if b then using_table e.encoder a.limits.table a.limits.blocked else e.encoder;
+          own = if b then record e.own { instructions = e.own.instructions ++ SetCapacity (min e.encoder.most_capacity a.limits.table) ∷ [] } else e.own;
         }
     by_test true = refl
     by_test false = refl
 
 learned_accepted : (s : EncoderHistory) (limits : Limits) (n : ℕ) (replies : List DecoderInstruction) → AreAccepted s replies → AreAccepted (learned_encoder limits s) (decoder_instructions_in n replies)
-learned_accepted s limits n replies h = by_test (has_table limits)
+learned_accepted s limits n replies h = by_test (has_table s.most_capacity limits)
   where
     front : AreAccepted s (decoder_instructions_in n replies)
     front = accepted_front s (decoder_instructions_in n replies) (drop (whole_in decoder_bytes n replies) replies) (subst (λ l. AreAccepted s l) (sym (take-append-drop (whole_in decoder_bytes n replies) replies)) h)
 
-    by_test : (b : Bool) → AreAccepted (if b then record s { capacity = limits.table; limit = limits.blocked } else s) (decoder_instructions_in n replies)
+    by_test : (b : Bool) → AreAccepted (if b then using_table s limits.table limits.blocked else s) (decoder_instructions_in n replies)
     by_test true = accepted_limited s limits.table limits.blocked (decoder_instructions_in n replies) front
     by_test false = front
 

@@ -1,8 +1,8 @@
 -- The parties of a world in which an own stream of one side got further.
-use Rattle.std.proofs.Common.{◌≡◌, ℕ, ◌+◌, ◌-◌, not, Bool, true, false, ◌&&◌, if◌then◌else◌, List, [], ◌∷◌, ◌++◌, length, drop, append-nil, refl, sym, ap, ◌∙◌, arith}
+use Rattle.std.proofs.Common.{◌≡◌, ℕ, ◌+◌, ◌-◌, not, Bool, true, false, ◌&&◌, if◌then◌else◌, List, [], ◌∷◌, ◌++◌, length, min, drop, append-nil, refl, sym, ap, ◌∙◌, arith}
 use Rattle.h3_field.specs.Instruction.{EncoderInstruction, DecoderInstruction}
 use Rattle.h3_field.specs.Instruction.EncoderInstruction.{SetCapacity}
-use Rattle.h3_qpack.specs.EncoderHistory.{encoder_after_all}
+use Rattle.h3_qpack.specs.EncoderHistory.{using_table, encoder_after_all}
 use Rattle.h3_qpack.specs.WholeInstructions.{insertions_in, decoder_instructions_in}
 use Rattle.h3_proto.specs.declared.stream.Side.{Side}
 use Rattle.h3_proto.specs.declared.stream.Side.TheVariants.{Client, Server}
@@ -87,13 +87,13 @@ nothing_written p more is = record { instructions = []; is = ap (λ l. record p.
 writes_by : (learns : Bool) (limits : Limits) (p : Party) (more : ℕ)
     → Writes p.own (record (if learns then having_learned p limits else p).own { replies = (if learns then having_learned p limits else p).own.replies ++ increment more }) more
 writes_by false limits p more = nothing_written p more []
-writes_by true limits p more = by_table (has_table limits)
+writes_by true limits p more = by_table (has_table p.encoder.most_capacity limits)
   where
     by_table : (b : Bool)
-        → Writes p.own (record (if b then record { own = record p.own { instructions = p.own.instructions ++ SetCapacity limits.table ∷ [] }; encoder = record p.encoder { capacity = limits.table; limit = limits.blocked } } else p).own {
-          replies = (if b then record { own = record p.own { instructions = p.own.instructions ++ SetCapacity limits.table ∷ [] }; encoder = record p.encoder { capacity = limits.table; limit = limits.blocked } } else p).own.replies ++ increment more;
+        → Writes p.own (record (if b then record { own = record p.own { instructions = p.own.instructions ++ SetCapacity (min p.encoder.most_capacity limits.table) ∷ [] }; encoder = using_table p.encoder limits.table limits.blocked } else p).own {
+          replies = (if b then record { own = record p.own { instructions = p.own.instructions ++ SetCapacity (min p.encoder.most_capacity limits.table) ∷ [] }; encoder = using_table p.encoder limits.table limits.blocked } else p).own.replies ++ increment more;
         }) more
-    by_table true = record { instructions = SetCapacity limits.table ∷ []; is = refl }
+    by_table true = record { instructions = SetCapacity (min p.encoder.most_capacity limits.table) ∷ []; is = refl }
     by_table false = nothing_written p more []
 
 pub listened_writes : (knew knows : Bool) (limits : Limits) (p : Party) (more : ℕ) (is : List DecoderInstruction) → Writes p.own (listened knew knows limits p more is).own more
@@ -135,13 +135,13 @@ replies_listened b limits p n few many replies =
 abbrev pub party_of : EndpointHistory → Party
 party_of e = record { own = e.own; encoder = e.encoder }
 
-learned_is : (limits : Limits) (p : Party) → having_learned p limits ≡ record { own = learned_own limits p.own; encoder = learned_encoder limits p.encoder }
-learned_is limits p = by_table (has_table limits)
+learned_is : (limits : Limits) (p : Party) → having_learned p limits ≡ record { own = learned_own p.encoder.most_capacity limits p.own; encoder = learned_encoder limits p.encoder }
+learned_is limits p = by_table (has_table p.encoder.most_capacity limits)
   where
-    by_table : (b : Bool) → (if b then record { own = record p.own { instructions = p.own.instructions ++ SetCapacity limits.table ∷ [] }; encoder = record p.encoder { capacity = limits.table; limit = limits.blocked } } else p)
+    by_table : (b : Bool) → (if b then record { own = record p.own { instructions = p.own.instructions ++ SetCapacity (min p.encoder.most_capacity limits.table) ∷ [] }; encoder = using_table p.encoder limits.table limits.blocked } else p)
         ≡ record {
-          own = if b then record p.own { instructions = p.own.instructions ++ SetCapacity limits.table ∷ [] } else p.own;
-          encoder = if b then record p.encoder { capacity = limits.table; limit = limits.blocked } else p.encoder;
+          own = if b then record p.own { instructions = p.own.instructions ++ SetCapacity (min p.encoder.most_capacity limits.table) ∷ [] } else p.own;
+          encoder = if b then using_table p.encoder limits.table limits.blocked else p.encoder;
         }
     by_table true = refl
     by_table false = refl
@@ -161,5 +161,5 @@ settings_listened true true limits p e n came replies order is =
 settings_listened false false limits p e n came replies order is = sym is ∙ sym (nothing_more p n [])
 settings_listened false true limits p e n came replies order is =
     let read = decoder_instructions_in (came - 1) replies in
-    ap (λ (q : Party). record { own = learned_own limits q.own; encoder = encoder_after_all (learned_encoder limits q.encoder) read }) (sym is)
+    ap (λ (q : Party). record { own = learned_own q.encoder.most_capacity limits q.own; encoder = encoder_after_all (learned_encoder limits q.encoder) read }) (sym is)
     ∙ sym (nothing_more (having_learned p limits) n read ∙ ap (λ (q : Party). record q { encoder = encoder_after_all q.encoder read }) (learned_is limits p))

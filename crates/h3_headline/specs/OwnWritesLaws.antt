@@ -1,5 +1,5 @@
 -- After a delivery on an own stream, what both sides wrote is still what writers take, and the sections that were sent are as before.
-use Rattle.std.proofs.Common.{◌≡◌, ℕ, zero, suc, ◌+◌, ◌-◌, ◌*◌, ◌<◌, ◌≤◌, ◌^◌, nat_lt, not, Bool, true, false, ◌&&◌, ◌||◌, if◌then◌else◌, List, [], ◌∷◌, ◌++◌, length, take, drop, refl, sym, ap, ◌∙◌, subst, arith}
+use Rattle.std.proofs.Common.{◌≡◌, ℕ, zero, suc, ◌+◌, ◌-◌, ◌*◌, ◌<◌, ◌≤◌, ◌^◌, nat_lt, not, Bool, true, false, ◌&&◌, ◌||◌, if◌then◌else◌, List, [], ◌∷◌, ◌++◌, length, min, take, drop, refl, sym, ap, ◌∙◌, subst, arith}
 use Rattle.std.specs.Prelude.{◌==◌, ◌/◌, ◌%◌}
 use Rattle.std.specs.List.{AllByRecursion}
 use Rattle.h3_field.specs.Instruction.{DecoderInstruction}
@@ -9,6 +9,7 @@ use Rattle.h3_field.specs.InstructionAnswer.{IsReply}
 use Rattle.h3_field.specs.Integer.{groups, ones, prefixed}
 use Rattle.h3_qpack.specs.DecoderState.{announcing}
 use Rattle.h3_qpack.specs.Encodings.{IsWrittenInstruction}
+use Rattle.h3_qpack.specs.EncoderHistory.{using_table}
 use Rattle.h3_qpack.specs.WholeInstructions.{whole_in, insertions_in}
 use Rattle.h3_field.specs.Instruction.{encoder_bytes}
 use Rattle.h3_proto.specs.declared.stream.Side.{Side}
@@ -33,6 +34,7 @@ use Rattle.h3_world.specs.World.{World, Party, party}
 use Rattle.h3_headline.specs.AcceptedLaws.{counts_all}
 use Rattle.h3_headline.specs.AnnouncedLaws.{announces_at}
 use Rattle.h3_headline.specs.CitedLaws.{StreamLaws}
+use Rattle.h3_headline.specs.EncoderStreamLaws.{least_right}
 use Rattle.h3_headline.specs.OwnEventLaws.{served_as, served_own, own_first}
 use Rattle.h3_headline.specs.OwnMovesLaws.{SameStreams}
 use Rattle.h3_headline.specs.OwnOverLaws.{reads_all}
@@ -103,11 +105,11 @@ saying_writable side own more h k = record { goaways = h.goaways; instructions =
 
 learned_writable : (side : Side) (limits : Limits) (p : Party) (learns : Bool) → limits.table < 2 ^ 30 → IsWritable side p.own → IsWritable side (if learns then having_learned p limits else p).own
 learned_writable side limits p false low h = h
-learned_writable side limits p true low h = by_table (has_table limits)
+learned_writable side limits p true low h = by_table (has_table p.encoder.most_capacity limits)
   where
     by_table : (b : Bool)
-        → IsWritable side (if b then record { own = record p.own { instructions = p.own.instructions ++ SetCapacity limits.table ∷ [] }; encoder = record p.encoder { capacity = limits.table; limit = limits.blocked } } else p).own
-    by_table true = record { goaways = h.goaways; instructions = all_join IsWrittenInstruction p.own.instructions (SetCapacity limits.table ∷ []) h.instructions (capacity_written limits.table low, tt); replies = h.replies }
+        → IsWritable side (if b then record { own = record p.own { instructions = p.own.instructions ++ SetCapacity (min p.encoder.most_capacity limits.table) ∷ [] }; encoder = using_table p.encoder limits.table limits.blocked } else p).own
+    by_table true = record { goaways = h.goaways; instructions = all_join IsWrittenInstruction p.own.instructions (SetCapacity (min p.encoder.most_capacity limits.table) ∷ []) h.instructions (capacity_written (min p.encoder.most_capacity limits.table) (omega (arith, low, least_right p.encoder.most_capacity limits.table)), tt); replies = h.replies }
     by_table false = h
 
 listened_writable : (side : Side) (knew knows : Bool) (limits : Limits) (p : Party) (more : ℕ) (is : List DecoderInstruction) → limits.table < 2 ^ 30 → more < 2 ^ 62 → IsWritable side p.own → IsWritable side (listened knew knows limits p more is).own

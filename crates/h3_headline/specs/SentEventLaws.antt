@@ -25,7 +25,7 @@ use Rattle.h3_headline.specs.WritingLaws.{sound_party, goaway_served}
 few_inserted : (laws : StreamLaws) (setup : Setup) (w : World) (side : Side) → IsSoundWorld setup w → length (party w side).encoder.inserted < 2 ^ 62
 few_inserted laws setup w side sound =
     let h = (sound_party setup w side sound).session in
-    subst (λ (s : EncoderHistory). length s.inserted < 2 ^ 62) h.follows.encoder (laws.sound h.counts 0 0 h.events h.session h.run).small
+    subst (λ (s : EncoderHistory). length s.inserted < 2 ^ 62) h.follows.encoder (laws.sound h.counts h.most 0 0 h.events h.session h.run).small
 
 writable_head : (laws : Laws) (setup : Setup) (w : World) (side : Side) (id : ℕ) (head : Fields) → IsSoundWorld setup w → IsSendableHead head → IsWritableHead w side id head
 writable_head laws setup w side id head sound sendable =

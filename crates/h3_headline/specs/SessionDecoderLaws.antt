@@ -1,6 +1,6 @@
 -- The decoder of an endpoint that stands in a world is that of the session, and each section that a stream decodes next is what a writer
 -- took.
-use Rattle.std.proofs.Common.{◌≡◌, ◌⊎◌, inl, inr, ℕ, zero, suc, ◌+◌, ◌-◌, ◌^◌, ◌<◌, ◌≤◌, Bool, true, false, if◌then◌else◌, List, [], ◌∷◌, ◌++◌, length, take, drop, refl, sym, ap, ◌∙◌, subst, arith, Option, Some, None}
+use Rattle.std.proofs.Common.{◌≡◌, ◌⊎◌, inl, inr, ℕ, zero, suc, ◌+◌, ◌-◌, ◌^◌, ◌<◌, ◌≤◌, Bool, true, false, if◌then◌else◌, List, [], ◌∷◌, ◌++◌, length, min, take, drop, refl, sym, ap, ◌∙◌, subst, arith, Option, Some, None}
 use Rattle.std.specs.List.{AllByRecursion}
 use Rattle.std.specs.Prelude.{◌==◌, map, filter, is_some, slice_get, unwrap_or}
 use Rattle.h3_field.specs.Field.{Field, section_size}
@@ -33,7 +33,7 @@ use Rattle.h3_headline.specs.AcceptedLaws.{counts_all}
 use Rattle.h3_headline.specs.CitedLaws.{StreamLaws}
 use Rattle.h3_headline.specs.ComingLaws.{sound_flow}
 use Rattle.h3_headline.specs.DecodesLaws.{next_decodes}
-use Rattle.h3_headline.specs.EncoderStreamLaws.{opened_instructions, read_as}
+use Rattle.h3_headline.specs.EncoderStreamLaws.{least_right, opened_instructions, read_as}
 use Rattle.h3_headline.specs.FlowLaws.{open_there, other-other}
 use Rattle.h3_headline.specs.OwnOverLaws.{party_sound}
 use Rattle.h3_headline.specs.PulledPartLaws.{DecodesNext}
@@ -42,9 +42,9 @@ use Rattle.h3_headline.specs.Standing.{StandsAt}
 use Rattle.h3_headline.specs.UnitLaws.{whole_within}
 
 -- a decoder has read these first insertions
-record HasRead (capacity : ℕ) (inserted : List Field) (r : DecoderState) : Type 0 where
+record HasRead (announced capacity : ℕ) (inserted : List Field) (r : DecoderState) : Type 0 where
   count : ℕ
-  has : HasInsertions capacity (take count inserted) r
+  has : HasInsertions announced capacity (take count inserted) r
 
 same_decoder : (r q : DecoderState) → Some r ≡ Some q → r ≡ q
 same_decoder r q e = cc
@@ -62,29 +62,32 @@ nothing_read capacity zero r e = same_decoder (announcing capacity) r e
 nothing_read capacity (suc k) r e = same_decoder (announcing capacity) r e
 
 has_read : (laws : StreamLaws) (setup : Setup) (w : World) (writer : Side) (r : DecoderState) → IsMadeSetup setup → (sound : IsSoundParty setup w writer) → IsAfter setup w writer r
-    → HasRead (announced_at setup (other writer)).limits.table sound.session.session.encoder.inserted r
+    → HasRead (announced_at setup (other writer)).limits.table (min sound.session.session.encoder.most_capacity (announced_at setup (other writer)).limits.table) sound.session.session.encoder.inserted r
 has_read laws setup w writer r made sound reads = by_known (settings_came setup w (other writer)) refl
   where
+    announced : ℕ
+    announced = (announced_at setup (other writer)).limits.table
+
     capacity : ℕ
-    capacity = (announced_at setup (other writer)).limits.table
+    capacity = min sound.session.session.encoder.most_capacity announced
 
     k : ℕ
     k = whole_in encoder_bytes ((party w writer).own.encoder_taken - 1) (party w writer).own.instructions
 
-    by_known : (b : Bool) → settings_came setup w (other writer) ≡ b → HasRead capacity sound.session.session.encoder.inserted r
+    by_known : (b : Bool) → settings_came setup w (other writer) ≡ b → HasRead announced capacity sound.session.session.encoder.inserted r
     by_known true e =
         let h = sound.session in
         let s = h.session in
         let all = opened_instructions setup w writer made h e in
-        let is_read = read_as capacity s (party w writer).encoder h.follows.encoder sound.writer.capacity (laws.sound h.counts 0 0 h.events s h.run).read in
+        let is_read = read_as announced s (subst (HasCapacity announced) (sym h.follows.encoder) sound.writer.capacity) (laws.sound h.counts h.most 0 0 h.events s h.run).read in
         let within = whole_within encoder_bytes ((party w writer).own.encoder_taken - 1) (party w writer).own.instructions in
-        let front = laws.tables_read capacity s.instructions s.encoder.inserted k is_read (subst (λ is. k ≤ length is) all within) in
-        let same = same_decoder front.0 r (sym front.1 ∙ ap (λ is. decoder_after_all (Some (announcing capacity)) (take k is)) (sym all) ∙ reads) in
-        record { count = k - length (exchange.opening capacity); has = subst (HasInsertions capacity (take (k - length (exchange.opening capacity)) s.encoder.inserted)) same front.2 }
+        let front = laws.tables_read announced capacity s.instructions s.encoder.inserted k (least_right s.encoder.most_capacity announced) is_read (subst (λ is. k ≤ length is) all within) in
+        let same = same_decoder front.0 r (sym front.1 ∙ ap (λ is. decoder_after_all (Some (announcing announced)) (take k is)) (sym all) ∙ reads) in
+        record { count = k - length (exchange.opening capacity); has = subst (HasInsertions announced capacity (take (k - length (exchange.opening capacity)) s.encoder.inserted)) same front.2 }
     by_known false e =
         let none = (sound.writer.unknown e).2 in
-        let same = nothing_read capacity k r (ap (λ is. decoder_after_all (Some (announcing capacity)) (take k is)) (sym none) ∙ reads) in
-        record { count = 0; has = subst (HasInsertions capacity []) same (record { announced = refl; entries = refl; count = refl }) }
+        let same = nothing_read announced k r (ap (λ is. decoder_after_all (Some (announcing announced)) (take k is)) (sym none) ∙ reads) in
+        record { count = 0; has = subst (HasInsertions announced capacity []) same (record { announced_is = refl; entries = refl; count = refl }) }
 
 -- a front is told by its length
 same_front : (n m : ℕ) (xs : List Field) → length (take n xs) ≡ m → take n xs ≡ take m xs
@@ -103,9 +106,13 @@ held_same capacity announced m inserted (inr none) =
     let empty : take m inserted ≡ [] = ap (λ fs. take m fs) none ∙ none_taken m in
     ap (held announced) empty ∙ sym (ap (held capacity) empty)
 
-learned_by : (announced : ℕ) (s e : EncoderHistory) → s ≡ e → HasCapacity announced e → (s.capacity ≡ announced) ⊎ (s.inserted ≡ [])
-learned_by announced s e same (inl is) = inl (ap (λ (x : EncoderHistory). x.capacity) same ∙ is)
-learned_by announced s e same (inr none) = inr (ap (λ (x : EncoderHistory). x.inserted) same ∙ none.1)
+learned_by : (announced : ℕ) (s : EncoderHistory) → HasCapacity announced s → (s.announced ≡ announced) ⊎ (s.inserted ≡ [])
+learned_by announced s (inl is) = inl is.0
+learned_by announced s (inr none) = inr none.1
+
+used_by : (announced : ℕ) (s : EncoderHistory) → HasCapacity announced s → (s.capacity ≡ min s.most_capacity announced) ⊎ (s.inserted ≡ [])
+used_by announced s (inl is) = inl is.1
+used_by announced s (inr none) = inr none.1
 
 -- **The decoder is that of the session.**
 pub decoder_is_at : (laws : StreamLaws) (setup : Setup) (w : World) (writer : Side) (r : DecoderState) → IsMadeSetup setup → (sound : IsSoundParty setup w writer) → IsAfter setup w writer r
@@ -117,12 +124,13 @@ decoder_is_at laws setup w writer r made sound reads =
     let q = has_read laws setup w writer r made sound reads in
     let counts = counts_all (announcing announced) r (instructions_came (party w writer)) reads in
     let received : r.table.inserted ≡ s.received = omega (arith, counts.sum, h.follows.received) in
-    let learned = learned_by announced s.encoder (party w writer).encoder h.follows.encoder sound.writer.capacity in
+    let has : HasCapacity announced s.encoder = subst (HasCapacity announced) (sym h.follows.encoder) sound.writer.capacity in
+    let used = min s.encoder.most_capacity announced in
     record {
-      capacity = q.has.announced;
-      entries = q.has.entries ∙ ap (held announced) (same_front q.count s.received s.encoder.inserted (sym q.has.count ∙ received)) ∙ held_same s.encoder.capacity announced s.received s.encoder.inserted learned;
+      capacity = q.has.announced_is;
+      entries = q.has.entries ∙ ap (held used) (same_front q.count s.received s.encoder.inserted (sym q.has.count ∙ received)) ∙ held_same s.encoder.capacity used s.received s.encoder.inserted (used_by announced s.encoder has);
       inserted = received;
-      learned = learned;
+      learned = learned_by announced s.encoder has;
     }
 
 -- what is known of each section that was sent
@@ -188,7 +196,7 @@ sections_written laws setup w writer sound h b is kept =
     let alive = none_of (flow w writer b.stream).fault (sym (h.follows.canceled b.stream) ∙ kept) in
     let all = subst (AllByRecursion IsTaken) (sym (h.follows.sections b.stream alive)) (flow_taken setup w writer b.stream sound) in
     let taken = oldest_first IsTaken b.stream b h.session.sections is all in
-    laws.written h.counts 0 0 h.events h.session b h.run is taken.0 taken.1 taken.2
+    laws.written h.counts h.most 0 0 h.events h.session b h.run is taken.0 taken.1 taken.2
 
 -- **An endpoint that stands in a world has read the insertions that came.**
 pub insertions_read : (setup : Setup) (w : World) (side : Side) (e : EndpointHistory) → StandsAt setup w side e → e.decoding.decoder.table.inserted ≡ insertions_came (party w (other side))

@@ -75,13 +75,18 @@ impl From<&frame::Settings> for Settings {
     }
 }
 
-/// What an end chooses for itself beyond what it announces. None of it is sent to the peer, and all of it is off by default.
+/// The greatest capacity of a table, in bytes.
+const MAX_TABLE_CAPACITY: u64 = (1 << 30) - 1;
+
+/// What an end chooses for itself beyond what it announces. None of it is sent to the peer, and by default nothing is asked for.
 #[derive(Clone, Copy, Debug)]
 pub struct Choices {
     /// Messages are judged by all of RFC 9114, sections 4.1.2 and 4.2 to 4.5.
     pub strict_messages: bool,
     /// An acknowledgment of a section raises the known received count (RFC 9204, section 2.1.4).
     pub acknowledgments_counted: bool,
+    /// The most bytes that the table of the own encoder has, however many its peer announces (RFC 9204, section 3.2.3).
+    pub encoder_table: u64,
 }
 
 impl Default for Choices {
@@ -91,6 +96,7 @@ impl Default for Choices {
         Choices {
             strict_messages: false,
             acknowledgments_counted: false,
+            encoder_table: MAX_TABLE_CAPACITY,
         }
     }
 }
@@ -189,6 +195,16 @@ impl Config {
         ensures { result ≡ record self { choices = record self.choices { acknowledgments_counted = counted } } }
     {
         self.choices.acknowledgments_counted = counted;
+        self
+    }
+
+    /// The most bytes that the table of the own encoder has: it sets and uses the lesser of this and the capacity that its peer
+    /// announces (RFC 9204, section 3.2.3). With 0 it uses no table, and writes no instruction. 2^30 - 1 by default, the greatest
+    /// capacity of a table, so that a table is as large as was announced; a greater value is the same.
+    pub fn with_encoder_table(mut self, max: u64) -> Self
+        ensures { result ≡ record self { choices = record self.choices { encoder_table = max } } }
+    {
+        self.choices.encoder_table = max;
         self
     }
 

@@ -120,7 +120,7 @@ draft_is_static s fields h = fields_added s [] fields h
 -- Its bytes are those of a section that names no dynamic entry.
 pub section_is_static : (s : EncoderHistory) (fields : List Field) → NamesNone s → encoded_section s fields ≡ section_bytes fields
 section_is_static s fields h =
-    ap (λ d. prefix_bytes s.capacity (required_insert_count d) (length s.inserted) ++ flat_map line_bytes d.lines) (draft_is_static s fields h)
+    ap (λ d. prefix_bytes s.announced (required_insert_count d) (length s.inserted) ++ flat_map line_bytes d.lines) (draft_is_static s fields h)
     ∙ ap (λ bytes. 0 ∷ 0 ∷ bytes) (lines_of fields)
 
 -- a table of capacity 0 holds nothing
@@ -135,7 +135,7 @@ nothing_fits (f ∷ fs) =
 
 -- what a section on a canceled stream is written by
 abbrev pub without_table : EncoderHistory → EncoderHistory
-without_table s = record s { capacity = 0; limit = 0 }
+without_table s = record s { announced = 0; capacity = 0; limit = 0 }
 
 minus_none : (n : ℕ) → n - 0 ≡ n
 minus_none n = omega arith
@@ -163,13 +163,13 @@ on_inserted s stream = by_test (was_canceled s stream)
     by_test true = refl
     by_test false = refl
 
--- a section that names entries is written with the encoder's capacity
-pub on_capacity : (s : EncoderHistory) (stream : ℕ) (fields : List Field) → 0 < required_insert_count (draft_of (writing_on s stream) fields) → (writing_on s stream).capacity ≡ s.capacity
-on_capacity s stream fields above = by_test (was_canceled s stream) refl
+-- a section that names entries is written for the announced capacity that the encoder goes by
+pub on_announced : (s : EncoderHistory) (stream : ℕ) (fields : List Field) → 0 < required_insert_count (draft_of (writing_on s stream) fields) → (writing_on s stream).announced ≡ s.announced
+on_announced s stream fields above = by_test (was_canceled s stream) refl
   where
-    by_test : (b : Bool) → was_canceled s stream ≡ b → (writing_on s stream).capacity ≡ s.capacity
+    by_test : (b : Bool) → was_canceled s stream ≡ b → (writing_on s stream).announced ≡ s.announced
     by_test true e = let none = ap required_insert_count (on_static s stream fields e) in absurd (omega (arith, above, none))
-    by_test false e = ap (λ (by : EncoderHistory). by.capacity) (on_other s stream e)
+    by_test false e = ap (λ (by : EncoderHistory). by.announced) (on_other s stream e)
 
 -- what is kept of the ids
 pub kept_id : (s : EncoderHistory) (t : EncoderState) (stream : ℕ) (b : Bool) → t ≡ encoder_state s → b ≡ list_any (λ id. id == stream) t.canceled → was_canceled s stream ≡ b

@@ -16,11 +16,11 @@ use Rattle.h3_qpack.proofs.Encodings.{HasReadFor, section_begins, section_means,
 
 -- The decoder is that of the session, or has not read the capacity yet.
 abbrev pub IsDecoderOf : Session → DecoderState → Type 0
-IsDecoderOf s r = (r ≡ decoder_of s) ⊎ ((s.received ≡ 0) × (r ≡ announcing s.encoder.capacity))
+IsDecoderOf s r = (r ≡ decoder_of s) ⊎ ((s.received ≡ 0) × (r ≡ announcing s.encoder.announced))
 
-capacity_at : (s : Session) (r : DecoderState) → IsDecoderOf s r → count_capacity r ≡ s.encoder.capacity
-capacity_at s r (inl same) = ap count_capacity same
-capacity_at s r (inr none) = ap count_capacity none.1
+announced_at : (s : Session) (r : DecoderState) → IsDecoderOf s r → count_capacity r ≡ s.encoder.announced
+announced_at s r (inl same) = ap count_capacity same
+announced_at s r (inr none) = ap count_capacity none.1
 
 received_at : (s : Session) (r : DecoderState) → IsSound s → IsDecoderOf s r → r.table.inserted ≡ s.received
 received_at s r h (inl same) = ap (λ (q : DecoderState). q.table.inserted) same ∙ length-take-le s.received s.encoder.inserted h.received
@@ -35,7 +35,7 @@ entries_at s r (inl same) = ap (λ (q : DecoderState). q.table.entries) same
 entries_at s r (inr none) = ap (λ (q : DecoderState). q.table.entries) none.1 ∙ ap (entries_after s) (sym none.0)
 
 has_read_of : (s : Session) (b : UndecodedSection) (r : DecoderState) → IsSound s → IsDecoderOf s r → HasReadFor s b r
-has_read_of s b r h of = record { inserted = received_at s r h of; entries = entries_at s r of; capacity = λ above. capacity_at s r of }
+has_read_of s b r h of = record { inserted = received_at s r h of; entries = entries_at s r of; announced = λ above. announced_at s r of }
 
 -- a section's count is at most the insertions
 count_made : (s : Session) (b : UndecodedSection) → IsSound s → oldest b.stream s.sections ≡ Some b → count_of b ≤ length s.encoder.inserted
@@ -53,12 +53,12 @@ count_made s b h is = by_test (nat_lt 0 (count_of b)) refl
 -- a decoder whose announced capacity the encoder has learned, or that has nothing to read
 pub has_read_at : (announced : ℕ) (s : Session) (b : UndecodedSection) (r : DecoderState) → IsSound s → oldest b.stream s.sections ≡ Some b → IsDecoderAt announced s r → HasReadFor s b r
 has_read_at announced s b r h is at =
-    record { inserted = at.inserted; entries = at.entries; capacity = λ above. learned above at.learned }
+    record { inserted = at.inserted; entries = at.entries; announced = λ above. learned above at.learned }
   where
     known : count_capacity r ≡ announced
     known = ap (λ o. count_capacity (record r { announced = o })) at.capacity
 
-    learned : 0 < count_of b → (s.encoder.capacity ≡ announced) ⊎ (s.encoder.inserted ≡ []) → count_capacity r ≡ s.encoder.capacity
+    learned : 0 < count_of b → (s.encoder.announced ≡ announced) ⊎ (s.encoder.inserted ≡ []) → count_capacity r ≡ s.encoder.announced
     learned above (inl same) = known ∙ sym same
     learned above (inr none) = absurd (omega (arith, above, count_made s b h is, ap length none))
 

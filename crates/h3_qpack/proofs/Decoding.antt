@@ -222,7 +222,7 @@ count_holds P names above h = ⊎_elim (λ e. absurd (omega (arith, e, above))) 
 
 -- The encoded count of a section that is tried stands for its count, at whatever moment.
 pub count_in_window : (s : Session) (b : UndecodedSection) → IsSound s → oldest b.stream s.sections ≡ Some b → is_canceled s b.stream ≡ false → 0 < count_of b
-    → IsRequiredCount s.encoder.capacity s.received (count_of b % (2 * most_entries s.encoder.capacity) + 1) (count_of b)
+    → IsRequiredCount s.encoder.announced s.received (count_of b % (2 * most_entries s.encoder.announced) + 1) (count_of b)
 count_in_window s b h is alive above =
     let w = oldest_holds (IsWrittenOver s.encoder.inserted) b.stream s.sections b h.written is in
     let d = draft_of b.encoder b.fields in
@@ -230,7 +230,7 @@ count_in_window s b h is alive above =
     let longer : length d.inserted ≤ length s.encoder.inserted = omega (arith, ap length w.begins, length-append d.inserted w.more) in
     let held : evictions s.encoder.capacity s.encoder.inserted < count_of b =
     count_holds (λ n. evictions s.encoder.capacity s.encoder.inserted < n) (references_of b) above (names_held s b h is alive) in
-    let few : length (table s.encoder.capacity s.encoder.inserted) ≤ most_entries s.encoder.capacity = omega (arith, few_entries s.encoder.capacity s.encoder.inserted) in
+    let few : length (table s.encoder.capacity s.encoder.inserted) ≤ most_entries s.encoder.announced = omega (arith, few_entries s.encoder.capacity s.encoder.inserted, h.within_announced) in
     record {
       positive = above;
       residue = refl;

@@ -56,16 +56,16 @@ some_one x y e = ap (λ o. unwrap_or o x) e
 
 -- what the decoder is
 pub encoder_stream_is : (capacity : ℕ) (instructions : List EncoderInstruction) (inserted : List Field) (t : Stream) (r : DecoderState) (count : ℕ) → IsReadAs capacity capacity instructions inserted → EncoderStream capacity instructions t r count
-    → ((count ≡ 0) × (r ≡ announcing capacity)) ⊎ (r ≡ decoder_at capacity (take (count - length (opening capacity)) inserted))
+    → ((count ≡ 0) × (r ≡ announcing capacity)) ⊎ (r ≡ decoder_at capacity capacity (take (count - length (opening capacity)) inserted))
 encoder_stream_is capacity instructions inserted t r count reads f =
-    let a = at_read capacity instructions inserted count reads f.within in
-    subst (λ q. ((count ≡ 0) × (q ≡ announcing capacity)) ⊎ (q ≡ decoder_at capacity (take (count - length (opening capacity)) inserted))) (some_one a.decoder r (sym a.reads ∙ f.decoder)) a.is
+    let a = at_read capacity capacity instructions inserted count (omega arith) reads f.within in
+    subst (λ q. ((count ≡ 0) × (q ≡ announcing capacity)) ⊎ (q ≡ decoder_at capacity capacity (take (count - length (opening capacity)) inserted))) (some_one a.decoder r (sym a.reads ∙ f.decoder)) a.is
 
 pub encoder_stream_count : (capacity : ℕ) (instructions : List EncoderInstruction) (inserted : List Field) (t : Stream) (r : DecoderState) (count : ℕ) → IsReadAs capacity capacity instructions inserted → EncoderStream capacity instructions t r count
     → r.table.inserted ≡ count - length (opening capacity)
 encoder_stream_count capacity instructions inserted t r count reads f = by_case (encoder_stream_is capacity instructions inserted t r count reads f)
   where
-    by_case : ((count ≡ 0) × (r ≡ announcing capacity)) ⊎ (r ≡ decoder_at capacity (take (count - length (opening capacity)) inserted)) → r.table.inserted ≡ count - length (opening capacity)
+    by_case : ((count ≡ 0) × (r ≡ announcing capacity)) ⊎ (r ≡ decoder_at capacity capacity (take (count - length (opening capacity)) inserted)) → r.table.inserted ≡ count - length (opening capacity)
     by_case (inl none) = omega (arith, none.0, ap (λ (q : DecoderState). q.table.inserted) none.1)
     by_case (inr is) =
         ap (λ (q : DecoderState). q.table.inserted) is
@@ -113,7 +113,7 @@ encoder_stream_reads capacity instructions inserted t r new count more left read
           (λ j js e.
           let at : drop (count + front.count) all ≡ j ∷ js = sym (drop_further count front.count all) ∙ e in
           let some = ap length at ∙ refl in
-          let next = at_read capacity instructions inserted (count + front.count + 1) reads (omega (arith, inside, length-drop (count + front.count) all, ap length at)) in
+          let next = at_read capacity capacity instructions inserted (count + front.count + 1) (omega arith) reads (omega (arith, inside, length-drop (count + front.count) all, ap length at)) in
           let one : take (count + front.count + 1) all ≡ take (count + front.count) all ++ j ∷ [] = take_further (count + front.count) 1 all ∙ ap (λ xs. take (count + front.count) all ++ take 1 xs) at in (
             next.decoder,
             sym (ap (decoder_after_all (Some (announcing capacity))) one ∙ decoder_after_all-append (Some (announcing capacity)) (take (count + front.count) all) (j ∷ []) ∙ ap (λ o. decoder_after_all o (j ∷ [])) table) ∙ next.reads,

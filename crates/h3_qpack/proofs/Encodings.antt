@@ -171,7 +171,7 @@ prefix_read capacity count base rest few low =
 pub record HasReadFor (s : Session) (b : UndecodedSection) (r : DecoderState) : Type 0 where
   pub inserted : r.table.inserted ≡ s.received
   pub entries : r.table.entries ≡ (decoder_of s).table.entries
-  pub capacity : 0 < count_of b → count_capacity r ≡ s.encoder.capacity
+  pub announced : 0 < count_of b → count_capacity r ≡ s.encoder.announced
 
 -- the prefix of a section, whenever it is tried
 pub record Begins (r : DecoderState) (b : UndecodedSection) (base : ℕ) : Type 0 where
@@ -188,29 +188,29 @@ section_begins s b r h of is alive few w = by_count (nat_lt 0 (count_of b)) refl
     by_count true e =
         let above : 0 < count_of b = grind (arith, common_steps) in
         let window = count_in_window s b h is alive above in
-        let some : 0 < s.encoder.capacity = omega (arith, window.not_too_old, window.not_too_new) in
-        let taken : IsPrefix s.encoder.capacity s.received (written_prefix s.encoder.capacity (count_of b) (length b.encoder.inserted)) (count_of b) (length b.encoder.inserted) =
-        prefix_is_read s.encoder.capacity s.received (count_of b) (length b.encoder.inserted) some (λ z. absurd (omega (arith, z, above))) window.not_too_old window.not_too_new in
+        let some : 0 < s.encoder.announced = omega (arith, window.not_too_old, window.not_too_new) in
+        let taken : IsPrefix s.encoder.announced s.received (written_prefix s.encoder.announced (count_of b) (length b.encoder.inserted)) (count_of b) (length b.encoder.inserted) =
+        prefix_is_read s.encoder.announced s.received (count_of b) (length b.encoder.inserted) some (λ z. absurd (omega (arith, z, above))) window.not_too_old window.not_too_new in
         record {
           begins = record {
-            encoded = written_prefix b.encoder.capacity (count_of b) (length b.encoder.inserted);
-            whole = prefix_read b.encoder.capacity (count_of b) (length b.encoder.inserted) _ few w.base;
-            is = subst (λ c. IsPrefix c r.table.inserted (written_prefix b.encoder.capacity (count_of b) (length b.encoder.inserted)) (count_of b) (length b.encoder.inserted)) (sym (of.capacity above))
-                (subst (λ n. IsPrefix s.encoder.capacity n (written_prefix b.encoder.capacity (count_of b) (length b.encoder.inserted)) (count_of b) (length b.encoder.inserted)) (sym of.inserted)
-                (subst (λ c. IsPrefix s.encoder.capacity s.received (written_prefix c (count_of b) (length b.encoder.inserted)) (count_of b) (length b.encoder.inserted)) (sym (w.capacity above)) taken));
+            encoded = written_prefix b.encoder.announced (count_of b) (length b.encoder.inserted);
+            whole = prefix_read b.encoder.announced (count_of b) (length b.encoder.inserted) _ few w.base;
+            is = subst (λ c. IsPrefix c r.table.inserted (written_prefix b.encoder.announced (count_of b) (length b.encoder.inserted)) (count_of b) (length b.encoder.inserted)) (sym (of.announced above))
+                (subst (λ n. IsPrefix s.encoder.announced n (written_prefix b.encoder.announced (count_of b) (length b.encoder.inserted)) (count_of b) (length b.encoder.inserted)) (sym of.inserted)
+                (subst (λ c. IsPrefix s.encoder.announced s.received (written_prefix c (count_of b) (length b.encoder.inserted)) (count_of b) (length b.encoder.inserted)) (sym (w.announced above)) taken));
           };
         }
     by_count false e =
         let none : count_of b ≡ 0 = grind (arith, common_steps) in
         record {
           begins = record {
-            encoded = written_prefix b.encoder.capacity (count_of b) (length b.encoder.inserted);
-            whole = prefix_read b.encoder.capacity (count_of b) (length b.encoder.inserted) _ few w.base;
+            encoded = written_prefix b.encoder.announced (count_of b) (length b.encoder.inserted);
+            whole = prefix_read b.encoder.announced (count_of b) (length b.encoder.inserted) _ few w.base;
             is = rw none (plain (nat_lt 0 (count_capacity r)) refl);
           };
         }
       where
-        plain : (t : Bool) → nat_lt 0 (count_capacity r) ≡ t → IsPrefix (count_capacity r) r.table.inserted (written_prefix b.encoder.capacity 0 (length b.encoder.inserted)) 0 0
+        plain : (t : Bool) → nat_lt 0 (count_capacity r) ≡ t → IsPrefix (count_capacity r) r.table.inserted (written_prefix b.encoder.announced 0 (length b.encoder.inserted)) 0 0
         plain true e = inr (grind (arith, common_steps), inl (refl, refl), refl)
         plain false e = inl (grind (arith, common_steps), refl, refl)
 
@@ -275,4 +275,4 @@ section_means s b r h of is alive came w =
 
 -- the session's own decoder has read so
 pub own_read : (s : Session) (b : UndecodedSection) → IsSound s → HasReadFor s b (decoder_of s)
-own_read s b h = record { inserted = length-take-le s.received s.encoder.inserted h.received; entries = refl; capacity = λ above. refl }
+own_read s b h = record { inserted = length-take-le s.received s.encoder.inserted h.received; entries = refl; announced = λ above. refl }

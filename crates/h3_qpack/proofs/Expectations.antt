@@ -124,16 +124,16 @@ expects_keeps s (event.DecoderBytes count) a t h e = replies_keeps s a t h e
 expects_keeps s (event.Decode stream) a t h e = decodes_keeps s stream a t h e
 expects_keeps s (event.Cancel stream) a t h e = cancels_keeps s stream a t h e
 
-run_keeps : (counts : Bool) (capacity limit : ℕ) (events : List SessionEvent) (answers : List SessionAnswer) (s : Session) → Expected (beginning counts capacity limit) events answers s → Keeps (beginning counts capacity limit) s
-run_keeps counts capacity limit events answers s NoEvent = record { sound = beginning_is_sound counts capacity limit; limit = refl }
-run_keeps counts capacity limit events answers s (NextEvent before replies mid new e a run h) =
-    let m = run_keeps counts capacity limit before replies mid run in
+run_keeps : (counts : Bool) (most announced limit : ℕ) (events : List SessionEvent) (answers : List SessionAnswer) (s : Session) → Expected (beginning counts most announced limit) events answers s → Keeps (beginning counts most announced limit) s
+run_keeps counts most announced limit events answers s NoEvent = record { sound = beginning_is_sound counts most announced limit; limit = refl }
+run_keeps counts most announced limit events answers s (NextEvent before replies mid new e a run h) =
+    let m = run_keeps counts most announced limit before replies mid run in
     let k = expects_keeps mid e a new m.sound h in
     record { sound = k.sound; limit = k.limit ∙ m.limit }
 
 -- Every session that is expected is sound, and no more of its sections are blocked than may be.
-pub expected_sound : (counts : Bool) (capacity limit : ℕ) (events : List SessionEvent) (answers : List SessionAnswer) (s : Session) → Expected (beginning counts capacity limit) events answers s
+pub expected_sound : (counts : Bool) (most announced limit : ℕ) (events : List SessionEvent) (answers : List SessionAnswer) (s : Session) → Expected (beginning counts most announced limit) events answers s
     → IsSound s × (blocks_out s.encoder ≤ limit)
-expected_sound counts capacity limit events answers s run =
-    let k = run_keeps counts capacity limit events answers s run in
+expected_sound counts most announced limit events answers s run =
+    let k = run_keeps counts most announced limit events answers s run in
     (k.sound, subst (λ n. blocks_out s.encoder ≤ n) k.limit k.sound.within_limit)

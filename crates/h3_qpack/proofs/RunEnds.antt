@@ -19,7 +19,7 @@ use Rattle.h3_qpack.proofs.BytesRead.{bytes_read}
 decoder_within : (capacity : ℕ) (w : ExchangeHistory) (s : Session) → Stands capacity w s → section_size w.decoder.table.entries ≤ capacity
 decoder_within capacity w s st = by_case (encoder_stream_is capacity s.instructions s.encoder.inserted w.encoder_stream w.decoder st.count (reads_as capacity w s st) st.encoder_stream)
   where
-    by_case : ((st.count ≡ 0) × (w.decoder ≡ announcing capacity)) ⊎ (w.decoder ≡ decoder_at capacity (take (st.count - length (opening capacity)) s.encoder.inserted)) → section_size w.decoder.table.entries ≤ capacity
+    by_case : ((st.count ≡ 0) × (w.decoder ≡ announcing capacity)) ⊎ (w.decoder ≡ decoder_at capacity capacity (take (st.count - length (opening capacity)) s.encoder.inserted)) → section_size w.decoder.table.entries ≤ capacity
     by_case (inl none) = omega (arith, ap (λ (r : DecoderState). section_size r.table.entries) none.1)
     by_case (inr is) =
         let read = take (st.count - length (opening capacity)) s.encoder.inserted in
@@ -28,7 +28,7 @@ decoder_within capacity w s st = by_case (encoder_stream_is capacity s.instructi
 pub has_answered : (capacity limit : ℕ) (events : List SessionEvent) (answers : List SessionAnswer) (end : ExchangeHistory) → capacity < 2 ^ 30 → Exchange (start capacity limit) events answers end → HasAnswered capacity limit events answers
 has_answered capacity limit events answers end small run =
     let x = run_as_expected capacity limit events answers end small run in
-    let s = expected_sound false capacity limit events answers x.session x.expected in
+    let s = expected_sound false (2 ^ 30 - 1) capacity limit events answers x.session x.expected in
     record {
       end = end;
       session = x.session;

@@ -1,6 +1,6 @@
 -- Every run in bytes is a session: what it answers is what is expected.
 use Rattle.std.specs.declared.alloc.Global.{Global}
-use Rattle.std.proofs.Common.{Vec, ◌≡◌, ◌⊎◌, inl, inr, ℕ, zero, suc, ◌+◌, ◌-◌, ◌/◌, ◌^◌, ◌<◌, ◌≤◌, Bool, true, false, ◌||◌, List, [], ◌∷◌, ◌++◌, length, take, map, filter, cond, Some, None, unwrap_or, refl, sym, ◌∙◌, ap, subst, arith, length-append, append_assoc, append-nil, flat_map, if◌then◌else◌}
+use Rattle.std.proofs.Common.{Vec, ◌≡◌, ◌⊎◌, inl, inr, ℕ, zero, suc, ◌+◌, ◌-◌, ◌/◌, ◌^◌, ◌<◌, ◌≤◌, Bool, true, false, ◌||◌, List, [], ◌∷◌, ◌++◌, length, take, map, filter, min, cond, Some, None, unwrap_or, refl, sym, ◌∙◌, ap, subst, arith, length-append, append_assoc, append-nil, flat_map, if◌then◌else◌}
 use Rattle.std.specs.Prelude.{◌==◌, not}
 use Rattle.std.specs.List.{AllByRecursion}
 use Rattle.std.proofs.lemmas.Grind.{common_steps, flat_map-append}
@@ -19,7 +19,7 @@ use Rattle.h3_field.specs.declared.decoder_error.DecoderError.{DecoderError}
 use Rattle.h3_field.specs.declared.decoder_error.DecoderError.TheVariants as decoder_error
 use Rattle.h3_field.specs.declared.error.Error.{Error}
 use Rattle.h3_field.specs.declared.error.Error.TheVariants as of
-use Rattle.h3_qpack.specs.EncoderHistory.{EncoderHistory, encoder_after, encoder_after_all, writing_on}
+use Rattle.h3_qpack.specs.EncoderHistory.{EncoderHistory, no_table, encoder_after, encoder_after_all, writing_on}
 use Rattle.h3_qpack.specs.TableHistory.{IsReadAs}
 use Rattle.h3_qpack.specs.DecoderState.{DecoderState, announcing, decoder_after_all}
 use Rattle.h3_qpack.specs.SectionEncoding.{draft_of, required_insert_count, encoded_section, instructions_for, sent_section}
@@ -46,7 +46,7 @@ use Rattle.h3_qpack.proofs.EncoderStreams.{EncoderStream, encoder_stream_is, enc
 use Rattle.h3_qpack.proofs.DecoderStreams.{DecoderStream, heard_so, heard_sound, decoder_stream_reads}
 use Rattle.h3_qpack.proofs.DecodesAgree.{IsDecoderOf, decodes_right, misses_right, none_bad}
 use Rattle.h3_qpack.proofs.Writable.{lines_written, instructions_written}
-use Rattle.h3_qpack.proofs.Canceled.{on_inserted, on_capacity}
+use Rattle.h3_qpack.proofs.Canceled.{on_inserted, on_announced}
 
 abbrev pub encoded_section_of : UndecodedSection → EncodedSection
 encoded_section_of b = record { stream = b.stream; bytes = encoded_section b.encoder b.fields }
@@ -54,13 +54,14 @@ encoded_section_of b = record { stream = b.stream; bytes = encoded_section b.enc
 pub record IsRunSection (capacity : ℕ) (b : UndecodedSection) : Type 0 where
   pub lines : AllByRecursion IsWrittenLine (draft_of b.encoder b.fields).lines
   pub base : length b.encoder.inserted < 2 ^ 62
-  pub capacity_is : 0 < count_of b → b.encoder.capacity ≡ capacity
+  pub announced_is : 0 < count_of b → b.encoder.announced ≡ capacity
 
 -- The two ends are those of the session.
 pub record Stands (capacity : ℕ) (w : ExchangeHistory) (s : Session) : Type 0 where
   pub sound : IsSound s
   pub encoder : w.encoder ≡ s.encoder
   pub capacity_is : s.encoder.capacity ≡ capacity
+  pub announced_is : s.encoder.announced ≡ capacity
   pub count : ℕ
   pub encoder_stream : EncoderStream capacity s.instructions w.encoder_stream w.decoder count
   pub received : s.received ≡ count - length (opening capacity)
@@ -70,7 +71,7 @@ pub record Stands (capacity : ℕ) (w : ExchangeHistory) (s : Session) : Type 0 
   pub canceled : (stream : ℕ) → is_given_up w.canceled stream ≡ is_canceled s stream
 
 pub reads_as : (capacity : ℕ) (w : ExchangeHistory) (s : Session) → Stands capacity w s → IsReadAs capacity capacity s.instructions s.encoder.inserted
-reads_as capacity w s st = subst (λ c. IsReadAs c c s.instructions s.encoder.inserted) st.capacity_is st.sound.read
+reads_as capacity w s st = subst (λ c. IsReadAs capacity c s.instructions s.encoder.inserted) st.capacity_is (subst (λ c. IsReadAs c s.encoder.capacity s.instructions s.encoder.inserted) st.announced_is st.sound.read)
 
 -- more instructions are written
 encoder_stream_more : (capacity : ℕ) (is more : List EncoderInstruction) (t : Stream) (r : DecoderState) (count : ℕ) → EncoderStream capacity is t r count → AllByRecursion IsWrittenInstruction more
@@ -124,12 +125,13 @@ begun_encoder_stream capacity small =
     by_test true = (tt, refl)
     by_test false = (((omega (arith, small), tt, capacity_few capacity), tt), sym (append-nil (encoder_bytes (SetCapacity capacity))))
 
-begun_stands : (capacity limit : ℕ) → capacity < 2 ^ 30 → Stands capacity (start capacity limit) (beginning false capacity limit)
+begun_stands : (capacity limit : ℕ) → capacity < 2 ^ 30 → Stands capacity (start capacity limit) (beginning false (2 ^ 30 - 1) capacity limit)
 begun_stands capacity limit small =
     record {
-      sound = beginning_is_sound false capacity limit;
-      encoder = refl;
-      capacity_is = refl;
+      sound = beginning_is_sound false (2 ^ 30 - 1) capacity limit;
+      encoder = ap (λ c. record no_table { announced = capacity; capacity = c; limit = limit }) (sym whole);
+      capacity_is = whole;
+      announced_is = refl;
       count = 0;
       encoder_stream = begun_encoder_stream capacity small;
       received = omega arith;
@@ -138,6 +140,9 @@ begun_stands capacity limit small =
       written = tt;
       canceled = λ stream. refl;
     }
+  where
+    whole : min (2 ^ 30 - 1) capacity ≡ capacity
+    whole = grind (arith, common_steps, small)
 
 -- a section is written
 encoded_stands : (capacity : ℕ) (w : ExchangeHistory) (s : Session) (stream : ℕ) (fields : List Field) (count : ℕ) (new : ExchangeHistory) → Stands capacity w s → section_size fields < 2 ^ 62 → Encodes w stream fields (answer.Encoded count) new
@@ -151,7 +156,7 @@ encoded_stands capacity w s stream fields count new st size h =
     let encoder_after = instructions_written by fields small h.1.are_bytes size (omega (arith, held, length-append w.encoder_stream.bytes (flat_map encoder_bytes (instructions_for by fields)))) in
     let section : length (encoded_section by fields) < 2 ^ 63 = subst (λ x. length (encoded_section x fields) < 2 ^ 63) same h.2 in
     let lines = lines_written by fields small h.1.are_bytes size
-    (omega (arith, section, length-append (prefix_bytes by.capacity (required_insert_count (draft_of by fields)) (length by.inserted)) (flat_map line_bytes (draft_of by fields).lines))) in
+    (omega (arith, section, length-append (prefix_bytes by.announced (required_insert_count (draft_of by fields)) (length by.inserted)) (flat_map line_bytes (draft_of by fields).lines))) in
     let one : UndecodedSection = record { stream = stream; fields = fields; encoder = by } in (
       encoded s stream fields,
       (refl, h.0 ∙ ap (λ x. required_insert_count (draft_of x fields)) same),
@@ -159,6 +164,7 @@ encoded_stands capacity w s stream fields count new st size h =
         sound = section_written s stream fields st.sound;
         encoder = ap (λ x. sent_section x stream fields) st.encoder;
         capacity_is = st.capacity_is;
+        announced_is = st.announced_is;
         count = st.count;
         encoder_stream = subst (λ x. EncoderStream capacity (s.instructions ++ instructions_for by fields) (writing w.encoder_stream (flat_map encoder_bytes (instructions_for x fields))) w.decoder st.count) (sym same)
             (encoder_stream_more capacity s.instructions (instructions_for by fields) w.encoder_stream w.decoder st.count st.encoder_stream encoder_after);
@@ -166,7 +172,7 @@ encoded_stands capacity w s stream fields count new st size h =
         decoder_stream = st.decoder_stream;
         sections = ap (λ bs. bs ++ record { stream = stream; bytes = encoded_section (writing_on w.encoder stream) fields } ∷ []) st.sections
             ∙ ap (λ x. map encoded_section_of s.sections ++ record { stream = stream; bytes = encoded_section x fields } ∷ []) same ∙ sym (map-append encoded_section_of s.sections (one ∷ []));
-        written = All-join (IsRunSection capacity) s.sections (one ∷ []) st.written (record { lines = lines; base = small; capacity_is = λ above. on_capacity s.encoder stream fields above ∙ st.capacity_is }, tt);
+        written = All-join (IsRunSection capacity) s.sections (one ∷ []) st.written (record { lines = lines; base = small; announced_is = λ above. on_announced s.encoder stream fields above ∙ st.announced_is }, tt);
         canceled = st.canceled;
       }),
     )
@@ -189,6 +195,7 @@ cut_stands capacity w s stream fields e new st size h =
         sound = insertions_kept s stream front st.sound;
         encoder = ap (λ (x : EncoderHistory). record x { inserted = (draft_of (writing_on x stream) front).inserted }) st.encoder;
         capacity_is = st.capacity_is;
+        announced_is = st.announced_is;
         count = st.count;
         encoder_stream = subst (λ x. EncoderStream capacity (s.instructions ++ instructions_for by front) (writing w.encoder_stream (flat_map encoder_bytes (instructions_for x front))) w.decoder st.count) (sym same)
             (encoder_stream_more capacity s.instructions (instructions_for by front) w.encoder_stream w.decoder st.count st.encoder_stream encoder_after);
@@ -248,6 +255,7 @@ encoder_stream_step capacity w s more new st d =
           sound = st.sound;
           encoder = encoder ∙ st.encoder;
           capacity_is = st.capacity_is;
+          announced_is = st.announced_is;
           count = count;
           encoder_stream = encoder_stream;
           received = omega (arith, received, none);
@@ -261,6 +269,7 @@ encoder_stream_step capacity w s more new st d =
           sound = insertions_read s gained (some_of gained e) within st.sound;
           encoder = encoder ∙ st.encoder;
           capacity_is = st.capacity_is;
+          announced_is = st.announced_is;
           count = count;
           encoder_stream = encoder_stream;
           received = received;
@@ -307,6 +316,15 @@ encoder_after_all_capacity : (s : EncoderHistory) (is : List DecoderInstruction)
 encoder_after_all_capacity s [] = refl
 encoder_after_all_capacity s (i ∷ is) = encoder_after_all_capacity (encoder_after s i) is ∙ encoder_after_capacity s i
 
+encoder_after_announced : (s : EncoderHistory) (i : DecoderInstruction) → (encoder_after s i).announced ≡ s.announced
+encoder_after_announced s (Acknowledge stream) = refl
+encoder_after_announced s (CancelStream stream) = refl
+encoder_after_announced s (Increment count) = refl
+
+encoder_after_all_announced : (s : EncoderHistory) (is : List DecoderInstruction) → (encoder_after_all s is).announced ≡ s.announced
+encoder_after_all_announced s [] = refl
+encoder_after_all_announced s (i ∷ is) = encoder_after_all_announced (encoder_after s i) is ∙ encoder_after_announced s i
+
 decoder_stream_step : (capacity : ℕ) (w : ExchangeHistory) (s : Session) (more : ℕ) (new : ExchangeHistory) → Stands capacity w s → (d : EncoderReads w more new)
     → (count : ℕ) × Stands capacity new (heard_so s count) × (BeginsRefused new.encoder d.left → ⊥)
 decoder_stream_step capacity w s more new st d =
@@ -317,6 +335,7 @@ decoder_stream_step capacity w s more new st d =
         sound = heard_sound b.count s st.sound;
         encoder = ap (λ x. encoder_after_all x d.instructions) st.encoder ∙ ap (encoder_after_all s.encoder) b.are;
         capacity_is = encoder_after_all_capacity s.encoder (take b.count s.decoder_instructions) ∙ st.capacity_is;
+        announced_is = encoder_after_all_announced s.encoder (take b.count s.decoder_instructions) ∙ st.announced_is;
         count = st.count;
         encoder_stream = st.encoder_stream;
         received = st.received;
@@ -402,9 +421,10 @@ record Tried (capacity : ℕ) (w : ExchangeHistory) (s : Session) (stream : ℕ)
 decoder_is : (capacity : ℕ) (w : ExchangeHistory) (s : Session) → Stands capacity w s → IsDecoderOf s w.decoder
 decoder_is capacity w s st = by_case (encoder_stream_is capacity s.instructions s.encoder.inserted w.encoder_stream w.decoder st.count (reads_as capacity w s st) st.encoder_stream)
   where
-    by_case : ((st.count ≡ 0) × (w.decoder ≡ announcing capacity)) ⊎ (w.decoder ≡ decoder_at capacity (take (st.count - length (opening capacity)) s.encoder.inserted)) → IsDecoderOf s w.decoder
-    by_case (inl none) = inr (omega (arith, st.received, none.0), none.1 ∙ ap announcing (sym st.capacity_is))
-    by_case (inr is) = inl (is ∙ ap (λ n. decoder_at capacity (take n s.encoder.inserted)) (sym st.received) ∙ ap (λ c. decoder_at c (take s.received s.encoder.inserted)) (sym st.capacity_is))
+    by_case : ((st.count ≡ 0) × (w.decoder ≡ announcing capacity)) ⊎ (w.decoder ≡ decoder_at capacity capacity (take (st.count - length (opening capacity)) s.encoder.inserted)) → IsDecoderOf s w.decoder
+    by_case (inl none) = inr (omega (arith, st.received, none.0), none.1 ∙ ap announcing (sym st.announced_is))
+    by_case (inr is) = inl (is ∙ ap (λ n. decoder_at capacity capacity (take n s.encoder.inserted)) (sym st.received) ∙ ap (λ c. decoder_at c capacity (take s.received s.encoder.inserted)) (sym st.announced_is)
+        ∙ ap (λ c. decoder_at s.encoder.announced c (take s.received s.encoder.inserted)) (sym st.capacity_is))
 
 tried : (capacity : ℕ) (w : ExchangeHistory) (s : Session) (stream : ℕ) → Stands capacity w s → (h : HasSection w stream) → Tried capacity w s stream h.section
 tried capacity w s stream st h =
@@ -419,7 +439,7 @@ tried capacity w s stream st h =
       of_stream = at.of_stream;
       alive = subst (λ n. is_canceled s n ≡ false) (sym at.of_stream) alive;
       alive_there = alive;
-      written = record { lines = own.lines; base = own.base; capacity = λ above. own.capacity_is above ∙ sym st.capacity_is };
+      written = record { lines = own.lines; base = own.base; announced = λ above. own.announced_is above ∙ sym st.announced_is };
       decoder = decoder_is capacity w s st;
     }
 
@@ -434,6 +454,7 @@ decoded_stands capacity w s stream fields new st few h =
         sound = section_decoded s k.section k.is k.alive right.came st.sound;
         encoder = st.encoder;
         capacity_is = st.capacity_is;
+        announced_is = st.announced_is;
         count = st.count;
         encoder_stream = st.encoder_stream;
         received = st.received;
@@ -499,6 +520,7 @@ given_up_stands capacity w s stream st few =
       sound = stream_abandoned s stream st.sound;
       encoder = st.encoder;
       capacity_is = st.capacity_is;
+      announced_is = st.announced_is;
       count = st.count;
       encoder_stream = st.encoder_stream;
       received = st.received;
@@ -537,12 +559,12 @@ event_stands capacity w s (event.Cancel stream) a new st small h = cancels_stand
 
 pub record AsExpected (capacity limit : ℕ) (events : List SessionEvent) (answers : List SessionAnswer) (w : ExchangeHistory) : Type 0 where
   pub session : Session
-  pub expected : Expected (beginning false capacity limit) events answers session
+  pub expected : Expected (beginning false (2 ^ 30 - 1) capacity limit) events answers session
   pub stands : Stands capacity w session
 
 -- Every run answers what is expected.
 pub run_as_expected : (capacity limit : ℕ) (events : List SessionEvent) (answers : List SessionAnswer) (w : ExchangeHistory) → capacity < 2 ^ 30 → Exchange (start capacity limit) events answers w → AsExpected capacity limit events answers w
-run_as_expected capacity limit events answers w small Before = record { session = beginning false capacity limit; expected = NoEvent; stands = begun_stands capacity limit small }
+run_as_expected capacity limit events answers w small Before = record { session = beginning false (2 ^ 30 - 1) capacity limit; expected = NoEvent; stands = begun_stands capacity limit small }
 run_as_expected capacity limit events answers w small (Then before replies mid new e a run fits h) =
     let m = run_as_expected capacity limit before replies mid small run in
     let n = event_stands capacity mid m.session e a new m.stands fits h in

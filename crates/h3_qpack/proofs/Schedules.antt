@@ -1,6 +1,7 @@
 -- Every session is sound.
 use Rattle.std.proofs.Common.{ℕ, Bool, true, false, if◌then◌else◌, List, [], ◌∷◌, refl, sym, subst, arith}
-use Rattle.std.proofs.Common.{◌≡◌, ◌<◌, ◌≤◌, ap, length}
+use Rattle.std.proofs.Common.{◌≡◌, ◌<◌, ◌≤◌, ap, length, min}
+use Rattle.std.proofs.lemmas.Grind.{common_steps}
 use Rattle.std.specs.List.{AllByRecursion}
 use Rattle.h3_field.specs.Field.{Field}
 use Rattle.h3_field.specs.Instruction.{EncoderInstruction, DecoderInstruction}
@@ -21,13 +22,17 @@ moved : (a b : ℕ) (names : List ℕ) → b ≤ a → AllByRecursion (λ number
 moved a b [] le h = tt
 moved a b (x ∷ xs) le h = (omega (arith, le, h.0), moved a b xs le h.1)
 
-nothing_read : (capacity : ℕ) (instructions : List EncoderInstruction) (inserted : List Field) → inserted ≡ [] → length instructions ≡ length inserted → IsReadAs capacity capacity instructions inserted
-nothing_read capacity [] inserted none one_each = rw none (record { one_each = refl; tables = λ k le. let zero_is : k ≡ 0 = omega (arith, le) in rw zero_is refl })
-nothing_read capacity (i ∷ is) inserted none one_each = absurd (omega (arith, one_each, ap length none))
+nothing_read : (announced capacity : ℕ) (instructions : List EncoderInstruction) (inserted : List Field) → inserted ≡ [] → length instructions ≡ length inserted → IsReadAs announced capacity instructions inserted
+nothing_read announced capacity [] inserted none one_each = rw none (record { one_each = refl; tables = λ k le. let zero_is : k ≡ 0 = omega (arith, le) in rw zero_is refl })
+nothing_read announced capacity (i ∷ is) inserted none one_each = absurd (omega (arith, one_each, ap length none))
+
+least_right : (a b : ℕ) → min a b ≤ b
+least_right a b = grind (arith, common_steps)
 
 -- a table comes into use
-table_used : (s : Session) (capacity limit : ℕ) → s.encoder.inserted ≡ [] → s.encoder.limit ≡ 0 → IsSound s → IsSound (with_table s capacity limit)
-table_used s capacity limit none zero_limit h =
+table_used : (s : Session) (announced limit : ℕ) → s.encoder.inserted ≡ [] → s.encoder.limit ≡ 0 → IsSound s → IsSound (with_table s announced limit)
+table_used s announced limit none zero_limit h =
+    let capacity = min s.encoder.most_capacity announced in
     let evicted = nothing_evicted capacity s.encoder.inserted none in
     record {
       received = h.received;
@@ -41,12 +46,13 @@ table_used s capacity limit none zero_limit h =
       cancels = h.cancels;
       untracked = h.untracked;
       within_limit = omega (arith, h.within_limit, zero_limit);
-      read = nothing_read capacity s.instructions s.encoder.inserted none h.read.one_each;
+      read = nothing_read announced capacity s.instructions s.encoder.inserted none h.read.one_each;
+      within_announced = least_right s.encoder.most_capacity announced;
       small = h.small;
     }
 
 pub step_is_sound : (s : Session) (event : SessionEvent) (new : Session) → IsSound s → SessionStep s event new → IsSound new
-step_is_sound s (UseTable capacity limit) new h e = subst IsSound (sym e.2) (table_used s capacity limit e.0 e.1 h)
+step_is_sound s (UseTable announced limit) new h e = subst IsSound (sym e.2) (table_used s announced limit e.0 e.1 h)
 step_is_sound s (Encode stream fields) new h e = subst IsSound (sym e) (section_written s stream fields h)
 step_is_sound s (CutOff stream fields) new h e = subst IsSound (sym e) (insertions_kept s stream fields h)
 step_is_sound s (InsertionsRead count) new h e = subst IsSound (sym e.2) (insertions_read s count e.0 e.1 h)
@@ -58,8 +64,8 @@ run_is_sound : (s : Session) (events : List SessionEvent) (new : Session) → Is
 run_is_sound s [] new h r = subst IsSound (sym r) h
 run_is_sound s (event ∷ events) new h r = run_is_sound r.0 events new (step_is_sound s event r.0 h r.1) r.2
 
-pub beginning_is_sound : (counts : Bool) (capacity limit : ℕ) → IsSound (beginning counts capacity limit)
-beginning_is_sound counts capacity limit =
+pub beginning_is_sound : (counts : Bool) (most announced limit : ℕ) → IsSound (beginning counts most announced limit)
+beginning_is_sound counts most announced limit =
     record {
       received = omega arith;
       accounted = refl;
@@ -72,31 +78,32 @@ beginning_is_sound counts capacity limit =
       cancels = tt;
       untracked = λ stream canceled. refl;
       within_limit = omega arith;
-      read = nothing_read capacity [] [] refl refl;
+      read = nothing_read announced (min most announced) [] [] refl refl;
+      within_announced = least_right most announced;
       small = omega arith;
     }
 
-pub every_run_is_sound : (counts : Bool) (capacity limit : ℕ) (events : List SessionEvent) (s : Session) → SessionRun (beginning counts capacity limit) events s → IsSound s
-every_run_is_sound counts capacity limit events s r = run_is_sound (beginning counts capacity limit) events s (beginning_is_sound counts capacity limit) r
+pub every_run_is_sound : (counts : Bool) (most announced limit : ℕ) (events : List SessionEvent) (s : Session) → SessionRun (beginning counts most announced limit) events s → IsSound s
+every_run_is_sound counts most announced limit events s r = run_is_sound (beginning counts most announced limit) events s (beginning_is_sound counts most announced limit) r
 
 -- An acknowledgment that is read tells of no insertion that no increment told of.
-pub nothing_new : (counts : Bool) (capacity limit : ℕ) (events : List SessionEvent) (s : Session) (stream : ℕ) (rest : List DecoderInstruction) → SessionRun (beginning counts capacity limit) events s
+pub nothing_new : (counts : Bool) (most announced limit : ℕ) (events : List SessionEvent) (s : Session) (stream : ℕ) (rest : List DecoderInstruction) → SessionRun (beginning counts most announced limit) events s
     → s.decoder_instructions ≡ Acknowledge stream ∷ rest → (encoder_after s.encoder (Acknowledge stream)).known_received ≡ s.encoder.known_received
-nothing_new counts capacity limit events s stream rest run is = nothing_told s stream rest is (every_run_is_sound counts capacity limit events s run)
+nothing_new counts most announced limit events s stream rest run is = nothing_told s stream rest is (every_run_is_sound counts most announced limit events s run)
 
 -- What a section is written by does not look at whether acknowledgments count.
 pub same_bytes : (s : EncoderHistory) (counts : Bool) (stream : ℕ) (fields : List Field) → encoded_section (writing_on (record s { counts_acknowledgments = counts }) stream) fields ≡ encoded_section (writing_on s stream) fields
 same_bytes s counts stream fields = by_test (was_canceled s stream)
   where
-    by_test : (b : Bool) → encoded_section (if b then record s { capacity = 0; limit = 0; counts_acknowledgments = counts } else record s { counts_acknowledgments = counts }) fields
-        ≡ encoded_section (if b then record s { capacity = 0; limit = 0 } else s) fields
+    by_test : (b : Bool) → encoded_section (if b then record s { announced = 0; capacity = 0; limit = 0; counts_acknowledgments = counts } else record s { counts_acknowledgments = counts }) fields
+        ≡ encoded_section (if b then record s { announced = 0; capacity = 0; limit = 0 } else s) fields
     by_test true = refl
     by_test false = refl
 
 pub same_instructions : (s : EncoderHistory) (counts : Bool) (stream : ℕ) (fields : List Field) → instructions_for (writing_on (record s { counts_acknowledgments = counts }) stream) fields ≡ instructions_for (writing_on s stream) fields
 same_instructions s counts stream fields = by_test (was_canceled s stream)
   where
-    by_test : (b : Bool) → instructions_for (if b then record s { capacity = 0; limit = 0; counts_acknowledgments = counts } else record s { counts_acknowledgments = counts }) fields
-        ≡ instructions_for (if b then record s { capacity = 0; limit = 0 } else s) fields
+    by_test : (b : Bool) → instructions_for (if b then record s { announced = 0; capacity = 0; limit = 0; counts_acknowledgments = counts } else record s { counts_acknowledgments = counts }) fields
+        ≡ instructions_for (if b then record s { announced = 0; capacity = 0; limit = 0 } else s) fields
     by_test true = refl
     by_test false = refl

@@ -29,12 +29,12 @@ one_fits : (fs : List Field) → 0 < length fs → 32 ≤ section_size fs
 one_fits [] above = absurd (omega (arith, above))
 one_fits (f ∷ fs) above = omega (arith, sum_by-cons field_size f fs)
 
-pub named_fits : (t : EncoderState) (section : Section) → IsOver t.table section → IsSmall t → (section.newest ≡ 0) ⊎ (32 ≤ t.table.capacity)
+pub named_fits : (t : EncoderState) (section : Section) → IsOver t.table section → IsSmall t → (section.newest ≡ 0) ⊎ (32 ≤ t.announced)
 named_fits t section o small = by_newest section.newest o.named
   where
-    by_newest : (newest : ℕ) → (0 < newest → section.oldest ≤ t.table.inserted) → (newest ≡ 0) ⊎ (32 ≤ t.table.capacity)
+    by_newest : (newest : ℕ) → (0 < newest → section.oldest ≤ t.table.inserted) → (newest ≡ 0) ⊎ (32 ≤ t.announced)
     by_newest zero there = inl refl
-    by_newest (suc n) there = inr (omega (arith, one_fits t.table.entries (omega (arith, o.above, there (omega arith))), small.fits))
+    by_newest (suc n) there = inr (omega (arith, one_fits t.table.entries (omega (arith, o.above, there (omega arith))), small.fits, small.within_announced))
 
 -- the prefix and the lines
 pub section_put : (before mid encoded lines : List ℕ) (capacity own count base : ℕ) (p : EncodedPrefix) → own ≡ capacity → p ≡ written_prefix own count base → mid ≡ before ++ encoded_bytes p → encoded ≡ mid ++ lines
@@ -142,15 +142,15 @@ sent_plain s d stream t section k none =
 
 -- The section and its instructions were written, on a stream that is not canceled.
 pub section_sent : (s : EncoderHistory) (stream : ℕ) (fields : List Field) (t new : EncoderState) (section : Section) (lines before encoded start instruction_bytes : List ℕ) → writing_on s stream ≡ s → IsDrafted s (draft_of s fields) t section lines start instruction_bytes
-    → encoded ≡ before ++ (prefix_bytes t.table.capacity section.newest section.base ++ lines) → new ≡ encoder_state (sent_draft s stream (draft_of s fields))
+    → encoded ≡ before ++ (prefix_bytes t.announced section.newest section.base ++ lines) → new ≡ encoder_state (sent_draft s stream (draft_of s fields))
     → AllByRecursion IsFieldOfBytes fields → IsSent s stream fields section.newest new before encoded start instruction_bytes
 section_sent s stream fields t new section lines before encoded start instruction_bytes own h is kept are_bytes =
     let d = draft_of s fields in
-    let capacity : t.table.capacity ≡ s.capacity = ap (λ (u : EncoderState). u.table.capacity) h.state.stores in
-    let prefix : prefix_bytes t.table.capacity section.newest section.base ≡ prefix_bytes s.capacity (required_insert_count d) (length s.inserted) =
-    ap (λ n. prefix_bytes n section.newest section.base) capacity ∙ ap (λ n. prefix_bytes s.capacity n section.base) h.state.newest ∙ ap (λ n. prefix_bytes s.capacity (required_insert_count d) n) h.state.base in
-    let body : prefix_bytes t.table.capacity section.newest section.base ++ lines ≡ encoded_section s fields =
-    ap (λ p. p ++ lines) prefix ∙ ap (λ ls. prefix_bytes s.capacity (required_insert_count d) (length s.inserted) ++ ls) h.lines_are in
+    let announced : t.announced ≡ s.announced = ap (λ (u : EncoderState). u.announced) h.state.stores in
+    let prefix : prefix_bytes t.announced section.newest section.base ≡ prefix_bytes s.announced (required_insert_count d) (length s.inserted) =
+    ap (λ n. prefix_bytes n section.newest section.base) announced ∙ ap (λ n. prefix_bytes s.announced n section.base) h.state.newest ∙ ap (λ n. prefix_bytes s.announced (required_insert_count d) n) h.state.base in
+    let body : prefix_bytes t.announced section.newest section.base ++ lines ≡ encoded_section s fields =
+    ap (λ p. p ++ lines) prefix ∙ ap (λ ls. prefix_bytes s.announced (required_insert_count d) (length s.inserted) ++ ls) h.lines_are in
     record {
       stores = kept ∙ ap (λ by. encoder_state (sent_draft s stream (draft_of by fields))) (sym own);
       count_is = h.state.newest ∙ ap (λ by. required_insert_count (draft_of by fields)) (sym own);

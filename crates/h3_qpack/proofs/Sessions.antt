@@ -81,6 +81,7 @@ increment_read s count rest is h =
       untracked = h.untracked;
       within_limit = omega (arith, h.within_limit, fewer_out s.encoder.required_insert_counts s.encoder.known_received (min (s.encoder.known_received + count) (2 ^ 64 - 1)) (omega (arith, exact)));
       read = h.read;
+      within_announced = h.within_announced;
       small = h.small;
     }
 
@@ -109,6 +110,7 @@ insertions_read s count some fits h =
       untracked = h.untracked;
       within_limit = h.within_limit;
       read = h.read;
+      within_announced = h.within_announced;
       small = h.small;
     }
 
@@ -176,6 +178,7 @@ acknowledgment_read s stream rest is h =
       untracked = λ other canceled. none_released stream other s.encoder.tracked (h.untracked other canceled);
       within_limit = h.within_limit;
       read = h.read;
+      within_announced = h.within_announced;
       small = h.small;
     })
 
@@ -209,6 +212,7 @@ cancellation_read s stream rest is h =
           (cases_eq stream other);
       within_limit = h.within_limit;
       read = h.read;
+      within_announced = h.within_announced;
       small = h.small;
     }
   where
@@ -327,6 +331,7 @@ plain_written s one same none h =
       untracked = h.untracked;
       within_limit = one_more_out s.encoder 0 h.within_limit (λ lt. absurd (omega (arith, lt)));
       read = h.read;
+      within_announced = h.within_announced;
       small = h.small;
     }
 
@@ -381,7 +386,8 @@ other_written s stream fields e h =
       cancels = h.cancels;
       untracked = still_untracked s stream draft e h;
       within_limit = one_more_out s.encoder (required_insert_count draft) h.within_limit (may_block s.encoder draft.inserted draft.references 0 (omega arith) d.references);
-      read = section_read_as s.encoder.capacity s.encoder s.instructions fields h.read;
+      read = section_read_as s.encoder.announced s.encoder s.instructions fields h.read;
+      within_announced = h.within_announced;
       small = d.small h.small;
     }
 
@@ -478,6 +484,7 @@ plain_decoded s b none is h =
       untracked = h.untracked;
       within_limit = h.within_limit;
       read = h.read;
+      within_announced = h.within_announced;
       small = h.small;
     }
 
@@ -516,6 +523,7 @@ acknowledged_decoded s b some is alive came h =
       untracked = h.untracked;
       within_limit = h.within_limit;
       read = h.read;
+      within_announced = h.within_announced;
       small = h.small;
     }
 
@@ -578,6 +586,7 @@ stream_abandoned s stream h =
       untracked = h.untracked;
       within_limit = h.within_limit;
       read = h.read;
+      within_announced = h.within_announced;
       small = h.small;
     }
   where
@@ -604,7 +613,8 @@ other_kept s fields h =
       cancels = h.cancels;
       untracked = h.untracked;
       within_limit = h.within_limit;
-      read = section_read_as s.encoder.capacity s.encoder s.instructions fields h.read;
+      read = section_read_as s.encoder.announced s.encoder s.instructions fields h.read;
+      within_announced = h.within_announced;
       small = d.small h.small;
     }
 

@@ -1,5 +1,5 @@
 -- A table that is used from now on: nothing was inserted before.
-use Rattle.std.proofs.Common.{◌≡◌, ℕ, ◌≤◌, List, [], ◌∷◌, length, map, refl, sym, ◌∙◌, ap, subst, arith}
+use Rattle.std.proofs.Common.{◌≡◌, ℕ, ◌≤◌, List, [], ◌∷◌, length, map, min, refl, sym, ◌∙◌, ap, subst, arith}
 use Rattle.h3_table.specs.Table.{table}
 use Rattle.h3_table.specs.TableState.{TableState, evicted, with_capacity}
 use Rattle.h3_table.specs.Index.{IsIndexed}
@@ -7,7 +7,7 @@ use Rattle.h3_table.specs.Slots.{slot_of}
 use Rattle.h3_qpack.specs.TableInside.{IsIndexedBy}
 use Rattle.h3_table.specs.declared.index.Index.{Index}
 use Rattle.h3_table.specs.declared.entries.Match.{Match}
-use Rattle.h3_qpack.specs.EncoderHistory.{EncoderHistory}
+use Rattle.h3_qpack.specs.EncoderHistory.{EncoderHistory, using_table}
 use Rattle.h3_qpack.specs.EncoderState.{EncoderState, encoder_state}
 
 nothing : {X : Type 0} (xs : List X) → length xs ≡ 0 → xs ≡ []
@@ -29,10 +29,11 @@ same_index index what h capacity none made i =
     (subst (λ n. IsIndexed index n (map (slot_of what) h.entries)) (sym (same_gone h capacity none)) i)
 
 -- Of each history without insertions, the same history with the new limits.
-pub used_stored : (s : EncoderHistory) (t : EncoderState) (capacity limit : ℕ) → t ≡ encoder_state s → t.table.inserted ≡ 0
-    → record t { table = with_capacity t.table capacity; limit = limit } ≡ encoder_state (record s { capacity = capacity; limit = limit })
-used_stored s t capacity limit e none =
+pub used_stored : (s : EncoderHistory) (t : EncoderState) (announced limit : ℕ) → t ≡ encoder_state s → t.table.inserted ≡ 0
+    → record t { table = with_capacity t.table (min t.most_capacity announced); announced = announced; limit = limit } ≡ encoder_state (using_table s announced limit)
+used_stored s t announced limit e none =
+    let capacity = min s.most_capacity announced in
     let empty = nothing s.inserted (sym (ap (λ (u : EncoderState). u.table.inserted) e) ∙ none) in
-    ap (λ (u : EncoderState). record u { table = with_capacity u.table capacity; limit = limit }) e
-    ∙ ap (λ es. record (encoder_state s) { table = record { capacity = capacity; entries = es; inserted = length s.inserted }; limit = limit })
+    ap (λ (u : EncoderState). record u { table = with_capacity u.table (min u.most_capacity announced); announced = announced; limit = limit }) e
+    ∙ ap (λ es. record (encoder_state s) { table = record { capacity = capacity; entries = es; inserted = length s.inserted }; announced = announced; limit = limit })
     (ap (λ fs. table capacity (table s.capacity fs)) empty ∙ sym (ap (table capacity) empty))

@@ -37,11 +37,13 @@ pub record IsOver (h : TableState) (section : Section) : Type 0 where
   pub named : 0 < section.newest → section.oldest ≤ h.inserted
   pub newest : section.newest ≤ h.inserted
 
--- What tracked sections name has numbers from 1, all numbers of entries are small, and the entries fit.
+-- What tracked sections name has numbers from 1, all numbers of entries are small, the entries fit, and so does the table what was
+-- announced.
 pub record IsSmall (t : EncoderState) : Type 0 where
   pub names : AllByRecursion (λ u. 0 < u.oldest) t.tracked
   pub few : t.table.inserted < 2 ^ 62
   pub fits : section_size t.table.entries ≤ t.table.capacity
+  pub within_announced : t.table.capacity ≤ t.announced
 
 -- the greatest number that a line may name, of those up to a number
 abbrev pub most_usable : EncoderState → Section → ℕ → ℕ

@@ -14,6 +14,9 @@ pub record UnacknowledgedSection : Type 0 where
   pub references : List ℕ
 
 pub record EncoderHistory : Type 0 where
+  -- the most that its table may have, chosen once; what the decoder announced, by which counts are encoded (RFC 9204, 4.5.1.1); what it set
+  pub most_capacity : ℕ
+  pub announced : ℕ
   pub capacity : ℕ
   -- how many sections may be blocked at the decoder
   pub limit : ℕ
@@ -28,10 +31,13 @@ pub record EncoderHistory : Type 0 where
   -- an acknowledgment tells of the insertions that its section needs (RFC 9204, section 2.1.4); else increments alone tell of any
   pub counts_acknowledgments : Bool
 
--- an encoder that may not use a table
+-- an encoder that may not use a table yet, and then as large a one as is announced: a greater capacity than this is not used
 abbrev pub no_table : EncoderHistory
-no_table =
-    record { capacity = 0; limit = 0; inserted = []; known_received = 0; required_insert_counts = []; tracked = []; canceled = []; counts_acknowledgments = false }
+no_table = record { most_capacity = 2 ^ 30 - 1; announced = 0; capacity = 0; limit = 0; inserted = []; known_received = 0; required_insert_counts = []; tracked = []; canceled = []; counts_acknowledgments = false }
+
+-- The decoder announced this: the encoder sets the lesser of the capacity and the most that its table may have (RFC 9204, section 3.2.3).
+abbrev pub using_table : EncoderHistory → ℕ → ℕ → EncoderHistory
+using_table s announced limit = record s { announced = announced; capacity = min s.most_capacity announced; limit = limit }
 
 -- how many sections may still be blocked for insertions. The limit is one on streams (RFC 9204, section 2.1.2); two sections of one
 -- stream count twice here
@@ -65,9 +71,9 @@ abbrev pub was_canceled : EncoderHistory → ℕ → Bool
 was_canceled s stream = list_any (λ other. other == stream) s.canceled
 
 -- What a section on the stream is written by (RFC 9204, section 2.1.2): where a cancellation of the stream was read, an encoder
--- of capacity 0 whose sections may not be blocked.
+-- of an announced capacity 0 whose sections may not be blocked.
 abbrev pub writing_on : EncoderHistory → ℕ → EncoderHistory
-writing_on s stream = if was_canceled s stream then record s { capacity = 0; limit = 0 } else s
+writing_on s stream = if was_canceled s stream then record s { announced = 0; capacity = 0; limit = 0 } else s
 
 -- the encoder after an instruction of the decoder. The known received count stops at the greatest number of 64 bits.
 abbrev pub encoder_after : EncoderHistory → DecoderInstruction → EncoderHistory

@@ -16,6 +16,9 @@ use Rattle.h3_table.specs.declared.tracking.TrackedSection.{TrackedSection}
 
 pub record EncoderState : Type 0 where
   pub table : TableState
+  -- the most that the table may have, and the greatest capacity that the decoder announced
+  pub most_capacity : ℕ
+  pub announced : ℕ
   pub limit : ℕ
   pub known_received : ℕ
   -- the required insert counts above what is known to be received, in increasing order
@@ -38,6 +41,8 @@ abbrev pub encoder_state : EncoderHistory → EncoderState
 encoder_state s =
     record {
       table = record { capacity = s.capacity; entries = table s.capacity s.inserted; inserted = length s.inserted };
+      most_capacity = s.most_capacity;
+      announced = s.announced;
       limit = s.limit;
       known_received = s.known_received;
       blocking_counts = in_order (λ count. count) (filter (λ count. nat_lt s.known_received count) s.required_insert_counts);

@@ -23,14 +23,14 @@ IsWrittenInstruction i = IsSendable i × IsInstructionOfBytes i × (length (enco
 
 -- the decoder of a session, by the insertions that it has read
 abbrev pub decoder_of : Session → DecoderState
-decoder_of s = record { announced = Some s.encoder.capacity; table = table_state (table_of s.encoder.capacity (take s.received s.encoder.inserted)) }
+decoder_of s = record { announced = Some s.encoder.announced; table = table_state (table_of s.encoder.capacity (take s.received s.encoder.inserted)) }
 
--- What a writer takes: the lines, and a base and a count below 2 ^ 62. A section that names entries was written with the
--- capacity that the encoder has now.
+-- What a writer takes: the lines, and a base and a count below 2 ^ 62. A section that names entries was written for the announced
+-- capacity that the encoder goes by now.
 pub record IsWritten (s : Session) (b : UndecodedSection) : Type 0 where
   pub lines : AllByRecursion IsWrittenLine (draft_of b.encoder b.fields).lines
   pub base : length b.encoder.inserted < 2 ^ 62
-  pub capacity : 0 < count_of b → b.encoder.capacity ≡ s.encoder.capacity
+  pub announced : 0 < count_of b → b.encoder.announced ≡ s.encoder.announced
 
 -- A decoder that announced this capacity and has read so many insertions of the session, whatever capacity it has read. The
 -- encoder has learned the announced capacity, or has inserted nothing.
@@ -38,11 +38,11 @@ pub record IsDecoderAt (announced : ℕ) (s : Session) (r : DecoderState) : Type
   pub capacity : r.announced ≡ Some announced
   pub entries : r.table.entries ≡ (decoder_of s).table.entries
   pub inserted : r.table.inserted ≡ s.received
-  pub learned : (s.encoder.capacity ≡ announced) ⊎ (s.encoder.inserted ≡ [])
+  pub learned : (s.encoder.announced ≡ announced) ⊎ (s.encoder.inserted ≡ [])
 
--- A decoder that announced this capacity and has read these insertions, and the capacity where there is one.
-pub record HasInsertions (capacity : ℕ) (inserted : List Field) (r : DecoderState) : Type 0 where
-  pub announced : r.announced ≡ Some capacity
+-- A decoder that announced a capacity and has read these insertions, and before them the capacity that was set where one was.
+pub record HasInsertions (announced capacity : ℕ) (inserted : List Field) (r : DecoderState) : Type 0 where
+  pub announced_is : r.announced ≡ Some announced
   pub entries : r.table.entries ≡ (table_state (table_of capacity inserted)).entries
   pub count : r.table.inserted ≡ length inserted
 

@@ -81,7 +81,7 @@ opening capacity = if capacity == 0 then [] else SetCapacity capacity ∷ []
 abbrev pub start : ℕ → ℕ → ExchangeHistory
 start capacity limit =
     record {
-      encoder = record no_table { capacity = capacity; limit = limit };
+      encoder = record no_table { announced = capacity; capacity = capacity; limit = limit };
       decoder = announcing capacity;
       encoder_stream = writing no_bytes (if capacity == 0 then [] else encoder_bytes (SetCapacity capacity));
       decoder_stream = no_bytes;

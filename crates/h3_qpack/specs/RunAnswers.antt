@@ -1,5 +1,5 @@
 -- What a run answers: in bytes, and told by the fields that were encoded.
-use Rattle.std.specs.Prelude.{ℕ, false, ◌≤◌, List, length, take, ◌++◌, flat_map}
+use Rattle.std.specs.Prelude.{◌-◌, ◌^◌, ℕ, false, ◌≤◌, List, length, take, ◌++◌, flat_map}
 use Rattle.h3_field.specs.Field.{section_size}
 use Rattle.h3_field.specs.Instruction.{encoder_bytes}
 use Rattle.h3_table.specs.Table.{table}
@@ -18,7 +18,7 @@ pub record HasAnswered (capacity limit : ℕ) (events : List SessionEvent) (answ
   pub end : ExchangeHistory
   pub session : Session
   pub exchange : Exchange (start capacity limit) events answers end
-  pub expected : Expected (beginning false capacity limit) events answers session
+  pub expected : Expected (beginning false (2 ^ 30 - 1) capacity limit) events answers session
   pub sound : IsSound session
   pub within_limit : blocks_out session.encoder ≤ limit
   pub read : (n : ℕ) → n ≤ length session.instructions

@@ -2,13 +2,13 @@
 use Rattle.std.specs.Prelude.{◌≡◌, ℕ, ◌+◌, ◌++◌, ◌<◌, ◌≤◌, Bool, false, List, [], ◌∷◌, length, Some}
 use Rattle.h3_field.specs.Field.{Field}
 use Rattle.h3_field.specs.Instruction.{DecoderInstruction}
-use Rattle.h3_qpack.specs.EncoderHistory.{no_table, writing_on}
+use Rattle.h3_qpack.specs.EncoderHistory.{no_table, using_table, writing_on}
 use Rattle.h3_qpack.specs.SectionEncoding.{draft_of, instructions_for}
 use Rattle.h3_qpack.specs.Session.{Session, UndecodedSection, encoded, inserted, oldest, is_canceled, count_of, decoded, after_cancellation, after_decoder_instruction}
 
 pub data SessionEvent : Type 0 where
   -- the peer's limits come, before anything was inserted
-  UseTable : (capacity limit : ℕ) → SessionEvent
+  UseTable : (announced limit : ℕ) → SessionEvent
   Encode : (stream : ℕ) (fields : List Field) → SessionEvent
   -- a section of the stream is withdrawn, or was cut off behind these fields: what was inserted for it stays
   CutOff : (stream : ℕ) (fields : List Field) → SessionEvent
@@ -19,7 +19,7 @@ pub data SessionEvent : Type 0 where
 
 -- the encoder may use a table from now on
 abbrev pub with_table : Session → ℕ → ℕ → Session
-with_table s capacity limit = record s { encoder = record s.encoder { capacity = capacity; limit = limit } }
+with_table s announced limit = record s { encoder = using_table s.encoder announced limit }
 
 abbrev pub without_section : Session → ℕ → List Field → Session
 without_section s stream fields =
@@ -29,7 +29,7 @@ without_section s stream fields =
     }
 
 abbrev pub SessionStep : Session → SessionEvent → Session → Type 0
-SessionStep s (UseTable capacity limit) new = (s.encoder.inserted ≡ []) × (s.encoder.limit ≡ 0) × (new ≡ with_table s capacity limit)
+SessionStep s (UseTable announced limit) new = (s.encoder.inserted ≡ []) × (s.encoder.limit ≡ 0) × (new ≡ with_table s announced limit)
 SessionStep s (Encode stream fields) new = new ≡ encoded s stream fields
 SessionStep s (CutOff stream fields) new = new ≡ without_section s stream fields
 SessionStep s (InsertionsRead count) new = (0 < count) × (s.received + count ≤ length s.encoder.inserted) × (new ≡ inserted s count)
@@ -42,7 +42,8 @@ abbrev pub SessionRun : Session → List SessionEvent → Session → Type 0
 SessionRun s [] new = new ≡ s
 SessionRun s (event ∷ events) new = (mid : Session) × SessionStep s event mid × SessionRun mid events new
 
--- an encoder with this capacity and limit, for which acknowledgments count or do not, and a decoder, before anything
-abbrev pub beginning : Bool → ℕ → ℕ → Session
-beginning counts capacity limit =
-    record { encoder = record no_table { capacity = capacity; limit = limit; counts_acknowledgments = counts }; instructions = []; received = 0; sections = []; decoder_instructions = []; canceled = [] }
+-- an encoder, for which acknowledgments count or do not and whose table has at most so much, and a decoder that announced this
+-- capacity and this limit, before anything
+abbrev pub beginning : Bool → ℕ → ℕ → ℕ → Session
+beginning counts most announced limit =
+    record { encoder = using_table (record no_table { most_capacity = most; counts_acknowledgments = counts }) announced limit; instructions = []; received = 0; sections = []; decoder_instructions = []; canceled = [] }

@@ -104,7 +104,7 @@ required_insert_count draft = fold max 0 draft.references
 abbrev pub encoded_section : EncoderHistory → List Field → List ℕ
 encoded_section s fields =
     let draft = draft_of s fields in
-    prefix_bytes s.capacity (required_insert_count draft) (length s.inserted) ++ flat_map line_bytes draft.lines
+    prefix_bytes s.announced (required_insert_count draft) (length s.inserted) ++ flat_map line_bytes draft.lines
 
 -- the instructions that go out with it
 abbrev pub instructions_for : EncoderHistory → List Field → List EncoderInstruction

@@ -151,7 +151,9 @@ pub record IsSound (s : Session) : Type 0 where
   -- so many sections may still be blocked
   pub within_limit : blocks_out s.encoder ≤ s.encoder.limit
   -- what the encoder wrote is read as what it inserted
-  pub read : IsReadAs s.encoder.capacity s.encoder.capacity s.instructions s.encoder.inserted
+  pub read : IsReadAs s.encoder.announced s.encoder.capacity s.instructions s.encoder.inserted
+  -- the table is not larger than was announced
+  pub within_announced : s.encoder.capacity ≤ s.encoder.announced
   -- numbers of entries stay below 2 ^ 62
   pub small : length s.encoder.inserted < 2 ^ 62
 

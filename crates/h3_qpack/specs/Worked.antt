@@ -2,7 +2,7 @@
 use Rattle.std.specs.Prelude.{ℕ, Bool, List, [], ◌∷◌, codes}
 use Rattle.h3_field.specs.Field.{Field}
 use Rattle.h3_field.specs.Instruction.DecoderInstruction.{Acknowledge, CancelStream, Increment}
-use Rattle.h3_qpack.specs.EncoderHistory.{EncoderHistory, no_table, encoder_after}
+use Rattle.h3_qpack.specs.EncoderHistory.{EncoderHistory, no_table, using_table, encoder_after}
 use Rattle.h3_field.specs.Instruction.EncoderInstruction.{SetCapacity, InsertLiteral, InsertWithEntryName, Duplicate}
 use Rattle.std.specs.Prelude.{Option, Some}
 use Rattle.h3_qpack.specs.DecoderState.{DecoderState, announcing, decoder_after_all}
@@ -10,7 +10,7 @@ use Rattle.h3_qpack.specs.SectionEncoding.{sent_section}
 
 -- an encoder that has written nothing
 abbrev pub fresh : ℕ → ℕ → EncoderHistory
-fresh capacity limit = record no_table { capacity = capacity; limit = limit }
+fresh capacity limit = record no_table { announced = capacity; capacity = capacity; limit = limit }
 
 abbrev pub sample : List Field
 sample =
@@ -69,3 +69,13 @@ one_acknowledged counts = encoder_after (one_waits counts) (Acknowledge 0)
 -- Two sections of one stream, each with an insertion of its own, where acknowledgments count or do not.
 abbrev pub two_on_a_stream : Bool → EncoderHistory
 two_on_a_stream counts = sent_section (sent_section (record (fresh 100 10) { counts_acknowledgments = counts }) 0 (with_header x_a)) 0 (with_header x_b)
+
+-- Its table has at most so much, and its decoder announced a capacity.
+abbrev pub capped : ℕ → ℕ → EncoderHistory
+capped most announced = using_table (record no_table { most_capacity = most }) announced 10
+
+-- Two responses with an insertion each, of which each is known and acknowledged before what follows.
+abbrev pub twice_inserted : EncoderHistory → EncoderHistory
+twice_inserted s =
+    let first = encoder_after (encoder_after (sent_section s 0 (with_header x_a)) (Increment 1)) (Acknowledge 0) in
+    encoder_after (encoder_after (sent_section first 4 (with_header x_b)) (Increment 1)) (Acknowledge 4)

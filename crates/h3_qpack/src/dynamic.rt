@@ -37,6 +37,9 @@ pub struct DynamicTable {
     tracking: Tracking,
     // the streams of which a cancellation was read, which nobody acknowledges any more
     canceled: StreamSet,
+    // the most that the table may have, and the greatest capacity that the decoder announced
+    most_capacity: usize,
+    announced: usize,
     // how many sections may be blocked at the decoder
     limit: usize,
     // what is known to be received, and the required insert counts above that
@@ -69,9 +72,9 @@ fn reserve(names: &mut Index, fields: &mut Index) -> Result<(), AllocError>
 }
 
 impl DynamicTable {
-    /// A table of capacity 0, whose sections may not be blocked.
+    /// A table of capacity 0, whose sections may not be blocked. It may have any capacity up to 2^30 - 1.
     pub fn new(alloc: Global) -> DynamicTable
-        ensures { result ≡ record { table = no_entries; limit = 0; known_received = 0; blocking_counts = []; tracked = []; canceled = []; counts_acknowledgments = false } }
+        ensures { result ≡ record { table = no_entries; most_capacity = 2 ^ 30 - 1; announced = 0; limit = 0; known_received = 0; blocking_counts = []; tracked = []; canceled = []; counts_acknowledgments = false } }
     {
         DynamicTable {
             entries: Entries::new(alloc),
@@ -79,6 +82,8 @@ impl DynamicTable {
             fields: Index::new(alloc),
             tracking: Tracking::new(alloc),
             canceled: StreamSet::new(alloc),
+            most_capacity: MAX_CAPACITY,
+            announced: 0,
             limit: 0,
             blocking: BlockingCounts::new(alloc),
             counts_acknowledgments: false,
@@ -104,6 +109,27 @@ impl DynamicTable {
         ensures small { result < 2 ^ 30 }
     {
         self.entries.capacity()
+    }
+
+    /// The greatest capacity that the decoder announced, by which required insert counts are encoded.
+    pub(crate) fn announced(&self) -> usize
+        ensures value { result ≡ self.now.announced }
+    {
+        self.announced
+    }
+
+    /// The most that the table may have.
+    pub(crate) fn most_capacity(&self) -> usize
+        ensures { result ≡ self.now.most_capacity }
+    {
+        self.most_capacity
+    }
+
+    /// From now on the table is not given a greater capacity than this by what a decoder announces.
+    pub(crate) fn limit_capacity(&mut self, most: usize)
+        ensures { self.new ≡ record self.old { most_capacity = most } }
+    {
+        self.most_capacity = most;
     }
 
     pub(crate) fn inserted(&self) -> usize
@@ -207,9 +233,10 @@ impl DynamicTable {
         Ok(())
     }
 
-    /// Sets the capacity, at most 2^30 - 1: the oldest entries are evicted, unless a tracked section names one of them.
+    /// Sets the capacity, at most 2^30 - 1, as the one that the decoder announced: the oldest entries are evicted, unless a tracked
+    /// section names one of them.
     pub fn set_max_size(&mut self, size: usize) -> Result<(), Error>
-        ensures ok { OnOk result (MayHaveCapacity self.old size × (self.new ≡ record self.old { table = with_capacity self.old.table size })) }
+        ensures ok { OnOk result (MayHaveCapacity self.old size × (self.new ≡ record self.old { table = with_capacity self.old.table size; announced = size })) }
         ensures err { IfErr result (λ e. IsCapacityRefusal self.old size e × (self.new ≡ self.old)) }
     {
         let after = match self.evicted_with_capacity(size) {
@@ -218,21 +245,24 @@ impl DynamicTable {
         };
         let count = after - self.entries.evicted();
         self.entries.set_capacity(size);
+        self.announced = size;
         self.names.evict_oldest(count);
         self.fields.evict_oldest(count);
         self.tracking.drop_to(after);
         Ok(())
     }
 
-    /// Sets the capacity of a table without entries, and how many sections may be blocked at the decoder.
-    pub(crate) fn use_capacity(&mut self, capacity: usize, limit: usize)
+    /// Takes what the decoder of a table without entries announced, a capacity and how many sections may be blocked there: the table
+    /// gets the lesser of that capacity and the most that it may have.
+    pub(crate) fn use_announced(&mut self, announced: usize, limit: usize)
         requires empty { self.old.table.inserted ≡ 0 }
-        requires small { capacity < 2 ^ 30 }
+        requires small { announced < 2 ^ 30 }
         requires few { limit ≤ 65535 }
-        ensures { self.new ≡ record self.old { table = with_capacity self.old.table capacity; limit = limit } }
+        ensures { self.new ≡ record self.old { table = with_capacity self.old.table (min self.old.most_capacity announced); announced = announced; limit = limit } }
     {
         self.entries.evicted();
-        self.entries.set_capacity(capacity);
+        self.entries.set_capacity(self.most_capacity.min(announced));
+        self.announced = announced;
         self.limit = limit;
     }
 

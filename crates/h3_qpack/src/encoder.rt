@@ -1,5 +1,5 @@
 //! An encoder with its dynamic table: what it writes, and what it reads of its decoder (RFC 9204, sections 2.1 and 4).
-ghost use Rattle.std.specs.Prelude.{◌≡◌, ◌≢◌, ◌==◌, ◌<◌, ◌≤◌, ◌^◌, ◌++◌, ◌-◌, ℕ, true, false, length, drop, IfOk, IfErr, OnOk, OnErr};
+ghost use Rattle.std.specs.Prelude.{◌≡◌, ◌≢◌, ◌==◌, ◌<◌, ◌≤◌, ◌^◌, ◌++◌, ◌-◌, ℕ, true, false, length, drop, min, IfOk, IfErr, OnOk, OnErr};
 ghost use Rattle.std.specs.List.{list_any};
 ghost use Rattle.std.specs.Result.{IsOkUnless};
 ghost use Rattle.h3_field.specs.Field.{section_size};
@@ -7,7 +7,7 @@ ghost use Rattle.h3_field.specs.declared.encoder_error.EncoderError.TheVariants.
 ghost use Rattle.h3_field.specs.Reading.{Unfinished};
 ghost use Rattle.h3_field.specs.Shapes.{begins};
 ghost use Rattle.h3_field.specs.InstructionReading.{decoder_instruction};
-ghost use Rattle.h3_qpack.specs.EncoderHistory.{EncoderHistory, no_table, blocks_out, was_canceled, writing_on, withdrawn};
+ghost use Rattle.h3_qpack.specs.EncoderHistory.{EncoderHistory, no_table, using_table, blocks_out, was_canceled, writing_on, withdrawn};
 ghost use Rattle.h3_table.specs.Table.{table};
 ghost use Rattle.h3_qpack.specs.EncoderState.{encoder_state, MayHaveCapacity};
 ghost use Rattle.h3_qpack.specs.Drafting.{IsSent, IsCutOff};
@@ -71,6 +71,21 @@ impl Encoder {
         self.table.count_acknowledgments(counted);
     }
 
+    /// From now on `use_table` and `allow_table` give the table at most this capacity, whatever the decoder announces. 2^30 - 1 at
+    /// first, which is as much as a table has.
+    pub fn limit_table(&mut self, most: usize)
+        ensures { (s : EncoderHistory) → self.old ≡ encoder_state s → self.new ≡ encoder_state (record s { most_capacity = most }) }
+    {
+        self.table.limit_capacity(most);
+    }
+
+    /// The most that the table is given.
+    pub fn table_limit(&self) -> usize
+        ensures value { result ≡ self.now.most_capacity }
+    {
+        self.table.most_capacity()
+    }
+
     /// How many insertions are known to be received.
     pub fn known_received(&self) -> usize
         ensures value { result ≡ self.now.known_received }
@@ -113,44 +128,45 @@ impl Encoder {
         self.table.is_canceled(stream)
     }
 
-    /// Lets an encoder that has inserted nothing use a table of that capacity, at most 2^30 - 1 (what such a table costs stands at
-    /// `h3_table::entries::MAX_CAPACITY`; the peer announces the capacity, and a caller may use less), where up to `blocked` sections,
-    /// at most 65535, may be blocked at the decoder; and appends the instruction for the capacity (RFC 9204, section 4.3.1). What was
-    /// written and read before stands. A refusal changes nothing.
+    /// Lets an encoder that has inserted nothing use a table, where its decoder announced this capacity, at most 2^30 - 1, and that up
+    /// to `blocked` sections, at most 65535, may be blocked there. The table gets the lesser of that capacity and the most that it may
+    /// have (`limit_table`; what a table costs stands at `h3_table::entries::MAX_CAPACITY`), and the instruction for it is appended
+    /// (RFC 9204, section 4.3.1). What was written and read before stands. A refusal changes nothing.
     pub fn use_table(
         &mut self,
-        capacity: usize,
+        announced: usize,
         blocked: usize,
         out: &mut Vec<u8>,
     ) -> Result<(), EncoderError>
         requires { self.old.table.inserted ≡ 0 }
-        ensures limits { OnOk result ((capacity < 2 ^ 30) × (blocked ≤ 65535)) }
-        ensures ok { OnOk result ((s : EncoderHistory) → self.old ≡ encoder_state s → self.new ≡ encoder_state (record s { capacity = capacity; limit = blocked })) }
-        ensures written { OnOk result (out.new.items ≡ out.old.items ++ encoder_bytes (SetCapacity capacity)) }
-        ensures err { IfErr result (λ e. IsTableRefusal capacity blocked e × (self.new ≡ self.old) × (out.new.items ≡ out.old.items)) }
+        ensures limits { OnOk result ((announced < 2 ^ 30) × (blocked ≤ 65535)) }
+        ensures ok { OnOk result ((s : EncoderHistory) → self.old ≡ encoder_state s → self.new ≡ encoder_state (using_table s announced blocked)) }
+        ensures written { OnOk result (out.new.items ≡ out.old.items ++ encoder_bytes (SetCapacity (min self.old.most_capacity announced))) }
+        ensures err { IfErr result (λ e. IsTableRefusal announced blocked e × (self.new ≡ self.old) × (out.new.items ≡ out.old.items)) }
     {
-        if capacity > MAX_CAPACITY {
+        if announced > MAX_CAPACITY {
             return Err(EncoderError::Insertion(dynamic::Error::MaximumTableSizeTooLarge));
         }
         if blocked > MAX_BLOCKED {
             return Err(EncoderError::Insertion(dynamic::Error::MaxBlockedStreamsTooLarge));
         }
+        let capacity = self.table.most_capacity().min(announced);
         if DynamicTableSizeUpdate(capacity).encode(out).is_err() {
             return Err(EncoderError::OutOfMemory);
         }
-        self.table.use_capacity(capacity, blocked);
+        self.table.use_announced(announced, blocked);
         Ok(())
     }
 
     /// The same where the instruction for the capacity is written by the caller. It takes no memory.
-    pub fn allow_table(&mut self, capacity: usize, blocked: usize)
+    pub fn allow_table(&mut self, announced: usize, blocked: usize)
         requires empty { self.old.table.inserted ≡ 0 }
-        requires small { capacity < 2 ^ 30 }
+        requires small { announced < 2 ^ 30 }
         requires few { blocked ≤ 65535 }
-        ensures { (s : EncoderHistory) → self.old ≡ encoder_state s → self.new ≡ encoder_state (record s { capacity = capacity; limit = blocked }) }
+        ensures { (s : EncoderHistory) → self.old ≡ encoder_state s → self.new ≡ encoder_state (using_table s announced blocked) }
     {
         let table = &mut self.table;
-        table.use_capacity(capacity, blocked);
+        table.use_announced(announced, blocked);
     }
 
     /// Reads the acknowledgment at the front. What is refused is left unread.
@@ -307,14 +323,14 @@ impl Encoder {
     }
 }
 
-/// Sets the capacity of a table, and appends the instruction for it (RFC 9204, section 4.3.1). A refusal changes nothing; memory is
+/// Sets the capacity of a table, as the one that its decoder announced, and appends the instruction for it (RFC 9204, section 4.3.1). A refusal changes nothing; memory is
 /// asked for last, where the table may have the capacity.
 pub fn set_dynamic_table_size(
     table: &mut DynamicTable,
     out: &mut Vec<u8>,
     size: usize,
 ) -> Result<(), EncoderError>
-    ensures ok { OnOk result (MayHaveCapacity table.old size × (table.new ≡ record table.old { table = with_capacity table.old.table size })) }
+    ensures ok { OnOk result (MayHaveCapacity table.old size × (table.new ≡ record table.old { table = with_capacity table.old.table size; announced = size })) }
     ensures written { OnOk result (out.new.items ≡ out.old.items ++ encoder_bytes (SetCapacity size)) }
     ensures err { IfErr result (λ e. IsSizeRefusal table.old size e × (table.new ≡ table.old) × (out.new.items ≡ out.old.items)) }
 {

@@ -11,7 +11,7 @@ ghost use Rattle.h3_field.specs.Instruction.EncoderInstruction.{SetCapacity, Ins
 ghost use Rattle.h3_qpack.specs.EncoderHistory.{is_refused, encoder_after_front, withdrawn};
 ghost use Rattle.h3_table.specs.Table.{table};
 ghost use Rattle.h3_qpack.specs.DecoderState.{announcing, decoder_after, decoder_after_all};
-ghost use Rattle.h3_qpack.specs.Worked.{three, fresh, sample, host_text, path_text, with_header, x_a, x_b, x_a_of, older_known, three_canceled, canceled_first, one_waits, one_acknowledged, two_on_a_stream};
+ghost use Rattle.h3_qpack.specs.Worked.{three, fresh, sample, host_text, path_text, with_header, x_a, x_b, x_a_of, older_known, three_canceled, canceled_first, one_waits, one_acknowledged, two_on_a_stream, capped, twice_inserted};
 
 /// Three requests for the same page: the first inserts two fields, the second names them, and the third may not.
 #[tactic(auto, unfolding(h3_field::specs::StaticTable::static_table, h3_field::specs::StaticTable::static_field, h3_field::specs::StaticTable::static_name, h3_huffman::specs::Huffman::huffman, h3_huffman::specs::Huffman::octets, h3_huffman::specs::Huffman::code_word, h3_huffman::specs::Huffman::bits))]
@@ -100,4 +100,16 @@ pub fn increments()
     ensures twice { (encoder_after_front (one_waits true) (Acknowledge 0 ∷ Increment 1 ∷ [])).1 ≡ Increment 1 ∷ [] }
     ensures untracked { is_refused (one_acknowledged true) (Acknowledge 0) ≡ true }
     ensures uncounted { (encoder_after_front (one_waits false) (Increment 0 ∷ Increment 2 ∷ [])).1 ≡ [] }
+{}
+
+/// A table of at most 40 bytes has one entry at a time. Its encoded counts go by the capacity that was announced (RFC 9204, section
+/// 4.5.1.1), and with 0 nothing is inserted.
+#[tactic(auto, unfolding(h3_field::specs::StaticTable::static_table, h3_field::specs::StaticTable::static_field, h3_field::specs::StaticTable::static_name, h3_huffman::specs::Huffman::huffman, h3_huffman::specs::Huffman::octets, h3_huffman::specs::Huffman::code_word, h3_huffman::specs::Huffman::bits))]
+pub fn capped_tables()
+    ensures lesser { (capped 40 4096).capacity ≡ 40 }
+    ensures greater { (capped 4096 40).capacity ≡ 40 }
+    ensures one { table (twice_inserted (capped 40 4096)).capacity (twice_inserted (capped 40 4096)).inserted ≡ x_b ∷ [] }
+    ensures announced { encoded_section (twice_inserted (capped 40 4096)) (with_header x_a) ≡ 4 ∷ 128 ∷ 217 ∷ 16 ∷ [] }
+    ensures whole { encoded_section (twice_inserted (capped 4096 40)) (with_header x_a) ≡ 2 ∷ 128 ∷ 217 ∷ 16 ∷ [] }
+    ensures none { instructions_for (capped 0 4096) (with_header x_a) ≡ [] }
 {}

@@ -64,19 +64,20 @@ pub fn cancellations_are_kept()
 
 /// Over every schedule, no tracked section is of a stream whose cancellation was read.
 pub fn canceled_streams_are_not_tracked()
-    ensures { (counts : Bool) (capacity limit : ℕ) (events : List SessionEvent) (s : Session) (stream : ℕ) → SessionRun (beginning counts capacity limit) events s → was_canceled s.encoder stream ≡ true →
+    ensures { (counts : Bool) (most announced limit : ℕ) (events : List SessionEvent) (s : Session) (stream : ℕ) → SessionRun (beginning counts most announced limit) events s → was_canceled s.encoder stream ≡ true →
         tracked_references stream s.encoder.tracked ≡ [] }
 {}
 
-/// Over every schedule, and whether acknowledgments count or not, what is under way fits what both ends have.
+/// Over every schedule, whether acknowledgments count or not, and however small the encoder's table is to be, what is under way fits
+/// what both ends have.
 pub fn every_session_is_sound()
-    ensures { (counts : Bool) (capacity limit : ℕ) (events : List SessionEvent) (s : Session) → SessionRun (beginning counts capacity limit) events s → IsSound s }
+    ensures { (counts : Bool) (most announced limit : ℕ) (events : List SessionEvent) (s : Session) → SessionRun (beginning counts most announced limit) events s → IsSound s }
 {}
 
 /// Over every schedule, an acknowledgment that is read tells of no insertion that no increment told of before: what is known to be
 /// received is the same whether acknowledgments count or not, and so is each section that is written then.
 pub fn acknowledgments_tell_nothing_new()
-    ensures known { (counts : Bool) (capacity limit : ℕ) (events : List SessionEvent) (s : Session) (stream : ℕ) (rest : List DecoderInstruction) → SessionRun (beginning counts capacity limit) events s →
+    ensures known { (counts : Bool) (most announced limit : ℕ) (events : List SessionEvent) (s : Session) (stream : ℕ) (rest : List DecoderInstruction) → SessionRun (beginning counts most announced limit) events s →
         s.decoder_instructions ≡ Acknowledge stream ∷ rest → (encoder_after s.encoder (Acknowledge stream)).known_received ≡ s.encoder.known_received }
     ensures bytes { (s : EncoderHistory) (counts : Bool) (stream : ℕ) (fields : List Field) → encoded_section (writing_on (record s { counts_acknowledgments = counts }) stream) fields ≡ encoded_section (writing_on s stream) fields }
     ensures instructions { (s : EncoderHistory) (counts : Bool) (stream : ℕ) (fields : List Field) → instructions_for (writing_on (record s { counts_acknowledgments = counts }) stream) fields ≡ instructions_for (writing_on s stream) fields }
@@ -85,21 +86,21 @@ pub fn acknowledgments_tell_nothing_new()
 /// Over every schedule, a section that is tried once its insertions came decodes to its fields, and its encoded count is
 /// read as its count whenever it is tried.
 pub fn every_section_decodes()
-    ensures fields { (counts : Bool) (capacity limit : ℕ) (events : List SessionEvent) (s : Session) (b : UndecodedSection) → SessionRun (beginning counts capacity limit) events s →
+    ensures fields { (counts : Bool) (most announced limit : ℕ) (events : List SessionEvent) (s : Session) (b : UndecodedSection) → SessionRun (beginning counts most announced limit) events s →
         oldest b.stream s.sections ≡ Some b → is_canceled s b.stream ≡ false → count_of b ≤ s.received → DecodesTo s b }
-    ensures count { (counts : Bool) (capacity limit : ℕ) (events : List SessionEvent) (s : Session) (b : UndecodedSection) → SessionRun (beginning counts capacity limit) events s →
+    ensures count { (counts : Bool) (most announced limit : ℕ) (events : List SessionEvent) (s : Session) (b : UndecodedSection) → SessionRun (beginning counts most announced limit) events s →
         oldest b.stream s.sections ≡ Some b → is_canceled s b.stream ≡ false → 0 < count_of b →
-        IsRequiredCount s.encoder.capacity s.received (count_of b % (2 * most_entries s.encoder.capacity) + 1) (count_of b) }
+        IsRequiredCount s.encoder.announced s.received (count_of b % (2 * most_entries s.encoder.announced) + 1) (count_of b) }
 {}
 
 /// Over every schedule, the encoding of a section means the section's fields to a decoder that has read its insertions, and
-/// before that it is missing exactly so many: never bad. The decoder announced the capacity that the encoder has, or any other
+/// before that it is missing exactly so many: never bad. The decoder announced the capacity that the encoder goes by, or any other
 /// while the encoder has inserted nothing, as before the peer's settings came.
 pub fn every_encoding_means_its_fields()
-    ensures means { (counts : Bool) (capacity limit : ℕ) (events : List SessionEvent) (s : Session) (b : UndecodedSection) → SessionRun (beginning counts capacity limit) events s →
+    ensures means { (counts : Bool) (most announced limit : ℕ) (events : List SessionEvent) (s : Session) (b : UndecodedSection) → SessionRun (beginning counts most announced limit) events s →
         oldest b.stream s.sections ≡ Some b → is_canceled s b.stream ≡ false → count_of b ≤ s.received → IsWritten s b →
         MeansFields (decoder_of s) (encoded_section b.encoder b.fields) (count_of b) b.fields }
-    ensures value { (counts : Bool) (capacity limit announced : ℕ) (events : List SessionEvent) (s : Session) (b : UndecodedSection) (r : DecoderState) → SessionRun (beginning counts capacity limit) events s → IsDecoderAt announced s r →
+    ensures value { (counts : Bool) (most announced limit other : ℕ) (events : List SessionEvent) (s : Session) (b : UndecodedSection) (r : DecoderState) → SessionRun (beginning counts most announced limit) events s → IsDecoderAt other s r →
         oldest b.stream s.sections ≡ Some b → is_canceled s b.stream ≡ false → IsWritten s b →
         decode_section r (encoded_section b.encoder b.fields) ≡ tried s b }
 {}
@@ -107,16 +108,16 @@ pub fn every_encoding_means_its_fields()
 /// Over every schedule, the section that a stream decodes next is what a writer took, if its fields are of bytes and its encoding is
 /// not longer than memory holds.
 pub fn every_section_is_written()
-    ensures { (counts : Bool) (capacity limit : ℕ) (events : List SessionEvent) (s : Session) (b : UndecodedSection) → SessionRun (beginning counts capacity limit) events s → oldest b.stream s.sections ≡ Some b →
+    ensures { (counts : Bool) (most announced limit : ℕ) (events : List SessionEvent) (s : Session) (b : UndecodedSection) → SessionRun (beginning counts most announced limit) events s → oldest b.stream s.sections ≡ Some b →
         AllByRecursion IsFieldOfBytes b.fields → section_size b.fields < 2 ^ 62 → length (encoded_section b.encoder b.fields) < 2 ^ 63 → IsWritten s b }
 {}
 
-/// A decoder that announced a capacity refuses no instruction of an encoder that has that capacity. After any number of them it has read
-/// as many insertions, without the instruction that sets the capacity, and holds what of them fits.
+/// A decoder that announced a capacity refuses no instruction of an encoder that set that capacity or a smaller one. After any number of
+/// them it has read as many insertions, without the instruction that sets the capacity, and holds what of them fits.
 pub fn written_instructions_are_accepted()
-    ensures { (capacity : ℕ) (instructions : List EncoderInstruction) (inserted : List Field) (k : ℕ) → IsReadAs capacity capacity instructions inserted → k ≤ length (opening capacity ++ instructions) →
-        (r : DecoderState) × (decoder_after_all (Some (announcing capacity)) (take k (opening capacity ++ instructions)) ≡ Some r)
-        × HasInsertions capacity (take (k - length (opening capacity)) inserted) r }
+    ensures { (announced capacity : ℕ) (instructions : List EncoderInstruction) (inserted : List Field) (k : ℕ) → capacity ≤ announced → IsReadAs announced capacity instructions inserted → k ≤ length (opening capacity ++ instructions) →
+        (r : DecoderState) × (decoder_after_all (Some (announcing announced)) (take k (opening capacity ++ instructions)) ≡ Some r)
+        × HasInsertions announced capacity (take (k - length (opening capacity)) inserted) r }
 {}
 
 /// A section that is withdrawn as soon as it was written leaves what one leaves that was cut off: its insertions. Of the required
@@ -134,20 +135,21 @@ pub fn sections_leave_their_counts()
 /// the bytes of the first n insertions were read, n insertions were.
 pub fn every_run_answers_as_expected()
     ensures { (capacity limit : ℕ) (events : List RunEvent) (answers : List SessionAnswer) (end : ExchangeHistory) → capacity < 2 ^ 30 → Exchange (start capacity limit) events answers end →
-        (s : Session) × Expected (beginning false capacity limit) events answers s
+        (s : Session) × Expected (beginning false (2 ^ 30 - 1) capacity limit) events answers s
         × ((n : ℕ) → n ≤ length s.instructions → length (flat_map encoder_bytes (opening capacity ++ take n s.instructions)) ≤ end.encoder_stream.read → n ≤ s.received) }
 {}
 
 /// After any number of events as expected, the session is sound, and at most the limit of its sections are blocked.
 pub fn every_expected_session_is_sound()
-    ensures { (counts : Bool) (capacity limit : ℕ) (events : List RunEvent) (answers : List SessionAnswer) (s : Session) → Expected (beginning counts capacity limit) events answers s →
+    ensures { (counts : Bool) (most announced limit : ℕ) (events : List RunEvent) (answers : List SessionAnswer) (s : Session) → Expected (beginning counts most announced limit) events answers s →
         IsSound s × (blocks_out s.encoder ≤ limit) }
 {}
 
-/// After any number of the encoder's instructions a decoder's table is the encoder's after as many insertions.
+/// After any number of the encoder's instructions the table of a decoder, which takes any capacity up to the announced one, is the
+/// encoder's after as many insertions.
 pub fn tables_agree()
-    ensures { (counts : Bool) (capacity limit : ℕ) (events : List SessionEvent) (s : Session) (k : ℕ) → SessionRun (beginning counts capacity limit) events s → k ≤ length s.instructions →
-        table_after_all s.encoder.capacity (Some (table_of s.encoder.capacity [])) (take k s.instructions) ≡ Some (table_of s.encoder.capacity (take k s.encoder.inserted)) }
+    ensures { (counts : Bool) (most announced limit : ℕ) (events : List SessionEvent) (s : Session) (k : ℕ) → SessionRun (beginning counts most announced limit) events s → k ≤ length s.instructions →
+        table_after_all s.encoder.announced (Some (table_of s.encoder.capacity [])) (take k s.instructions) ≡ Some (table_of s.encoder.capacity (take k s.encoder.inserted)) }
 {}
 
 /// What was read of the first bytes is read of all, and then what is left.

@@ -219,12 +219,12 @@ pub(crate) fn put_section(
     block: &mut Vec<u8>,
 ) -> Result<(), AllocError>
     requires { IsOver table.now.table section.now }
-    ensures ok { OnOk result (block.new.items ≡ block.old.items ++ (prefix_bytes table.now.table.capacity section.now.newest section.now.base ++ lines.now)) }
+    ensures ok { OnOk result (block.new.items ≡ block.old.items ++ (prefix_bytes table.now.announced section.now.newest section.now.base ++ lines.now)) }
     ensures err { OnErr result (block.new.items ≡ block.old.items) }
 {
     table.is_small();
     let inserted = table.inserted();
-    let prefix = HeaderPrefix::new(section.newest, section.base, inserted, table.capacity());
+    let prefix = HeaderPrefix::new(section.newest, section.base, inserted, table.announced());
     let start = block.len();
     prefix.encode(block)?;
     if block.extend_from_slice(lines).is_err() {

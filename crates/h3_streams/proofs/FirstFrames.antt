@@ -1,11 +1,12 @@
 -- Frames of the peer's control stream before its settings came: the table that they allow is used at once, and what the peer's
 -- decoder said before is read then.
-use Rattle.std.proofs.Common.{◌≡◌, ℕ, Bool, true, false, if◌then◌else◌, List, [], ◌∷◌, ◌++◌, append-nil, Option, Some, None, refl, ap, sym, subst, ◌∙◌}
+use Rattle.std.proofs.Common.{◌≡◌, ℕ, Bool, true, false, if◌then◌else◌, min, List, [], ◌∷◌, ◌++◌, append-nil, Option, Some, None, refl, ap, sym, subst, ◌∙◌}
 use Rattle.std.specs.Prelude.{IfSome, All}
 use Rattle.h3_field.specs.Instruction.{encoder_bytes}
 use Rattle.h3_field.specs.Instruction.EncoderInstruction.{SetCapacity}
 use Rattle.h3_proto.specs.declared.stream.Side.{Side}
-use Rattle.h3_qpack.specs.EncoderState.{encoder_state}
+use Rattle.h3_qpack.specs.EncoderHistory.{using_table}
+use Rattle.h3_qpack.specs.EncoderState.{EncoderState, encoder_state}
 use Rattle.h3_connection.specs.declared.arrival.Arrival.{Arrival}
 use Rattle.h3_connection.specs.declared.arrival.Arrival.TheVariants.{BytesCame}
 use Rattle.h3_connection.specs.Control.{after_peer, if_learned, then_decoder, is_usable, with_table}
@@ -35,7 +36,7 @@ used_is false e capacity blocked = refl
 
 learned_is : (q : Option (List (ℕ × ℕ))) (e : EndpointHistory) → if_learned None q e ≡ record e { encoder = (if_learned None q e).encoder; own = (if_learned None q e).own }
 learned_is None e = refl
-learned_is (Some pairs) e = used_is (is_usable (capacity_of pairs) (blocked_of pairs)) e (capacity_of pairs) (blocked_of pairs)
+learned_is (Some pairs) e = used_is (is_usable e.encoder.most_capacity (capacity_of pairs) (blocked_of pairs)) e (capacity_of pairs) (blocked_of pairs)
 
 some_not_none : (o : Option (List (ℕ × ℕ))) (pairs : List (ℕ × ℕ)) → o ≡ Some pairs → o ≡ None → ⊥
 some_not_none None pairs e h = cc
@@ -50,22 +51,23 @@ unused s x e n out h state unread wrote =
     subst (λ l. StandsFor (placed s (record x { encoding = n; own = record x.own { encoder = l } })) e) own (subst (λ q. StandsFor (placed s (record x { encoding = q })) e) encoding h)
 
 used_by : (b : Bool) (s : EndpointState) (x : StreamsState) (e : EndpointHistory) (n : Encoding) (out : List ℕ) (capacity blocked : ℕ) → StandsFor (placed s x) e → (e.peer.settings ≡ None → ⊥)
-    → n.encoder ≡ encoder_state (if b then record e.encoder { capacity = capacity; limit = blocked } else e.encoder) → n.unread ≡ x.encoding.unread
-    → out ≡ x.own.encoder ++ capacity_bytes (if b then Some capacity else None)
+    → n.encoder ≡ encoder_state (if b then using_table e.encoder capacity blocked else e.encoder) → n.unread ≡ x.encoding.unread
+    → out ≡ x.own.encoder ++ capacity_bytes (if b then Some (min e.encoder.most_capacity capacity) else None)
     → StandsFor (placed s (record x { encoding = n; own = record x.own { encoder = out } })) (if b then with_table e capacity blocked else e)
 used_by true s x e n out capacity blocked h came state unread wrote =
-    let t = record e.encoder { capacity = capacity; limit = blocked } in
+    let t = using_table e.encoder capacity blocked in
+    let used = min e.encoder.most_capacity capacity in
     subst (λ l. StandsFor (placed s (record x { encoding = n; own = record x.own { encoder = l } })) (with_table e capacity blocked))
-    (ap (λ l. x.own.encoder ++ l) (append-nil (encoder_bytes (SetCapacity capacity))) ∙ sym wrote)
-    (stands_table s x e n t (SetCapacity capacity ∷ []) h state unread (λ unknown. absurd (came unknown)))
+    (ap (λ l. x.own.encoder ++ l) (append-nil (encoder_bytes (SetCapacity used))) ∙ sym wrote)
+    (stands_table s x e n t (SetCapacity used ∷ []) h state unread (λ unknown. absurd (came unknown)))
 used_by false s x e n out capacity blocked h came state unread wrote = unused s x e n out h state unread wrote
 
 learned_stands : (q : Option (List (ℕ × ℕ))) (s : EndpointState) (x : StreamsState) (e : EndpointHistory) (n : Encoding) (out : List ℕ) → StandsFor (placed s x) e → e.peer.settings ≡ q
-    → n.encoder ≡ encoder_state (learned_by e.encoder q) → n.unread ≡ x.encoding.unread → out ≡ x.own.encoder ++ capacity_bytes (allowed_by q)
+    → n.encoder ≡ encoder_state (learned_by e.encoder q) → n.unread ≡ x.encoding.unread → out ≡ x.own.encoder ++ capacity_bytes (allowed_by e.encoder.most_capacity q)
     → StandsFor (placed s (record x { encoding = n; own = record x.own { encoder = out } })) (if_learned None q e)
 learned_stands None s x e n out h is state unread wrote = unused s x e n out h state unread wrote
 learned_stands (Some pairs) s x e n out h is state unread wrote =
-    used_by (is_usable (capacity_of pairs) (blocked_of pairs)) s x e n out (capacity_of pairs) (blocked_of pairs) h (λ unknown. some_not_none e.peer.settings pairs is unknown) state unread wrote
+    used_by (is_usable e.encoder.most_capacity (capacity_of pairs) (blocked_of pairs)) s x e n out (capacity_of pairs) (blocked_of pairs) h (λ unknown. some_not_none e.peer.settings pairs is unknown) state unread wrote
 
 -- the endpoint after the frames
 first_stands : (s : EndpointState) (x : StreamsState) (e : EndpointHistory) (id : ℕ) (p : Peer) (n : Encoding) (out : List ℕ) → StandsFor (placed s x) e → e.control_on ≡ Some id → x.peer.settings ≡ None
@@ -73,7 +75,8 @@ first_stands : (s : EndpointState) (x : StreamsState) (e : EndpointHistory) (id 
     → StandsFor (placed s (record x { peer = p; encoding = n; own = record x.own { encoder = out } })) (if_learned None p.settings (record e { peer = p }))
 first_stands s x e id p n out h on unknown l =
     let before : e.peer.settings ≡ None = ap (λ (q : Peer). q.settings) (sym h.peer) ∙ unknown in
-    learned_stands p.settings s (record x { peer = p }) (record e { peer = p }) n out (stands_peer s x e id p h on (λ none. before)) refl (l.encoder e.encoder h.encoder) l.unread l.written
+    learned_stands p.settings s (record x { peer = p }) (record e { peer = p }) n out (stands_peer s x e id p h on (λ none. before)) refl (l.encoder e.encoder h.encoder) l.unread
+    (subst (λ most. out ≡ x.own.encoder ++ capacity_bytes (allowed_by most p.settings)) (ap (λ (t : EncoderState). t.most_capacity) h.encoder) l.written)
 
 unknown_before : (s : EndpointState) (x : StreamsState) (e : EndpointHistory) → StandsFor (placed s x) e → x.peer.settings ≡ None → e.peer.settings ≡ None
 unknown_before s x e h unknown = ap (λ (q : Peer). q.settings) (sym h.peer) ∙ unknown

@@ -39,10 +39,10 @@ abbrev pub learned_by : EncoderHistory → Option (List (ℕ × ℕ)) → Encode
 learned_by s None = s
 learned_by s (Some pairs) = having_learned s pairs
 
--- the capacity that they allow
-abbrev pub allowed_by : Option (List (ℕ × ℕ)) → Option ℕ
-allowed_by None = None
-allowed_by (Some pairs) = usable_capacity pairs
+-- the capacity that they allow, where the table has at most so much
+abbrev pub allowed_by : ℕ → Option (List (ℕ × ℕ)) → Option ℕ
+allowed_by most None = None
+allowed_by most (Some pairs) = usable_capacity most pairs
 
 -- what is still to be read
 abbrev pub left_by : Stop → ℕ → Left
@@ -53,7 +53,7 @@ left_by Held id = record { id = id; bytes = []; early = None }
 pub record Learns (old new : Encoding) (before after : List ℕ) (settings : Option (List (ℕ × ℕ))) : Type 0 where
   pub encoder : (s : EncoderHistory) → old.encoder ≡ encoder_state s → new.encoder ≡ encoder_state (learned_by s settings)
   pub unread : new.unread ≡ old.unread
-  pub written : after ≡ before ++ capacity_bytes (allowed_by settings)
+  pub written : after ≡ before ++ capacity_bytes (allowed_by old.encoder.most_capacity settings)
 
 -- the peer's decoder stream, whose bytes have waited for the settings
 abbrev pub early_of : Option (List (ℕ × ℕ)) → Option ℕ → Option ℕ

@@ -79,7 +79,7 @@ impl ConnectionStreams {
             decoder_on: None,
             peer: PeerControl::new(alloc),
             decoding: Decoding::new(alloc, announced.limits.table as usize),
-            encoding: Encoding::new(alloc, announced.choices.acknowledgments_counted),
+            encoding: Encoding::new(alloc, announced.choices),
             own,
         })
     }

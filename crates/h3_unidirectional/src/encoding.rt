@@ -15,6 +15,7 @@ ghost use Rattle.h3_unidirectional.specs.Learned.{having_learned, usable_capacit
 use crate::waiting::{WaitingBytes, drop_front};
 use h3_field::HeaderField;
 use h3_field::waiting::{Wait, decoder_wait, decoder_wait_behind};
+use h3_proto::config::Choices;
 use h3_proto::error::Code;
 use h3_proto::frame::{SettingId, Settings};
 use h3_proto::stream::StreamId;
@@ -46,12 +47,14 @@ impl Model for Encoding {
 }
 
 impl Encoding {
-    /// An encoder that may not use a table. Whether acknowledgments tell of insertions (RFC 9204, section 2.1.4) is chosen here.
-    pub fn new(alloc: Global, acknowledgments_counted: bool) -> Encoding
-        ensures { result ≡ record { encoder = encoder_state (record no_table { counts_acknowledgments = acknowledgments_counted }); unread = [] } }
+    /// An encoder that may not use a table yet. Whether acknowledgments tell of insertions (RFC 9204, section 2.1.4), and the most that
+    /// its table may have, is chosen here.
+    pub fn new(alloc: Global, choices: Choices) -> Encoding
+        ensures { result ≡ record { encoder = encoder_state (record no_table { most_capacity = choices.encoder_table; counts_acknowledgments = choices.acknowledgments_counted }); unread = [] } }
     {
         let mut encoder = Encoder::new(alloc);
-        encoder.count_acknowledgments(acknowledgments_counted);
+        encoder.limit_table(choices.encoder_table as usize);
+        encoder.count_acknowledgments(choices.acknowledgments_counted);
         Encoding {
             encoder,
             unread: Vec::new(alloc),
@@ -84,12 +87,13 @@ impl Encoding {
     }
 
     /// The peer's settings came. Where they allow a table of 1 to 2^30 - 1 bytes and at most 65535 blocked streams (RFC 9204,
-    /// section 5) it is used from now on, and the answer is its capacity in bytes, which the caller writes on the encoder
-    /// stream; else nothing changes. It takes no memory.
+    /// section 5), and the own table may have more than 0, it is used from now on, and the answer is its capacity in bytes, the lesser
+    /// of what the peer announced and the most that it may have, which the caller writes on the encoder stream; else nothing changes.
+    /// It takes no memory.
     pub fn allow(&mut self, settings: &Settings) -> Option<u64>
         requires { self.old.encoder.table.inserted ≡ 0 }
         ensures encoder { (s : EncoderHistory) → self.old.encoder ≡ encoder_state s → self.new.encoder ≡ encoder_state (having_learned s settings.now) }
-        ensures capacity { result ≡ usable_capacity settings.now }
+        ensures capacity { result ≡ usable_capacity self.old.encoder.most_capacity settings.now }
         ensures unread { self.new.unread ≡ self.old.unread }
     {
         let capacity = settings
@@ -98,12 +102,13 @@ impl Encoding {
         let blocked = settings
             .get(SettingId::QPACK_MAX_BLOCKED_STREAMS)
             .unwrap_or(0);
-        if !is_usable(capacity, blocked) {
+        let most = self.encoder.table_limit() as u64;
+        if !is_usable(most, capacity, blocked) {
             return None;
         }
         self.encoder
             .allow_table(capacity as usize, blocked as usize);
-        Some(capacity)
+        Some(most.min(capacity))
     }
 
     /// Appends an encoded field section to `block`, and the instructions for it to what waits on the own encoder stream, and
@@ -176,11 +181,11 @@ impl Encoding {
     }
 }
 
-/// Whether the table may be used with these limits.
-fn is_usable(capacity: u64, blocked: u64) -> bool
-    ensures { result ≡ is_usable capacity blocked }
+/// Whether the table may be used with these limits, where it has at most so much.
+fn is_usable(most: u64, capacity: u64, blocked: u64) -> bool
+    ensures { result ≡ is_usable most capacity blocked }
 {
-    capacity > 0 && capacity < 1 << 30 && blocked < 1 << 16
+    most.min(capacity) > 0 && capacity < 1 << 30 && blocked < 1 << 16
 }
 
 /// The fault that a refused instruction is, unless memory was refused.

@@ -1,5 +1,5 @@
 -- The world before anything is sound.
-use Rattle.std.proofs.Common.{◌≡◌, inr, ℕ, ◌+◌, Bool, true, false, [], ◌++◌, length, refl, sym, ap, arith, nat_le, length-append, if◌then◌else◌}
+use Rattle.std.proofs.Common.{◌≡◌, inr, ℕ, ◌+◌, Bool, true, false, [], ◌++◌, length, min, refl, sym, ap, arith, nat_le, length-append, if◌then◌else◌}
 use Rattle.std.specs.Prelude.{is_some, unwrap_or, slice_get, drop}
 use Rattle.std.proofs.lemmas.Grind.{common_steps}
 use Rattle.h3_coding.specs.Encodings.{encoding}
@@ -12,6 +12,7 @@ use Rattle.h3_proto.specs.Pairs.{payload_of}
 use Rattle.h3_proto.specs.StreamIds.{is_request, index_of}
 use Rattle.h3_proto.specs.declared.stream.Side.{Side}
 use Rattle.h3_proto.specs.declared.stream.Side.TheVariants.{Client, Server}
+use Rattle.h3_connection.specs.Endpoint.{first_encoder}
 use Rattle.h3_connection.specs.declared.setup.Announced.{Announced}
 use Rattle.h3_world.specs.declared.setup.Setup.{Setup}
 use Rattle.h3_world.specs.Setup.{announced_at}
@@ -53,13 +54,20 @@ flow-empty setup Server id = ap (λ e. e.response) (exchange-empty setup id)
 
 -- the session of a side, before anything
 abbrev begun : Setup → Side → Session
-begun setup side = beginning (announced_at setup side).choices.acknowledgments_counted 0 0
+begun setup side = beginning (announced_at setup side).choices.acknowledgments_counted (announced_at setup side).choices.encoder_table 0 0
+
+-- its encoder has no table
+none_used : (announced : Announced) → (beginning announced.choices.acknowledgments_counted announced.choices.encoder_table 0 0).encoder ≡ (silent announced).encoder
+none_used announced = ap (λ c. record (first_encoder announced) { capacity = c }) (least_none announced.choices.encoder_table)
+  where
+    least_none : (n : ℕ) → min n 0 ≡ 0
+    least_none n = grind (arith, common_steps)
 
 follows_empty : (setup : Setup) (side : Side) → Follows setup (empty_world setup) side (begun setup side)
 follows_empty setup Client =
     record {
-      encoder = refl;
-      instructions = sym (ap (λ b. (if b then opening (limits_for setup Client) else []) ++ (begun setup Client).instructions) (came-empty setup Server));
+      encoder = none_used setup.client;
+      instructions = sym (ap (λ b. (if b then opening (begun setup Client).encoder.most_capacity (limits_for setup Client) else []) ++ (begun setup Client).instructions) (came-empty setup Server));
       received = refl;
       decoder_instructions = sym (ap (λ b. drop (length {A = DecoderInstruction} (if b then decoder_instructions_in 0 [] else [])) ((silent setup.client).own.replies)) (came-empty setup Server));
       canceled = λ id. sym (ap (λ f. is_some f.fault) (flow-empty setup Client id));
@@ -67,8 +75,8 @@ follows_empty setup Client =
     }
 follows_empty setup Server =
     record {
-      encoder = refl;
-      instructions = sym (ap (λ b. (if b then opening (limits_for setup Server) else []) ++ (begun setup Server).instructions) (came-empty setup Client));
+      encoder = none_used setup.server;
+      instructions = sym (ap (λ b. (if b then opening (begun setup Server).encoder.most_capacity (limits_for setup Server) else []) ++ (begun setup Server).instructions) (came-empty setup Client));
       received = refl;
       decoder_instructions = sym (ap (λ b. drop (length {A = DecoderInstruction} (if b then decoder_instructions_in 0 [] else [])) ((silent setup.server).own.replies)) (came-empty setup Client));
       canceled = λ id. sym (ap (λ f. is_some f.fault) (flow-empty setup Server id));
@@ -80,7 +88,7 @@ writer_empty setup side announced knows =
     record { control = omega arith; encoder = omega arith; decoder = omega arith; unknown = λ e. (refl, refl, refl); limit = omega arith; capacity = inr (refl, refl) }
 
 session_empty : (setup : Setup) (side : Side) → HasSession setup (empty_world setup) side
-session_empty setup side = record { counts = (announced_at setup side).choices.acknowledgments_counted; events = []; session = begun setup side; run = refl; follows = follows_empty setup side }
+session_empty setup side = record { counts = (announced_at setup side).choices.acknowledgments_counted; most = (announced_at setup side).choices.encoder_table; events = []; session = begun setup side; run = refl; follows = follows_empty setup side }
 
 pub empty_sound : (setup : Setup) → IsSoundWorld setup (empty_world setup)
 empty_sound setup =

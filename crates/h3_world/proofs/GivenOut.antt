@@ -115,7 +115,7 @@ section_out_kept setup old new side id section rest h out =
     λ i t e none. left_of s r.b.stream id i section rest r t e (sections_left (flow old side i)) (h.follows.sections i none) r.stream in
     steps_on setup old new side h (Decode r.b) (decoded s r.b) (oldest_is, alive, there, refl) (record {
       encoder = h.follows.encoder ∙ sym out.encoder;
-      instructions = out.instructions ∙ h.follows.instructions ∙ ap (λ k. (if k then opening limits else []) ++ s.instructions) (sym out.knows);
+      instructions = out.instructions ∙ h.follows.instructions ∙ ap (λ k. (if k then opening s.encoder.most_capacity limits else []) ++ s.instructions) (sym out.knows);
       received = h.follows.received ∙ sym out.received;
       decoder_instructions =
           ap (λ l. l ++ (if count_of r.b == 0 then [] else Acknowledge r.b.stream ∷ [])) h.follows.decoder_instructions
@@ -174,7 +174,7 @@ given_up_kept setup old new side id h out =
     let alive : is_canceled s id ≡ false = h.follows.canceled id ∙ ap is_some out.alive in
     steps_on setup old new side h (Cancel id) (after_cancellation s id) (alive, refl) (record {
       encoder = h.follows.encoder ∙ sym out.encoder;
-      instructions = out.instructions ∙ h.follows.instructions ∙ ap (λ k. (if k then opening limits else []) ++ s.instructions) (sym out.knows);
+      instructions = out.instructions ∙ h.follows.instructions ∙ ap (λ k. (if k then opening s.encoder.most_capacity limits else []) ++ s.instructions) (sym out.knows);
       received = h.follows.received ∙ sym out.received;
       decoder_instructions = ap (λ l. l ++ CancelStream id ∷ []) h.follows.decoder_instructions ∙ sym out.replies;
       canceled = λ i. canceled_of i (id == i) refl;

@@ -1,5 +1,5 @@
 -- A schedule of a session grown at the end, and the session of a world after more events.
-use Rattle.std.proofs.Common.{Bool, List, [], ◌∷◌, ◌++◌, refl, subst}
+use Rattle.std.proofs.Common.{ℕ, Bool, List, [], ◌∷◌, ◌++◌, refl, subst}
 use Rattle.h3_qpack.specs.Session.{Session, IsSound}
 use Rattle.h3_qpack.specs.Schedule.{SessionEvent, SessionStep, SessionRun, beginning}
 use Rattle.h3_proto.specs.declared.stream.Side.{Side}
@@ -9,10 +9,10 @@ use Rattle.h3_world.specs.Following.{Follows, HasSession}
 
 -- the law of h3_qpack on schedules from nothing
 abbrev pub SessionsAreSound : Type 0
-SessionsAreSound = (counts : Bool) (events : List SessionEvent) (s : Session) → SessionRun (beginning counts 0 0) events s → IsSound s
+SessionsAreSound = (counts : Bool) (most : ℕ) (events : List SessionEvent) (s : Session) → SessionRun (beginning counts most 0 0) events s → IsSound s
 
 pub session_is_sound : SessionsAreSound → (setup : Setup) (w : World) (side : Side) (h : HasSession setup w side) → IsSound h.session
-session_is_sound law setup w side h = law h.counts h.events h.session h.run
+session_is_sound law setup w side h = law h.counts h.most h.events h.session h.run
 
 -- two schedules, one behind the other
 pub run_joined : (s : Session) (events more : List SessionEvent) (mid new : Session) → SessionRun s events mid → SessionRun mid more new → SessionRun s (events ++ more) new
@@ -25,9 +25,10 @@ pub goes_on : (setup : Setup) (old new : World) (side : Side) (h : HasSession se
 goes_on setup old new side h events after run follows =
     record {
       counts = h.counts;
+      most = h.most;
       events = h.events ++ events;
       session = after;
-      run = run_joined (beginning h.counts 0 0) h.events events h.session after h.run run;
+      run = run_joined (beginning h.counts h.most 0 0) h.events events h.session after h.run run;
       follows = follows;
     }
 

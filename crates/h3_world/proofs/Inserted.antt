@@ -149,8 +149,8 @@ needs_made s fields =
 pub written_insertions : SessionsAreSound → (setup : Setup) (w : World) (side : Side) → HasSession setup w side → count_by is_insertion (party w side).own.instructions ≡ length (party w side).encoder.inserted
 written_insertions law setup w side h =
     ap (count_by is_insertion) h.follows.instructions
-    ∙ behind_opening (limits_for setup side) (settings_came setup w (other side)) h.session.instructions
-    ∙ run_inserts (beginning h.counts 0 0) h.events h.session refl h.run
+    ∙ behind_opening h.session.encoder.most_capacity (limits_for setup side) (settings_came setup w (other side)) h.session.instructions
+    ∙ run_inserts (beginning h.counts h.most 0 0) h.events h.session refl h.run
     ∙ (session_is_sound law setup w side h).read.one_each
     ∙ ap (λ x. length x.inserted) h.follows.encoder
 

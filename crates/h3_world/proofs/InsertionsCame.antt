@@ -1,5 +1,5 @@
 -- The session of a direction when bytes of the encoder stream come.
-use Rattle.std.proofs.Common.{◌≡◌, ℕ, zero, suc, ◌-◌, ◌≤◌, Bool, true, false, List, [], ◌∷◌, ◌++◌, length, take, refl, sym, ap, ◌∙◌, arith, append-nil}
+use Rattle.std.proofs.Common.{◌≡◌, ℕ, zero, suc, ◌-◌, ◌≤◌, Bool, true, false, List, [], ◌∷◌, ◌++◌, length, min, take, refl, sym, ap, ◌∙◌, arith, append-nil}
 use Rattle.std.specs.Prelude.{◌==◌, if◌then◌else◌, is_some}
 use Rattle.std.specs.List.{count_by}
 use Rattle.std.proofs.lemmas.Grind.{common_steps}
@@ -33,13 +33,13 @@ count_length : (test : EncoderInstruction → Bool) (is : List EncoderInstructio
 count_length test [] = omega arith
 count_length test (i ∷ is) = grind (arith, common_steps, sum_by-cons (λ i. if test i then 1 else 0) i is, count_length test is)
 
-pub behind_opening : (limits : Limits) (b : Bool) (is : List EncoderInstruction) → count_by is_insertion ((if b then opening limits else []) ++ is) ≡ count_by is_insertion is
-behind_opening limits false is = refl
-behind_opening limits true is = set (has_table limits)
+pub behind_opening : (most : ℕ) (limits : Limits) (b : Bool) (is : List EncoderInstruction) → count_by is_insertion ((if b then opening most limits else []) ++ is) ≡ count_by is_insertion is
+behind_opening most limits false is = refl
+behind_opening most limits true is = set (has_table most limits)
   where
-    set : (b : Bool) → count_by is_insertion ((if b then SetCapacity limits.table ∷ [] else []) ++ is) ≡ count_by is_insertion is
+    set : (b : Bool) → count_by is_insertion ((if b then SetCapacity (min most limits.table) ∷ [] else []) ++ is) ≡ count_by is_insertion is
     set false = refl
-    set true = omega (arith, sum_by-cons (λ i. if is_insertion i then 1 else 0) (SetCapacity limits.table) is)
+    set true = omega (arith, sum_by-cons (λ i. if is_insertion i then 1 else 0) (SetCapacity (min most limits.table)) is)
 
 -- no more insertions came than were made
 pub insertions_made : SessionsAreSound → (setup : Setup) (old new : World) (side : Side) (h : HasSession setup old side) → (party new side).own.instructions ≡ (party old side).own.instructions
@@ -47,10 +47,10 @@ pub insertions_made : SessionsAreSound → (setup : Setup) (old new : World) (si
 insertions_made law setup old new side h same =
     let s = h.session in
     let p = party new side in
-    let is : p.own.instructions ≡ (if settings_came setup old (other side) then opening (limits_for setup side) else []) ++ s.instructions = same ∙ h.follows.instructions in
+    let is : p.own.instructions ≡ (if settings_came setup old (other side) then opening s.encoder.most_capacity (limits_for setup side) else []) ++ s.instructions = same ∙ h.follows.instructions in
     let most = count_most is_insertion (whole_in encoder_bytes (p.own.encoder_taken - 1) p.own.instructions) p.own.instructions in
     let all : count_by is_insertion p.own.instructions ≡ count_by is_insertion s.instructions =
-    ap (count_by is_insertion) is ∙ behind_opening (limits_for setup side) (settings_came setup old (other side)) s.instructions in
+    ap (count_by is_insertion) is ∙ behind_opening s.encoder.most_capacity (limits_for setup side) (settings_came setup old (other side)) s.instructions in
     omega (arith, most, all, count_length is_insertion s.instructions, (session_is_sound law setup old side h).read.one_each)
 
 above_none : (n : ℕ) → (suc n == 0) ≡ false
@@ -75,7 +75,7 @@ insertions_kept law setup old new side h b = more (insertions_came (party new si
     more : (n : ℕ) → insertions_came (party new side) - insertions_came (party old side) ≡ n → HasSession setup new side
     more zero e = goes_on setup old new side h [] h.session refl (record {
       encoder = h.follows.encoder ∙ sym b.encoder;
-      instructions = b.instructions ∙ h.follows.instructions ∙ ap (λ k. (if k then opening (limits_for setup side) else []) ++ h.session.instructions) (sym b.knows);
+      instructions = b.instructions ∙ h.follows.instructions ∙ ap (λ k. (if k then opening h.session.encoder.most_capacity (limits_for setup side) else []) ++ h.session.instructions) (sym b.knows);
       received = h.follows.received ∙ omega (arith, e, b.received);
       decoder_instructions = h.follows.decoder_instructions ∙ sym (append-nil (replies_left setup old side)) ∙ ap (λ n. replies_left setup old side ++ increment n) (sym e) ∙ sym b.replies;
       canceled = λ i. h.follows.canceled i ∙ ap is_some (sym (b.faults i));
@@ -84,7 +84,7 @@ insertions_kept law setup old new side h b = more (insertions_came (party new si
     more (suc n) e = steps_on setup old new side h (InsertionsRead (suc n)) (inserted h.session (suc n))
         (omega arith, omega (arith, e, h.follows.received, insertions_made law setup old new side h b.instructions), refl) (record {
           encoder = h.follows.encoder ∙ sym b.encoder;
-          instructions = b.instructions ∙ h.follows.instructions ∙ ap (λ k. (if k then opening (limits_for setup side) else []) ++ h.session.instructions) (sym b.knows);
+          instructions = b.instructions ∙ h.follows.instructions ∙ ap (λ k. (if k then opening h.session.encoder.most_capacity (limits_for setup side) else []) ++ h.session.instructions) (sym b.knows);
           received = omega (arith, e, b.received, h.follows.received);
           decoder_instructions = ap (λ l. l ++ Increment (suc n) ∷ []) h.follows.decoder_instructions ∙ ap (λ l. replies_left setup old side ++ l) (one_increment n) ∙ ap (λ n. replies_left setup old side ++ increment n) (sym e) ∙ sym b.replies;
           canceled = λ i. h.follows.canceled i ∙ ap is_some (sym (b.faults i));

@@ -1,5 +1,5 @@
 -- The settings come: the session of the direction of the side that learns them is kept.
-use Rattle.std.proofs.Common.{◌≡◌, ℕ, ◌-◌, ◌≤◌, Bool, true, false, not, ◌&&◌, List, [], ◌∷◌, ◌++◌, length, refl, sym, ap, ◌∙◌, subst, if◌then◌else◌}
+use Rattle.std.proofs.Common.{◌≡◌, ℕ, ◌-◌, ◌≤◌, min, Bool, true, false, not, ◌&&◌, List, [], ◌∷◌, ◌++◌, length, refl, sym, ap, ◌∙◌, subst, if◌then◌else◌}
 use Rattle.std.specs.Prelude.{drop}
 use Rattle.h3_field.specs.Instruction.{DecoderInstruction}
 use Rattle.h3_field.specs.Instruction.EncoderInstruction.{SetCapacity}
@@ -23,25 +23,25 @@ use Rattle.h3_world.proofs.RepliesRead.{limited, learned_kept}
 use Rattle.h3_world.proofs.Listened.{between_of, writer_after, reader_after, flow_after, further_is, further_as, listens, tabled}
 
 -- what learning limits does to a side, by whether they may be used
-learned_encoder : (p : Party) (limits : Limits) → (having_learned p limits).encoder ≡ (if has_table limits then limited p.encoder limits else p.encoder)
-learned_encoder p limits = by_test (has_table limits)
+learned_encoder : (p : Party) (limits : Limits) → (having_learned p limits).encoder ≡ (if has_table p.encoder.most_capacity limits then limited p.encoder limits else p.encoder)
+learned_encoder p limits = by_test (has_table p.encoder.most_capacity limits)
   where
     by_test : (b : Bool) → (if b then tabled p limits else p).encoder ≡ (if b then limited p.encoder limits else p.encoder)
     by_test true = refl
     by_test false = refl
 
-learned_instructions : (p : Party) (limits : Limits) → p.own.instructions ≡ [] → (having_learned p limits).own.instructions ≡ opening limits
-learned_instructions p limits nothing = by_test (has_table limits)
+learned_instructions : (p : Party) (limits : Limits) → p.own.instructions ≡ [] → (having_learned p limits).own.instructions ≡ opening p.encoder.most_capacity limits
+learned_instructions p limits nothing = by_test (has_table p.encoder.most_capacity limits)
   where
-    by_test : (b : Bool) → (if b then tabled p limits else p).own.instructions ≡ (if b then SetCapacity limits.table ∷ [] else [])
-    by_test true = ap (λ is. is ++ SetCapacity limits.table ∷ []) nothing
+    by_test : (b : Bool) → (if b then tabled p limits else p).own.instructions ≡ (if b then SetCapacity (min p.encoder.most_capacity limits.table) ∷ [] else [])
+    by_test true = ap (λ is. is ++ SetCapacity (min p.encoder.most_capacity limits.table) ∷ []) nothing
     by_test false = nothing
 
 learned_came : (p : Party) (limits : Limits) → p.own.encoder_taken ≤ length (encoder_stream p) → insertions_came (having_learned p limits) ≡ insertions_came p
-learned_came p limits came = by_test (has_table limits)
+learned_came p limits came = by_test (has_table p.encoder.most_capacity limits)
   where
     by_test : (b : Bool) → insertions_came (if b then tabled p limits else p) ≡ insertions_came p
-    by_test true = insertions_same p (SetCapacity limits.table ∷ []) came
+    by_test true = insertions_same p (SetCapacity (min p.encoder.most_capacity limits.table) ∷ []) came
     by_test false = refl
 
 -- The side that learns has used no table and sent no instruction.
@@ -81,11 +81,11 @@ learning_direction_kept setup w writer id count l h =
       nothing = l.nothing;
       encoder =
           ap (λ x. x.encoder) at_learned ∙ ap (λ x. encoder_after_all x is) (learned_encoder p limits)
-          ∙ ap (λ m. encoder_after_all (if has_table m then limited p.encoder m else p.encoder) is) same_limits;
+          ∙ ap (λ m. encoder_after_all (if has_table p.encoder.most_capacity m then limited p.encoder m else p.encoder) is) same_limits;
       replies = subst (λ s. left_of setup s (party w s) ≡ is ++ left_of setup s (party final s)) (sym (other-other writer))
           (left_shrinks setup writer own (party final writer) came
           ∙ ap (λ r. drop (length (read_of setup writer own)) r ++ left_of setup writer (party final writer)) (sym as_final));
-      instructions = ap (λ x. x.own.instructions) at_learned ∙ learned_instructions p limits l.nothing ∙ ap opening same_limits;
+      instructions = ap (λ x. x.own.instructions) at_learned ∙ learned_instructions p limits l.nothing ∙ ap (opening p.encoder.most_capacity) same_limits;
       knew = subst (λ s. settings_came setup w s ≡ false) (sym (other-other writer)) l.unknown;
       knows = subst (λ s. knows_of setup s (party final s) ≡ true) (sym (other-other writer))
           (ap (knows_of setup writer) (at_writer ∙ sym (party-with_party w writer pf)) ∙ l.knows);

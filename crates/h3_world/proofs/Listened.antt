@@ -1,5 +1,5 @@
 -- A delivery on an own stream of a side: the sessions of both directions are kept.
-use Rattle.std.proofs.Common.{◌≡◌, ℕ, ◌+◌, ◌-◌, ◌≤◌, Bool, true, false, not, ◌&&◌, List, [], ◌∷◌, ◌++◌, length, refl, sym, ap, ◌∙◌, subst, arith, nat_le, if◌then◌else◌}
+use Rattle.std.proofs.Common.{◌≡◌, ℕ, ◌+◌, ◌-◌, ◌≤◌, Bool, true, false, not, ◌&&◌, List, [], ◌∷◌, ◌++◌, length, min, refl, sym, ap, ◌∙◌, subst, arith, nat_le, if◌then◌else◌}
 use Rattle.std.specs.Prelude.{drop, ◌==◌}
 use Rattle.h3_field.specs.Instruction.{DecoderInstruction}
 use Rattle.h3_field.specs.Instruction.EncoderInstruction.{SetCapacity}
@@ -59,11 +59,11 @@ pub record IsLearned (p q : Party) : Type 0 where
 
 -- the side whose encoder learns limits that it may use
 abbrev pub tabled : Party → Limits → Party
-tabled p limits = record { own = record p.own { instructions = p.own.instructions ++ SetCapacity limits.table ∷ [] }; encoder = limited p.encoder limits }
+tabled p limits = record { own = record p.own { instructions = p.own.instructions ++ SetCapacity (min p.encoder.most_capacity limits.table) ∷ [] }; encoder = limited p.encoder limits }
 
 pub learned_is : (p : Party) (limits : Limits) (learns : Bool) → IsLearned p (if learns then having_learned p limits else p)
 learned_is p limits false = record { control = refl; decoder = refl; written = refl; encoder_came = refl }
-learned_is p limits true = by_test (has_table limits)
+learned_is p limits true = by_test (has_table p.encoder.most_capacity limits)
   where
     by_test : (b : Bool) → IsLearned p (if b then tabled p limits else p)
     by_test true = record { control = refl; decoder = refl; written = refl; encoder_came = refl }

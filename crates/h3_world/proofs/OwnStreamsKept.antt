@@ -1,5 +1,5 @@
 -- A world stays sound when a request is opened, a side announces that it goes away, or more of an own stream comes.
-use Rattle.std.proofs.Common.{◌≡◌, ℕ, ◌-◌, ◌≤◌, Bool, true, false, not, ◌&&◌, List, [], ◌∷◌, ◌++◌, length, refl, sym, ap, ◌∙◌, subst, arith, append-nil, nat_le, if◌then◌else◌}
+use Rattle.std.proofs.Common.{◌≡◌, ℕ, ◌-◌, ◌≤◌, Bool, true, false, not, ◌&&◌, List, [], ◌∷◌, ◌++◌, length, min, refl, sym, ap, ◌∙◌, subst, arith, append-nil, nat_le, if◌then◌else◌}
 use Rattle.std.specs.List.{AllByRecursion, sum_by}
 use Rattle.std.specs.Prelude.{drop}
 use Rattle.std.proofs.lemmas.Grind.{common_steps}
@@ -72,17 +72,17 @@ goaway_sound setup w Server id h =
 
 -- what learning limits leaves of a side
 learned_counts : (p : Party) (limits : Limits) → (having_learned p limits).encoder.required_insert_counts ≡ p.encoder.required_insert_counts
-learned_counts p limits = by_test (has_table limits)
+learned_counts p limits = by_test (has_table p.encoder.most_capacity limits)
   where
     by_test : (b : Bool) → (if b then tabled p limits else p).encoder.required_insert_counts ≡ p.encoder.required_insert_counts
     by_test true = refl
     by_test false = refl
 
 learned_written : (p : Party) (limits : Limits) → HasWritten p (having_learned p limits)
-learned_written p limits = by_test (has_table limits)
+learned_written p limits = by_test (has_table p.encoder.most_capacity limits)
   where
     by_test : (b : Bool) → HasWritten p (if b then tabled p limits else p)
-    by_test true = record { more = SetCapacity limits.table ∷ []; is = refl }
+    by_test true = record { more = SetCapacity (min p.encoder.most_capacity limits.table) ∷ []; is = refl }
     by_test false = same_instructions p p refl
 
 if_learned : (p : Party) (limits : Limits) (b : Bool) → HasWritten p (if b then having_learned p limits else p)

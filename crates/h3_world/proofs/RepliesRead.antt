@@ -2,7 +2,7 @@
 use Rattle.std.proofs.Common.{◌≡◌, ℕ, Bool, true, false, List, [], ◌∷◌, ◌++◌, refl, sym, ap, ◌∙◌, append-nil}
 use Rattle.std.specs.Prelude.{if◌then◌else◌, is_some}
 use Rattle.h3_field.specs.Instruction.{EncoderInstruction, DecoderInstruction}
-use Rattle.h3_qpack.specs.EncoderHistory.{EncoderHistory, encoder_after_all}
+use Rattle.h3_qpack.specs.EncoderHistory.{EncoderHistory, using_table, encoder_after_all}
 use Rattle.h3_qpack.specs.Session.{Session, after_decoder_instruction}
 use Rattle.h3_qpack.specs.Schedule.{SessionEvent, SessionRun, with_table}
 use Rattle.h3_qpack.specs.Schedule.SessionEvent.{UseTable, DecoderInstructionRead}
@@ -15,6 +15,7 @@ use Rattle.h3_world.specs.World.{World, party}
 use Rattle.h3_world.specs.Came.{settings_came, insertions_came}
 use Rattle.h3_world.specs.Streams.{flow}
 use Rattle.h3_world.specs.Following.{Follows, HasSession, sections_left, replies_left, opening, limits_for}
+use Rattle.h3_world.proofs.Capacity.{all_read_same}
 use Rattle.h3_world.proofs.Grown.{goes_on}
 
 -- the session after its encoder read these, and has the rest to read
@@ -46,7 +47,9 @@ replies_kept setup old new side is h r =
     let rest = replies_left setup new side in
     goes_on setup old new side h (each_read is rest) (heard s is rest) (all_read s is rest (h.follows.decoder_instructions ∙ r.replies)) (record {
       encoder = ap (λ x. encoder_after_all x is) h.follows.encoder ∙ sym r.encoder;
-      instructions = r.instructions ∙ h.follows.instructions ∙ ap (λ k. (if k then opening (limits_for setup side) else []) ++ s.instructions) (sym r.knows);
+      instructions =
+          r.instructions ∙ h.follows.instructions ∙ ap (λ k. (if k then opening s.encoder.most_capacity (limits_for setup side) else []) ++ s.instructions) (sym r.knows)
+          ∙ ap (λ m. (if settings_came setup new (other side) then opening m (limits_for setup side) else []) ++ s.instructions) (sym (all_read_same s.encoder is).most);
       received = h.follows.received ∙ sym r.received;
       decoder_instructions = refl;
       canceled = λ i. h.follows.canceled i ∙ ap is_some (sym (r.faults i));
@@ -55,7 +58,7 @@ replies_kept setup old new side is h r =
 
 -- an encoder of a peer with these limits
 abbrev pub limited : EncoderHistory → Limits → EncoderHistory
-limited s limits = record s { capacity = limits.table; limit = limits.blocked }
+limited s limits = using_table s limits.table limits.blocked
 
 -- What settings that come change of what the session sees: the encoder learns the limits, and reads what the decoder wrote before.
 pub record LearnsLimits (setup : Setup) (old new : World) (side : Side) (is : List DecoderInstruction) : Type 0 where
@@ -63,9 +66,9 @@ pub record LearnsLimits (setup : Setup) (old new : World) (side : Side) (is : Li
   pub empty : (party old side).encoder.inserted ≡ []
   pub nothing : (party old side).own.instructions ≡ []
   pub encoder : (party new side).encoder
-      ≡ encoder_after_all (if has_table (limits_for setup side) then limited (party old side).encoder (limits_for setup side) else (party old side).encoder) is
+      ≡ encoder_after_all (if has_table (party old side).encoder.most_capacity (limits_for setup side) then limited (party old side).encoder (limits_for setup side) else (party old side).encoder) is
   pub replies : replies_left setup old side ≡ is ++ replies_left setup new side
-  pub instructions : (party new side).own.instructions ≡ opening (limits_for setup side)
+  pub instructions : (party new side).own.instructions ≡ opening (party old side).encoder.most_capacity (limits_for setup side)
   pub knew : settings_came setup old (other side) ≡ false
   pub knows : settings_came setup new (other side) ≡ true
   pub received : insertions_came (party new side) ≡ insertions_came (party old side)
@@ -74,11 +77,17 @@ pub record LearnsLimits (setup : Setup) (old new : World) (side : Side) (is : Li
 
 -- the session whose encoder learned, and whether it did
 abbrev pub if_limited : Session → Limits → Session
-if_limited s limits = if has_table limits then with_table s limits.table limits.blocked else s
+if_limited s limits = if has_table s.encoder.most_capacity limits then with_table s limits.table limits.blocked else s
 
 pub learned_kept : (setup : Setup) (old new : World) (side : Side) (is : List DecoderInstruction) → HasSession setup old side → LearnsLimits setup old new side is → HasSession setup new side
-learned_kept setup old new side is h l = by_test (has_table limits) refl
+learned_kept setup old new side is h l = by_test (has_table most limits) refl
   where
+    most : ℕ
+    most = (party old side).encoder.most_capacity
+
+    same_most : h.session.encoder.most_capacity ≡ most
+    same_most = ap (λ x. x.most_capacity) h.follows.encoder
+
     limits : Limits
     limits = limits_for setup side
 
@@ -86,7 +95,7 @@ learned_kept setup old new side is h l = by_test (has_table limits) refl
     rest = replies_left setup new side
 
     begun : List EncoderInstruction
-    begun = if settings_came setup old (other side) then opening limits else []
+    begun = if settings_came setup old (other side) then opening h.session.encoder.most_capacity limits else []
 
     none : h.session.instructions ≡ []
     none = second_empty begun h.session.instructions (sym h.follows.instructions ∙ l.nothing)
@@ -95,33 +104,35 @@ learned_kept setup old new side is h l = by_test (has_table limits) refl
         second_empty [] ys e = e
         second_empty (x ∷ xs) ys e = cc
 
-    instructions : (party new side).own.instructions ≡ (if settings_came setup new (other side) then opening limits else []) ++ h.session.instructions
+    instructions : (party new side).own.instructions ≡ (if settings_came setup new (other side) then opening most limits else []) ++ h.session.instructions
     instructions =
-        l.instructions ∙ sym (ap (λ i. opening limits ++ i) none ∙ append-nil (opening limits))
-        ∙ ap (λ k. (if k then opening limits else []) ++ h.session.instructions) (sym l.knows)
+        l.instructions ∙ sym (ap (λ i. opening most limits ++ i) none ∙ append-nil (opening most limits))
+        ∙ ap (λ k. (if k then opening most limits else []) ++ h.session.instructions) (sym l.knows)
 
     -- the session once the encoder has read, from one that differs in its encoder alone
-    follows : (e : EncoderHistory) → (party new side).encoder ≡ encoder_after_all e is → Follows setup new side (heard (record h.session { encoder = e }) is rest)
-    follows e is_encoder =
+    follows : (e : EncoderHistory) → e.most_capacity ≡ most → (party new side).encoder ≡ encoder_after_all e is → Follows setup new side (heard (record h.session { encoder = e }) is rest)
+    follows e known is_encoder =
         record {
           encoder = sym is_encoder;
-          instructions = instructions;
+          instructions =
+              instructions
+              ∙ ap (λ m. (if settings_came setup new (other side) then opening m limits else []) ++ h.session.instructions) (sym ((all_read_same e is).most ∙ known));
           received = h.follows.received ∙ sym l.received;
           decoder_instructions = refl;
           canceled = λ i. h.follows.canceled i ∙ ap is_some (sym (l.faults i));
           sections = λ i alive. h.follows.sections i (sym (l.faults i) ∙ alive) ∙ sym (l.sections i);
         }
 
-    by_test : (b : Bool) → has_table limits ≡ b → HasSession setup new side
+    by_test : (b : Bool) → has_table most limits ≡ b → HasSession setup new side
     by_test true e =
         let used = with_table h.session limits.table limits.blocked in
         let empty = ap (λ x. x.inserted) h.follows.encoder ∙ l.empty in
         let no_limit = ap (λ x. x.limit) h.follows.encoder ∙ l.no_limit in
         goes_on setup old new side h (UseTable limits.table limits.blocked ∷ each_read is rest) (heard used is rest)
         (used, (empty, no_limit, refl), all_read used is rest (h.follows.decoder_instructions ∙ l.replies))
-        (follows used.encoder (l.encoder ∙ ap (λ b. encoder_after_all (if b then limited (party old side).encoder limits else (party old side).encoder) is) e
+        (follows used.encoder same_most (l.encoder ∙ ap (λ b. encoder_after_all (if b then limited (party old side).encoder limits else (party old side).encoder) is) e
         ∙ ap (λ x. encoder_after_all (limited x limits) is) (sym h.follows.encoder)))
     by_test false e =
         goes_on setup old new side h (each_read is rest) (heard h.session is rest) (all_read h.session is rest (h.follows.decoder_instructions ∙ l.replies))
-        (follows h.session.encoder (l.encoder ∙ ap (λ b. encoder_after_all (if b then limited (party old side).encoder limits else (party old side).encoder) is) e
+        (follows h.session.encoder same_most (l.encoder ∙ ap (λ b. encoder_after_all (if b then limited (party old side).encoder limits else (party old side).encoder) is) e
         ∙ ap (λ x. encoder_after_all x is) (sym h.follows.encoder)))

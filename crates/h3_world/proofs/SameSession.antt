@@ -28,7 +28,7 @@ pub same_kept : (setup : Setup) (old new : World) (side : Side) → HasSession s
 same_kept setup old new side h same =
     goes_on setup old new side h [] h.session refl (record {
       encoder = h.follows.encoder ∙ sym same.encoder;
-      instructions = same.instructions ∙ h.follows.instructions ∙ ap (λ k. (if k then opening (limits_for setup side) else []) ++ h.session.instructions) (sym same.knows);
+      instructions = same.instructions ∙ h.follows.instructions ∙ ap (λ k. (if k then opening h.session.encoder.most_capacity (limits_for setup side) else []) ++ h.session.instructions) (sym same.knows);
       received = h.follows.received ∙ sym same.received;
       decoder_instructions = h.follows.decoder_instructions ∙ sym same.replies;
       canceled = λ i. h.follows.canceled i ∙ ap is_some (sym (same.faults i));

@@ -54,9 +54,9 @@ section_sent_kept setup old new side id fields h sends =
       instructions =
           sends.instructions
           ∙ ap (λ is. is ++ instructions_for e id fields) h.follows.instructions
-          ∙ append_assoc (if settings_came setup old (other side) then opening (limits_for setup side) else []) s.instructions (instructions_for e id fields)
-          ∙ ap (λ k. (if k then opening (limits_for setup side) else []) ++ (s.instructions ++ instructions_for e id fields)) (sym sends.knows)
-          ∙ ap (λ x. (if settings_came setup new (other side) then opening (limits_for setup side) else []) ++ (s.instructions ++ instructions_for x id fields)) (sym is);
+          ∙ append_assoc (if settings_came setup old (other side) then opening s.encoder.most_capacity (limits_for setup side) else []) s.instructions (instructions_for e id fields)
+          ∙ ap (λ k. (if k then opening s.encoder.most_capacity (limits_for setup side) else []) ++ (s.instructions ++ instructions_for e id fields)) (sym sends.knows)
+          ∙ ap (λ x. (if settings_came setup new (other side) then opening s.encoder.most_capacity (limits_for setup side) else []) ++ (s.instructions ++ instructions_for x id fields)) (sym is);
       received = h.follows.received ∙ sym sends.received;
       decoder_instructions = h.follows.decoder_instructions ∙ sym sends.replies;
       canceled = λ i. h.follows.canceled i ∙ ap is_some (sym (sends.faults i));

@@ -1,5 +1,5 @@
 -- What a side wrote, and what its encoder goes by, stay sound.
-use Rattle.std.proofs.Common.{◌≡◌, inl, ℕ, ◌+◌, ◌-◌, ◌≤◌, Bool, true, false, List, [], ◌∷◌, ◌++◌, length, sym, ap, ◌∙◌, subst, arith, length-append, if◌then◌else◌}
+use Rattle.std.proofs.Common.{◌≡◌, inl, ℕ, ◌+◌, ◌-◌, ◌≤◌, Bool, true, false, List, [], ◌∷◌, ◌++◌, length, min, sym, ap, ◌∙◌, subst, arith, length-append, if◌then◌else◌}
 use Rattle.std.specs.Prelude.{flat_map, ◌==◌}
 use Rattle.std.proofs.lemmas.Grind.{common_steps, flat_map-append}
 use Rattle.h3_coding.specs.Encodings.{encoding}
@@ -131,16 +131,16 @@ no_way h = grind (arith, common_steps, h)
 
 -- it learns the limits of its peer
 pub writer_learned : (setup : Setup) (side : Side) (p : Party) (limits : Limits) → limits ≡ limits_for setup side → IsSoundWriter setup side p false → IsSoundWriter setup side (having_learned p limits) true
-writer_learned setup side p limits same h = by_test (has_table limits)
+writer_learned setup side p limits same h = by_test (has_table p.encoder.most_capacity limits)
   where
     by_test : (b : Bool) → IsSoundWriter setup side (if b then tabled p limits else p) true
     by_test false = record { control = h.control; encoder = h.encoder; decoder = h.decoder; unknown = λ e. absurd (no_way e); limit = h.limit; capacity = h.capacity }
     by_test true =
         record {
           control = h.control;
-          encoder = omega (arith, h.encoder, bytes_longer encoder_bytes (encoding 2) p.own.instructions (SetCapacity limits.table ∷ []));
+          encoder = omega (arith, h.encoder, bytes_longer encoder_bytes (encoding 2) p.own.instructions (SetCapacity (min p.encoder.most_capacity limits.table) ∷ []));
           decoder = h.decoder;
           unknown = λ e. absurd (no_way e);
           limit = omega (arith, ap (λ l. l.blocked) same);
-          capacity = inl (ap (λ l. l.table) same);
+          capacity = inl (ap (λ l. l.table) same, ap (λ l. min p.encoder.most_capacity l.table) same);
         }

@@ -1,7 +1,7 @@
 -- What a delivery changes: how much came, and what the receiver reads of it at once.
-use Rattle.std.specs.Prelude.{ℕ, ◌+◌, ◌-◌, Bool, true, not, ◌&&◌, ◌||◌, [], ◌∷◌, ◌++◌, length, drop, if◌then◌else◌, ◌==◌, nat_lt, is_some}
+use Rattle.std.specs.Prelude.{ℕ, ◌+◌, ◌-◌, min, Bool, true, not, ◌&&◌, ◌||◌, [], ◌∷◌, ◌++◌, length, drop, if◌then◌else◌, ◌==◌, nat_lt, is_some}
 use Rattle.h3_field.specs.Instruction.EncoderInstruction.{SetCapacity}
-use Rattle.h3_qpack.specs.EncoderHistory.{encoder_after_all}
+use Rattle.h3_qpack.specs.EncoderHistory.{using_table, encoder_after_all}
 use Rattle.h3_proto.specs.declared.stream.Side.{Side}
 use Rattle.h3_connection.specs.Control.{increment}
 use Rattle.h3_connection.specs.OwnIds.{other, is_own}
@@ -23,14 +23,12 @@ use Rattle.h3_world.specs.Sending.{given_up}
 abbrev pub further : Party → Side → ℕ → ℕ → Party
 further p side id count = record p { own = own_advanced p.own side id count }
 
--- An encoder that learns such limits sets the capacity, and uses the table from then on (RFC 9204, section 4.3.1).
+-- An encoder that learns such limits sets a capacity, and uses the table from then on (RFC 9204, section 4.3.1).
 abbrev pub having_learned : Party → Limits → Party
 having_learned p limits =
-    if has_table limits
-    then record {
-      own = record p.own { instructions = p.own.instructions ++ SetCapacity limits.table ∷ [] };
-      encoder = record p.encoder { capacity = limits.table; limit = limits.blocked };
-    } else p
+    if has_table p.encoder.most_capacity limits
+    then record { own = record p.own { instructions = p.own.instructions ++ SetCapacity (min p.encoder.most_capacity limits.table) ∷ [] }; encoder = using_table p.encoder limits.table limits.blocked }
+    else p
 
 -- The receiver after own streams of the writer got further, from the old world to the new one: it learns the settings, its
 -- encoder reads the decoder instructions, and its decoder counts the insertions (RFC 9204, section 4.4.3).

@@ -1,5 +1,5 @@
 -- The QPACK session of one direction, as the world goes.
-use Rattle.std.specs.Prelude.{◌≡◌, ◌⊎◌, ℕ, Bool, List, [], ◌∷◌, ◌++◌, length, drop, map, filter, ◌==◌, None, is_some, if◌then◌else◌}
+use Rattle.std.specs.Prelude.{◌≡◌, ◌⊎◌, ℕ, Bool, List, [], ◌∷◌, ◌++◌, length, min, drop, map, filter, ◌==◌, None, is_some, if◌then◌else◌}
 use Rattle.h3_field.specs.Field.{Field}
 use Rattle.h3_field.specs.Instruction.{EncoderInstruction, DecoderInstruction}
 use Rattle.h3_field.specs.Instruction.EncoderInstruction.{SetCapacity}
@@ -54,9 +54,9 @@ sections_on id sections = map undecoded (filter (λ b. b.stream == id) sections)
 abbrev pub limits_for : Setup → Side → Limits
 limits_for setup side = (announced_at setup (other side)).limits
 
--- how an encoder's stream begins once it knows them
-abbrev pub opening : Limits → List EncoderInstruction
-opening limits = if has_table limits then SetCapacity limits.table ∷ [] else []
+-- how an encoder's stream begins once it knows them, where its table has at most so much
+abbrev pub opening : ℕ → Limits → List EncoderInstruction
+opening most limits = if has_table most limits then SetCapacity (min most limits.table) ∷ [] else []
 
 -- what the side's encoder has not read of the other side's decoder
 abbrev pub replies_left : Setup → World → Side → List DecoderInstruction
@@ -66,20 +66,23 @@ replies_left setup w side = drop (length (replies_read setup w (other side))) (p
 pub record Follows (setup : Setup) (w : World) (side : Side) (s : Session) : Type 0 where
   pub encoder : s.encoder ≡ (party w side).encoder
   pub instructions : (party w side).own.instructions
-      ≡ (if settings_came setup w (other side) then opening (limits_for setup side) else []) ++ s.instructions
+      ≡ (if settings_came setup w (other side) then opening s.encoder.most_capacity (limits_for setup side) else []) ++ s.instructions
   pub received : s.received ≡ insertions_came (party w side)
   pub decoder_instructions : s.decoder_instructions ≡ replies_left setup w side
   pub canceled : (id : ℕ) → is_canceled s id ≡ is_some (flow w side id).fault
   pub sections : (id : ℕ) → (flow w side id).fault ≡ None → sections_on id s.sections ≡ sections_left (flow w side id)
 
--- Some schedule of one encoder and one decoder leads there, whether acknowledgments count for the encoder or not.
+-- Some schedule of one encoder and one decoder leads there, whether acknowledgments count for the encoder or not, and whatever the
+-- most is that its table may have.
 pub record HasSession (setup : Setup) (w : World) (side : Side) : Type 0 where
   pub counts : Bool
+  pub most : ℕ
   pub events : List SessionEvent
   pub session : Session
-  pub run : SessionRun (beginning counts 0 0) events session
+  pub run : SessionRun (beginning counts most 0 0) events session
   pub follows : Follows setup w side session
 
--- The encoder has the announced capacity, or may name no entry yet.
+-- The encoder goes by the announced capacity and has set the lesser of it and the most that its table may have, or may name no entry
+-- yet.
 abbrev pub HasCapacity : ℕ → EncoderHistory → Type 0
-HasCapacity capacity s = (s.capacity ≡ capacity) ⊎ ((s.limit ≡ 0) × (s.inserted ≡ []))
+HasCapacity announced s = ((s.announced ≡ announced) × (s.capacity ≡ min s.most_capacity announced)) ⊎ ((s.limit ≡ 0) × (s.inserted ≡ []))

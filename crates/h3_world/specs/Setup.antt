@@ -29,9 +29,9 @@ IsPlain a = a.choices.strict_messages ≡ false
 abbrev pub JudgesPlainly : Setup → Type 0
 JudgesPlainly setup = (side : Side) → IsPlain (announced_at setup side)
 
--- An encoder uses the table of a peer that announces such limits (RFC 9204, section 3.2.3).
-abbrev pub has_table : Limits → Bool
-has_table limits = is_usable limits.table limits.blocked
+-- An encoder whose table has at most so much uses that of a peer that announces such limits (RFC 9204, section 3.2.3).
+abbrev pub has_table : ℕ → Limits → Bool
+has_table most limits = is_usable most limits.table limits.blocked
 
 -- some configuration announces it
 pub record IsMade (a : Announced) : Type 0 where

@@ -126,7 +126,7 @@ pub record IsSoundWriter (setup : Setup) (side : Side) (p : Party) (knows : Bool
   pub decoder : p.own.decoder_taken ≤ length (decoder_stream p)
   -- an encoder that doesn't know its peer's limits has no table, and has inserted nothing
   pub unknown : knows ≡ false → (p.encoder.limit ≡ 0) × (p.encoder.inserted ≡ []) × (p.own.instructions ≡ [])
-  -- its limit is at most that of its peer, and its capacity the announced one
+  -- its limit is at most that of its peer, and its capacity the lesser of the announced one and the most that its table may have
   pub limit : p.encoder.limit ≤ (limits_for setup side).blocked
   pub capacity : HasCapacity (limits_for setup side).table p.encoder
 

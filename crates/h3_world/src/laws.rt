@@ -63,10 +63,10 @@ pub fn setups_are_made()
 ghost use Rattle.h3_qpack.specs.Schedule.{SessionEvent, SessionRun, beginning};
 ghost use Rattle.h3_qpack.specs.Session.{Session, count_of};
 
-/// Over every schedule of one encoder, whose peer's limits come at any time, a section that names entries was written with the capacity
-/// that the encoder has.
+/// Over every schedule of one encoder, whose peer's limits come at any time, a section that names entries was written for the announced
+/// capacity that the encoder goes by.
 pub fn sections_have_the_capacity()
-    ensures { (counts : Bool) (events : List SessionEvent) (s : Session) → SessionRun (beginning counts 0 0) events s → AllByRecursion (λ b. 0 < count_of b → b.encoder.capacity ≡ s.encoder.capacity) s.sections }
+    ensures { (counts : Bool) (most : ℕ) (events : List SessionEvent) (s : Session) → SessionRun (beginning counts most 0 0) events s → AllByRecursion (λ b. 0 < count_of b → b.encoder.announced ≡ s.encoder.announced) s.sections }
 {
     h3_qpack::laws::every_session_is_sound();
     h3_qpack::laws::canceled_streams_use_no_table();

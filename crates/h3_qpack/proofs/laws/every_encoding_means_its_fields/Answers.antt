@@ -5,11 +5,11 @@ use Rattle.h3_qpack.proofs.DecodesAgree.{section_value, has_read_at}
 use Rattle.h3_qpack.proofs.laws.every_encoding_means_its_fields.Goals as goal
 
 pub returns-clause-means : goal.returns-clause-means
-returns-clause-means c = λ counts capacity limit events s b run oldest alive came w.
-    let h = every_run_is_sound counts capacity limit events s run in
+returns-clause-means c = λ counts most announced limit events s b run oldest alive came w.
+    let h = every_run_is_sound counts most announced limit events s run in
     section_means s b (decoder_of s) h (own_read s b h) oldest alive came w
 
 pub returns-clause-value : goal.returns-clause-value
-returns-clause-value c = λ counts capacity limit announced events s b r run at oldest alive w.
-    let h = every_run_is_sound counts capacity limit events s run in
-    section_value s b r h (has_read_at announced s b r h oldest at) oldest alive w
+returns-clause-value c = λ counts most announced limit other events s b r run at oldest alive w.
+    let h = every_run_is_sound counts most announced limit events s run in
+    section_value s b r h (has_read_at other s b r h oldest at) oldest alive w

@@ -9,21 +9,21 @@ returns-clause-begins c = empty_sound
 
 pub returns-clause-kept : goal.returns-clause-kept
 returns-clause-kept c = step_sound (record {
-  sound = λ counts. c.every_session_is_sound.ensures counts 0 0;
+  sound = λ counts most. c.every_session_is_sound.ensures counts most 0 0;
   inserts_none = c.encoders_without_insertions_use_no_table.ensures.inserts;
   still_empty = c.encoders_without_insertions_use_no_table.ensures.still;
 })
 
 pub returns-clause-happens : goal.returns-clause-happens
 returns-clause-happens c = step_happens (record {
-  sound = λ counts. c.every_session_is_sound.ensures counts 0 0;
+  sound = λ counts most. c.every_session_is_sound.ensures counts most 0 0;
   inserts_none = c.encoders_without_insertions_use_no_table.ensures.inserts;
   still_empty = c.encoders_without_insertions_use_no_table.ensures.still;
 })
 
 pub returns-clause-both : goal.returns-clause-both
 returns-clause-both c = exact_happens (record {
-  sound = λ counts. c.every_session_is_sound.ensures counts 0 0;
+  sound = λ counts most. c.every_session_is_sound.ensures counts most 0 0;
   inserts_none = c.encoders_without_insertions_use_no_table.ensures.inserts;
   still_empty = c.encoders_without_insertions_use_no_table.ensures.still;
 })

@@ -1,7 +1,7 @@
 use Rattle.std.proofs.Common.{◌≡◌, false, sym, ◌∙◌, ap}
 use Rattle.std.specs.List.{list_any}
 use Rattle.h3_table.specs.ReleasingLaws.{none_removed}
-use Rattle.h3_table.specs.Tracking.{TrackingState, is_of}
+use Rattle.h3_table.specs.Tracking.{is_of}
 use Rattle.h3_qpack.proofs.dynamic.DynamicTable.acknowledge.Goals as goal
 
 pub returns-in_default-clause-none : goal.returns-in_default-clause-none

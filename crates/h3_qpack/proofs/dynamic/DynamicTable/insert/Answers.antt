@@ -8,13 +8,13 @@ use Rattle.h3_qpack.proofs.dynamic.DynamicTable.insert.Goals as goal
 pub invariant_of-self : goal.invariant_of-self
 invariant_of-self c =
     let i = c.self.invariant in
-    record { from = i.from; to = i.to; names = c.reserve.ensures.names _ _ i.names; fields = c.reserve.ensures.fields _ _ i.fields; few = i.few }
+    record { from = i.from; to = i.to; names = c.reserve.ensures.names _ _ i.names; fields = c.reserve.ensures.fields _ _ i.fields; few = i.few; within_announced = i.within_announced }
 
 pub invariant_of-self-in_err-add_entry : goal.invariant_of-self-in_err-add_entry
 invariant_of-self-in_err-add_entry c =
     let i = c.self.invariant in
     rw c.in_err-add_entry.ensures.err
-    (record { from = i.from; to = i.to; names = c.reserve.ensures.names _ _ i.names; fields = c.reserve.ensures.fields _ _ i.fields; few = i.few })
+    (record { from = i.from; to = i.to; names = c.reserve.ensures.names _ _ i.names; fields = c.reserve.ensures.fields _ _ i.fields; few = i.few; within_announced = i.within_announced })
 
 pub invariant_of-self-in_default : goal.invariant_of-self-in_default
 invariant_of-self-in_default c =
@@ -28,6 +28,7 @@ invariant_of-self-in_default c =
       names = c.reserve.ensures.names _ _ i.names;
       fields = c.reserve.ensures.fields _ _ i.fields;
       few = i.few;
+      within_announced = i.within_announced;
     })
 
 pub invariant_of-self-2 : goal.invariant_of-self-2
@@ -44,4 +45,4 @@ invariant_of-self-2 c =
     g.made g.value c.slot-name.ensures.value number_is after_is low (c.reserve.ensures.names _ _ i.names) c.add.ensures c.evict_oldest.ensures in
     let fields = indexed_with_entry h what.Field c.args.field.now c.slot-whole.result c.inserted-number.result c.args.after c.evicted-evicted.result c.reserve.new.fields c.add-2.new.self c.evict_oldest-2.new.self
     g.made g.value c.slot-whole.ensures.value number_is after_is low (c.reserve.ensures.fields _ _ i.fields) c.add-2.ensures c.evict_oldest-2.ensures in
-    rw (table_is, c.drop_to.ensures) (record { from = after_is; to = made ∙ ap (λ n. n + 1) i.to; names = names; fields = fields; few = i.few })
+    rw (table_is, c.drop_to.ensures) (record { from = after_is; to = made ∙ ap (λ n. n + 1) i.to; names = names; fields = fields; few = i.few; within_announced = i.within_announced })

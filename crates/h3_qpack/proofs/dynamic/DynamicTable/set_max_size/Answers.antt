@@ -14,4 +14,4 @@ invariant_of-self c =
     let low : c.evicted.result ≤ c.in-Ok.after = omega (arith, g.value, above) in
     let names = indexed_with_capacity h what.Name c.args.size c.in-Ok.after c.evicted.result c.self.inside.names c.evict_oldest.new.self g.made g.value after_is low i.names c.evict_oldest.ensures in
     let fields = indexed_with_capacity h what.Field c.args.size c.in-Ok.after c.evicted.result c.self.inside.fields c.evict_oldest-2.new.self g.made g.value after_is low i.fields c.evict_oldest-2.ensures in
-    rw (c.set_capacity.ensures, c.drop_to.ensures) (record { from = after_is; to = i.to; names = names; fields = fields; few = i.few })
+    rw (c.set_capacity.ensures, c.drop_to.ensures) (record { from = after_is; to = i.to; names = names; fields = fields; few = i.few; within_announced = omega arith })

@@ -35,7 +35,7 @@ returns-in_default-clause-cut_off c =
 
 pub returns-in-Ok-clause-sent : goal.returns-in-Ok-clause-sent
 returns-in-Ok-clause-sent c =
-    let put : c.put_section.new.block.items ≡ c.args.block.now.items ++ (prefix_bytes c.put_fields.new.table.table.capacity c.put_fields.new.section.newest c.put_fields.new.section.base ++ c.put_fields.new.lines.items) = search rules in
+    let put : c.put_section.new.block.items ≡ c.args.block.now.items ++ (prefix_bytes c.put_fields.new.table.announced c.put_fields.new.section.newest c.put_fields.new.section.base ++ c.put_fields.new.lines.items) = search rules in
     λ s e.
     let h = c.in_ok-put_fields.ensures.ok s _ (begun_drafted s _ _ _ _ (c.self.view_is ∙ e) c.begin-section.ensures.value c.clear.ensures.items) in
     let own = on_other s c.args.stream (kept_id s c.self.inside.table c.args.stream false (c.self.view_is ∙ e) (sym c.if-is_canceled.false ∙ c.is_canceled.ensures)) in
@@ -44,7 +44,7 @@ returns-in-Ok-clause-sent c =
 
 pub returns-else-section-ne0-clause-sent : goal.returns-else-section-ne0-clause-sent
 returns-else-section-ne0-clause-sent c =
-    let put : c.put_section.new.block.items ≡ c.args.block.now.items ++ (prefix_bytes c.put_fields.new.table.table.capacity c.put_fields.new.section.newest c.put_fields.new.section.base ++ c.put_fields.new.lines.items) = search rules in
+    let put : c.put_section.new.block.items ≡ c.args.block.now.items ++ (prefix_bytes c.put_fields.new.table.announced c.put_fields.new.section.newest c.put_fields.new.section.base ++ c.put_fields.new.lines.items) = search rules in
     λ s e.
     let h = c.in_ok-put_fields.ensures.ok s _ (begun_drafted s _ _ _ _ (c.self.view_is ∙ e) c.begin-section.ensures.value c.clear.ensures.items) in
     let own = on_other s c.args.stream (kept_id s c.self.inside.table c.args.stream false (c.self.view_is ∙ e) (sym c.if-is_canceled.false ∙ c.is_canceled.ensures)) in

@@ -5,6 +5,7 @@ use Rattle.h3_unidirectional.proofs.encoding.Encoding.new.Goals as goal
 
 pub returns : goal.returns
 returns c =
-    let chosen : c.count_acknowledgments.new.self ≡ encoder_state (record no_table { counts_acknowledgments = c.args.acknowledgments_counted }) =
-    c.count_acknowledgments.ensures no_table c.new-encoder.ensures in
+    let limited : c.limit_table.new.self ≡ encoder_state (record no_table { most_capacity = c.args.choices.encoder_table }) = c.limit_table.ensures no_table c.new-encoder.ensures in
+    let chosen : c.count_acknowledgments.new.self ≡ encoder_state (record no_table { most_capacity = c.args.choices.encoder_table; counts_acknowledgments = c.args.choices.acknowledgments_counted }) =
+    c.count_acknowledgments.ensures (record no_table { most_capacity = c.args.choices.encoder_table }) limited in
     rw (chosen, c.new.ensures.items) refl
