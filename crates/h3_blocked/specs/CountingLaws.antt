@@ -1,9 +1,10 @@
 -- What becomes of the number of streams that wait when one of them changes, comes or goes.
-use Rattle.std.proofs.Common.{arith, ◌≡◌, ℕ, ◌+◌, ◌-◌, ◌≤◌, List, refl, sym, ◌∙◌, ap, inl, inr}
+use Rattle.std.proofs.Common.{arith, ◌≡◌, ℕ, ◌+◌, ◌-◌, ◌≤◌, refl, sym, ◌∙◌, ap, inl, inr}
 use Rattle.std.specs.Prelude.{Option, Some, None, count_by, nat_lt, option_map}
 use Rattle.std.proofs.lemmas.Bool.{cases_lt, lt-ltb, le-ltb}
 use Rattle.std.proofs.lemmas.List.Sums.{sum_by-le-sum_by}
 use Rattle.h3_blocked.specs.Counting.{waiting_above, Agrees, one_if, waits_at, Replaces, HasCount}
+use Rattle.h3_blocked.specs.declared.counts.Blocked.{Blocked}
 use Rattle.h3_blocked.specs.Sums.{part_of, total-without, total_sets, total_takes_out, total_parts, without_stream, kept_is_at, TakesOut}
 use Rattle.h3_connection.specs.Calls.{Sets}
 use Rattle.h3_connection.specs.Incoming.{Incoming}
@@ -37,17 +38,17 @@ pub waiting_list : (streams : Streams RequestState) (incoming : Streams Incoming
 waiting_list streams incoming h k same n = total_parts (λ r. r.incoming) (λ i. one_if (nat_lt n i.waits_for)) streams incoming h k same
 
 -- The counts go along: a stream is set, and its count replaced,
-pub agrees_set : (counts others : List ℕ) (old new : Streams RequestState) (id : ℕ) (x : RequestState) → HaveDistinctIds old → HaveDistinctIds new → Agrees counts old → Sets old new id x
+pub agrees_set : (counts others : Blocked) (old new : Streams RequestState) (id : ℕ) (x : RequestState) → HaveDistinctIds old → HaveDistinctIds new → Agrees counts old → Sets old new id x
     → Replaces counts others (waits_at (kept_at old id)) x.incoming.waits_for → Agrees others new
 agrees_set counts others old new id x h k agrees sets replaced n = omega (arith, waiting_set old new id x h k sets n, agrees n, replaced n)
 
 -- or it waits for as much as before,
-pub agrees_set_same : (counts : List ℕ) (old new : Streams RequestState) (id : ℕ) (x : RequestState) → HaveDistinctIds old → HaveDistinctIds new → Agrees counts old → Sets old new id x
+pub agrees_set_same : (counts : Blocked) (old new : Streams RequestState) (id : ℕ) (x : RequestState) → HaveDistinctIds old → HaveDistinctIds new → Agrees counts old → Sets old new id x
     → x.incoming.waits_for ≡ waits_at (kept_at old id) → Agrees counts new
 agrees_set_same counts old new id x h k agrees sets same n = omega (arith, waiting_set old new id x h k sets n, agrees n, ap (λ w. one_if (nat_lt n w)) same)
 
 -- and one goes, and its count.
-pub agrees_takes_out : (counts others : List ℕ) (old new : Streams RequestState) (id : ℕ) → HaveDistinctIds old → HaveDistinctIds new → Agrees counts old → TakesOut old new id
+pub agrees_takes_out : (counts others : Blocked) (old new : Streams RequestState) (id : ℕ) → HaveDistinctIds old → HaveDistinctIds new → Agrees counts old → TakesOut old new id
     → Replaces counts others (waits_at (kept_at old id)) 0 → Agrees others new
 agrees_takes_out counts others old new id h k agrees takes replaced n = omega (arith, waiting_takes_out old new id h k takes n, agrees n, replaced n, none_above n)
 
@@ -58,7 +59,7 @@ fewer_above w r = elim (cases_lt w r.incoming.waits_for) [
 ]
 
 -- The count of a stream that is there is among the counts.
-pub has_count : (counts : List ℕ) (streams : Streams RequestState) (id : ℕ) (r : RequestState) → Agrees counts streams → kept_at streams id ≡ Some r → HasCount counts r.incoming.waits_for
+pub has_count : (counts : Blocked) (streams : Streams RequestState) (id : ℕ) (r : RequestState) → Agrees counts streams → kept_at streams id ≡ Some r → HasCount counts r.incoming.waits_for
 has_count counts streams id r agrees there some =
     let w : ℕ = r.incoming.waits_for in
     let found : stream_at streams id ≡ Some r = sym (kept_is_at streams id) ∙ there in

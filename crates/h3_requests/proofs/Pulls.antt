@@ -1,7 +1,9 @@
 -- What a pull within the limit gives.
-use Rattle.std.proofs.Common.{◌≡◌, ℕ, Bool, true, false, List, [], ◌++◌, Some, refl, sym, ap, ◌∙◌, append-nil}
+use Rattle.std.proofs.Common.{◌≡◌, ℕ, Bool, true, false, List, [], ◌++◌, Some, refl, sym, ap, subst, ◌∙◌, append-nil}
 use Rattle.std.specs.Prelude.{◌||◌, Option, None, is_some, nat_lt, IfSome}
 use Rattle.h3_blocked.specs.Counting.{above, Replaces}
+use Rattle.h3_blocked.specs.declared.counts.Blocked.{Blocked}
+use Rattle.h3_connection.specs.Calls.{Sets}
 use Rattle.h3_connection.specs.Incoming.{Incoming}
 use Rattle.h3_connection.specs.Codes.{decompression_failed}
 use Rattle.h3_connection.specs.Keeping.{is_settled_request}
@@ -50,7 +52,7 @@ gives_by p answer i said replies written is writes =
     record { is = is ∙ ap (λ l. record { answer = answer; incoming = i; replies = l }) (sym same); replies = writes ∙ sym (ap (λ l. replies ++ encodings l) same) }
 
 -- What was pulled, judged by the counts, is what the limit makes of it.
-pub gives_limited : (side : Side) (own : Announced) (id : ℕ) (r : DecoderState) (streams : Streams RequestState) (before : RequestState) (given answer : Pull) (i after : Incoming) (counts others : List ℕ) (inserted : ℕ) (replies written : List ℕ)
+pub gives_limited : (side : Side) (own : Announced) (id : ℕ) (r : DecoderState) (streams : Streams RequestState) (before : RequestState) (given answer : Pull) (i after : Incoming) (counts others : Blocked) (inserted : ℕ) (replies written : List ℕ)
     → AreCounted counts streams → kept_at streams id ≡ Some before → Gives (pull_stream side own id r before.incoming) given i replies written → Replaces counts others before.incoming.waits_for i.waits_for
     → inserted ≡ r.table.inserted → ((said : List DecoderInstruction) → if_too_many (nat_lt own.limits.blocked (above inserted others)) (record { answer = given; incoming = i; replies = said }) ≡ record { answer = answer; incoming = after; replies = said })
     → (receivers : Streams Incoming) → AreReceivers receivers streams → Gives (limited own id r receivers (pull_stream side own id r before.incoming)) answer after replies written
@@ -88,7 +90,7 @@ answers_over r are_too_many result given answer h settled not_settled many few =
     settles false false e = absurd (cc)
 
 -- So its pull is within the limit or tells that it is not, and nothing of it changes.
-pub pulled_over : (side : Side) (own : Announced) (id : ℕ) (r : DecoderState) (m : Streams RequestState) (counts : List ℕ) (inserted : ℕ) (o : Option RequestState) (answer : Pull) (replies : List ℕ) → AreCounted counts m
+pub pulled_over : (side : Side) (own : Announced) (id : ℕ) (r : DecoderState) (m : Streams RequestState) (counts : Blocked) (inserted : ℕ) (o : Option RequestState) (answer : Pull) (replies : List ℕ) → AreCounted counts m
     → kept_at m id ≡ o → IfSome o (λ q. AnswersOver q.incoming (nat_lt own.limits.blocked (above inserted counts)) answer) → inserted ≡ r.table.inserted
     → IfSome (kept_at m id) (λ before. IfSome (kept_at m id) (λ after. PullsWithin side own id r m m before after answer replies replies))
 pulled_over side own id r m counts inserted None answer replies h is a same = rw is tt
@@ -97,3 +99,13 @@ pulled_over side own id r m counts inserted (Some q) answer replies h is a same 
       sets = record { here = is; others = λ p differs. refl };
       gives = gives_limited side own id r m q a.given answer q.incoming q.incoming counts counts inserted replies replies h is (gives_just _ _ _ _ (a.settled side own id r)) (λ n. refl) same a.judged;
     })
+
+-- A stream that is under way was pulled within the limit, and stands where it stood or among those that are over.
+pub pulled_there : (side : Side) (own : Announced) (id : ℕ) (r : DecoderState) (s m l n : Streams RequestState) (before now : RequestState) (answer : Pull) (replies written : List ℕ) → s ≡ m
+    → kept_at s id ≡ Some before → Sets s l id now → n ≡ l → now ≡ record before { incoming = now.incoming }
+    → ((receivers : Streams Incoming) → AreReceivers receivers s → Gives (limited own id r receivers (pull_stream side own id r before.incoming)) answer now.incoming replies written)
+    → IfSome (kept_at m id) (λ b. IfSome (kept_at n id) (λ a. PullsWithin side own id r m n b a answer replies written))
+pulled_there side own id r s m l n before now answer replies written view there sets same kept gives =
+    subst (λ v. IfSome (kept_at v id) (λ b. IfSome (kept_at n id) (λ a. PullsWithin side own id r v n b a answer replies written))) view
+    (subst (λ v. IfSome (kept_at s id) (λ b. IfSome (kept_at v id) (λ a. PullsWithin side own id r s v b a answer replies written))) (sym same)
+    (rw (there, sets.here) (record { sets = subst (Sets s l id) kept sets; gives = gives })))

@@ -1,7 +1,8 @@
 -- Which streams are ready: bytes wait on them.
-use Rattle.std.specs.Prelude.{◌≡◌, ◌≢◌, ℕ, ◌^◌, Bool, not, ◌&&◌, ◌==◌, false, nat_lt, List, Option, Some, None}
+use Rattle.std.specs.Prelude.{◌≡◌, ◌≢◌, ℕ, ◌^◌, Bool, not, ◌&&◌, ◌==◌, false, nat_lt, Option, Some, None}
 use Rattle.std.specs.BTreeSet.{contains}
 use Rattle.std.specs.Ordering.{nat_cmp}
+use Rattle.h3_blocked.specs.declared.counts.Blocked.{Blocked}
 use Rattle.h3_connection.specs.State.{RequestState, kept_at}
 use Rattle.h3_connection.specs.StreamSets.{Streams}
 use Rattle.h3_requests.specs.Counted.{AreCounted}
@@ -30,6 +31,6 @@ abbrev pub AreReady : ReadyStreams → Streams RequestState → Type 0
 AreReady s streams = (q : ℕ) → is_ready s q ≡ has_bytes (kept_at streams q)
 
 -- What is kept beside the streams is what they say.
-pub record AreKept (counts : List ℕ) (s : ReadyStreams) (streams : Streams RequestState) : Type 0 where
+pub record AreKept (counts : Blocked) (s : ReadyStreams) (streams : Streams RequestState) : Type 0 where
   pub counted : AreCounted counts streams
   pub ready : AreReady s streams

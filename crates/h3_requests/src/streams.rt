@@ -8,7 +8,7 @@ ghost use Rattle.h3_requests.specs.Over.{IsOver};
 use crate::map::StreamMap;
 use crate::ready::ReadyStreams;
 use crate::stream::RequestStream;
-use h3_blocked::replace;
+use h3_blocked::Blocked;
 use h3_proto::stream::StreamId;
 use std::alloc::{AllocError, Global};
 use std::marker::Model;
@@ -23,8 +23,8 @@ mod unread;
 #[derive(Drop)]
 pub struct RequestStreams {
     streams: StreamMap,
-    // what the streams wait for, in order, and no 0
-    blocked: Vec<usize>,
+    // what the streams wait for
+    blocked: Blocked,
     // those on which bytes wait to be sent
     ready: ReadyStreams,
 }
@@ -40,7 +40,7 @@ impl Model for RequestStreams {
 
     ghost use Rattle.h3_requests.specs.Ready.{AreKept};
 
-    ghost invariant = { λ s. AreKept s.blocked.items s.ready (streams_in s.streams) };
+    ghost invariant = { λ s. AreKept s.blocked s.ready (streams_in s.streams) };
 }
 
 impl RequestStreams {
@@ -50,7 +50,7 @@ impl RequestStreams {
     {
         RequestStreams {
             streams: StreamMap::new(alloc),
-            blocked: Vec::new(alloc),
+            blocked: Blocked::new(alloc),
             ready: ReadyStreams::new(alloc),
         }
     }
@@ -72,7 +72,7 @@ impl RequestStreams {
         let Ok(before) = self.streams.insert(alloc, id, RequestStream::new(alloc)) else {
             return Err(AllocError);
         };
-        replace(&mut self.blocked, before, 0);
+        self.blocked.replace(before, 0);
         self.ready.settle(id, false);
         Ok(())
     }
@@ -82,7 +82,7 @@ impl RequestStreams {
         ensures { TakesOut self.old self.new id }
     {
         let before = self.streams.remove(id);
-        replace(&mut self.blocked, before, 0);
+        self.blocked.replace(before, 0);
         self.ready.settle(id, false);
     }
 }

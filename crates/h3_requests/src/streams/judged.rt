@@ -13,7 +13,6 @@ ghost use Rattle.h3_requests.specs.Refused.{or_later, head_refused_at, body_refu
 use super::RequestStreams;
 use crate::room::SectionRoom;
 use bytes::{Buf, Bytes};
-use h3_blocked::replace;
 use h3_connection::event::Refusal;
 use h3_proto::stream::StreamId;
 use std::alloc::Global;
@@ -174,7 +173,7 @@ impl RequestStreams {
         let Ok(()) = stream.incoming.cancel(alloc, id, replies) else {
             return Err(Refusal::OutOfMemory);
         };
-        replace(&mut self.blocked, before, stream.incoming.waits_for());
+        self.blocked.replace(before, stream.incoming.waits_for());
         let is_over = stream.is_over();
         self.streams.retire_if(id, is_over);
         Ok(())

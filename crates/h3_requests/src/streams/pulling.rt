@@ -1,9 +1,8 @@
 //! How many request streams wait for insertions, and what a pull answers.
 ghost use Rattle.std.specs.Prelude.{◌≡◌, true, false, ℕ, List, None, Some, count_by, nat_lt, is_some, option_copied, IfNone, IfSome};
-ghost use Rattle.std.specs.List.Sorted.{IsNonDecreasing};
 ghost use Rattle.h3_field.specs.Instruction.{DecoderInstruction};
 ghost use Rattle.h3_qpack.specs.DecoderState.{DecoderState};
-ghost use Rattle.h3_blocked.specs.Counting.{above, HasCount, Replaces};
+ghost use Rattle.h3_blocked.specs.Counting.{above, HasCount, IsSound, Replaces};
 ghost use Rattle.h3_connection.specs.Incoming.{Incoming};
 ghost use Rattle.h3_connection.specs.Keeping.{is_settled_request};
 ghost use Rattle.h3_connection.specs.Pulling.{is_memory, just, pull_stream};
@@ -15,7 +14,7 @@ ghost use Rattle.h3_requests.specs.Over.{IsOver};
 
 use super::RequestStreams;
 use crate::stream::RequestStream;
-use h3_blocked::{above, replace};
+use h3_blocked::Blocked;
 use h3_connection::event::{Fault, Pull};
 use h3_connection::setup::Announced;
 use h3_incoming::IncomingStream;
@@ -30,7 +29,7 @@ impl RequestStreams {
     pub fn waiting(&self, inserted: usize) -> usize
         ensures { (receivers : Streams Incoming) → AreReceivers receivers self.now → result ≡ count_by (λ s. nat_lt inserted s.1.waits_for) receivers }
     {
-        above(&self.blocked, inserted)
+        self.blocked.above(inserted)
     }
 
     /// The next item of a stream's message, or why there is none now. More streams than were announced that would wait are a fault
@@ -59,8 +58,9 @@ impl RequestStreams {
     {
         let limit = announced.limits.blocked;
         let inserted = decoder.inserted();
+        self.blocked.pass(inserted);
         let Some(stream) = self.streams.get_mut(id) else {
-            let are_too_many = above(&self.blocked, inserted) as u64 > limit;
+            let are_too_many = self.blocked.above(inserted) as u64 > limit;
             return answer_over(self.streams.get_over(id), side, are_too_many, out);
         };
         if answer_settled(&stream.incoming, out) {
@@ -72,7 +72,7 @@ impl RequestStreams {
                 out,
             );
         }
-        let Ok(()) = self.blocked.reserve(1) else {
+        let Ok(()) = self.blocked.make_room() else {
             fail(out, Fault::Memory);
             return;
         };
@@ -83,7 +83,7 @@ impl RequestStreams {
         if is_memory(out) {
             return;
         }
-        replace(&mut self.blocked, before, stream.incoming.waits_for());
+        self.blocked.replace(before, stream.incoming.waits_for());
         within_limit(
             &mut stream.incoming,
             &mut self.blocked,
@@ -149,24 +149,24 @@ fn is_memory(answer: &Pull) -> bool
 /// The answer, unless more streams than this limit wait: then the connection has a fault, and the stream waits no more.
 fn within_limit(
     stream: &mut IncomingStream,
-    counts: &mut Vec<usize>,
+    counts: &mut Blocked,
     limit: u64,
     inserted: usize,
     out: &mut Pull,
 )
-    requires sorted { IsNonDecreasing counts.old.items }
-    requires among { HasCount counts.old.items stream.old.waits_for }
+    requires sound { IsSound counts.old }
+    requires among { HasCount counts.old stream.old.waits_for }
     ensures limited { (replies : List DecoderInstruction)
-        → if_too_many (nat_lt limit (above inserted counts.old.items)) (record { answer = out.old; incoming = stream.old; replies = replies })
+        → if_too_many (nat_lt limit (above inserted counts.old)) (record { answer = out.old; incoming = stream.old; replies = replies })
         ≡ record { answer = out.new; incoming = stream.new; replies = replies } }
     ensures memory { is_memory out.old ≡ false → is_memory out.new ≡ false }
-    ensures replaced { Replaces counts.old.items counts.new.items stream.old.waits_for stream.new.waits_for }
-    ensures sorted { IsNonDecreasing counts.new.items }
+    ensures replaced { Replaces counts.old counts.new stream.old.waits_for stream.new.waits_for }
+    ensures sound { IsSound counts.new }
 {
-    if above(counts, inserted) as u64 <= limit {
+    if counts.above(inserted) as u64 <= limit {
         return;
     }
-    replace(counts, stream.waits_for(), 0);
+    counts.replace(stream.waits_for(), 0);
     stream.stop_waiting();
     fail(out, Fault::Connection(Code::QPACK_DECOMPRESSION_FAILED));
 }

@@ -10,7 +10,6 @@ ghost use Rattle.h3_requests.specs.Changing.{opened_at, Receives, receiver_refus
 
 use super::RequestStreams;
 use bytes::Bytes;
-use h3_blocked::replace;
 use h3_connection::event::{DeliverError, Refusal};
 use h3_proto::stream::{Side, StreamId};
 use std::alloc::{AllocError, Global};
@@ -242,7 +241,7 @@ impl RequestStreams {
         let Ok(()) = stream.incoming.reset(alloc, id, code, replies) else {
             return Err(AllocError);
         };
-        replace(&mut self.blocked, before, stream.incoming.waits_for());
+        self.blocked.replace(before, stream.incoming.waits_for());
         let is_over = stream.is_over();
         self.streams.retire_if(id, is_over);
         Ok(())

@@ -166,7 +166,7 @@ impl Endpoint {
         ensures err { OnErr result ((e : EndpointHistory) → StandsFor self.old e → CutsOff e room fields.now self.new) }
     {
         let id = room.id();
-        let Ok((section, count)) = encode(&mut self.streams, self.alloc, id, fields) else {
+        let Ok((section, count)) = encode(&mut self.streams, self.alloc, &room, fields) else {
             return Err(AllocError);
         };
         let Ok(()) = self.requests.send_section(room, section, place) else {
@@ -177,20 +177,21 @@ impl Endpoint {
     }
 }
 
-/// Encodes a field section, and writes its instructions on the own encoder stream. It answers the section and its required insert
-/// count. Where memory is refused the section is cut off.
+/// Encodes a field section for which room was taken, and writes its instructions on the own encoder stream. It answers the section and its
+/// required insert count. Where memory is refused the section is cut off.
 fn encode(
     streams: &mut ConnectionStreams,
     alloc: Global,
-    id: StreamId,
+    room: &SectionRoom,
     fields: &[HeaderField],
 ) -> Result<(Bytes, usize), AllocError>
     requires { section_size fields.now < 2 ^ 62 }
-    ensures ok { IfOk result (λ r. (s : EncoderHistory) → streams.old.encoding.encoder ≡ encoder_state s → Encodes s id fields.now r.0 r.1 streams.old streams.new) }
-    ensures err { OnErr result ((s : EncoderHistory) → streams.old.encoding.encoder ≡ encoder_state s → StopsEncoding s id fields.now streams.old streams.new) }
+    ensures ok { IfOk result (λ r. (s : EncoderHistory) → streams.old.encoding.encoder ≡ encoder_state s → Encodes s room.now fields.now r.0 r.1 streams.old streams.new) }
+    ensures err { OnErr result ((s : EncoderHistory) → streams.old.encoding.encoder ≡ encoder_state s → StopsEncoding s room.now fields.now streams.old streams.new) }
 {
+    let id = room.id();
     let mut block = Vec::new(alloc);
-    let Ok(count) = encode_into(&mut block, streams, id, fields) else {
+    let Ok(count) = encode_into(&mut block, streams, room, id, fields) else {
         return Err(AllocError);
     };
     let Ok(section) = Bytes::from_vec(block) else {
@@ -200,15 +201,17 @@ fn encode(
     Ok((section, count))
 }
 
-/// The same into an empty vector. It answers the required insert count.
+/// The same into an empty vector, on the stream that there is room on. It answers the required insert count.
 fn encode_into(
     block: &mut Vec<u8>,
     streams: &mut ConnectionStreams,
+    _room: &SectionRoom,
     id: StreamId,
     fields: &[HeaderField],
 ) -> Result<usize, AllocError>
     requires small { section_size fields.now < 2 ^ 62 }
     requires empty { block.old.items ≡ [] }
+    requires there { id ≡ _room.now }
     ensures ok { IfOk result (λ count. (s : EncoderHistory) → streams.old.encoding.encoder ≡ encoder_state s → Encodes s id fields.now block.new.items count streams.old streams.new) }
     ensures err { OnErr result ((s : EncoderHistory) → streams.old.encoding.encoder ≡ encoder_state s → StopsEncoding s id fields.now streams.old streams.new) }
 {

@@ -12,4 +12,4 @@ replace-requires-clause-among c = has_count_at _ _ c.args.id _ c.in-Ok.ensures.b
 pub invariant_of-self-2 : goal.invariant_of-self-2
 invariant_of-self-2 c =
     inserted _ _ _ _ _ _ c.args.id _ _ c.in-Ok.ensures.ok c.in-Ok.ensures.distinct (ap (λ r. r.incoming.waits_for) c.new.ensures) (ap (λ r. has_bytes (Some r)) c.new.ensures) c.in-Ok.ensures.before
-    c.replace.ensures.sorted c.replace.ensures.replaced c.settle.ensures c.self.invariant
+    c.replace.ensures.sound c.replace.ensures.replaced c.settle.ensures c.self.invariant

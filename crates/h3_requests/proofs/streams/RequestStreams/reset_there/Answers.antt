@@ -13,4 +13,4 @@ replace-requires-clause-among c = has_count_at _ (streams_in c.self.inside.strea
 
 pub invariant_of-self-2 : goal.invariant_of-self-2
 invariant_of-self-2 c = moved c.retire_if.ensures
-    (replaced _ _ _ _ _ c.args.id c.in-Some.stream.now _ (c.get_mut.follows.holds _) (search rules) c.replace.ensures.sorted (search rules) (search rules) c.self.invariant)
+    (replaced _ _ _ _ _ c.args.id c.in-Some.stream.now _ (c.get_mut.follows.holds _) (search rules) c.replace.ensures.sound (search rules) (search rules) c.self.invariant)

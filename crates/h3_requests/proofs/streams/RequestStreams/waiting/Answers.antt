@@ -1,6 +1,5 @@
 -- The counts are those that the streams wait for.
-use Rattle.std.proofs.Common.{ap, sym, subst, ◌∙◌}
-use Rattle.h3_blocked.specs.Counting.{above}
+use Rattle.std.proofs.Common.{sym, subst, ◌∙◌}
 use Rattle.h3_requests.specs.Limited.{AreReceivers}
 use Rattle.h3_requests.proofs.Counts.{waits}
 use Rattle.h3_requests.specs.Stored.{streams_in}
@@ -8,5 +7,4 @@ use Rattle.h3_requests.proofs.streams.RequestStreams.waiting.Goals as goal
 
 pub returns : goal.returns
 returns c = λ receivers are.
-    c.above.ensures ∙ ap (above c.args.inserted) c.deref.ensures.value
-    ∙ waits _ (streams_in c.self.inside.streams) receivers c.self.invariant.counted (subst (AreReceivers receivers) (sym c.self.view_is) are) c.args.inserted
+    c.above.ensures ∙ waits _ (streams_in c.self.inside.streams) receivers c.self.invariant.counted (subst (AreReceivers receivers) (sym c.self.view_is) are) c.args.inserted
