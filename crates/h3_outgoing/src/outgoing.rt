@@ -313,6 +313,16 @@ impl OutgoingStream {
         }
     }
 
+    /// The same with the end taken. It takes no memory.
+    pub fn like_taken(&self, alloc: Global) -> OutgoingStream
+        requires { (length self.now.pieces == 0) ≡ true }
+        ensures { result ≡ has_end_taken self.now }
+    {
+        let mut like = self.like(alloc);
+        like.end_taken = true;
+        like
+    }
+
     /// Where the message is.
     pub fn place(&self) -> SendPlace
         ensures { result ≡ self.now.place }

@@ -25,7 +25,7 @@ pub struct RequestStreams {
     streams: StreamMap,
     // what the streams wait for, in order, and no 0
     blocked: Vec<usize>,
-    // those on which bytes wait to be sent
+    // those on which bytes or an end wait to be sent
     ready: ReadyStreams,
 }
 
@@ -73,7 +73,7 @@ impl RequestStreams {
             return Err(AllocError);
         };
         replace(&mut self.blocked, before, 0);
-        self.ready.settle(id, false);
+        self.ready.leave(id);
         Ok(())
     }
 
@@ -83,6 +83,6 @@ impl RequestStreams {
     {
         let before = self.streams.remove(id);
         replace(&mut self.blocked, before, 0);
-        self.ready.settle(id, false);
+        self.ready.leave(id);
     }
 }
