@@ -330,7 +330,11 @@ static void of_ends(void) {
     IS(h3_advance(&e, id, 1), H3_OK);
     IS(h3_next_waiting(&e, 0, &found), H3_NONE);
     if (i % 2) IS(h3_deliver_end(&e, id, NULL), H3_OK);
-    if (i % 4 == 3) IS(h3_cancel(&e, id, NULL), H3_OK);
+    if (i % 4 == 3) {
+      IS(h3_cancel(&e, id, NULL), H3_OK);
+      IS(h3_stream(&e, 10, &s), H3_OK);
+      IS(h3_advance(&e, 10, s.waiting), H3_OK);
+    }
   }
   for (unsigned i = 0; i < STREAMS; i++) {
     found = 1;
@@ -344,7 +348,10 @@ static void of_ends(void) {
       IS(h3_reset(&e, 4 * i, NULL), H3_ENDED);
     }
   unsigned seen = 0;
-  for (id = 0; h3_next_to_send(&e, id, &id) == H3_OK; id++) HOLDS(id == 20 * seen++);
+  for (id = 0; h3_next_to_send(&e, id, &id) == H3_OK; id++) {
+    HOLDS(id == 20 * seen);
+    seen++;
+  }
   HOLDS(seen == STREAMS / 5);
   /* one that is reset behind its head has no end */
   IS(h3_open_request(&e, &id, NULL), H3_OK);
