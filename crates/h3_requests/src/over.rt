@@ -175,7 +175,7 @@ fn add_both(ways: &mut Vec<RequestStream>, stream: &RequestStream) -> u8
     };
     ways.push_reserved(stream.like(alloc));
     ways.push_reserved(stream.with_end_taken(alloc));
-    (count + 1) as u8
+    count as u8 + 1
 }
 
 // The way in which a stream is over, or 0 where no other was over so.
