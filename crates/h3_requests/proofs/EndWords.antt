@@ -83,7 +83,7 @@ all_left es from rest is sorted =
       sorted = sorted_part (range_contains nat_cmp (Included from) Unbounded) es sorted;
       within = within_part from es;
       left = λ q there. sym (ap waiting_of (lookup-filter-keys (is_at (nat_cmp q)) (range_contains nat_cmp (Included from) Unbounded) true
-      (λ k at. ap (range_contains nat_cmp (Included from) Unbounded) (sym (level q k at)) ∙ rw (there_from from q there) refl) es));
+          (λ k at. ap (range_contains nat_cmp (Included from) Unbounded) (sym (level q k at)) ∙ rw (there_from from q there) refl) es));
     })
 
 -- one is passed that has no bits

@@ -188,7 +188,7 @@ inserted counts others s t old new id count r sets distinct nothing none no_end 
       counted = counting.inserted counts others old new id count r sets distinct nothing is sorted replaces h.counted;
       ready = ready_at s t old new id false one (sym (ap has_bytes sets.here ∙ none)) sets.others h.ready;
       ends = ends_at s.ends t.ends old new id false end (λ q differs has. places q differs ∙ has) (sym (ap has_end sets.here ∙ no_end))
-      (λ may. absurd (let wrong : false ≡ true = sym (ap may_end sets.here ∙ unsent) ∙ may in cc)) sets.others h.ends;
+          (λ may. absurd (let wrong : false ≡ true = sym (ap may_end sets.here ∙ unsent) ∙ may in cc)) sets.others h.ends;
     }
 
 -- and one went
@@ -200,7 +200,7 @@ removed counts others s t old new id count takes distinct is sorted replaces one
       counted = counting.removed counts others old new id count takes distinct is sorted replaces h.counted;
       ready = ready_at s t old new id false one (sym (ap has_bytes takes.here)) takes.others h.ready;
       ends = ends_at s.ends t.ends old new id false end (λ q differs has. places q differs ∙ has) (sym (ap has_end takes.here))
-      (λ may. absurd (let wrong : false ≡ true = sym (ap may_end takes.here) ∙ may in cc)) takes.others h.ends;
+          (λ may. absurd (let wrong : false ≡ true = sym (ap may_end takes.here) ∙ may in cc)) takes.others h.ends;
     }
 
 -- what is ready is one of the ids

@@ -249,18 +249,18 @@ one_longer ways r = length-append ways (r ∷ [])
 
 -- one way more, whose end does not wait
 pub grown_one : (ways : List RequestState) (r : RequestState) → IsOver r → end_waits r.outgoing ≡ false → length ways < 255 → AddsWays ways (ways ++ r ∷ [])
-grown_one ways r h none few = record {
+grown_one ways r h none less = record {
   over = grown_all IsOver ways r h;
   paired = λ way more. grown_all (IsPaired (ways ++ r ∷ []) way) ways r (λ waits. absurd (let wrong : false ≡ true = sym none ∙ waits in cc)) way more;
-  few = λ known. omega (arith, few, one_longer ways r);
+  few = λ known. omega (arith, less, one_longer ways r);
 }
 
-two : List RequestState → RequestState → RequestState → List RequestState
+abbrev two : List RequestState → RequestState → RequestState → List RequestState
 two ways r t = (ways ++ r ∷ []) ++ t ∷ []
 
 -- or two more, of which the other is the one with its end taken
 pub grown_two : (ways : List RequestState) (r : RequestState) → IsOver r → length ways + 1 < 255 → AddsWays ways ((ways ++ r ∷ []) ++ with_end_taken r ∷ [])
-grown_two ways r h few = record { over = over; paired = paired; few = λ known. omega (arith, few, one_longer ways r, one_longer (ways ++ r ∷ []) t) }
+grown_two ways r h less = record { over = over; paired = paired; few = λ known. omega (arith, less, one_longer ways r, one_longer (ways ++ r ∷ []) t) }
   where
     t : RequestState
     t = with_end_taken r
@@ -314,13 +314,13 @@ at_first ways r t way is =
 -- no way more
 pub none_more : (ways : List RequestState) → AddsWays ways ways
 none_more ways = record {
-  over = λ way more. past way more;
-  paired = λ way more. past way more;
+  over = λ way more. past IsOver way more;
+  paired = λ way more. past (IsPaired ways way) way more;
   few = λ known. known;
 }
   where
-    past : {P : RequestState → Type 0} (way : ℕ) → length ways < way → IfSome (way_at ways way) P
-    past {P} way more =
+    past : (P : RequestState → Type 0) (way : ℕ) → length ways < way → IfSome (way_at ways way) P
+    past P way more =
         let some : way ≢ 0 = omega (arith, more) in
         subst (λ o. IfSome o P) (sym (way_found ways way some ∙ slice_get_past ways (way - 1) (omega (arith, more)))) tt
 

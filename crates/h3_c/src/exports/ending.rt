@@ -28,12 +28,7 @@ pub extern "C" fn h3_raw_next_to_send(
 
 /// QUIC took the FIN of a stream.
 #[unsafe(no_mangle)]
-pub extern "C" fn h3_raw_end_taken(
-    alloc: Global,
-    handle: Handle,
-    id: u64,
-    out: &mut Handle,
-) -> u32
+pub extern "C" fn h3_raw_end_taken(alloc: Global, handle: Handle, id: u64, out: &mut Handle) -> u32
     requires { IsSome handle.value }
     ensures there { IsSome out.new.value }
     ensures goes { Steps handle.value out.new.value (λ v w. OnStream id (number result 0) v w (TakesEndOf v w id (number result 0))) }
