@@ -82,6 +82,9 @@ static void drop(void) {
   h3_free(&ends[SERVER]);
 }
 
+/* whether h3_end_taken is called */
+static int ends_are_told;
+
 /* all that waits on a stream goes over, and its end */
 static void carry(int side, uint64_t id) {
   size_t n;
@@ -92,6 +95,7 @@ static void carry(int side, uint64_t id) {
     done("h3_advance", id, h3_advance(&ends[side], id, n));
   } while (n && !fin);
   if (fin) done("h3_deliver_end", id, h3_deliver_end(&ends[!side], id, NULL));
+  if (fin && ends_are_told) done("h3_end_taken", id, h3_end_taken(&ends[side], id));
 }
 static void carry_own(void) {
   for (int side = 0; side < 2; side++) {
@@ -178,6 +182,30 @@ static void exchange_rows(size_t count) {
   drop();
 }
 
+/* the same memory where the caller tells of each end that was taken, and how long it takes then to learn that nothing is to be sent */
+static void told_rows(size_t count) {
+  enum { CALLS = 1000 };
+  char size[32];
+  uint64_t id;
+  double before, began;
+  sized(size, sizeof size, count, "exchanges");
+  ends_are_told = 1;
+  make(0, 0);
+  carry_own();
+  for (size_t i = 0; i < 1000; i++) exchange();
+  before = held;
+  for (size_t i = 1000; i < count; i++) exchange();
+  row("a stream that is over, whose end was taken", size, (held - before) / (double)(count - 1000) / 2, "bytes an end", 4);
+  carry_own();
+  began = now();
+  for (size_t i = 0; i < CALLS; i++) {
+    if (h3_next_to_send(&ends[CLIENT], 0, &id) != H3_NONE) stop("a stream whose end was taken is named", id, 0);
+  }
+  row("h3_next_to_send, where all ends were taken", size, (now() - began) / CALLS * 1e9, "ns", 200);
+  ends_are_told = 0;
+  drop();
+}
+
 /* a client opens, sends its head and resets; the server reads the head, is told of the reset, and resets its own half */
 static void reset_rows(size_t count) {
   char size[32];
@@ -247,6 +275,35 @@ static void sweep_rows(size_t count) {
     if (h3_next_waiting(&ends[CLIENT], 0, &id) != H3_NONE) stop("a stream that was reset waits", id, 0);
   }
   row("h3_next_waiting, where all were reset", size, (now() - began) / CALLS * 1e9, "ns", 200);
+  drop();
+}
+
+/* one turn over all streams whose ends wait; and to learn that none waits where all of them may still be finished */
+static void end_rows(size_t count) {
+  enum { CALLS = 1000 };
+  char size[32];
+  uint64_t id;
+  size_t found = 0;
+  double began;
+  sized(size, sizeof size, count, "streams");
+  make(0, 0);
+  carry_own();
+  for (size_t i = 0; i < count; i++) {
+    done("h3_open_request", 0, h3_open_request(&ends[CLIENT], &id, NULL));
+    send_request(id);
+    carry(CLIENT, id);
+  }
+  carry_own();
+  began = now();
+  for (size_t i = 0; i < CALLS; i++) {
+    if (h3_next_to_send(&ends[CLIENT], 0, &id) != H3_NONE) stop("a stream without an end is named", id, 0);
+  }
+  row("h3_next_to_send, where all are open and nothing waits", size, (now() - began) / CALLS / (double)count * 1e9, "ns a stream", 1);
+  for (id = 0; id < 4 * count; id += 4) done("h3_finish", id, h3_finish(&ends[CLIENT], id, NULL));
+  began = now();
+  for (id = 0; h3_next_to_send(&ends[CLIENT], id, &id) == H3_OK; id++) found++;
+  row("h3_next_to_send in one turn over all whose ends wait", size, (now() - began) / (double)count * 1e9, "ns a stream", 200);
+  if (found != count) stop("streams whose ends wait", found, 0);
   drop();
 }
 
@@ -394,10 +451,13 @@ int main(int argc, char **argv) {
   printf("| What | At | Figure | Unit | Wanted |\n|---|---|---|---|---|\n");
   idle_row();
   exchange_rows(count);
+  told_rows(count < 100000 ? count : 100000);
   reset_rows(100000);
   unknown_rows(100000);
   sweep_rows(10000);
   sweep_rows(100000);
+  end_rows(10000);
+  end_rows(100000);
   backlog_rows();
   released_rows();
   goaway_rows(100000);

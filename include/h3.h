@@ -52,8 +52,8 @@
  * H3_MEMORY: malloc or realloc answered NULL. Nothing is lost and nothing leaks; the same call may be made again. A sum of bytes past
  * 2^56 counts as want of memory too. After H3_KEPT what was taken is read by the next delivery, or by the next h3_pull of a stream that may
  * still hand something out: not of one whose h3_pull answers H3_END or a fault of the stream again. Where no such stream is at hand, pull
- * h3_control_id, which hands out nothing. h3_finish, h3_reset, h3_advance, h3_outgoing, h3_next_waiting, the states and
- * h3_free take no memory.
+ * h3_control_id, which hands out nothing. h3_finish, h3_reset, h3_advance, h3_end_taken, h3_outgoing, h3_next_waiting,
+ * h3_next_to_send, the states and h3_free take no memory.
  *
  * HOW QUIC'S CALLBACKS MAP TO CALLS
  *
@@ -69,7 +69,8 @@
  *   RESET_STREAM came        h3_deliver_reset(id, code); data of that stream that comes later is dropped by the caller
  *   STOP_SENDING came        h3_reset(id), and RESET_STREAM goes out (RFC 9000, section 3.5)
  *   data can be sent         h3_outgoing(id, buffer, ..): hand these bytes to QUIC, and call h3_advance(id, n) with the n bytes that
- *                            QUIC took. Where `fin` came as 1 and all n bytes were taken, send FIN with them.
+ *                            QUIC took. Where `fin` came as 1 and all n bytes were taken, send FIN with them, and call
+ *                            h3_end_taken(id) where h3_next_to_send finds the streams.
  *   credit (MAX_STREAM_DATA) below: for what is no longer held, and not for what came
  *   data is acknowledged     nothing to call. The library forgets bytes at h3_advance. A QUIC library that keeps no copy of what it
  *                            sends (ngtcp2, msquic) needs the bytes until they are acknowledged: keep the buffer that h3_outgoing
@@ -87,7 +88,7 @@
  * in QUIC, for the stream and for the connection; and for all streams on which some is owed behind a delivery on a unidirectional stream or behind
  * H3_KEPT. Then no stream keeps more than its window. A frame that is larger than the window never becomes whole: give that stream up.
  *
- * WHICH CALL CAN FILL WHICH STREAM (so that the caller knows where to look; h3_next_waiting finds them all)
+ * WHICH CALL CAN FILL WHICH STREAM (so that the caller knows where to look; h3_next_to_send finds them all)
  *
  *   h3_new                                  the own control, encoder and decoder stream
  *   h3_send_head, h3_send_trailer           that stream, and the own encoder stream
@@ -314,6 +315,11 @@ static inline uint32_t h3_goaway(h3_endpoint *endpoint, uint64_t id, uint64_t *d
  *   for (uint64_t id = 0; h3_next_waiting(&e, id, &id) == H3_OK; id++) .. */
 static inline uint32_t h3_next_waiting(h3_endpoint *endpoint, uint64_t from, uint64_t *id);
 
+/* The same of streams on which bytes or an end wait: an end waits from h3_finish on until h3_end_taken (or h3_reset), so no FIN is lost, and none
+ * is told for ever. A caller that asks by this call says h3_end_taken of each FIN that QUIC took, else the stream is named again. To send all:
+ *   for (uint64_t id = 0; h3_next_to_send(&e, id, &id) == H3_OK; id++) .. h3_outgoing, h3_advance, and h3_end_taken where fin came with all n taken */
+static inline uint32_t h3_next_to_send(h3_endpoint *endpoint, uint64_t from, uint64_t *id);
+
 /* Copies the first bytes that wait on a stream, as many as are there and fit, and says how many (*n); they go on waiting until h3_advance. *fin
  * is 1 where the stream is finished and these bytes are its last ones (0 of them where nothing waits), else 0. Of a stream that is not open
  * nothing waits. Refused: H3_ARGUMENT (id not below 2^62). */
@@ -321,6 +327,11 @@ static inline uint32_t h3_outgoing(h3_endpoint *endpoint, uint64_t id, void *buf
 
 /* Takes the first n bytes away that wait on a stream: QUIC has them. Refused: H3_ARGUMENT (id not below 2^62, or n is more than wait). */
 static inline uint32_t h3_advance(h3_endpoint *endpoint, uint64_t id, size_t n);
+
+/* QUIC took the FIN of a stream: h3_next_to_send names it no longer. H3_NONE, with nothing changed, where no end was next: the stream is not finished or
+ * was reset, bytes still wait on it, or this was said before. Takes no memory. It changes no other answer: h3_outgoing says fin as before. A caller of
+ * h3_next_waiting alone needs no such call. Refused: H3_ARGUMENT (id not below 2^62). */
+static inline uint32_t h3_end_taken(h3_endpoint *endpoint, uint64_t id);
 
 /* ---- what came ---- */
 
@@ -481,8 +492,10 @@ uint32_t h3_raw_reset(h3_endpoint endpoint, uint64_t id, uint64_t *detail, h3_en
 uint32_t h3_raw_cancel(h3_endpoint endpoint, uint64_t id, uint64_t *detail, h3_endpoint *out);
 uint32_t h3_raw_goaway(h3_endpoint endpoint, uint64_t id, uint64_t *detail, h3_endpoint *out);
 uint32_t h3_raw_next_waiting(h3_endpoint endpoint, uint64_t from, uint64_t *id, h3_endpoint *out);
+uint32_t h3_raw_next_to_send(h3_endpoint endpoint, uint64_t from, uint64_t *id, h3_endpoint *out);
 uint32_t h3_raw_outgoing(h3_endpoint endpoint, uint64_t id, uint8_t *buffer, size_t room, size_t *n, uint32_t *fin, h3_endpoint *out);
 uint32_t h3_raw_advance(h3_endpoint endpoint, uint64_t id, size_t n, h3_endpoint *out);
+uint32_t h3_raw_end_taken(h3_endpoint endpoint, uint64_t id, h3_endpoint *out);
 uint32_t h3_raw_deliver(h3_endpoint endpoint, uint64_t id, const uint8_t *bytes, size_t len, uint64_t *detail, h3_endpoint *out);
 uint32_t h3_raw_deliver_end(h3_endpoint endpoint, uint64_t id, uint64_t *detail, h3_endpoint *out);
 uint32_t h3_raw_deliver_reset(h3_endpoint endpoint, uint64_t id, uint64_t code, uint64_t *detail, h3_endpoint *out);
@@ -566,6 +579,11 @@ static inline uint32_t h3_next_waiting(h3_endpoint *endpoint, uint64_t from, uin
   if (!id) return H3_ARGUMENT;
   return h3_raw_next_waiting(*endpoint, from, id, endpoint);
 }
+static inline uint32_t h3_next_to_send(h3_endpoint *endpoint, uint64_t from, uint64_t *id) {
+  if (!endpoint || !endpoint->at) return H3_NO_ENDPOINT;
+  if (!id) return H3_ARGUMENT;
+  return h3_raw_next_to_send(*endpoint, from, id, endpoint);
+}
 static inline uint32_t h3_outgoing(h3_endpoint *endpoint, uint64_t id, void *buffer, size_t room, size_t *n, uint32_t *fin) {
   uint8_t nothing;
   uint32_t none;
@@ -576,6 +594,10 @@ static inline uint32_t h3_outgoing(h3_endpoint *endpoint, uint64_t id, void *buf
 static inline uint32_t h3_advance(h3_endpoint *endpoint, uint64_t id, size_t n) {
   if (!endpoint || !endpoint->at) return H3_NO_ENDPOINT;
   return h3_raw_advance(*endpoint, id, n, endpoint);
+}
+static inline uint32_t h3_end_taken(h3_endpoint *endpoint, uint64_t id) {
+  if (!endpoint || !endpoint->at) return H3_NO_ENDPOINT;
+  return h3_raw_end_taken(*endpoint, id, endpoint);
 }
 static inline uint32_t h3_deliver(h3_endpoint *endpoint, uint64_t id, const void *bytes, size_t len, uint64_t *detail) {
   uint64_t none;

@@ -89,6 +89,8 @@ extern "C" {
     fn h3_raw_cancel(endpoint: Raw, id: u64, detail: *mut u64, out: *mut Raw) -> u32;
     fn h3_raw_goaway(endpoint: Raw, id: u64, detail: *mut u64, out: *mut Raw) -> u32;
     fn h3_raw_next_waiting(endpoint: Raw, from: u64, id: *mut u64, out: *mut Raw) -> u32;
+    fn h3_raw_next_to_send(endpoint: Raw, from: u64, id: *mut u64, out: *mut Raw) -> u32;
+    fn h3_raw_end_taken(endpoint: Raw, id: u64, out: *mut Raw) -> u32;
     fn h3_raw_outgoing(endpoint: Raw, id: u64, buffer: *mut u8, room: usize, n: *mut usize, fin: *mut u32, out: *mut Raw) -> u32;
     fn h3_raw_advance(endpoint: Raw, id: u64, n: usize, out: *mut Raw) -> u32;
     fn h3_raw_deliver(endpoint: Raw, id: u64, bytes: *const u8, len: usize, detail: *mut u64, out: *mut Raw) -> u32;
@@ -236,6 +238,18 @@ impl Endpoint {
         let mut id = 0;
         self.call(|raw, _, out| unsafe { h3_raw_next_waiting(raw, from, &mut id, out) }).ok()?;
         Some(id)
+    }
+
+    /// The lowest stream from this id on where bytes wait to be sent, or an end that `end_taken` did not speak of.
+    pub fn next_to_send(&mut self, from: u64) -> Option<u64> {
+        let mut id = 0;
+        self.call(|raw, _, out| unsafe { h3_raw_next_to_send(raw, from, &mut id, out) }).ok()?;
+        Some(id)
+    }
+
+    /// QUIC has taken the FIN of a stream. Answers whether it was due.
+    pub fn end_taken(&mut self, id: u64) -> bool {
+        self.call(|raw, _, out| unsafe { h3_raw_end_taken(raw, id, out) }).is_ok()
     }
 
     /// Copies the first bytes that wait on a stream, and says how many, and whether the stream ends behind them.

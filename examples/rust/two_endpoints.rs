@@ -4,7 +4,6 @@
 mod h3;
 
 use h3::{Config, Endpoint, Field, Pulled, Refusal};
-use std::collections::BTreeSet;
 use std::process::ExitCode;
 use std::{env, thread};
 
@@ -20,44 +19,30 @@ fn text(fields: &[Field]) -> String {
     lines.join(" ")
 }
 
-/// One way between two endpoints.
-#[derive(Default)]
-struct Way {
-    /// The streams that bytes went over, and whose end did not.
-    open: BTreeSet<u64>,
-}
-
-impl Way {
-    /// Carries what waits on all streams, lowest ids first, at most `piece` bytes at once, and their ends. `next_waiting` finds bytes
-    /// alone: a stream that was finished when nothing waited is one of those that bytes went over before.
-    fn carry(&mut self, from: &mut Endpoint, to: &mut Endpoint, piece: usize) -> Result<(), Refusal> {
-        let mut next = 0;
-        while let Some(id) = from.next_waiting(next) {
-            self.open.insert(id);
-            next = id + 1;
-        }
-        for id in self.open.clone() {
-            if carry_stream(from, to, id, piece)? {
-                self.open.remove(&id);
-            }
-        }
-        Ok(())
+/// Carries what waits on all streams, lowest ids first, at most `piece` bytes at once, and their ends.
+fn carry(from: &mut Endpoint, to: &mut Endpoint, piece: usize) -> Result<(), Refusal> {
+    let mut next = 0;
+    while let Some(id) = from.next_to_send(next) {
+        carry_stream(from, to, id, piece)?;
+        next = id + 1;
     }
+    Ok(())
 }
 
-/// Carries all that waits on one stream to the other endpoint, and the end where it is told. Answers whether it was.
-fn carry_stream(from: &mut Endpoint, to: &mut Endpoint, id: u64, piece: usize) -> Result<bool, Refusal> {
+/// Carries all that waits on one stream to the other endpoint, and the end where it is told.
+fn carry_stream(from: &mut Endpoint, to: &mut Endpoint, id: u64, piece: usize) -> Result<(), Refusal> {
     let mut buffer = vec![0; piece];
     loop {
         let (count, end) = from.outgoing(id, &mut buffer)?;
         if count == 0 && !end {
-            return Ok(false);
+            return Ok(());
         }
         to.deliver(id, &buffer[..count])?;
         from.advance(id, count)?;
         if end {
             to.deliver_end(id)?;
-            return Ok(true);
+            from.end_taken(id);
+            return Ok(());
         }
     }
 }
@@ -102,12 +87,11 @@ fn exchange(piece: usize) -> Result<(), String> {
     let refused = |refusal: Refusal| refusal.to_string();
     let mut client = Endpoint::new(&Config::of(false)).map_err(refused)?;
     let mut server = Endpoint::new(&Config::of(true)).map_err(refused)?;
-    let (mut to_server, mut to_client) = (Way::default(), Way::default());
-    to_client.carry(&mut server, &mut client, piece).map_err(refused)?;
+    carry(&mut server, &mut client, piece).map_err(refused)?;
     let id = request(&mut client).map_err(refused)?;
-    to_server.carry(&mut client, &mut server, piece).map_err(refused)?;
+    carry(&mut client, &mut server, piece).map_err(refused)?;
     client.finish(id).map_err(refused)?;
-    to_server.carry(&mut client, &mut server, piece).map_err(refused)?;
+    carry(&mut client, &mut server, piece).map_err(refused)?;
     let (mut server, head) = thread::spawn(move || {
         let head = answer(&mut server, id);
         (server, head)
@@ -115,8 +99,11 @@ fn exchange(piece: usize) -> Result<(), String> {
     .join()
     .map_err(|_| "the server's thread ended".to_string())?;
     let head = head?;
-    to_client.carry(&mut server, &mut client, piece).map_err(refused)?;
+    carry(&mut server, &mut client, piece).map_err(refused)?;
     let (response, got) = read(&mut client, id)?;
+    if client.next_to_send(0).is_some_and(|id| id % 4 == 0) || server.next_to_send(0).is_some_and(|id| id % 4 == 0) {
+        return Err("a stream whose end was taken is named again".to_string());
+    }
     println!("request {head}; response {}; {} bytes", text(&response), got.len());
     let expected = ":method=POST :scheme=https :authority=localhost :path=/echo x-example=rust";
     if head != expected || text(&response) != ":status=200 x-example=rust" || got != body() {

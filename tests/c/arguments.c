@@ -35,6 +35,8 @@ static void of_none(h3_endpoint *e) {
   IS(h3_cancel(e, 0, &detail), H3_NO_ENDPOINT);
   IS(h3_goaway(e, 0, &detail), H3_NO_ENDPOINT);
   IS(h3_next_waiting(e, 0, &id), H3_NO_ENDPOINT);
+  IS(h3_next_to_send(e, 0, &id), H3_NO_ENDPOINT);
+  IS(h3_end_taken(e, 0), H3_NO_ENDPOINT);
   IS(h3_outgoing(e, 0, b, 4, &n, &fin), H3_NO_ENDPOINT);
   IS(h3_advance(e, 0, 0), H3_NO_ENDPOINT);
   IS(h3_deliver(e, 0, "ab", 2, &detail), H3_NO_ENDPOINT);
@@ -75,6 +77,7 @@ static void of_pointers(h3_endpoint *e, uint64_t id) {
   IS(h3_deliver(e, id, NULL, 64, NULL), H3_ARGUMENT);
   IS(h3_deliver(e, id, NULL, 0, NULL), H3_OK);
   IS(h3_next_waiting(e, 0, NULL), H3_ARGUMENT);
+  IS(h3_next_to_send(e, 0, NULL), H3_ARGUMENT);
   IS(h3_outgoing(e, id, b, 4, NULL, &fin), H3_ARGUMENT);
   IS(h3_outgoing(e, id, NULL, 4, &n, NULL), H3_OK);
   HOLDS(n == 0);
@@ -149,6 +152,8 @@ static void of_ids(h3_endpoint *e) {
     uint64_t next = 8;
     uint32_t fin = 9;
     IS(h3_next_waiting(e, ids[i], &next), H3_NONE);
+    IS(h3_next_to_send(e, ids[i], &next), H3_NONE);
+    IS(h3_end_taken(e, ids[i]), H3_ARGUMENT);
     IS(h3_outgoing(e, ids[i], b, 4, &n, &fin), H3_ARGUMENT);
     HOLDS(detail == 0 && n == 7 && next == 8 && fin == 9);
   }
@@ -301,6 +306,66 @@ static void of_sweep(h3_endpoint *e, uint64_t end, unsigned count) {
 
 enum { STREAMS = 300 };
 
+/* an end waits behind the bytes of its stream until it is taken, once, or the stream is reset; streams that are over keep their ends */
+static void of_ends(void) {
+  h3_endpoint e = H3_NONE_YET;
+  h3_config c;
+  h3_stream_state s;
+  uint64_t id, found;
+  h3_field_size f = {7, 3};
+  h3_config_default(&c);
+  IS(h3_new(&e, &c, NULL), H3_OK);
+  for (id = 2; id <= 10; id += 4) {
+    IS(h3_stream(&e, id, &s), H3_OK);
+    IS(h3_advance(&e, id, s.waiting), H3_OK);
+    IS(h3_end_taken(&e, id), H3_NONE);
+  }
+  for (unsigned i = 0; i < STREAMS; i++) {
+    IS(h3_open_request(&e, &id, NULL), H3_OK);
+    IS(h3_send_head(&e, id, &f, 1, ":methodGET", 10, NULL), H3_OK);
+    IS(h3_stream(&e, id, &s), H3_OK);
+    IS(h3_advance(&e, id, s.waiting - 1), H3_OK);
+    IS(h3_finish(&e, id, NULL), H3_OK);
+    IS(h3_end_taken(&e, id), H3_NONE);
+    IS(h3_advance(&e, id, 1), H3_OK);
+    IS(h3_next_waiting(&e, 0, &found), H3_NONE);
+    if (i % 2) IS(h3_deliver_end(&e, id, NULL), H3_OK);
+    if (i % 4 == 3) {
+      IS(h3_cancel(&e, id, NULL), H3_OK);
+      IS(h3_stream(&e, 10, &s), H3_OK);
+      IS(h3_advance(&e, 10, s.waiting), H3_OK);
+    }
+  }
+  for (unsigned i = 0; i < STREAMS; i++) {
+    found = 1;
+    IS(h3_next_to_send(&e, 4 * i - (i ? 3 : 0), &found), H3_OK);
+    HOLDS(found == 4 * i);
+  }
+  for (unsigned i = STREAMS; i-- > 0;)
+    if (i % 5) {
+      IS(h3_end_taken(&e, 4 * i), H3_OK);
+      IS(h3_end_taken(&e, 4 * i), H3_NONE);
+      IS(h3_reset(&e, 4 * i, NULL), H3_ENDED);
+    }
+  unsigned seen = 0;
+  for (id = 0; h3_next_to_send(&e, id, &id) == H3_OK; id++) {
+    HOLDS(id == 20 * seen);
+    seen++;
+  }
+  HOLDS(seen == STREAMS / 5);
+  /* one that is reset behind its head has no end */
+  IS(h3_open_request(&e, &id, NULL), H3_OK);
+  IS(h3_send_head(&e, id, &f, 1, ":methodGET", 10, NULL), H3_OK);
+  IS(h3_finish(&e, id, NULL), H3_OK);
+  IS(h3_next_to_send(&e, id, &found), H3_OK);
+  IS(h3_reset(&e, id, NULL), H3_OK);
+  found = 1;
+  IS(h3_next_to_send(&e, id, &found), H3_NONE);
+  HOLDS(found == 1);
+  IS(h3_end_taken(&e, id), H3_NONE);
+  h3_free(&e);
+}
+
 static void of_waiting(void) {
   h3_endpoint e = H3_NONE_YET;
   h3_config c;
@@ -411,6 +476,7 @@ int main(void) {
   of_default();
   of_items();
   of_waiting();
+  of_ends();
   of_increments();
   of_encoder_tables();
   if (!bad) puts("ok arguments: wrong arguments of every kind are answered, and nothing is done");

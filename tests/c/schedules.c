@@ -57,6 +57,7 @@ typedef struct {
   size_t body_len, body_out;
   int head_sent, trailer_sent, finished, reset;      /* at the sender */
   int head_out, trailer_out, end_out, fin_given, reset_given, canceled, faulty; /* at the receiver */
+  int end_said; /* h3_end_taken was */
 } flow;
 
 static h3_endpoint ends[2]; /* the client, the server */
@@ -180,6 +181,12 @@ static void carry(int side, uint64_t id, size_t most) {
       if (!side) seen[id / 4] = 1;
     }
   }
+  /* sometimes it is told that the FIN was taken: it is said once, of a stream whose end is next */
+  if (rnd(2)) {
+    told = h3_end_taken(&ends[side], id);
+    WANT(told == (fin && !f->end_said ? H3_OK : H3_NONE), "end_taken", id, told);
+    if (told == H3_OK) f->end_said = 1;
+  }
 }
 
 static void carry_some(int side) {
@@ -204,6 +211,21 @@ static void check_waiting(int side) {
     next = id + 1;
   }
   WANT(h3_next_waiting(&ends[side], next, &id) == H3_NONE, "next_waiting finds one too many", next, id);
+}
+
+/* the same of h3_next_to_send, which names ends too, until h3_end_taken */
+static void check_ends(int side) {
+  uint64_t next = 0, id = 0;
+  for (id = 0; id < 4u * REQUESTS + 12; id++) {
+    h3_stream_state s;
+    WANT(h3_stream(&ends[side], id, &s) == H3_OK, "stream", id, 0);
+    if (!s.waiting && (!s.is_finished || flows[id / 4][side].end_said)) continue;
+    uint64_t found = 0;
+    uint32_t n = h3_next_to_send(&ends[side], next, &found);
+    WANT(n == H3_OK && found == id, "next_to_send", id, found);
+    next = id + 1;
+  }
+  WANT(h3_next_to_send(&ends[side], next, &id) == H3_NONE, "next_to_send finds one too many", next, id);
 }
 
 static void same_fields(int side, uint64_t id, const h3_item *item, const list *l) {
@@ -301,7 +323,7 @@ static void run(uint64_t of) {
     default:
       if (rnd(12) == 0) reset_one(side);
       else if (rnd(12) == 0) cancel_one(side);
-      else if (rnd(4) == 0) check_waiting(side);
+      else if (rnd(4) == 0) check_waiting(side), check_ends(side);
     }
   }
   /* the rest of what was sent goes over, and comes out */

@@ -13,6 +13,7 @@ use h3_session::endpoint::Endpoint;
 use std::alloc::Global;
 use std::marker::Model;
 
+mod ending;
 mod heads;
 mod items;
 mod outgoing;

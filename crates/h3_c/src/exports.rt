@@ -1,5 +1,6 @@
 //! What C calls (`include/h3.h`). Each call but the first takes a handle that an earlier one wrote, and writes the handle for the next.
 
+mod ending;
 mod heads;
 mod items;
 mod making;

@@ -7,15 +7,16 @@ use Rattle.h3_connection.specs.declared.event.Refusal.{Refusal}
 use Rattle.h3_connection.specs.declared.event.Refusal.TheVariants as refusal
 use Rattle.h3_connection.specs.declared.event.StreamFault.TheVariants as stream_fault
 use Rattle.h3_connection.specs.CallCuts.{joined_increments, SessionsDifferInCuts, EachStream, with_streams, DifferInCutsAlone, SameAnswer, piece_of}
-use Rattle.h3_connection.specs.CallLists.{Call, Result, called, done}
-use Rattle.h3_connection.specs.CallLists.Call.{OpenRequest, SendHead, SendBody, SendTrailer, Finish, Reset, Goaway, Advance, Outgoing, Deliver, DeliverEnd, DeliverReset, PullStream, Cancel, Show}
-use Rattle.h3_connection.specs.CallLists.Result.{Opened, Done, Refused, Waits, Shown}
+use Rattle.h3_connection.specs.CallLists.{Call, Result, called, done, took}
+use Rattle.h3_connection.specs.EndsWaiting.{end_taken_at, end_taken_if}
+use Rattle.h3_connection.specs.CallLists.Call.{OpenRequest, SendHead, SendBody, SendTrailer, Finish, Reset, Goaway, Advance, TakeEnd, Outgoing, Deliver, DeliverEnd, DeliverReset, PullStream, Cancel, Show}
+use Rattle.h3_connection.specs.CallLists.Result.{Opened, Done, Refused, Waits, Took, Shown}
 use Rattle.h3_connection.specs.Control.{Found}
 use Rattle.h3_connection.specs.Delivering.{incoming_at, taken, closed_by, delivery_refusal, bytes_at, end_at, reset_at, give_up, deliver}
 use Rattle.h3_connection.specs.Endpoint.{EndpointHistory, Kind, Own, kind_of, own_waiting, bytes_waiting, is_critical_of}
 use Rattle.h3_connection.specs.Incoming.{Incoming, nothing_came}
 use Rattle.h3_connection.specs.OwnIds.{control_id, encoder_id, decoder_id}
-use Rattle.h3_connection.specs.Outgoing.{Outgoing as Out, part_bytes_waiting}
+use Rattle.h3_connection.specs.Outgoing.{Outgoing as Out, is_end_next, part_bytes_waiting}
 use Rattle.h3_connection.specs.Outgoing.OwnPart.{OwnTrailer}
 use Rattle.h3_connection.specs.PullCuts.{DifferInCuts}
 use Rattle.h3_connection.specs.Sections.{encoded_section}
@@ -112,6 +113,14 @@ module _ (e : EndpointHistory) (s : Streams Incoming) (t : Streams Unidirectiona
   same_here : (result : Result) → AlikeCalled (λ one two. one ≡ two) (result, e) (result, two)
   same_here result = record { answer = refl; closed = refl; left = λ none. here }
 
+  ends : (id : ℕ) (at : Option Out) → AlikeCalled (λ one two. one ≡ two) (took (end_taken_at e id at)) (took (end_taken_at two id at))
+  ends id (Some o) = by_test (is_end_next o)
+    where
+      by_test : (b : Bool) → AlikeCalled (λ one two. one ≡ two) (took (end_taken_if b e id o)) (took (end_taken_if b two id o))
+      by_test true = record { answer = refl; closed = refl; left = λ none. beside_alike _ s t r (as_is _ refl refl refl) }
+      by_test false = same_here (Took false)
+  ends id None = same_here (Took false)
+
   advances : (id count : ℕ) (at : Option Out) → AlikeCalled (λ one two. one ≡ two) (Done, advance_at e id count at) (Done, advance_at two id count at)
   advances id count (Some o) = record { answer = refl; closed = refl; left = λ none. beside_alike _ s t r (as_is _ refl refl refl) }
   advances id count None =
@@ -192,6 +201,7 @@ module _ (e : EndpointHistory) (s : Streams Incoming) (t : Streams Unidirectiona
   called_alike (Reset id) none pulled = sends Done (reset_refusal e id) _ (as_is (with_outgoing e id (record (outgoing_at e id) { is_reset = true; is_finished = false })) refl refl refl)
   called_alike (Goaway id) none pulled = sends Done (goaway_refusal e id) _ (as_is (record e { own = record e.own { goaways = e.own.goaways ++ id ∷ [] } }) refl refl refl)
   called_alike (Advance id count) none pulled = advances id count (stream_at e.outgoing id)
+  called_alike (TakeEnd id) none pulled = ends id (stream_at e.outgoing id)
   called_alike (Outgoing id) none pulled = record { answer = λ other. ap Waits (waits_alike id (not_same id (decoder_id e.side) other)); closed = refl; left = λ none. here }
   called_alike (Deliver id bytes) none pulled = of_done Done _ _ (delivers_alike id bytes)
   called_alike (DeliverEnd id) none pulled = of_done Done _ _ (comes id (end_at e id) (end_at two id) (end_at_alike e s t r id b))

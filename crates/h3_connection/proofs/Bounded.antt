@@ -21,7 +21,7 @@ use Rattle.h3_connection.specs.Endpoint.Kind.{Request, ServerOpened, OwnUnidirec
 use Rattle.h3_connection.specs.Control.{Found, read_control, read_encoder, read_decoder}
 use Rattle.h3_connection.specs.Unidirectional.{Unidirectional, Role, with_bytes, role_after}
 use Rattle.h3_connection.specs.Unidirectional.Role.{Untold, Control, Encoder, Decoder, Session, Push, Ignored}
-use Rattle.h3_connection.specs.Outgoing.{Outgoing as Out}
+use Rattle.h3_connection.specs.Outgoing.{Outgoing as Out, is_end_next}
 use Rattle.h3_connection.specs.Delivering.{deliver, deliver_end, deliver_reset, delivery_refusal, opened_at, opened, incoming_at, with_incoming, taken, closed_by, heard_as, unless_second, read_unidirectional, unidirectional_at, with_unidirectional, bytes_at, end_at, reset_at, kept, with_end, give_up, given_up_once, given_up_by}
 use Rattle.h3_connection.specs.Sending.{open_request, open_refusal, send_head, head_refusal, encoded, appended, head_part, fields_cost, body_refusal, send_trailer, trailer_refusal, finish, finish_refusal, reset, reset_refusal, with_outgoing, outgoing_at, goaway, goaway_refusal, cancel, cancel_refusal, pull, does, pull_at, pull_unless, pull_request, pull_peer, pulled, if_too_many, after_answer, advance_at, sent_bytes, counted}
 use Rattle.h3_connection.specs.Pulling.{Pulled, pull_stream}
@@ -32,7 +32,8 @@ use Rattle.h3_connection.specs.CallLists.Result.{Done, Opened}
 use Rattle.h3_connection.specs.Sections.{encoded_section}
 use Rattle.h3_connection.specs.Outgoing.OwnPart.{OwnTrailer}
 use Rattle.h3_header.specs.Head.{Head, head_fields}
-use Rattle.h3_connection.specs.CallLists.Call.{OpenRequest, SendHead, SendBody, SendTrailer, Finish, Reset, Goaway, Advance, Outgoing, Deliver, DeliverEnd, DeliverReset, PullStream, Cancel, Show}
+use Rattle.h3_connection.specs.EndsWaiting.{end_taken_at, end_taken_if}
+use Rattle.h3_connection.specs.CallLists.Call.{OpenRequest, SendHead, SendBody, SendTrailer, Finish, Reset, Goaway, Advance, TakeEnd, Outgoing, Deliver, DeliverEnd, DeliverReset, PullStream, Cancel, Show}
 use Rattle.h3_connection.specs.declared.event.Refusal.{Refusal}
 use Rattle.h3_connection.specs.declared.event.StreamFault.{StreamFault}
 use Rattle.h3_connection.specs.declared.event.StreamFault.TheVariants as stream_fault
@@ -372,6 +373,14 @@ advance_on : (e : EndpointHistory) (id count : ℕ) (at : Option Out) → IsBoun
 advance_on e id count (Some o) h = rests e _ refl refl refl refl h
 advance_on e id count None h = rests e _ refl refl refl refl h
 
+end_taken_on : (e : EndpointHistory) (id : ℕ) (at : Option Out) → IsBounded e → IsBounded (end_taken_at e id at).1
+end_taken_on e id (Some o) h = by_test (is_end_next o)
+  where
+    by_test : (b : Bool) → IsBounded (end_taken_if b e id o).1
+    by_test true = rests e _ refl refl refl refl h
+    by_test false = h
+end_taken_on e id None h = h
+
 sends_head : (e : EndpointHistory) (q : ℕ) (head : Head) → IsBounded e → IsBounded (done Done (send_head e q head)).1
 sends_head e q head h =
     let f = counted (appended (encoded e q (head_fields head)) q (head_part head (encoded_section e.encoder q (head_fields head)))) (fields_cost (head_fields head)) in
@@ -419,6 +428,7 @@ call_on e (Finish q) h = finishes e q h
 call_on e (Reset q) h = resets e q h
 call_on e (Goaway n) h = goes_away e n h
 call_on e (Advance q count) h = advance_on e q count (stream_at e.outgoing q) h
+call_on e (TakeEnd q) h = end_taken_on e q (stream_at e.outgoing q) h
 call_on e (Outgoing q) h = h
 call_on e (Deliver q bytes) h = done_on Done (deliver e q bytes) (takes e.closed (delivery_refusal e q) e (bytes_at e q bytes (kind_of e.side q)) h (bytes_on e q bytes (kind_of e.side q) h))
 call_on e (DeliverEnd q) h = done_on Done (deliver_end e q) (takes e.closed (delivery_refusal e q) e (end_at e q (kind_of e.side q)) h (end_on e q (kind_of e.side q) h))

@@ -13,7 +13,7 @@ use Rattle.h3_connection.specs.Endpoint.{EndpointHistory, Kind, kind_of, new_end
 use Rattle.h3_connection.specs.Endpoint.Kind.{Request, ServerOpened, OwnUnidirectional, PeerUnidirectional}
 use Rattle.h3_connection.specs.Delivering.{closed_refusal}
 use Rattle.h3_connection.specs.CallLists.{Call, called}
-use Rattle.h3_connection.specs.CallLists.Call.{OpenRequest, SendHead, SendBody, SendTrailer, Finish, Reset, Goaway, Advance, Outgoing, Deliver, DeliverEnd, DeliverReset, PullStream, Cancel, Show}
+use Rattle.h3_connection.specs.CallLists.Call.{OpenRequest, SendHead, SendBody, SendTrailer, Finish, Reset, Goaway, Advance, TakeEnd, Outgoing, Deliver, DeliverEnd, DeliverReset, PullStream, Cancel, Show}
 use Rattle.h3_connection.specs.Isolation.{Front, Sight, IsSight, AreEncoders, Before, GoesOn, FindsNoFault, StepIsSeen, sees, seen, unless_refused, with_front, hears, brought_on, is_encoder_type, encoders_in, is_peer, first_sight, seen_pull, where_open, before_first_fault, front}
 use Rattle.h3_connection.proofs.SeenEncoder.{by_eq, to_eq}
 use Rattle.h3_connection.proofs.Isolated.{each_step, before_next, true_not_false}
@@ -184,6 +184,7 @@ agrees_step T side id e s (Finish q) cs blind h = h
 agrees_step T side id e s (Reset q) cs blind h = h
 agrees_step T side id e s (Goaway q) cs blind h = h
 agrees_step T side id e s (Advance q count) cs blind h = h
+agrees_step T side id e s (TakeEnd q) cs blind h = h
 agrees_step T side id e s (Outgoing q) cs blind h = h
 agrees_step T side id e s (Deliver q bytes) cs blind h = deliver_agrees T side id e s q bytes cs blind h (q == id) (any_peer side q) refl refl
 agrees_step T side id e s (DeliverEnd q) cs blind h = end_agrees T side id e s q cs h (q == id) (any_peer side q) refl refl

@@ -1,17 +1,18 @@
 -- After a connection fault nothing changes it.
-use Rattle.std.proofs.Common.{◌≡◌, ℕ, List, [], ◌∷◌, refl, ◌∙◌, ap}
+use Rattle.std.proofs.Common.{◌≡◌, ℕ, List, [], ◌∷◌, refl, ◌∙◌, ap, Bool, true, false, sym}
 use Rattle.std.specs.Prelude.{Option, Some, None}
 use Rattle.h3_connection.specs.Arrivals.{Arrival}
 use Rattle.h3_connection.specs.Endpoint.{EndpointHistory, kind_of}
 use Rattle.h3_connection.specs.Control.{Found}
 use Rattle.h3_connection.specs.Delivering.{taken}
 use Rattle.h3_connection.specs.Keeping.{arrives, arrives_behind, pulls, pulls_behind}
-use Rattle.h3_connection.specs.Outgoing.{Outgoing as Out}
+use Rattle.h3_connection.specs.Outgoing.{Outgoing as Out, is_end_next}
 use Rattle.h3_connection.specs.Sending.{does, closed_or, pull_at, pull_unless, advance_at}
 use Rattle.h3_connection.specs.StreamSets.{stream_at}
 use Rattle.h3_connection.specs.CallLists.{Call, Result, called, done, was_pulled, endpoint_after}
 use Rattle.h3_connection.specs.CallLists.Result.{Done}
-use Rattle.h3_connection.specs.CallLists.Call.{OpenRequest, SendHead, SendBody, SendTrailer, Finish, Reset, Goaway, Advance, Outgoing, Deliver, DeliverEnd, DeliverReset, PullStream, Cancel, Show}
+use Rattle.h3_connection.specs.EndsWaiting.{end_taken_at, end_taken_if}
+use Rattle.h3_connection.specs.CallLists.Call.{OpenRequest, SendHead, SendBody, SendTrailer, Finish, Reset, Goaway, Advance, TakeEnd, Outgoing, Deliver, DeliverEnd, DeliverReset, PullStream, Cancel, Show}
 use Rattle.h3_connection.specs.declared.event.Refusal.{Refusal}
 use Rattle.h3_connection.specs.declared.event.Refusal.TheVariants as refusal
 use Rattle.h3_connection.specs.declared.event.Pull.{Pull}
@@ -33,6 +34,14 @@ advance_closed : (e : EndpointHistory) (id count : ℕ) (at : Option Out) → (a
 advance_closed e id count (Some o) = refl
 advance_closed e id count None = refl
 
+end_closed : (e : EndpointHistory) (id : ℕ) (at : Option Out) → (end_taken_at e id at).1.closed ≡ e.closed
+end_closed e id (Some o) = by_test (is_end_next o)
+  where
+    by_test : (b : Bool) → (end_taken_if b e id o).1.closed ≡ e.closed
+    by_test true = refl
+    by_test false = refl
+end_closed e id None = refl
+
 by_does : (success : Result) (e f : EndpointHistory) (code : ℕ) (refused : Option Refusal) → e.closed ≡ Some code → (done success (does (closed_or e.closed refused) e f)).1.closed ≡ Some code
 by_does success e f code refused is = ap (λ x. x.closed) (does_closed success e.closed code refused e f is) ∙ is
 
@@ -48,6 +57,7 @@ stays e (Finish q) code is = by_does _ e _ code _ is
 stays e (Reset q) code is = by_does _ e _ code _ is
 stays e (Goaway n) code is = by_does _ e _ code _ is
 stays e (Advance q count) code is = advance_closed e q count (stream_at e.outgoing q) ∙ is
+stays e (TakeEnd q) code is = end_closed e q (stream_at e.outgoing q) ∙ is
 stays e (Outgoing q) code is = is
 stays e (Deliver q bytes) code is = by_taken e code _ _ is
 stays e (DeliverEnd q) code is = by_taken e code _ _ is

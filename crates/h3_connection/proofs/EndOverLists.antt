@@ -8,8 +8,8 @@ use Rattle.h3_connection.specs.declared.event.Pull.TheVariants as answer
 use Rattle.h3_connection.specs.declared.event.Item.TheVariants as item
 use Rattle.h3_connection.specs.declared.setup.Announced.{Announced}
 use Rattle.h3_connection.specs.Bounds.{IsBounded}
-use Rattle.h3_connection.specs.CallLists.{Call, called, done, was_pulled, endpoint_after}
-use Rattle.h3_connection.specs.CallLists.Call.{OpenRequest, SendHead, SendBody, SendTrailer, Finish, Reset, Goaway, Advance, Outgoing, Deliver, DeliverEnd, DeliverReset, PullStream, Cancel, Show}
+use Rattle.h3_connection.specs.CallLists.{Call, called, done, was_pulled, endpoint_after, Result}
+use Rattle.h3_connection.specs.CallLists.Call.{OpenRequest, SendHead, SendBody, SendTrailer, Finish, Reset, Goaway, Advance, Outgoing, Deliver, DeliverEnd, DeliverReset, PullStream, Cancel, Show, TakeEnd}
 use Rattle.h3_connection.specs.CallLists.Result.{Done}
 use Rattle.h3_connection.specs.Control.{Found}
 use Rattle.h3_connection.specs.Delivering.{unidirectional_at, with_unidirectional, taken, closing, delivery_refusal, read_unidirectional, bytes_at, end_at, reset_at}
@@ -174,6 +174,7 @@ module _ (id : ℕ) (e : EndpointHistory) (kind : kind_of e.side id ≡ PeerUnid
   here_over (Reset q) on = absurd (cc)
   here_over (Goaway n) on = absurd (cc)
   here_over (Advance q count) on = absurd (cc)
+  here_over (TakeEnd q) on = absurd (cc)
   here_over (Outgoing q) on = absurd (cc)
   here_over (Cancel q) on = absurd (cc)
   here_over Show on = absurd (cc)

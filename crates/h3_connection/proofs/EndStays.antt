@@ -16,7 +16,7 @@ use Rattle.h3_connection.specs.Bounds.{IsBounded}
 use Rattle.h3_connection.specs.HandedOut.{IsOver, IsOverSession, RequestIsOver, SessionIsOver, EndsSoundly}
 use Rattle.h3_connection.specs.Incoming.{Incoming, nothing_came}
 use Rattle.h3_connection.specs.Unidirectional.{Unidirectional, pull_unidirectional, if_over, role_after}
-use Rattle.h3_connection.specs.Outgoing.{Outgoing as Out}
+use Rattle.h3_connection.specs.Outgoing.{Outgoing as Out, is_end_next}
 use Rattle.h3_connection.specs.Endpoint.{EndpointHistory, Kind, kind_of, heads_waiting, replied}
 use Rattle.h3_connection.specs.Endpoint.Kind.{Request, ServerOpened, OwnUnidirectional, PeerUnidirectional}
 use Rattle.h3_connection.specs.Control.{Found}
@@ -30,7 +30,8 @@ use Rattle.h3_connection.specs.Outgoing.OwnPart.{OwnTrailer}
 use Rattle.h3_header.specs.Head.{Head, head_fields}
 use Rattle.h3_connection.specs.CallLists.{Call, Result, called, done, was_pulled, endpoint_after}
 use Rattle.h3_connection.specs.CallLists.Result.{Done, Opened}
-use Rattle.h3_connection.specs.CallLists.Call.{OpenRequest, SendHead, SendBody, SendTrailer, Finish, Reset, Goaway, Advance, Outgoing, Deliver, DeliverEnd, DeliverReset, PullStream, Cancel, Show}
+use Rattle.h3_connection.specs.EndsWaiting.{end_taken_at, end_taken_if}
+use Rattle.h3_connection.specs.CallLists.Call.{OpenRequest, SendHead, SendBody, SendTrailer, Finish, Reset, Goaway, Advance, TakeEnd, Outgoing, Deliver, DeliverEnd, DeliverReset, PullStream, Cancel, Show}
 use Rattle.h3_connection.specs.Isolation.{FindsNoFault}
 use Rattle.h3_connection.proofs.Seen.{at_same, at_other, opened_other}
 use Rattle.h3_connection.proofs.SeenEncoder.{by_eq, heard_bytes}
@@ -230,6 +231,14 @@ advance_left : (e : EndpointHistory) (q id count : ℕ) (at : Option Out) → Le
 advance_left e q id count (Some o) = record { incoming = refl; next_id = omega arith }
 advance_left e q id count None = record { incoming = refl; next_id = omega arith }
 
+end_left : (e : EndpointHistory) (q id : ℕ) (at : Option Out) → Leaves e (end_taken_at e q at).1 id
+end_left e q id (Some o) = by_test (is_end_next o)
+  where
+    by_test : (b : Bool) → Leaves e (end_taken_if b e q o).1 id
+    by_test true = record { incoming = refl; next_id = omega arith }
+    by_test false = record { incoming = refl; next_id = omega arith }
+end_left e q id None = record { incoming = refl; next_id = omega arith }
+
 head_left : (e : EndpointHistory) (q id : ℕ) (head : Head) → Leaves e (done Done (send_head e q head)).1 id
 head_left e q id head =
     let f = counted (appended (encoded e q (head_fields head)) q (head_part head (encoded_section e.encoder q (head_fields head)))) (fields_cost (head_fields head)) in
@@ -264,6 +273,7 @@ call_leaves e (Finish q) id b h o p = finish_left e q id
 call_leaves e (Reset q) id b h o p = reset_left e q id
 call_leaves e (Goaway n) id b h o p = goaway_left e n id
 call_leaves e (Advance q count) id b h o p = advance_left e q id count (stream_at e.outgoing q)
+call_leaves e (TakeEnd q) id b h o p = end_left e q id (stream_at e.outgoing q)
 call_leaves e (Outgoing q) id b h o p = nothing e id
 call_leaves e (Deliver q bytes) id b h o p =
     let k = kind_of e.side q in

@@ -14,15 +14,16 @@ use Rattle.h3_connection.specs.declared.event.Fault.TheVariants as fault
 use Rattle.h3_connection.specs.declared.setup.Announced.{Announced}
 use Rattle.h3_connection.specs.Bounds.{OfStream}
 use Rattle.h3_connection.specs.CallLists.{Call, Result, called, done, was_pulled, endpoint_after}
-use Rattle.h3_connection.specs.CallLists.Call.{OpenRequest, SendHead, SendBody, SendTrailer, Finish, Reset, Goaway, Advance, Outgoing, Deliver, DeliverEnd, DeliverReset, PullStream, Cancel, Show}
+use Rattle.h3_connection.specs.EndsWaiting.{end_taken_at, end_taken_if}
+use Rattle.h3_connection.specs.CallLists.Call.{OpenRequest, SendHead, SendBody, SendTrailer, Finish, Reset, Goaway, Advance, TakeEnd, Outgoing, Deliver, DeliverEnd, DeliverReset, PullStream, Cancel, Show}
 use Rattle.h3_connection.specs.CallLists.Result.{Opened, Done}
 use Rattle.h3_connection.specs.Control.{Found}
 use Rattle.h3_connection.specs.Delivering.{opened_at, closed_refusal, request_refusal, taken, delivery_refusal, kept, with_end, given_up_by, given_up_once}
 use Rattle.h3_connection.specs.Endpoint.{EndpointHistory, Kind, kind_of, new_endpoint}
 use Rattle.h3_connection.specs.Endpoint.Kind.{Request, ServerOpened, OwnUnidirectional, PeerUnidirectional}
 use Rattle.h3_connection.specs.Incoming.{Incoming, nothing_came}
-use Rattle.h3_connection.specs.Isolation.{Before, GoesOn, FindsNoFault, Sight, IsSight, StepIsSeen, sees, seen, with_seen, seen_incoming, unless_refused, seen_pull, seen_encoder_bytes, seen_encoder_closing, first_sight, encoders_in}
-use Rattle.h3_connection.specs.Outgoing.{Outgoing as Out}
+use Rattle.h3_connection.specs.Isolation.{Before, GoesOn, FindsNoFault, Sight, IsSight, StepIsSeen, sees, seen, with_seen, seen_incoming, unless_refused, seen_pull, seen_encoder_bytes, seen_encoder_closing, first_sight, encoders_in, seen_cancel_refusal}
+use Rattle.h3_connection.specs.Outgoing.{Outgoing as Out, is_end_next}
 use Rattle.h3_connection.specs.Pulling.{Pulled, pull_stream, is_client}
 use Rattle.h3_connection.specs.Sending.{does, open_refusal, pull_at, pull_unless, pull_request, pull_peer, within_limit, after_answer, advance_at, sent_bytes, counted}
 use Rattle.h3_connection.specs.StreamSets.{stream_at}
@@ -85,6 +86,14 @@ advance_next : (e : EndpointHistory) (q count : ℕ) (at : Option Out) → e.nex
 advance_next e q count (Some o) = omega arith
 advance_next e q count None = omega arith
 
+end_next : (e : EndpointHistory) (q : ℕ) (at : Option Out) → e.next_id ≤ (end_taken_at e q at).1.next_id
+end_next e q (Some o) = by_test (is_end_next o)
+  where
+    by_test : (b : Bool) → e.next_id ≤ (end_taken_if b e q o).1.next_id
+    by_test true = omega arith
+    by_test false = omega arith
+end_next e q None = omega arith
+
 next_up : (e : EndpointHistory) (c : Call) → e.next_id ≤ (called e c).1.next_id
 next_up e OpenRequest = does_next (Opened e.next_id) (open_refusal e) e (record (opened_at e e.next_id None) { next_id = e.next_id + 4 }) (omega arith)
 next_up e (SendHead q head) = does_same _ _ e _ refl
@@ -94,6 +103,7 @@ next_up e (Finish q) = does_same _ _ e _ refl
 next_up e (Reset q) = does_same _ _ e _ refl
 next_up e (Goaway n) = does_same _ _ e _ refl
 next_up e (Advance q count) = advance_next e q count (stream_at e.outgoing q)
+next_up e (TakeEnd q) = end_next e q (stream_at e.outgoing q)
 next_up e (Outgoing q) = omega arith
 next_up e (Deliver q bytes) = taken_next e.closed (delivery_refusal e q) e _ (bytes_stay e q bytes (kind_of e.side q)).next_id
 next_up e (DeliverEnd q) = taken_next e.closed (delivery_refusal e q) e _ (end_stays e q (kind_of e.side q)).next_id
@@ -222,6 +232,7 @@ module _ (side : Side) (own : Announced) (id : ℕ) where
   seen_known T e s (Reset q) next sees_it k opens = k
   seen_known T e s (Goaway n) next sees_it k opens = k
   seen_known T e s (Advance q count) next sees_it k opens = k
+  seen_known T e s (TakeEnd q) next sees_it k opens = k
   seen_known T e s (Outgoing q) next sees_it k opens = k
   seen_known T e s Show next sees_it k opens = k
 

@@ -7,7 +7,7 @@ use Rattle.h3_connection.specs.StreamSets.{Streams, stream_at, set_stream}
 use Rattle.h3_connection.specs.Incoming.{Incoming}
 use Rattle.h3_connection.specs.Unidirectional.{Unidirectional, untold, role_after, with_bytes}
 use Rattle.h3_connection.specs.Unidirectional.Role.{Untold, Encoder}
-use Rattle.h3_connection.specs.Outgoing.{Outgoing as Out}
+use Rattle.h3_connection.specs.Outgoing.{Outgoing as Out, is_end_next}
 use Rattle.h3_connection.specs.Endpoint.{EndpointHistory, Kind, kind_of}
 use Rattle.h3_connection.specs.Endpoint.Kind.{Request, ServerOpened, OwnUnidirectional, PeerUnidirectional}
 use Rattle.h3_connection.specs.Control.{Found}
@@ -15,7 +15,8 @@ use Rattle.h3_connection.specs.Delivering.{unidirectional_at, opened_at, taken, 
 use Rattle.h3_connection.specs.Sending.{does, pull_at, pull_unless, pull_request, pull_peer, within_limit, advance_at, sent_bytes}
 use Rattle.h3_connection.specs.Pulling.{pull_stream}
 use Rattle.h3_connection.specs.CallLists.{Call, Result, called, done, was_pulled}
-use Rattle.h3_connection.specs.CallLists.Call.{OpenRequest, SendHead, SendBody, SendTrailer, Finish, Reset, Goaway, Advance, Outgoing, Deliver, DeliverEnd, DeliverReset, PullStream, Cancel, Show}
+use Rattle.h3_connection.specs.EndsWaiting.{end_taken_at, end_taken_if}
+use Rattle.h3_connection.specs.CallLists.Call.{OpenRequest, SendHead, SendBody, SendTrailer, Finish, Reset, Goaway, Advance, TakeEnd, Outgoing, Deliver, DeliverEnd, DeliverReset, PullStream, Cancel, Show}
 use Rattle.h3_connection.specs.CallLists.Result.{Done}
 use Rattle.h3_connection.specs.Isolation.{AreEncoders, is_peer}
 use Rattle.h3_connection.proofs.Seen.{at_other}
@@ -89,6 +90,14 @@ advance_peers : (e : EndpointHistory) (q count : ℕ) (at : Option Out) → Only
 advance_peers e q count (Some o) h = h
 advance_peers e q count None h = h
 
+end_taken_peers : (e : EndpointHistory) (q : ℕ) (at : Option Out) → OnlyPeers e.side e.unidirectional → OnlyPeers e.side (end_taken_at e q at).1.unidirectional
+end_taken_peers e q (Some o) h = by_test (is_end_next o)
+  where
+    by_test : (b : Bool) → OnlyPeers e.side (end_taken_if b e q o).1.unidirectional
+    by_test true = h
+    by_test false = h
+end_taken_peers e q None h = h
+
 pub peers_step : (e : EndpointHistory) (c : Call) → (called e c).1.closed ≡ None → OnlyPeers e.side e.unidirectional → OnlyPeers e.side (called e c).1.unidirectional
 peers_step e OpenRequest p h = does_peers e.side _ _ e _ h (opened_peers e.side e e.next_id None h)
 peers_step e (SendHead q head) p h = does_peers e.side _ _ e _ h h
@@ -98,6 +107,7 @@ peers_step e (Finish q) p h = does_peers e.side _ _ e _ h h
 peers_step e (Reset q) p h = does_peers e.side _ _ e _ h h
 peers_step e (Goaway n) p h = does_peers e.side _ _ e _ h h
 peers_step e (Advance q count) p h = advance_peers e q count (stream_at e.outgoing q) h
+peers_step e (TakeEnd q) p h = end_taken_peers e q (stream_at e.outgoing q) h
 peers_step e (Outgoing q) p h = h
 peers_step e (Deliver q bytes) p h = taken_peers e.side e.closed _ e _ p (bytes_peers e q bytes (kind_of e.side q) refl h) h
 peers_step e (DeliverEnd q) p h = taken_peers e.side e.closed _ e _ p (λ none. end_peers e q (kind_of e.side q) refl h) h

@@ -14,14 +14,15 @@ use Rattle.h3_connection.specs.Incoming.{Incoming, nothing_came}
 use Rattle.h3_connection.specs.Pulling.{pull_stream}
 use Rattle.h3_connection.specs.Pulling.{Pulled as PulledStream}
 use Rattle.h3_connection.specs.Unidirectional.{Unidirectional, pull_unidirectional}
-use Rattle.h3_connection.specs.Outgoing.{Outgoing as Out}
+use Rattle.h3_connection.specs.Outgoing.{Outgoing as Out, is_end_next}
 use Rattle.h3_connection.specs.Endpoint.{EndpointHistory, Kind, kind_of, new_endpoint, is_critical_of, heads_waiting, replied}
 use Rattle.h3_connection.specs.Endpoint.Kind.{Request, ServerOpened, OwnUnidirectional, PeerUnidirectional}
 use Rattle.h3_connection.specs.Control.{Found}
 use Rattle.h3_connection.specs.Delivering.{opened_at, unidirectional_at, incoming_at, opened, with_incoming, taken, refusal_at, server_opened_refusal, bytes_at, end_at, reset_at, kept, with_end, give_up, given_up_once, request_refusal}
 use Rattle.h3_connection.specs.Sending.{does, first_of, open_refusal, advance_at, pull_at, pull_unless, pull_request, pull_peer, pulled, within_limit, if_too_many, after_answer, cancel_refusal, closed_or, sent_bytes, counted}
 use Rattle.h3_connection.specs.CallLists.{Call, Result, called, endpoint_after, done, was_pulled}
-use Rattle.h3_connection.specs.CallLists.Call.{OpenRequest, SendHead, SendBody, SendTrailer, Finish, Reset, Goaway, Advance, Outgoing, Deliver, DeliverEnd, DeliverReset, PullStream, Cancel, Show}
+use Rattle.h3_connection.specs.EndsWaiting.{end_taken_at, end_taken_if}
+use Rattle.h3_connection.specs.CallLists.Call.{OpenRequest, SendHead, SendBody, SendTrailer, Finish, Reset, Goaway, Advance, TakeEnd, Outgoing, Deliver, DeliverEnd, DeliverReset, PullStream, Cancel, Show}
 use Rattle.h3_connection.specs.CallLists.Result.{Done, Opened}
 use Rattle.h3_connection.specs.CallLists.Result.{Pulled as WasPulled}
 use Rattle.h3_connection.specs.Isolation.{Before, GoesOn, view, answers_seen, fold_seen, sight_after, first_sight, Sight, IsSight, AreEncoders, StepIsSeen, Seen, sees, seen, with_seen, seen_incoming, unless_refused, seen_pull, seen_encoder_bytes, seen_encoder_closing}
@@ -326,6 +327,14 @@ quiet_advance : (e : EndpointHistory) (id count : ℕ) (at : Option Out) → Qui
 quiet_advance e id count (Some o) = shut e _ refl refl refl refl refl refl refl
 quiet_advance e id count None = shut e _ refl refl refl refl refl refl refl
 
+quiet_end : (e : EndpointHistory) (id : ℕ) (at : Option Out) → Quiet e (end_taken_at e id at).1
+quiet_end e id (Some o) = by_test (is_end_next o)
+  where
+    by_test : (b : Bool) → Quiet e (end_taken_if b e id o).1
+    by_test true = shut e _ refl refl refl refl refl refl refl
+    by_test false = shut e _ refl refl refl refl refl refl refl
+quiet_end e id None = shut e _ refl refl refl refl refl refl refl
+
 -- One call of any kind.
 pub each_step : (T : ℕ → Bool) (id : ℕ) (e : EndpointHistory) (s : Sight) (c : Call) → Before T id e s
     → (called e c).1.closed ≡ None → AreEncoders T (called e c).1 → StepIsSeen T id e (called e c).1 s c (called e c).0
@@ -337,6 +346,7 @@ each_step T id e s (Finish q) b p a = unseen_quiet T id e _ s _ _ refl b.sight (
 each_step T id e s (Reset q) b p a = unseen_quiet T id e _ s _ _ refl b.sight (quiet_does _ e _ (shut e _ refl refl refl refl refl refl refl))
 each_step T id e s (Goaway n) b p a = unseen_quiet T id e _ s _ _ refl b.sight (quiet_does _ e _ (shut e _ refl refl refl refl refl refl refl))
 each_step T id e s (Advance q count) b p a = unseen_quiet T id e _ s _ _ refl b.sight (quiet_advance e q count (stream_at e.outgoing q))
+each_step T id e s (TakeEnd q) b p a = unseen_quiet T id e _ s _ _ refl b.sight (quiet_end e q (stream_at e.outgoing q))
 each_step T id e s (Outgoing q) b p a = unseen_quiet T id e e s _ _ refl b.sight (still e)
 each_step T id e s (Deliver q bytes) b p a = deliver_step T id e s q bytes b p a
 each_step T id e s (DeliverEnd q) b p a = end_step T id e s q b p a

@@ -7,7 +7,7 @@ use Rattle.h3_connection.specs.declared.event.Pull.TheVariants as answer
 use Rattle.h3_connection.specs.declared.event.Fault.TheVariants as fault
 use Rattle.h3_connection.specs.StreamSets.{stream_at}
 use Rattle.h3_connection.specs.Incoming.{Incoming}
-use Rattle.h3_connection.specs.Outgoing.{Outgoing as Out}
+use Rattle.h3_connection.specs.Outgoing.{Outgoing as Out, is_end_next}
 use Rattle.h3_connection.specs.Unidirectional.{Unidirectional, Role, with_bytes, role_after}
 use Rattle.h3_connection.specs.Unidirectional.Role.{Untold, Control, Encoder, Decoder, Session, Push, Ignored}
 use Rattle.h3_connection.specs.Endpoint.{EndpointHistory, Kind, kind_of}
@@ -16,7 +16,8 @@ use Rattle.h3_connection.specs.Control.{Found, read_control, read_encoder, read_
 use Rattle.h3_connection.specs.Delivering.{opened_at, opened, taken, closed_by, heard_as, unless_second, read_unidirectional, unidirectional_at, with_unidirectional, bytes_at, end_at, reset_at}
 use Rattle.h3_connection.specs.Sending.{does, after_answer, pull_at, pull_unless, pull_request, pull_peer, advance_at, sent_bytes, counted}
 use Rattle.h3_connection.specs.CallLists.{Call, Result, called, done, was_pulled}
-use Rattle.h3_connection.specs.CallLists.Call.{OpenRequest, SendHead, SendBody, SendTrailer, Finish, Reset, Goaway, Advance, Outgoing, Deliver, DeliverEnd, DeliverReset, PullStream, Cancel, Show}
+use Rattle.h3_connection.specs.EndsWaiting.{end_taken_at, end_taken_if}
+use Rattle.h3_connection.specs.CallLists.Call.{OpenRequest, SendHead, SendBody, SendTrailer, Finish, Reset, Goaway, Advance, TakeEnd, Outgoing, Deliver, DeliverEnd, DeliverReset, PullStream, Cancel, Show}
 use Rattle.h3_connection.proofs.Quiet.{Quiet, quiet_control, quiet_decoder}
 
 pub record SameSetup (e f : EndpointHistory) : Type 0 where
@@ -116,6 +117,14 @@ advance_on : (e : EndpointHistory) (id count : ℕ) (at : Option Out) → SameSe
 advance_on e id count (Some o) = record { side = refl; announced = refl }
 advance_on e id count None = record { side = refl; announced = refl }
 
+end_taken_on : (e : EndpointHistory) (id : ℕ) (at : Option Out) → SameSetup e (end_taken_at e id at).1
+end_taken_on e id (Some o) = by_test (is_end_next o)
+  where
+    by_test : (b : Bool) → SameSetup e (end_taken_if b e id o).1
+    by_test true = record { side = refl; announced = refl }
+    by_test false = record { side = refl; announced = refl }
+end_taken_on e id None = record { side = refl; announced = refl }
+
 pub same_setup : (e : EndpointHistory) (c : Call) → SameSetup e (called e c).1
 same_setup e OpenRequest = does_all _ e _ _ (record { side = refl; announced = refl })
 same_setup e (SendHead q head) = does_all _ e _ _ (record { side = refl; announced = refl })
@@ -125,6 +134,7 @@ same_setup e (Finish q) = does_all _ e _ _ (record { side = refl; announced = re
 same_setup e (Reset q) = does_all _ e _ _ (record { side = refl; announced = refl })
 same_setup e (Goaway n) = does_all _ e _ _ (record { side = refl; announced = refl })
 same_setup e (Advance q count) = advance_on e q count (stream_at e.outgoing q)
+same_setup e (TakeEnd q) = end_taken_on e q (stream_at e.outgoing q)
 same_setup e (Outgoing q) = itself e
 same_setup e (Deliver q bytes) = takes e.closed _ e _ _ (bytes_on e q bytes (kind_of e.side q))
 same_setup e (DeliverEnd q) = takes e.closed _ e _ _ (end_on e q (kind_of e.side q))

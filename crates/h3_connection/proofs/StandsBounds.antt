@@ -9,7 +9,8 @@ use Rattle.h3_connection.specs.Arrivals.{Arrival}
 use Rattle.h3_connection.specs.Bounds.{IsBounded, StandsBounded}
 use Rattle.h3_connection.specs.Calls.{IsSame, MakesEnd}
 use Rattle.h3_connection.specs.CallLists.{Result as Answer, done}
-use Rattle.h3_connection.specs.CallLists.Call.{OpenRequest, SendHead, SendBody, SendTrailer, Finish, Reset, Goaway, Advance, Cancel}
+use Rattle.h3_connection.specs.EndsWaiting.{end_taken, TakesEnd}
+use Rattle.h3_connection.specs.CallLists.Call.{OpenRequest, SendHead, SendBody, SendTrailer, Finish, Reset, Goaway, Advance, TakeEnd, Cancel}
 use Rattle.h3_connection.specs.CallLists.Result.{Done, Opened}
 use Rattle.h3_connection.specs.Endpoint.{EndpointHistory, bytes_waiting, new_endpoint}
 use Rattle.h3_connection.specs.Keeping.{arrives, pulls}
@@ -138,3 +139,6 @@ pub advance_bounded : (old new : EndpointState) (id count : ℕ) → Advances ol
 advance_bounded old new id count a h =
     let taken : ℕ = min count (length (bytes_waiting h.history id)) in
     record { history = advance h.history id taken; stands = a h.history h.stands; bounded = call_on h.history (Advance id taken) h.bounded }
+
+pub end_bounded : (old new : EndpointState) (id : ℕ) (result : Bool) → TakesEnd old new id result → StandsBounded old → StandsBounded new
+end_bounded old new id result t h = record { history = (end_taken h.history id).1; stands = (t h.history h.stands).1; bounded = call_on h.history (TakeEnd id) h.bounded }

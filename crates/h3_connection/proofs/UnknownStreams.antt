@@ -10,8 +10,9 @@ use Rattle.h3_connection.specs.declared.event.StreamFault.TheVariants as stream_
 use Rattle.h3_connection.specs.declared.setup.Announced.{Announced}
 use Rattle.h3_proto.specs.declared.stream.Side.{Side}
 use Rattle.h3_connection.specs.CallCuts.{with_streams}
-use Rattle.h3_connection.specs.CallLists.{Call, Result, called, answers, done, was_pulled}
-use Rattle.h3_connection.specs.CallLists.Call.{OpenRequest, SendHead, SendBody, SendTrailer, Finish, Reset, Goaway, Advance, Outgoing, Deliver, DeliverEnd, DeliverReset, PullStream, Cancel, Show}
+use Rattle.h3_connection.specs.CallLists.{Call, Result, called, answers, done, took, was_pulled}
+use Rattle.h3_connection.specs.EndsWaiting.{end_taken_at, end_taken_if}
+use Rattle.h3_connection.specs.CallLists.Call.{OpenRequest, SendHead, SendBody, SendTrailer, Finish, Reset, Goaway, Advance, TakeEnd, Outgoing, Deliver, DeliverEnd, DeliverReset, PullStream, Cancel, Show}
 use Rattle.h3_connection.specs.CallLists.Result.{Opened, Done, Refused}
 use Rattle.h3_connection.specs.Control.{Found, read_control, read_encoder, read_decoder}
 use Rattle.h3_connection.specs.Delivering.{closed_refusal, refusal_at, delivery_refusal, opened_at, incoming_at, unidirectional_at, with_incoming, with_unidirectional, taken, closed_by, unless_second, heard_as, read_unidirectional, kept, with_end, bytes_at, closing, end_at, give_up, reset_at}
@@ -19,9 +20,9 @@ use Rattle.h3_connection.specs.Endpoint.{EndpointHistory, Kind, kind_of, new_end
 use Rattle.h3_connection.specs.Endpoint.Kind.{Request, ServerOpened, OwnUnidirectional, PeerUnidirectional}
 use Rattle.h3_connection.specs.Incoming.{Incoming}
 use Rattle.h3_connection.specs.Isolation.{brought_by, brought_on}
-use Rattle.h3_connection.specs.Outgoing.{Outgoing as Out}
-use Rattle.h3_connection.specs.Pulling.{pull_stream}
-use Rattle.h3_connection.specs.Sending.{does, open_refusal, head_refusal, body_refusal, trailer_refusal, finish_refusal, reset_refusal, goaway_refusal, cancel_refusal, advance_at, after_answer, within_limit, pull_request, pulled_unidirectional, pull_peer, pull_at, pull_unless}
+use Rattle.h3_connection.specs.Outgoing.{Outgoing as Out, is_end_next}
+use Rattle.h3_connection.specs.Pulling.{pull_stream, Pulled}
+use Rattle.h3_connection.specs.Sending.{does, open_refusal, head_refusal, body_refusal, trailer_refusal, finish_refusal, reset_refusal, goaway_refusal, cancel_refusal, advance_at, after_answer, within_limit, pull_request, pulled_unidirectional, pull_peer, pull_at, pull_unless, sent_bytes, counted, pulled, pull}
 use Rattle.h3_connection.specs.StreamSets.{Streams, stream_at, set_stream}
 use Rattle.h3_connection.specs.Unidirectional.{Unidirectional, Role, untold, is_closed, is_critical, role_after, with_bytes, pull_unidirectional}
 use Rattle.h3_connection.specs.Unidirectional.Role.{Untold, Control, Encoder, Decoder, Session, Push, Ignored}
@@ -217,6 +218,14 @@ module _ (id : ℕ) (o : Option Unidirectional) where
     advances_both q count (Some x) = record { answer = refl; left = but _ t h }
     advances_both q count None = record { answer = refl; left = but _ t h }
 
+    ends_both : (q : ℕ) (at : Option Out) → Both (took (end_taken_at e q at)) (took (end_taken_at two q at))
+    ends_both q (Some x) = by_test (is_end_next x)
+      where
+        by_test : (b : Bool) → Both (took (end_taken_if b e q x)) (took (end_taken_if b two q x))
+        by_test true = record { answer = refl; left = but _ t h }
+        by_test false = record { answer = refl; left = here }
+    ends_both q None = record { answer = refl; left = here }
+
     body_both : (q : ℕ) (bytes : List ℕ) → Both (called e (SendBody q bytes)) (called two (SendBody q bytes))
     body_both q [] = does_both Done (body_refusal e q) e two _ _ here (but _ t h)
     body_both q (byte ∷ bytes) = does_both Done (body_refusal e q) e two _ _ here (but _ t h)
@@ -231,6 +240,7 @@ module _ (id : ℕ) (o : Option Unidirectional) where
     other_call (Reset q) ne = does_both Done (reset_refusal e q) e two _ _ here (but _ t h)
     other_call (Goaway n) ne = does_both Done (goaway_refusal e n) e two _ _ here (but _ t h)
     other_call (Advance q count) ne = advances_both q count (stream_at e.outgoing q)
+    other_call (TakeEnd q) ne = ends_both q (stream_at e.outgoing q)
     other_call (Outgoing q) ne = record { answer = refl; left = here }
     other_call (Deliver q bytes) ne = arrives_both q ne (bytes_at e q bytes) (bytes_at two q bytes) (bytes_both q ne bytes)
     other_call (DeliverEnd q) ne = arrives_both q ne (end_at e q) (end_at two q) (end_both q ne)
@@ -391,6 +401,7 @@ own_call id e (Finish q) rest kind on h = absurd (cc)
 own_call id e (Reset q) rest kind on h = absurd (cc)
 own_call id e (Goaway n) rest kind on h = absurd (cc)
 own_call id e (Advance q count) rest kind on h = absurd (cc)
+own_call id e (TakeEnd q) rest kind on h = absurd (cc)
 own_call id e (Outgoing q) rest kind on h = absurd (cc)
 own_call id e (Cancel q) rest kind on h = absurd (cc)
 own_call id e Show rest kind on h = absurd (cc)
@@ -409,6 +420,7 @@ brings_none id (Finish q) ne = refl
 brings_none id (Reset q) ne = refl
 brings_none id (Goaway n) ne = refl
 brings_none id (Advance q count) ne = refl
+brings_none id (TakeEnd q) ne = refl
 brings_none id (Outgoing q) ne = refl
 brings_none id (Cancel q) ne = refl
 brings_none id Show ne = refl

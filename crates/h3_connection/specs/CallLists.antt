@@ -1,5 +1,5 @@
 -- Lists of calls of one endpoint.
-use Rattle.std.specs.Prelude.{ℕ, List, [], ◌∷◌, Option, Some, None}
+use Rattle.std.specs.Prelude.{ℕ, Bool, List, [], ◌∷◌, Option, Some, None}
 use Rattle.h3_header.specs.Head.{Head}
 use Rattle.h3_connection.specs.declared.event.Refusal.{Refusal}
 use Rattle.h3_connection.specs.declared.event.Pull.{Pull}
@@ -8,6 +8,7 @@ use Rattle.h3_connection.specs.declared.event.TableSizes.{TableSizes}
 use Rattle.h3_connection.specs.Endpoint.{EndpointHistory, bytes_waiting}
 use Rattle.h3_connection.specs.Shown.{peer_limits, table_sizes, waiting_heads}
 use Rattle.h3_connection.specs.Delivering.{deliver, deliver_end, deliver_reset}
+use Rattle.h3_connection.specs.EndsWaiting.{end_taken}
 use Rattle.h3_connection.specs.Sending.{open_request, send_head, send_body, send_trailer, finish, reset, goaway, advance, cancel, pull}
 
 pub data Call : Type 0 where
@@ -19,6 +20,7 @@ pub data Call : Type 0 where
   Reset : (id : ℕ) → Call
   Goaway : (id : ℕ) → Call
   Advance : (id count : ℕ) → Call
+  TakeEnd : (id : ℕ) → Call
   Outgoing : (id : ℕ) → Call
   Deliver : (id : ℕ) (bytes : List ℕ) → Call
   DeliverEnd : (id : ℕ) → Call
@@ -32,6 +34,7 @@ pub data Result : Type 0 where
   Done : Result
   Refused : (refusal : Refusal) → Result
   Waits : (bytes : List ℕ) → Result
+  Took : (waited : Bool) → Result
   Pulled : (answer : Pull) → Result
   Shown : (limits : Option PeerLimits) (sizes : TableSizes) (waiting : ℕ) → Result
 
@@ -41,6 +44,9 @@ done success (Some r, e) = (Refused r, e)
 
 abbrev pub was_pulled : Pull × EndpointHistory → Result × EndpointHistory
 was_pulled (answer, e) = (Pulled answer, e)
+
+abbrev pub took : Bool × EndpointHistory → Result × EndpointHistory
+took (waited, e) = (Took waited, e)
 
 abbrev pub shown : EndpointHistory → Result
 shown e = Shown (peer_limits e) (table_sizes e) (waiting_heads e)
@@ -54,6 +60,7 @@ called e (Finish id) = done Done (finish e id)
 called e (Reset id) = done Done (reset e id)
 called e (Goaway id) = done Done (goaway e id)
 called e (Advance id count) = (Done, advance e id count)
+called e (TakeEnd id) = took (end_taken e id)
 called e (Outgoing id) = (Waits (bytes_waiting e id), e)
 called e (Deliver id bytes) = done Done (deliver e id bytes)
 called e (DeliverEnd id) = done Done (deliver_end e id)

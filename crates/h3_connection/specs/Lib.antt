@@ -44,6 +44,7 @@ pub mod ReadingContracts
 pub mod Unread
 pub mod NextWaiting
 pub mod NextWaitingLaws
+pub mod EndsWaiting
 pub mod CallLists
 pub mod Isolation
 pub mod CallCuts

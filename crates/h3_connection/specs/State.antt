@@ -31,10 +31,11 @@ pub record OutgoingState : Type 0 where
   pub place : SendPlace
   pub is_finished : Bool
   pub is_reset : Bool
+  pub end_taken : Bool
 
 -- nothing was sent
 abbrev pub nothing_waits : OutgoingState
-nothing_waits = record { pieces = []; place = NothingSent; is_finished = false; is_reset = false }
+nothing_waits = record { pieces = []; place = NothingSent; is_finished = false; is_reset = false; end_taken = false }
 
 -- a request stream, both ways
 pub record RequestState : Type 0 where
@@ -74,6 +75,7 @@ pub record IsOfOutgoing (o : Outgoing) (w : OutgoingState) : Type 0 where
   pub place : w.place ≡ place_of o.parts
   pub is_finished : w.is_finished ≡ o.is_finished
   pub is_reset : w.is_reset ≡ o.is_reset
+  pub end_taken : w.end_taken ≡ o.end_taken
   pub taken : o.is_reset ≡ false → o.taken ≤ length (flat_map part_bytes o.parts)
 
 -- a stream of a map, as `BTreeMap` finds it

@@ -86,6 +86,7 @@ ghost use Rattle.h3_connection.specs.declared.event.Pull.{Pull};
 ghost use Rattle.h3_connection.specs.declared.event.Refusal.{Refusal};
 ghost use Rattle.h3_connection.specs.Calls.{MakesEnd};
 ghost use Rattle.h3_connection.specs.ReceivingContracts.{Receives, PullsNext};
+ghost use Rattle.h3_connection.specs.EndsWaiting.{TakesEnd};
 ghost use Rattle.h3_connection.specs.SendingContracts.{Opens, SendsHead, SendsBody, SendsTrailer, Finishes, Resets, GoesAway, Cancels, Advances};
 
 /// An endpoint stands for a history with these bounds from its making on: each call's contract alone says that it leaves one, whether it
@@ -103,6 +104,7 @@ pub fn endpoints_stay_bounded()
     ensures goaway { (old new : EndpointState) (id : ℕ) (result : Result Unit Refusal) → GoesAway old new id result → StandsBounded old → StandsBounded new }
     ensures canceled { (old new : EndpointState) (id : ℕ) (result : Result Unit Refusal) → Cancels old new id result → StandsBounded old → StandsBounded new }
     ensures advanced { (old new : EndpointState) (id count : ℕ) → Advances old new id count → StandsBounded old → StandsBounded new }
+    ensures end { (old new : EndpointState) (id : ℕ) (result : Bool) → TakesEnd old new id result → StandsBounded old → StandsBounded new }
 {}
 
 ghost use Rattle.h3_connection.specs.declared.event.Item.TheVariants as item;

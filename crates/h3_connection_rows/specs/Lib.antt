@@ -1,6 +1,7 @@
 pub mod Worked
 pub mod KeptRows
 pub mod UnreadRows
+pub mod EndRows
 pub mod MessageRows
 pub mod FaultRows
 pub mod TableRows

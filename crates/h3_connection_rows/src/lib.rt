@@ -7,6 +7,7 @@ pub mod client_cases_3;
 pub mod client_cases_4;
 pub mod client_cases_5;
 pub mod client_cases_6;
+pub mod end_rows;
 pub mod fault_rows;
 pub mod isolation_rows;
 pub mod kept_rows;

@@ -48,7 +48,7 @@ pub record IsUnseen (w : World) (side : Side) (id : ℕ) : Type 0 where
   pub kept : ReceivesFlow (flow w (other side) id) nothing_came
 
 abbrev made : List OwnPart → ℕ → Bool → Bool → Outgoing
-made parts taken finished reset = record { parts = parts; taken = taken; is_finished = finished; is_reset = reset }
+made parts taken finished reset = record { parts = parts; taken = taken; is_finished = finished; is_reset = reset; end_taken = false }
 
 sent_nothing : (p : Party) (g : Flow) → IsSoundFlow p g → g.sent ≡ [] → g.is_reset ≡ false → outgoing_of g ≡ nothing_sent
 sent_nothing p g sound none whole =

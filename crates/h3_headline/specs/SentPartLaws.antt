@@ -156,7 +156,7 @@ last_appended (p ∷ []) part = refl
 last_appended (p ∷ q ∷ parts) part = last_appended (q ∷ parts) part
 
 abbrev made : List OwnPart → ℕ → Bool → Bool → Outgoing
-made parts taken finished reset = record { parts = parts; taken = taken; is_finished = finished; is_reset = reset }
+made parts taken finished reset = record { parts = parts; taken = taken; is_finished = finished; is_reset = reset; end_taken = false }
 
 parts_appended : (f : Flow) (part : Part) → flat_map own_part (f.sent ++ part ∷ []) ≡ flat_map own_part f.sent ++ own_part part
 parts_appended f part = flat_map-append own_part f.sent (part ∷ []) ∙ ap (λ l. flat_map own_part f.sent ++ l) (append-nil (own_part part))

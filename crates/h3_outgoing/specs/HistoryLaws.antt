@@ -11,7 +11,7 @@ use Rattle.h3_connection.specs.WaitingPieces.{piece_of, bytes_of, pieces_waiting
 use Rattle.h3_connection.specs.WaitingPieceLaws.{bytes-without, without-append, without-without}
 use Rattle.h3_connection.specs.declared.place.SendPlace.{SendPlace}
 use Rattle.h3_connection.specs.declared.place.SendPlace.TheVariants.{NothingSent, HeadSent, TrailerSent}
-use Rattle.h3_outgoing.specs.Sent.{is_open, is_before_head, is_in_body, takes_head, takes_body, takes_end, is_sent_off, has_ended, was_cut_off, taken_from}
+use Rattle.h3_outgoing.specs.Sent.{is_open, is_before_head, is_in_body, takes_head, takes_body, takes_end, is_sent_off, has_ended, was_cut_off, taken_from, end_waits, is_end_next, has_end_taken}
 
 -- the place of a message by its parts
 abbrev place : Bool → Bool → SendPlace
@@ -69,13 +69,24 @@ sent_off o w h =
     ∙ ap (λ b. o.is_reset || (b && (length (bytes_of w.pieces) == 0))) h.is_finished
     ∙ ap (λ l. o.is_reset || (o.is_finished && (length l == 0))) (waits o w h)
 
+-- Whether its end waits, and is next.
+pub end_waiting : (o : Outgoing) (w : OutgoingState) → IsOfOutgoing o w → end_waits w ≡ history.end_waits o
+end_waiting o w h = ap (λ b. b && not w.end_taken) h.is_finished ∙ ap (λ b. o.is_finished && not b) h.end_taken
+
+pub end_next : (o : Outgoing) (w : OutgoingState) → IsOfOutgoing o w → is_end_next w ≡ history.is_end_next o
+end_next o w h = ap (λ b. b && (length (bytes_of w.pieces) == 0)) (end_waiting o w h) ∙ ap (λ l. history.end_waits o && (length l == 0)) (waits o w h)
+
+-- Its FIN was taken.
+pub end_gone : (o : Outgoing) (w : OutgoingState) → IsOfOutgoing o w → IsOfOutgoing (record o { end_taken = true }) (has_end_taken w)
+end_gone o w h = record { pieces = h.pieces; place = h.place; is_finished = h.is_finished; is_reset = h.is_reset; end_taken = refl; taken = h.taken }
+
 -- The message is whole.
 pub ended : (o : Outgoing) (w : OutgoingState) → IsOfOutgoing o w → IsOfOutgoing (record o { is_finished = true }) (has_ended w)
-ended o w h = record { pieces = h.pieces; place = h.place; is_finished = refl; is_reset = h.is_reset; taken = h.taken }
+ended o w h = record { pieces = h.pieces; place = h.place; is_finished = refl; is_reset = h.is_reset; end_taken = h.end_taken; taken = h.taken }
 
 -- Sending is cut off.
 pub cut_off : (o : Outgoing) (w : OutgoingState) → IsOfOutgoing o w → IsOfOutgoing (record o { is_reset = true; is_finished = false }) (was_cut_off w)
-cut_off o w h = record { pieces = refl; place = h.place; is_finished = refl; is_reset = refl; taken = λ never. absurd (cc) }
+cut_off o w h = record { pieces = refl; place = h.place; is_finished = refl; is_reset = refl; end_taken = h.end_taken; taken = λ never. absurd (cc) }
 
 -- Some bytes are taken.
 taken_by : (reset : Bool) (taken count : ℕ) (parts : List OwnPart) → without_front count (if reset then [] else without_front taken (map piece_of parts)) ≡ (if reset then [] else without_front (taken + count) (map piece_of parts))
@@ -94,6 +105,7 @@ advanced o w count h few =
       place = h.place;
       is_finished = h.is_finished;
       is_reset = h.is_reset;
+      end_taken = h.end_taken;
       taken = λ here. few_by o.is_reset o.taken count o.parts here (h.taken here) few;
     }
 
@@ -117,6 +129,7 @@ appended o w part at h here is =
       place = is;
       is_finished = h.is_finished;
       is_reset = h.is_reset;
+      end_taken = h.end_taken;
       taken = λ again. let all = flat_map-append part_bytes o.parts (part ∷ []) in
           omega (arith, h.taken again, ap length all, length-append (flat_map part_bytes o.parts) (flat_map part_bytes (part ∷ [])));
     }

@@ -46,3 +46,14 @@ taken_from s count = record s { pieces = without_front count s.pieces }
 
 abbrev pub is_sent_off : OutgoingState → Bool
 is_sent_off s = s.is_reset || (s.is_finished && (length (bytes_of s.pieces) == 0))
+
+-- Sending was closed (RFC 9114, section 4.1), and the FIN that says so was not taken.
+abbrev pub end_waits : OutgoingState → Bool
+end_waits s = s.is_finished && not s.end_taken
+
+-- it is next: no bytes wait ahead of it
+abbrev pub is_end_next : OutgoingState → Bool
+is_end_next s = end_waits s && (length (bytes_of s.pieces) == 0)
+
+abbrev pub has_end_taken : OutgoingState → OutgoingState
+has_end_taken s = record s { end_taken = true }

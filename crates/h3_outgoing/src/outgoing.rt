@@ -5,7 +5,7 @@ ghost use Rattle.h3_wire.specs.Outgoing.{all_of};
 ghost use Rattle.h3_connection.specs.WaitingPieces.{bytes_of, lent, without_front};
 ghost use Rattle.h3_connection.specs.State.{nothing_waits};
 ghost use Rattle.h3_outgoing.specs.Copied.{put};
-ghost use Rattle.h3_outgoing.specs.Sent.{has_section, has_body, has_ended, was_cut_off, taken_from, takes_head, takes_body, takes_end, is_sent_off};
+ghost use Rattle.h3_outgoing.specs.Sent.{has_section, has_body, has_ended, was_cut_off, taken_from, takes_head, takes_body, takes_end, is_sent_off, end_waits, is_end_next, has_end_taken};
 
 use crate::room::FrameRoom;
 use bytes::{Buf, Bytes};
@@ -27,6 +27,7 @@ pub struct OutgoingStream {
     place: SendPlace,
     is_finished: bool,
     is_reset: bool,
+    end_taken: bool,
 }
 
 impl Model for OutgoingStream {
@@ -42,6 +43,7 @@ impl Model for OutgoingStream {
       place = s.place;
       is_finished = s.is_finished;
       is_reset = s.is_reset;
+      end_taken = s.end_taken;
     } };
 
     ghost invariant = { λ s. (s.waiting ≡ length (bytes_of s.pieces.items)) × All (λ p. 0 < length (all_of p)) s.pieces.items };
@@ -58,6 +60,7 @@ impl OutgoingStream {
             place: SendPlace::NothingSent,
             is_finished: false,
             is_reset: false,
+            end_taken: false,
         }
     }
 
@@ -151,6 +154,33 @@ impl OutgoingStream {
     {
         self.is_finished = true;
         self.release();
+    }
+
+    /// Whether its end waits: the message is whole, and QUIC did not take the FIN that says so.
+    pub fn end_waits(&self) -> bool
+        ensures { result ≡ end_waits self.now }
+    {
+        self.is_finished && !self.end_taken
+    }
+
+    /// Whether the FIN was taken.
+    pub fn end_taken(&self) -> bool
+        ensures { result ≡ self.now.end_taken }
+    {
+        self.end_taken
+    }
+
+    /// Takes the end where it waits, and no bytes ahead of it, and answers whether that is so. It takes no memory.
+    pub fn take_end(&mut self) -> bool
+        ensures told { result ≡ is_end_next self.old }
+        ensures taken { result ≡ true → self.new ≡ has_end_taken self.old }
+        ensures same { result ≡ false → self.new ≡ self.old }
+    {
+        if !self.end_waits() || self.waiting > 0 {
+            return false;
+        }
+        self.end_taken = true;
+        true
     }
 
     /// Sending ends here: what waits is dropped. It takes no memory.
@@ -279,7 +309,18 @@ impl OutgoingStream {
             place: self.place,
             is_finished: self.is_finished,
             is_reset: self.is_reset,
+            end_taken: self.end_taken,
         }
+    }
+
+    /// The same with the end taken. It takes no memory.
+    pub fn like_taken(&self, alloc: Global) -> OutgoingStream
+        requires { (length self.now.pieces == 0) ≡ true }
+        ensures { result ≡ has_end_taken self.now }
+    {
+        let mut like = self.like(alloc);
+        like.end_taken = true;
+        like
     }
 
     /// Where the message is.

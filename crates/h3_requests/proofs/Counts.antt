@@ -30,6 +30,12 @@ written counts old new id before after writes there same h =
     let kept = kept_there old new id before after writes there in
     record { sound = h.sound; agrees = agrees_set_same counts old new id after h.distinct writes.2 h.agrees sets (same ∙ sym (ap waits_at kept)); distinct = writes.2 }
 
+-- or it waits for as much, whether it is under way or over
+pub same_count : (counts : Blocked) (old new : Streams RequestState) (id : ℕ) (before after : RequestState) → Sets old new id after → HaveDistinctIds new → kept_at old id ≡ Some before
+    → after.incoming.waits_for ≡ before.incoming.waits_for → AreCounted counts old → AreCounted counts new
+same_count counts old new id before after sets distinct there same h =
+    record { sound = h.sound; agrees = agrees_set_same counts old new id after h.distinct distinct h.agrees sets (same ∙ sym (ap waits_at there)); distinct = distinct }
+
 -- or its count was replaced
 pub replaced : {under_way : Option RequestState} (counts others : Blocked) (old new : Streams RequestState) (id : ℕ) (before after : RequestState) → Writes old new under_way id after → under_way ≡ Some before
     → IsSound others → Replaces counts others before.incoming.waits_for after.incoming.waits_for → AreCounted counts old → AreCounted others new

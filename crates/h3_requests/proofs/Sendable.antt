@@ -1,20 +1,26 @@
 -- Which streams are ready goes along when a call changes the streams, and so do the counts.
-use Rattle.std.proofs.Common.{arith, ◌≡◌, ℕ, Bool, true, false, List, length, sym, ◌∙◌, ap, refl, subst, inl, inr}
-use Rattle.std.specs.Prelude.{◌≢◌, ◌&&◌, Option, Some, nat_lt, is_some}
+use Rattle.std.proofs.Common.{arith, ◌≡◌, ℕ, Bool, true, false, List, [], ◌∷◌, length, sym, ◌∙◌, ap, refl, subst, inl, inr}
+use Rattle.std.specs.Prelude.{◌≢◌, ◌&&◌, ◌==◌, Option, Some, None, IfSome, nat_lt, is_some}
 use Rattle.std.proofs.lemmas.Bool.{cases_eq}
 use Rattle.std.proofs.lemmas.List.{length-drop}
 use Rattle.h3_blocked.specs.Counting.{IsSound, Replaces, SameCounts, waits_at}
 use Rattle.h3_blocked.specs.Sums.{TakesOut}
 use Rattle.h3_blocked.specs.declared.counts.Blocked.{Blocked}
 use Rattle.h3_connection.specs.Calls.{Sets}
-use Rattle.h3_connection.specs.State.{RequestState, kept_at}
+use Rattle.h3_connection.specs.State.{OutgoingState, RequestState, kept_at}
 use Rattle.h3_connection.specs.StreamSets.{Streams, HaveDistinctIds}
 use Rattle.h3_connection.specs.WaitingPieces.{bytes_of, without_front}
 use Rattle.h3_connection.specs.WaitingPieceLaws.{bytes-without}
 use Rattle.h3_wire.specs.Outgoing.{Outgoing as Piece}
-use Rattle.h3_requests.specs.HasBytes.{has_bytes}
+use Rattle.h3_outgoing.specs.Sent.{end_waits, has_body, has_end_taken, is_end_next, is_open, takes_end}
+use Rattle.h3_requests.specs.Ends.{has_place, is_ending}
+use Rattle.h3_requests.specs.HasBytes.{has_bytes, has_end, gives_end, may_end}
+use Rattle.h3_requests.specs.Counted.{AreCounted}
 use Rattle.h3_requests.specs.Lending.{Writes}
-use Rattle.h3_requests.specs.Ready.{AreKept, AreReady, IsOneTest, is_listed, is_ready}
+use Rattle.h3_requests.specs.Over.{IsOver, with_end_taken}
+use Rattle.h3_requests.proofs.Ways.{over_pieces}
+use Rattle.h3_requests.specs.Ready.{AreEnding, AreKept, AreReady, IsOneTest, is_listed, is_ready}
+use Rattle.h3_requests.specs.declared.ends.EndStreams.{EndStreams}
 use Rattle.h3_requests.specs.declared.ready.ReadyStreams.{ReadyStreams}
 use Rattle.h3_requests.proofs.Counts as counting
 
@@ -26,6 +32,20 @@ ready_at s t old new id is one own others h q = elim (cases_eq q id) [
   | inr differs ↦ one.others q differs ∙ h q ∙ ap has_bytes (sym (others q differs))
 ]
 
+-- the same of its end
+ends_at : (e f : EndStreams) (old new : Streams RequestState) (id : ℕ) (is : Bool) → IsOneTest id is (is_ending e) (is_ending f) → ((q : ℕ) → q ≢ id → has_place e q ≡ true → has_place f q ≡ true)
+    → is ≡ has_end (kept_at new id) → (may_end (kept_at new id) ≡ true → has_place f id ≡ true) → ((q : ℕ) → q ≢ id → kept_at new q ≡ kept_at old q) → AreEnding e old → AreEnding f new
+ends_at e f old new id is one places own own_place others h = record {
+  ending = λ q. elim (cases_eq q id) [
+    | inl same ↦ rw same (one.own ∙ own)
+    | inr differs ↦ one.others q differs ∙ h.ending q ∙ ap has_end (sym (others q differs))
+  ];
+  placed = λ q may. elim (cases_eq q id) [
+    | inl same ↦ ap (has_place f) same ∙ own_place (ap (λ k. may_end (kept_at new k)) (sym same) ∙ may)
+    | inr differs ↦ places q differs (h.placed q (ap may_end (sym (others q differs)) ∙ may))
+  ];
+}
+
 -- on that stream bytes wait as before
 as_before : (s : ReadyStreams) (old : Streams RequestState) (id : ℕ) (is : Bool) → is ≡ has_bytes (kept_at old id) → AreReady s old → IsOneTest id is (is_ready s) (is_ready s)
 as_before s old id is same h = record { own = h id ∙ sym same; others = λ q differs. refl }
@@ -35,67 +55,152 @@ pub moved : {counts : Blocked} {s : ReadyStreams} {old new : Streams RequestStat
 moved {counts} {s} same h = subst (AreKept counts s) (sym same) h
 
 -- room was taken, or given back
-pub room_kept : {counts : Blocked} {s t : ReadyStreams} {streams : Streams RequestState} → ((q : ℕ) → is_ready t q ≡ is_ready s q) → AreKept counts s streams → AreKept counts t streams
-room_kept same h = record { counted = h.counted; ready = λ q. same q ∙ h.ready q }
+pub room_kept : {counts : Blocked} {s t : ReadyStreams} {streams : Streams RequestState} → ((q : ℕ) → is_ready t q ≡ is_ready s q) → t.ends ≡ s.ends → AreKept counts s streams → AreKept counts t streams
+room_kept {counts} {s} {t} {streams} same ends h = record { counted = h.counted; ready = λ q. same q ∙ h.ready q; ends = subst (λ e. AreEnding e streams) (sym ends) h.ends }
+
+-- and room for ends
+pub both_kept : {counts : Blocked} {s t : ReadyStreams} {streams : Streams RequestState} → ((q : ℕ) → is_ready t q ≡ is_ready s q) → ((q : ℕ) → is_ending t.ends q ≡ is_ending s.ends q)
+    → ((q : ℕ) → has_place s.ends q ≡ true → has_place t.ends q ≡ true) → AreKept counts s streams → AreKept counts t streams
+both_kept same ending places h =
+    record { counted = h.counted; ready = λ q. same q ∙ h.ready q; ends = record { ending = λ q. ending q ∙ h.ends.ending q; placed = λ q may. places q (h.ends.placed q may) } }
 
 -- the same counts, kept in another way
 pub kept_again : {counts others : Blocked} {s : ReadyStreams} {streams : Streams RequestState} → SameCounts counts others → IsSound others → AreKept counts s streams → AreKept others s streams
-kept_again same sound h = record { counted = counting.counted_again same sound h.counted; ready = h.ready }
+kept_again same sound h = record { counted = counting.counted_again same sound h.counted; ready = h.ready; ends = h.ends }
 
-bytes_stay : (s : ReadyStreams) (old new : Streams RequestState) (id : ℕ) (before after : RequestState) → Sets old new id after → kept_at old id ≡ Some before
-    → after.outgoing.pieces ≡ before.outgoing.pieces → AreReady s old → AreReady s new
-bytes_stay s old new id before after sets there same h =
-    let is : Bool = nat_lt 0 (length (bytes_of after.outgoing.pieces)) in
-    let waits : is ≡ has_bytes (kept_at old id) = ap (λ p. nat_lt 0 (length (bytes_of p))) same ∙ sym (ap has_bytes there) in
-    ready_at s s old new id is (as_before s old id is waits h) (sym (ap has_bytes sets.here)) sets.others h
+bytes_before : (counts : Blocked) (s t : ReadyStreams) (old : Streams RequestState) (id : ℕ) (before after : RequestState) → kept_at old id ≡ Some before → ((q : ℕ) → is_ready t q ≡ is_ready s q)
+    → after.outgoing.pieces ≡ before.outgoing.pieces → AreKept counts s old → IsOneTest id (has_bytes (Some after)) (is_ready s) (is_ready t)
+bytes_before counts s t old id before after there ready same h = record {
+  own = ready id ∙ h.ready id ∙ ap has_bytes there ∙ ap (λ p. nat_lt 0 (length (bytes_of p))) (sym same);
+  others = λ q differs. ready q;
+}
 
--- a stream was written that waits for as much as before, and on which as much waits
+end_before : (counts : Blocked) (s t : ReadyStreams) (old : Streams RequestState) (id : ℕ) (before after : RequestState) → kept_at old id ≡ Some before → t.ends ≡ s.ends
+    → end_waits after.outgoing ≡ end_waits before.outgoing → AreKept counts s old → IsOneTest id (has_end (Some after)) (is_ending s.ends) (is_ending t.ends)
+end_before counts s t old id before after there ends same h = record {
+  own = ap (λ e. is_ending e id) ends ∙ h.ends.ending id ∙ ap has_end there ∙ sym same;
+  others = λ q differs. ap (λ e. is_ending e q) ends;
+}
+
+-- the streams after a call on one of them, of which everything is known
+after_call : (counts others : Blocked) (s t : ReadyStreams) (old new : Streams RequestState) (id : ℕ) (after : RequestState) → Sets old new id after → AreCounted others new
+    → IsOneTest id (has_bytes (Some after)) (is_ready s) (is_ready t) → IsOneTest id (has_end (Some after)) (is_ending s.ends) (is_ending t.ends)
+    → ((q : ℕ) → q ≢ id → has_place s.ends q ≡ true → has_place t.ends q ≡ true) → (takes_end after.outgoing ≡ true → has_place t.ends id ≡ true) → AreKept counts s old → AreKept others t new
+after_call counts others s t old new id after sets counted bytes end places own h = record {
+  counted = counted;
+  ready = ready_at s t old new id (has_bytes (Some after)) bytes (sym (ap has_bytes sets.here)) sets.others h.ready;
+  ends = ends_at s.ends t.ends old new id (has_end (Some after)) end places (sym (ap has_end sets.here)) (λ may. own (sym (ap may_end sets.here) ∙ may)) sets.others h.ends;
+}
+
+-- a stream that may be finished has a place
+place_before : (counts : Blocked) (s t : ReadyStreams) (old : Streams RequestState) (id : ℕ) (before after : RequestState) → kept_at old id ≡ Some before → t.ends ≡ s.ends → takes_end after.outgoing ≡ takes_end before.outgoing
+    → AreKept counts s old → takes_end after.outgoing ≡ true → has_place t.ends id ≡ true
+place_before counts s t old id before after there ends same h may = ap (λ e. has_place e id) ends ∙ h.ends.placed id (ap may_end there ∙ sym same ∙ may)
+
+places_stay : (s t : ReadyStreams) (id : ℕ) → t.ends ≡ s.ends → (q : ℕ) → q ≢ id → has_place s.ends q ≡ true → has_place t.ends q ≡ true
+places_stay s t id ends q differs h = ap (λ e. has_place e q) ends ∙ h
+
+-- a stream was written that waits for as much as before, and of which as much is sent
 pub written : {under_way : Option RequestState} (counts : Blocked) (s : ReadyStreams) (old new : Streams RequestState) (id : ℕ) (before after : RequestState) → Writes old new under_way id after → under_way ≡ Some before
-    → after.incoming.waits_for ≡ before.incoming.waits_for → after.outgoing.pieces ≡ before.outgoing.pieces → AreKept counts s old → AreKept counts s new
-written counts s old new id before after writes there same waits h =
-    record {
-      counted = counting.written counts old new id before after writes there same h.counted;
-      ready = bytes_stay s old new id before after (writes.0 (ap is_some there)) (counting.kept_there old new id before after writes there) waits h.ready;
-    }
+    → after.incoming.waits_for ≡ before.incoming.waits_for → after.outgoing ≡ before.outgoing → AreKept counts s old → AreKept counts s new
+written counts s old new id before after writes there same sent h =
+    let was = counting.kept_there old new id before after writes there in
+    after_call counts counts s s old new id after (writes.0 (ap is_some there)) (counting.written counts old new id before after writes there same h.counted)
+    (bytes_before counts s s old id before after was (λ q. refl) (ap (λ o. o.pieces) sent) h) (end_before counts s s old id before after was refl (ap end_waits sent) h)
+    (places_stay s s id refl) (place_before counts s s old id before after was refl (ap takes_end sent) h) h
 
 -- or its count was replaced
 pub replaced : {under_way : Option RequestState} (counts others : Blocked) (s : ReadyStreams) (old new : Streams RequestState) (id : ℕ) (before after : RequestState) → Writes old new under_way id after → under_way ≡ Some before
-    → IsSound others → Replaces counts others before.incoming.waits_for after.incoming.waits_for → after.outgoing.pieces ≡ before.outgoing.pieces → AreKept counts s old
+    → IsSound others → Replaces counts others before.incoming.waits_for after.incoming.waits_for → after.outgoing ≡ before.outgoing → AreKept counts s old
     → AreKept others s new
-replaced counts others s old new id before after writes there sound replaces waits h =
-    record {
-      counted = counting.replaced counts others old new id before after writes there sound replaces h.counted;
-      ready = bytes_stay s old new id before after (writes.0 (ap is_some there)) (counting.kept_there old new id before after writes there) waits h.ready;
-    }
+replaced counts others s old new id before after writes there sound replaces sent h =
+    let was = counting.kept_there old new id before after writes there in
+    after_call counts others s s old new id after (writes.0 (ap is_some there)) (counting.replaced counts others old new id before after writes there sound replaces h.counted)
+    (bytes_before counts s s old id before after was (λ q. refl) (ap (λ o. o.pieces) sent) h) (end_before counts s s old id before after was refl (ap end_waits sent) h)
+    (places_stay s s id refl) (place_before counts s s old id before after was refl (ap takes_end sent) h) h
 
 -- or its bytes were, and whether any wait is known
 pub settled : {under_way : Option RequestState} (counts : Blocked) (s t : ReadyStreams) (old new : Streams RequestState) (id : ℕ) (is : Bool) (before after : RequestState) → Writes old new under_way id after → under_way ≡ Some before
-    → after.incoming.waits_for ≡ before.incoming.waits_for → IsOneTest id is (is_ready s) (is_ready t) → is ≡ nat_lt 0 (length (bytes_of after.outgoing.pieces)) → AreKept counts s old
-    → AreKept counts t new
-settled counts s t old new id is before after writes there same one waits h =
-    let sets : Sets old new id after = writes.0 (ap is_some there) in
-    record {
-      counted = counting.written counts old new id before after writes there same h.counted;
-      ready = ready_at s t old new id is one (waits ∙ sym (ap has_bytes sets.here)) sets.others h.ready;
-    }
+    → after.incoming.waits_for ≡ before.incoming.waits_for → IsOneTest id is (is_ready s) (is_ready t) → is ≡ nat_lt 0 (length (bytes_of after.outgoing.pieces)) → t.ends ≡ s.ends
+    → end_waits after.outgoing ≡ end_waits before.outgoing → (takes_end after.outgoing ≡ true → has_place s.ends id ≡ true) → AreKept counts s old → AreKept counts t new
+settled counts s t old new id is before after writes there same one waits ends end may h =
+    let was = counting.kept_there old new id before after writes there in
+    after_call counts counts s t old new id after (writes.0 (ap is_some there)) (counting.written counts old new id before after writes there same h.counted)
+    (subst (λ b. IsOneTest id b (is_ready s) (is_ready t)) waits one) (end_before counts s t old id before after was ends end h)
+    (places_stay s t id ends) (λ takes. ap (λ e. has_place e id) ends ∙ may takes) h
+
+-- a stream that took an end before has a place
+pub had_place : {under_way : Option RequestState} (counts : Blocked) (s : ReadyStreams) (old new : Streams RequestState) (id : ℕ) (before after : RequestState) → Writes old new under_way id after → under_way ≡ Some before
+    → takes_end after.outgoing ≡ takes_end before.outgoing → AreKept counts s old → takes_end after.outgoing ≡ true → has_place s.ends id ≡ true
+had_place counts s old new id before after writes there same h =
+    place_before counts s s old id before after (counting.kept_there old new id before after writes there) refl same h
+
+-- or it was reset
+pub left : {under_way : Option RequestState} (counts : Blocked) (s t : ReadyStreams) (old new : Streams RequestState) (id : ℕ) (before after : RequestState) → Writes old new under_way id after → under_way ≡ Some before
+    → after.incoming.waits_for ≡ before.incoming.waits_for → has_bytes (Some after) ≡ false → after.outgoing.is_finished ≡ false → after.outgoing.is_reset ≡ true
+    → IsOneTest id false (is_ready s) (is_ready t) → IsOneTest id false (is_ending s.ends) (is_ending t.ends) → ((q : ℕ) → q ≢ id → has_place t.ends q ≡ has_place s.ends q) → AreKept counts s old → AreKept counts t new
+left counts s t old new id before after writes there same none unfinished reset bytes end places h =
+    let no_end : end_waits after.outgoing ≡ false = rw unfinished refl in
+    let closed : takes_end after.outgoing ≡ false = rw (unfinished, reset) refl in
+    after_call counts counts s t old new id after (writes.0 (ap is_some there)) (counting.written counts old new id before after writes there same h.counted)
+    (subst (λ b. IsOneTest id b (is_ready s) (is_ready t)) (sym none) bytes) (subst (λ b. IsOneTest id b (is_ending s.ends) (is_ending t.ends)) (sym no_end) end)
+    (λ q differs has. places q differs ∙ has) (λ takes. absurd (let wrong : false ≡ true = sym closed ∙ takes in cc)) h
+
+-- or it was finished
+pub ended : {under_way : Option RequestState} (counts : Blocked) (s t : ReadyStreams) (old new : Streams RequestState) (id : ℕ) (before after : RequestState) → Writes old new under_way id after → under_way ≡ Some before
+    → after.incoming.waits_for ≡ before.incoming.waits_for → after.outgoing.pieces ≡ before.outgoing.pieces → end_waits after.outgoing ≡ true → is_open after.outgoing ≡ false
+    → ((q : ℕ) → is_ready t q ≡ is_ready s q) → IsOneTest id true (is_ending s.ends) (is_ending t.ends) → ((q : ℕ) → has_place t.ends q ≡ has_place s.ends q) → AreKept counts s old → AreKept counts t new
+ended counts s t old new id before after writes there same sent waits closed ready end places h =
+    let was = counting.kept_there old new id before after writes there in
+    let takes_none : takes_end after.outgoing ≡ false = rw closed refl in
+    after_call counts counts s t old new id after (writes.0 (ap is_some there)) (counting.written counts old new id before after writes there same h.counted)
+    (bytes_before counts s t old id before after was ready sent h) (subst (λ b. IsOneTest id b (is_ending s.ends) (is_ending t.ends)) (sym waits) end)
+    (λ q differs has. places q ∙ has) (λ takes. absurd (let wrong : false ≡ true = sym takes_none ∙ takes in cc)) h
+
+-- a stream whose FIN was taken
+both : (a b : Bool) → (a && b) ≡ true → (a ≡ true) × (b ≡ true)
+both true b h = (refl, h)
+both false b h = absurd (cc)
+
+gone : (o : OutgoingState) → is_end_next o ≡ true → (end_waits (has_end_taken o) ≡ false) × (takes_end (has_end_taken o) ≡ false)
+gone o next =
+    let finished : o.is_finished ≡ true = (both _ _ (both _ _ next).0).0 in
+    (rw finished refl, rw finished refl)
+
+pub end_gone : {under_way : Option RequestState} (counts : Blocked) (s t : ReadyStreams) (old new : Streams RequestState) (id : ℕ) (before after : RequestState) → Writes old new under_way id after → under_way ≡ Some before
+    → after.incoming.waits_for ≡ before.incoming.waits_for → after.outgoing ≡ has_end_taken before.outgoing → is_end_next before.outgoing ≡ true
+    → ((q : ℕ) → is_ready t q ≡ is_ready s q) → IsOneTest id false (is_ending s.ends) (is_ending t.ends) → ((q : ℕ) → q ≢ id → has_place t.ends q ≡ has_place s.ends q) → AreKept counts s old → AreKept counts t new
+end_gone counts s t old new id before after writes there same taken next ready end places h =
+    let was = counting.kept_there old new id before after writes there in
+    let off = gone before.outgoing next in
+    let no_end : end_waits after.outgoing ≡ false = ap end_waits taken ∙ off.0 in
+    let closed : takes_end after.outgoing ≡ false = ap takes_end taken ∙ off.1 in
+    after_call counts counts s t old new id after (writes.0 (ap is_some there)) (counting.written counts old new id before after writes there same h.counted)
+    (bytes_before counts s t old id before after was ready (ap (λ o. o.pieces) taken) h) (subst (λ b. IsOneTest id b (is_ending s.ends) (is_ending t.ends)) (sym no_end) end)
+    (λ q differs has. places q differs ∙ has) (λ takes. absurd (let wrong : false ≡ true = sym closed ∙ takes in cc)) h
 
 -- a stream came on which nothing has happened, in the place of one whose count was taken out
 pub inserted : (counts others : Blocked) (s t : ReadyStreams) (old new : Streams RequestState) (id count : ℕ) (r : RequestState) → Sets old new id r → HaveDistinctIds new
-    → r.incoming.waits_for ≡ 0 → has_bytes (Some r) ≡ false → count ≡ waits_at (kept_at old id) → IsSound others → Replaces counts others count 0
-    → IsOneTest id false (is_ready s) (is_ready t) → AreKept counts s old → AreKept others t new
-inserted counts others s t old new id count r sets distinct nothing none is sound replaces one h =
+    → r.incoming.waits_for ≡ 0 → has_bytes (Some r) ≡ false → has_end (Some r) ≡ false → may_end (Some r) ≡ false → count ≡ waits_at (kept_at old id) → IsSound others → Replaces counts others count 0
+    → IsOneTest id false (is_ready s) (is_ready t) → IsOneTest id false (is_ending s.ends) (is_ending t.ends) → ((q : ℕ) → q ≢ id → has_place t.ends q ≡ has_place s.ends q) → AreKept counts s old → AreKept others t new
+inserted counts others s t old new id count r sets distinct nothing none no_end unsent is sound replaces one end places h =
     record {
       counted = counting.inserted counts others old new id count r sets distinct nothing is sound replaces h.counted;
       ready = ready_at s t old new id false one (sym (ap has_bytes sets.here ∙ none)) sets.others h.ready;
+      ends = ends_at s.ends t.ends old new id false end (λ q differs has. places q differs ∙ has) (sym (ap has_end sets.here ∙ no_end))
+          (λ may. absurd (let wrong : false ≡ true = sym (ap may_end sets.here ∙ unsent) ∙ may in cc)) sets.others h.ends;
     }
 
 -- and one went
 pub removed : (counts others : Blocked) (s t : ReadyStreams) (old new : Streams RequestState) (id count : ℕ) → TakesOut old new id → HaveDistinctIds new
-    → count ≡ waits_at (kept_at old id) → IsSound others → Replaces counts others count 0 → IsOneTest id false (is_ready s) (is_ready t) → AreKept counts s old → AreKept others t new
-removed counts others s t old new id count takes distinct is sound replaces one h =
+    → count ≡ waits_at (kept_at old id) → IsSound others → Replaces counts others count 0 → IsOneTest id false (is_ready s) (is_ready t)
+    → IsOneTest id false (is_ending s.ends) (is_ending t.ends) → ((q : ℕ) → q ≢ id → has_place t.ends q ≡ has_place s.ends q) → AreKept counts s old → AreKept others t new
+removed counts others s t old new id count takes distinct is sound replaces one end places h =
     record {
       counted = counting.removed counts others old new id count takes distinct is sound replaces h.counted;
       ready = ready_at s t old new id false one (sym (ap has_bytes takes.here)) takes.others h.ready;
+      ends = ends_at s.ends t.ends old new id false end (λ q differs has. places q differs ∙ has) (sym (ap has_end takes.here))
+          (λ may. absurd (let wrong : false ≡ true = sym (ap may_end takes.here) ∙ may in cc)) takes.others h.ends;
     }
 
 -- what is ready is one of the ids
@@ -113,3 +218,32 @@ pub listed_before : (counts : Blocked) (s : ReadyStreams) (streams : Streams Req
 listed_before counts s streams id count is r h there left some =
     let waits : has_bytes (kept_at streams id) ≡ true = ap has_bytes there ∙ fewer count r.outgoing.pieces (sym left ∙ some) in
     listed_by (is_listed s id) _ _ (h.ready id ∙ waits)
+
+-- a body changes nothing of the stream's end
+pub body_end : (o : OutgoingState) (bytes : List ℕ) → (end_waits (has_body o bytes) ≡ end_waits o) × (takes_end (has_body o bytes) ≡ takes_end o)
+body_end o [] = (refl, refl)
+body_end o (byte ∷ bytes) = (refl, refl)
+
+-- the end of a stream that is over is next, where it waits
+pub over_gives : (o : Option RequestState) → IfSome o IsOver → has_end o ≡ gives_end o
+over_gives None h = refl
+over_gives (Some r) h = sym (ap (λ p. end_waits r.outgoing && (length (bytes_of p) == 0)) (over_pieces r h) ∙ and_true (end_waits r.outgoing))
+  where
+    and_true : (b : Bool) → (b && true) ≡ b
+    and_true true = refl
+    and_true false = refl
+
+over_goes : (o : Option RequestState) → IfSome o IsOver → has_end o ≡ true → IfSome o (λ r. is_end_next r.outgoing ≡ true)
+over_goes None h waits = tt
+over_goes (Some r) h waits = sym (over_gives (Some r) h) ∙ waits
+
+-- the end of a stream that is over was taken
+pub over_gone : (counts : Blocked) (s t : ReadyStreams) (old new : Streams RequestState) (id : ℕ) (o : Option RequestState) → kept_at old id ≡ o → IfSome o IsOver → has_end o ≡ true → HaveDistinctIds new
+    → IfSome o (λ r. Sets old new id (with_end_taken r)) → ((q : ℕ) → is_ready t q ≡ is_ready s q) → IsOneTest id false (is_ending s.ends) (is_ending t.ends)
+    → ((q : ℕ) → q ≢ id → has_place t.ends q ≡ has_place s.ends q) → AreKept counts s old → AreKept counts t new
+over_gone counts s t old new id None there over waits distinct sets ready end places h = absurd (cc)
+over_gone counts s t old new id (Some r) there over waits distinct sets ready end places h =
+    let off = gone r.outgoing (over_goes (Some r) over waits) in
+    after_call counts counts s t old new id (with_end_taken r) sets (counting.same_count counts old new id r (with_end_taken r) sets distinct there refl h.counted)
+    (bytes_before counts s t old id r (with_end_taken r) there ready refl h) (subst (λ b. IsOneTest id b (is_ending s.ends) (is_ending t.ends)) (sym off.0) end)
+    (λ q differs has. places q differs ∙ has) (λ takes. absurd (let wrong : false ≡ true = sym off.1 ∙ takes in cc)) h

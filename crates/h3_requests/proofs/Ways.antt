@@ -14,11 +14,11 @@ use Rattle.h3_connection.specs.State.{OutgoingState, RequestState, kept_at}
 use Rattle.h3_connection.specs.StreamSets.{Streams}
 use Rattle.h3_connection.specs.WaitingPieces.{bytes_of, without_front}
 use Rattle.h3_connection.specs.declared.event.Refusal.TheVariants as refusal
-use Rattle.h3_outgoing.specs.Sent.{is_sent_off, is_open, takes_head, takes_body, takes_end, taken_from}
+use Rattle.h3_outgoing.specs.Sent.{end_waits, is_end_next, has_end_taken, is_sent_off, is_open, takes_head, takes_body, takes_end, taken_from}
 use Rattle.h3_requests.specs.HasBytes.{has_bytes}
 use Rattle.h3_requests.specs.Listed.{streams_of}
 use Rattle.h3_requests.specs.Marks.{HaveSameMarks, IsOneMark}
-use Rattle.h3_requests.specs.Over.{IsOver, AreMarked, HasWays, over_in, way_at, ReceivesAlike, SendsAlike}
+use Rattle.h3_requests.specs.Over.{IsOver, IsPaired, AreMarked, HasWays, AddsWays, over_in, way_at, with_end_taken, ReceivesAlike, SendsAlike}
 use Rattle.h3_requests.specs.Refused.{refused_over, head_refused_at, body_refused_at, end_refused_at, reset_refused_at, cancel_refused_at}
 use Rattle.h3_requests.proofs.Found.{few, found, sets, takes_out}
 use Rattle.h3_requests.proofs.Listed as listed
@@ -78,8 +78,8 @@ received_alike a b unread section body_left waits_for same =
 
 sent_alike : (a b : OutgoingState) → a.pieces ≡ [] → b.pieces ≡ [] → SendsAlike a b → a ≡ b
 sent_alike a b an bn same =
-    let left : a ≡ record { pieces = []; place = b.place; is_finished = b.is_finished; is_reset = b.is_reset } = rw (sym an, sym same.place, sym same.is_finished, sym same.is_reset) refl in
-    let right : record { pieces = []; place = b.place; is_finished = b.is_finished; is_reset = b.is_reset } ≡ b = rw (sym bn) refl in
+    let left : a ≡ record { pieces = []; place = b.place; is_finished = b.is_finished; is_reset = b.is_reset; end_taken = b.end_taken } = rw (sym an, sym same.place, sym same.is_finished, sym same.is_reset, sym same.end_taken) refl in
+    let right : record { pieces = []; place = b.place; is_finished = b.is_finished; is_reset = b.is_reset; end_taken = b.end_taken } ≡ b = rw (sym bn) refl in
     left ∙ right
 
 -- Streams that are over alike are the same.
@@ -99,6 +99,9 @@ over_waits (Some r) h = (parts r h).waits_for
 -- no bytes wait on it,
 pub over_bytes : (r : RequestState) → IsOver r → has_bytes (Some r) ≡ false
 over_bytes r h = ap (λ pieces. nat_lt 0 (length (bytes_of pieces))) (parts r h).pieces
+
+pub over_pieces : (r : RequestState) → IsOver r → r.outgoing.pieces ≡ []
+over_pieces r h = (parts r h).pieces
 
 -- nothing more comes on it, and nothing more is handed out of it,
 pub over_ended : (r : RequestState) → IsOver r → (r.incoming.ended || r.incoming.was_reset) ≡ true
@@ -229,6 +232,98 @@ grown_over ways r h (suc n) more = subst (λ o. IfSome o IsOver) (sym (behind (w
         let past : length (ways ++ r ∷ []) ≤ n = omega (arith, more, differs, length-append ways (r ∷ [])) in
         subst (λ o. IfSome o IsOver) (sym (slice_get_past (ways ++ r ∷ []) n past)) tt
 
+-- what is behind the ways is the last one
+grown_all : (P : RequestState → Type 0) (ways : List RequestState) (r : RequestState) → P r → (way : ℕ) → length ways < way → IfSome (way_at (ways ++ r ∷ []) way) P
+grown_all P ways r h zero more = absurd (omega (arith, more))
+grown_all P ways r h (suc n) more = subst (λ o. IfSome o P) (sym (behind (ways ++ r ∷ []) n)) (by_test (n == length ways) refl)
+  where
+    by_test : (t : Bool) → (n == length ways) ≡ t → IfSome (slice_get (ways ++ r ∷ []) n) P
+    by_test true e = let is : n ≡ length ways = grind (arith, common_steps, e) in subst (λ o. IfSome o P) (sym (at_last ways r n is)) h
+    by_test false e =
+        let differs : n ≢ length ways = grind (arith, common_steps, e) in
+        let past : length (ways ++ r ∷ []) ≤ n = omega (arith, more, differs, length-append ways (r ∷ [])) in
+        subst (λ o. IfSome o P) (sym (slice_get_past (ways ++ r ∷ []) n past)) tt
+
+one_longer : (ways : List RequestState) (r : RequestState) → length (ways ++ r ∷ []) ≡ length ways + 1
+one_longer ways r = length-append ways (r ∷ [])
+
+-- one way more, whose end does not wait
+pub grown_one : (ways : List RequestState) (r : RequestState) → IsOver r → end_waits r.outgoing ≡ false → length ways < 255 → AddsWays ways (ways ++ r ∷ [])
+grown_one ways r h none less = record {
+  over = grown_all IsOver ways r h;
+  paired = λ way more. grown_all (IsPaired (ways ++ r ∷ []) way) ways r (λ waits. absurd (let wrong : false ≡ true = sym none ∙ waits in cc)) way more;
+  few = λ known. omega (arith, less, one_longer ways r);
+}
+
+abbrev two : List RequestState → RequestState → RequestState → List RequestState
+two ways r t = (ways ++ r ∷ []) ++ t ∷ []
+
+-- or two more, of which the other is the one with its end taken
+pub grown_two : (ways : List RequestState) (r : RequestState) → IsOver r → length ways + 1 < 255 → AddsWays ways ((ways ++ r ∷ []) ++ with_end_taken r ∷ [])
+grown_two ways r h less = record { over = over; paired = paired; few = λ known. omega (arith, less, one_longer ways r, one_longer (ways ++ r ∷ []) t) }
+  where
+    t : RequestState
+    t = with_end_taken r
+
+    taken : end_waits t.outgoing ≡ false
+    taken = by_test r.outgoing.is_finished
+      where
+        by_test : (b : Bool) → (b && false) ≡ false
+        by_test true = refl
+        by_test false = refl
+
+    over : (way : ℕ) → length ways < way → IfSome (way_at (two ways r t) way) IsOver
+    over way more = by_test (nat_lt (length (ways ++ r ∷ [])) way) refl
+      where
+        by_test : (b : Bool) → nat_lt (length (ways ++ r ∷ [])) way ≡ b → IfSome (way_at (two ways r t) way) IsOver
+        by_test true e = grown_all IsOver (ways ++ r ∷ []) t h way (grind (arith, common_steps, e))
+        by_test false e =
+            let least : way ≤ length (ways ++ r ∷ []) = grind (arith, common_steps, e) in
+            subst (λ o. IfSome o IsOver) (sym ((grown (ways ++ r ∷ []) t).same way least)) (grown_all IsOver ways r h way more)
+
+    next : (way : ℕ) → way ≡ length ways + 1 → way_at (two ways r t) (way + 1) ≡ Some t
+    next way is =
+        let place : way ≡ length (ways ++ r ∷ []) = omega (arith, is, one_longer ways r) in
+        let up : way + 1 ≡ suc way = omega arith in
+        ap (way_at (two ways r t)) up ∙ behind (two ways r t) way ∙ at_last (ways ++ r ∷ []) t way place
+
+    paired : (way : ℕ) → length ways < way → IfSome (way_at (two ways r t) way) (IsPaired (two ways r t) way)
+    paired way more = by_test (nat_lt (length (ways ++ r ∷ [])) way) refl
+      where
+        by_test : (b : Bool) → nat_lt (length (ways ++ r ∷ [])) way ≡ b → IfSome (way_at (two ways r t) way) (IsPaired (two ways r t) way)
+        by_test true e =
+            grown_all (IsPaired (two ways r t) way) (ways ++ r ∷ []) t (λ waits. absurd (let wrong : false ≡ true = sym taken ∙ waits in cc)) way (grind (arith, common_steps, e))
+        by_test false e =
+            let least : way ≤ length (ways ++ r ∷ []) = grind (arith, common_steps, e) in
+            let is : way ≡ length ways + 1 = omega (arith, least, more, one_longer ways r) in
+            subst (λ o. IfSome o (IsPaired (two ways r t) way)) (sym ((grown (ways ++ r ∷ []) t).same way least)) (grown_all (IsPaired (two ways r t) way) ways r (λ waits. next way is) way more)
+
+pub grown_both : (ways : List RequestState) (r t : RequestState) → HasWays ways ((ways ++ r ∷ []) ++ t ∷ [])
+grown_both ways r t =
+    let one = grown ways r in
+    let other = grown (ways ++ r ∷ []) t in
+    record { longer = omega (arith, one.longer, other.longer); same = λ way least. other.same way (omega (arith, least, one.longer)) ∙ one.same way least }
+
+-- the first of the two is the way of the stream
+pub at_first : (ways : List RequestState) (r t : RequestState) (way : ℕ) → way ≡ length ways + 1 → way_at ((ways ++ r ∷ []) ++ t ∷ []) way ≡ Some r
+at_first ways r t way is =
+    let least : way ≤ length (ways ++ r ∷ []) = omega (arith, is, one_longer ways r) in
+    let up : way ≡ suc (length ways) = omega (arith, is) in
+    (grown (ways ++ r ∷ []) t).same way least ∙ ap (way_at (ways ++ r ∷ [])) up ∙ behind (ways ++ r ∷ []) (length ways) ∙ at_last ways r (length ways) refl
+
+-- no way more
+pub none_more : (ways : List RequestState) → AddsWays ways ways
+none_more ways = record {
+  over = λ way more. past IsOver way more;
+  paired = λ way more. past (IsPaired ways way) way more;
+  few = λ known. known;
+}
+  where
+    past : (P : RequestState → Type 0) (way : ℕ) → length ways < way → IfSome (way_at ways way) P
+    past P way more =
+        let some : way ≢ 0 = omega (arith, more) in
+        subst (λ o. IfSome o P) (sym (way_found ways way some ∙ slice_get_past ways (way - 1) (omega (arith, more)))) tt
+
 -- the number of a way is one more than its place
 pub at_place : (ways : List RequestState) (place way : ℕ) (r : RequestState) → way ≡ place + 1 → place < length ways → get_or ways place r ≡ r → way_at ways way ≡ Some r
 at_place ways place way r is within same =
@@ -242,29 +337,58 @@ over_each ways others marks h has over way = by_test (nat_lt (length ways) way) 
     by_test true e = over way (grind (arith, common_steps, e))
     by_test false e = let least : way ≤ length ways = grind (arith, common_steps, e) in subst (λ o. IfSome o IsOver) (sym (has.same way least)) (h.over way)
 
+-- a way that is there has a place
+within_ways : (ways : List RequestState) (way : ℕ) (r : RequestState) → way_at ways way ≡ Some r → way ≤ length ways
+within_ways ways way r there = by_test (nat_lt (length ways) way) refl
+  where
+    by_test : (t : Bool) → nat_lt (length ways) way ≡ t → way ≤ length ways
+    by_test false e = grind (arith, common_steps, e)
+    by_test true e =
+        let past : length ways < way = grind (arith, common_steps, e) in
+        let some : way ≢ 0 = omega (arith, past) in
+        let none : way_at ways way ≡ None = way_found ways way some ∙ slice_get_past ways (way - 1) (omega (arith, past)) in
+        absurd (let wrong : None ≡ Some r = sym none ∙ there in cc)
+
+paired_each : (ways others : List RequestState) (marks : ℕ → ℕ) → AreMarked ways marks → HasWays ways others → ((way : ℕ) → length ways < way → IfSome (way_at others way) (IsPaired others way)) → (way : ℕ)
+    → IfSome (way_at others way) (IsPaired others way)
+paired_each ways others marks h has paired way = by_test (nat_lt (length ways) way) refl
+  where
+    there : (o : Option RequestState) → way_at ways way ≡ o → IfSome o (IsPaired ways way) → IfSome o (IsPaired others way)
+    there None is p = tt
+    there (Some r) is p = λ waits. let next = p waits in has.same (way + 1) (within_ways ways (way + 1) (with_end_taken r) next) ∙ next
+
+    by_test : (t : Bool) → nat_lt (length ways) way ≡ t → IfSome (way_at others way) (IsPaired others way)
+    by_test true e = paired way (grind (arith, common_steps, e))
+    by_test false e =
+        let least : way ≤ length ways = grind (arith, common_steps, e) in
+        subst (λ o. IfSome o (IsPaired others way)) (sym (has.same way least)) (there (way_at ways way) refl (h.paired way))
+
 -- marks name ways that are there still
-pub still_marked : (ways others : List RequestState) (marks later : ℕ → ℕ) → AreMarked ways marks → HasWays ways others → ((way : ℕ) → length ways < way → IfSome (way_at others way) IsOver) → HaveSameMarks marks later
-    → AreMarked others later
-still_marked ways others marks later h has over same = record {
-  over = λ way. over_each ways others marks h has over way;
+pub still_marked : (ways others : List RequestState) (marks later : ℕ → ℕ) → AreMarked ways marks → HasWays ways others → AddsWays ways others → HaveSameMarks marks later → AreMarked others later
+still_marked ways others marks later h has adds same = record {
+  over = λ way. over_each ways others marks h has adds.over way;
   known = λ id. let k = h.known id in let e = same id in omega (arith, k, e, has.longer);
+  paired = paired_each ways others marks h has adds.paired;
+  few = adds.few h.few;
 }
 
-pub marked_too : (ways others : List RequestState) (marks later : ℕ → ℕ) (number way : ℕ) → AreMarked ways marks → HasWays ways others → ((way : ℕ) → length ways < way → IfSome (way_at others way) IsOver)
-    → IsOneMark number way marks later → way ≤ length others → AreMarked others later
-marked_too ways others marks later number way h has over one known = record {
-  over = λ way. over_each ways others marks h has over way;
+pub marked_too : (ways others : List RequestState) (marks later : ℕ → ℕ) (number way : ℕ) → AreMarked ways marks → HasWays ways others → AddsWays ways others → IsOneMark number way marks later → way ≤ length others
+    → AreMarked others later
+marked_too ways others marks later number way h has adds one known = record {
+  over = λ way. over_each ways others marks h has adds.over way;
   known = λ id. elim (cases_eq id number) [
     | inl same ↦ let e = ap later same ∙ one.own in omega (arith, known, e)
     | inr differs ↦ let k = h.known id in let e = one.others id differs in omega (arith, k, e, has.longer)
   ];
+  paired = paired_each ways others marks h has adds.paired;
+  few = adds.few h.few;
 }
 
 -- whether the mark was set or was not
-pub still_or_too : (ways others : List RequestState) (marks later : ℕ → ℕ) (number way : ℕ) (is_set : Bool) → AreMarked ways marks → HasWays ways others
-    → ((way : ℕ) → length ways < way → IfSome (way_at others way) IsOver) → (is_set ≡ true → IsOneMark number way marks later) → (is_set ≡ false → HaveSameMarks marks later) → way ≤ length others → AreMarked others later
-still_or_too ways others marks later number way true h has over set same known = marked_too ways others marks later number way h has over (set refl) known
-still_or_too ways others marks later number way false h has over set same known = still_marked ways others marks later h has over (same refl)
+pub still_or_too : (ways others : List RequestState) (marks later : ℕ → ℕ) (number way : ℕ) (is_set : Bool) → AreMarked ways marks → HasWays ways others → AddsWays ways others
+    → (is_set ≡ true → IsOneMark number way marks later) → (is_set ≡ false → HaveSameMarks marks later) → way ≤ length others → AreMarked others later
+still_or_too ways others marks later number way true h has adds set same known = marked_too ways others marks later number way h has adds (set refl) known
+still_or_too ways others marks later number way false h has adds set same known = still_marked ways others marks later h has adds (same refl)
 
 -- Nothing is taken of a stream that is over.
 pub over_advanced : (m : Streams RequestState) (id count : ℕ) (o : Option RequestState) → kept_at m id ≡ o → IfSome o IsOver

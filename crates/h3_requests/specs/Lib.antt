@@ -1,5 +1,6 @@
 pub mod Changing
 pub mod Counted
+pub mod Ends
 pub mod HasBytes
 pub mod Lending
 pub mod Limited

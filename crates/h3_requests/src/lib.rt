@@ -2,6 +2,7 @@
 //! stream, and leaves the other streams as they are.
 #![tactic(auto)]
 
+mod ends;
 mod map;
 mod over;
 mod ready;

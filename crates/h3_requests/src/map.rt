@@ -1,14 +1,15 @@
 //! The request streams by their ids: those under way, found in the order of their ids, and those that are over.
 ghost use Rattle.std.specs.Borrow.{sem};
 ghost use Rattle.std.specs.Option.{option_copied_mut};
-ghost use Rattle.std.specs.Prelude.{◌≡◌, [], None, is_some, IfOk, IfSome, OnErr, OnOk, option_copied};
+ghost use Rattle.std.specs.Prelude.{◌≡◌, [], true, false, None, is_some, IfOk, IfSome, OnErr, OnOk, option_copied};
 ghost use Rattle.h3_blocked.specs.Counting.{waits_at};
 ghost use Rattle.h3_blocked.specs.Sums.{TakesOut};
 ghost use Rattle.h3_connection.specs.Calls.{Sets};
 ghost use Rattle.h3_connection.specs.State.{kept_at};
 ghost use Rattle.h3_connection.specs.StreamSets.{HaveDistinctIds};
 ghost use Rattle.h3_requests.specs.Lending.{LendsStream};
-ghost use Rattle.h3_requests.specs.Over.{IsOver};
+ghost use Rattle.h3_requests.specs.HasBytes.{has_end};
+ghost use Rattle.h3_requests.specs.Over.{IsOver, with_end_taken};
 ghost use Rattle.h3_requests.specs.Refused.{refused_over};
 ghost use Rattle.h3_requests.specs.Stored.{either, over_at, streams_in, under_way_at};
 
@@ -117,6 +118,19 @@ impl StreamMap {
             Some(stream) => stream.incoming.waits_for(),
             None => 0,
         }
+    }
+
+    // The end of a stream that is over is taken, and this tells whether it waited. It takes no memory. Nothing changes where it did not
+    // wait.
+    pub(crate) fn take_end(&mut self, id: StreamId) -> bool
+        requires { under_way_at self.old id ≡ None }
+        ensures told { result ≡ has_end (over_at self.old id) }
+        ensures taken { result ≡ true → IfSome (over_at self.old id) (λ r. Sets (streams_in self.old) (streams_in self.new) id (with_end_taken r)) }
+        ensures same { result ≡ false → self.new ≡ self.old }
+        ensures over { IfSome (over_at self.old id) IsOver }
+        ensures distinct { HaveDistinctIds (streams_in self.new) }
+    {
+        self.over.take_end(id)
     }
 
     // The stream is under way from now on, where it is there, and this tells whether it is. An `Err` changes nothing: memory was

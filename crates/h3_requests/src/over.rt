@@ -3,7 +3,9 @@ ghost use Rattle.std.specs.Prelude.{◌≡◌, ◌<◌, ◌≤◌, ℕ, [], Some
 ghost use Rattle.h3_blocked.specs.Sums.{TakesOut};
 ghost use Rattle.h3_connection.specs.Calls.{Sets};
 ghost use Rattle.h3_connection.specs.State.{kept_at};
-ghost use Rattle.h3_requests.specs.Over.{IsOver, HasWays, way_at};
+ghost use Rattle.h3_outgoing.specs.Sent.{end_waits};
+ghost use Rattle.h3_requests.specs.HasBytes.{has_end};
+ghost use Rattle.h3_requests.specs.Over.{IsOver, AddsWays, HasWays, way_at, with_end_taken};
 
 use crate::stream::RequestStream;
 use h3_proto::stream::StreamId;
@@ -69,7 +71,7 @@ impl OverStreams {
         ensures over { IfSome (kept_at self.old id) IsOver }
     {
         let number = id.into_inner();
-        self.ways.reserve(1)?;
+        self.ways.reserve(2)?;
         self.marks.reserve(alloc, number)
     }
 
@@ -87,6 +89,27 @@ impl OverStreams {
         self.marks.set(id.into_inner(), way)
     }
 
+    /// The end of a stream is taken, and this tells whether it waited. It takes no memory. Nothing changes where it did not wait.
+    pub(crate) fn take_end(&mut self, id: StreamId) -> bool
+        ensures told { result ≡ has_end (kept_at self.old id) }
+        ensures taken { result ≡ true → IfSome (kept_at self.old id) (λ r. Sets self.old self.new id (with_end_taken r)) }
+        ensures same { result ≡ false → self.new ≡ self.old }
+        ensures over { IfSome (kept_at self.old id) IsOver }
+    {
+        let number = id.into_inner();
+        let way = self.marks.get(number);
+        if way == 0 {
+            return false;
+        }
+        let Some(stream) = self.ways.get(way as usize - 1) else {
+            return false;
+        };
+        if !stream.outgoing().end_waits() {
+            return false;
+        }
+        self.marks.set(number, way + 1)
+    }
+
     /// Takes a stream out, where it is among them.
     pub(crate) fn remove(&mut self, id: StreamId)
         ensures takes_out { TakesOut self.old self.new id }
@@ -102,12 +125,27 @@ fn way_of(ways: &mut Vec<RequestStream>, stream: &RequestStream) -> u8
     ensures is { 0 < result → way_at ways.new.items result ≡ Some stream.now }
     ensures known { result ≤ length ways.new.items }
     ensures others { HasWays ways.old.items ways.new.items }
-    ensures over { (way : ℕ) → length ways.old.items < way → IfSome (way_at ways.new.items way) IsOver }
+    ensures adds { AddsWays ways.old.items ways.new.items }
 {
     let known = known_way(ways, stream);
     if known > 0 {
         return known;
     }
+    if stream.outgoing().end_waits() {
+        return add_both(ways, stream);
+    }
+    add_way(ways, stream)
+}
+
+// A way more, in which the end does not wait.
+fn add_way(ways: &mut Vec<RequestStream>, stream: &RequestStream) -> u8
+    requires over { IsOver stream.now }
+    requires ended { end_waits stream.now.outgoing ≡ false }
+    ensures is { 0 < result → way_at ways.new.items result ≡ Some stream.now }
+    ensures known { result ≤ length ways.new.items }
+    ensures others { HasWays ways.old.items ways.new.items }
+    ensures adds { AddsWays ways.old.items ways.new.items }
+{
     let count = ways.len();
     if count >= MOST_WAYS {
         return 0;
@@ -117,6 +155,27 @@ fn way_of(ways: &mut Vec<RequestStream>, stream: &RequestStream) -> u8
         return 0;
     };
     (count + 1) as u8
+}
+
+// A way more, and behind it the same way with the end taken: so a stream whose end is taken later goes on to that one with no memory.
+fn add_both(ways: &mut Vec<RequestStream>, stream: &RequestStream) -> u8
+    requires over { IsOver stream.now }
+    ensures is { 0 < result → way_at ways.new.items result ≡ Some stream.now }
+    ensures known { result ≤ length ways.new.items }
+    ensures others { HasWays ways.old.items ways.new.items }
+    ensures adds { AddsWays ways.old.items ways.new.items }
+{
+    let count = ways.len();
+    if count + 1 >= MOST_WAYS {
+        return 0;
+    }
+    let alloc = *ways.allocator();
+    let Ok(()) = ways.reserve(2) else {
+        return 0;
+    };
+    ways.push_reserved(stream.like(alloc));
+    ways.push_reserved(stream.with_end_taken(alloc));
+    count as u8 + 1
 }
 
 // The way in which a stream is over, or 0 where no other was over so.

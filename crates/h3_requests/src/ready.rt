@@ -1,8 +1,10 @@
-//! The request streams on which bytes wait, in the order of their ids.
-ghost use Rattle.std.specs.Prelude.{◌≡◌, ◌+◌, ℕ, true, false, OnOk};
+//! The request streams on which bytes or an end wait, in the order of their ids.
+ghost use Rattle.std.specs.Prelude.{◌≡◌, ◌≢◌, ◌+◌, ℕ, true, false, OnOk};
 ghost use Rattle.h3_connection.specs.NextWaiting.{IsLeast};
+ghost use Rattle.h3_requests.specs.Ends.{has_place, is_ending};
 ghost use Rattle.h3_requests.specs.Ready.{is_listed, is_ready, IsOneTest};
 
+use crate::ends::EndStreams;
 use h3_proto::stream::StreamId;
 use std::alloc::{AllocError, Global};
 use std::collections::BTreeSet;
@@ -13,16 +15,20 @@ pub(crate) struct ReadyStreams {
     ids: BTreeSet<u64>,
     // the one of them on whose stream nothing waits yet
     reserved: Option<u64>,
+    // those whose ends wait
+    ends: EndStreams,
 }
 
 impl ReadyStreams {
     /// No stream. It takes no memory.
     pub(crate) fn new(alloc: Global) -> ReadyStreams
-        ensures { (q : ℕ) → is_ready result q ≡ false }
+        ensures bytes { (q : ℕ) → is_ready result q ≡ false }
+        ensures ends { (q : ℕ) → is_ending result.ends q ≡ false }
     {
         ReadyStreams {
             ids: BTreeSet::new(alloc),
             reserved: None,
+            ends: EndStreams::new(alloc),
         }
     }
 
@@ -30,6 +36,7 @@ impl ReadyStreams {
     pub(crate) fn reserve(&mut self, id: StreamId) -> Result<(), AllocError>
         ensures listed { OnOk result (is_listed self.new id ≡ true) }
         ensures same { (q : ℕ) → is_ready self.new q ≡ is_ready self.old q }
+        ensures ends { self.new.ends ≡ self.old.ends }
     {
         let number = id.into_inner();
         if self.ids.contains(&number) {
@@ -43,11 +50,24 @@ impl ReadyStreams {
         Ok(())
     }
 
+    /// Room for a stream on which a head goes out, for its bytes and for its end. What is ready stays as it was.
+    pub(crate) fn reserve_both(&mut self, id: StreamId) -> Result<(), AllocError>
+        ensures listed { OnOk result (is_listed self.new id ≡ true) }
+        ensures placed { OnOk result (has_place self.new.ends id ≡ true) }
+        ensures same { (q : ℕ) → is_ready self.new q ≡ is_ready self.old q }
+        ensures ending { (q : ℕ) → is_ending self.new.ends q ≡ is_ending self.old.ends q }
+        ensures places { (q : ℕ) → has_place self.old.ends q ≡ true → has_place self.new.ends q ≡ true }
+    {
+        self.ends.reserve(id)?;
+        self.reserve(id)
+    }
+
     // Takes the stream out again for which room was taken in vain.
     fn release(&mut self)
         ensures same { (q : ℕ) → is_ready self.new q ≡ is_ready self.old q }
         ensures none { self.new.reserved ≡ None }
         ensures fewer { (q : ℕ) → is_listed self.old q ≡ false → is_listed self.new q ≡ false }
+        ensures ends { self.new.ends ≡ self.old.ends }
     {
         let Some(number) = self.reserved.take() else {
             return;
@@ -58,7 +78,8 @@ impl ReadyStreams {
     /// Bytes wait on a stream from now on, for which room was taken, or none do. It takes no memory.
     pub(crate) fn settle(&mut self, id: StreamId, waits: bool)
         requires { waits ≡ true → is_listed self.old id ≡ true }
-        ensures { IsOneTest id waits (is_ready self.old) (is_ready self.new) }
+        ensures bytes { IsOneTest id waits (is_ready self.old) (is_ready self.new) }
+        ensures ends { self.new.ends ≡ self.old.ends }
     {
         let number = id.into_inner();
         if self.reserved == Some(number) {
@@ -67,6 +88,42 @@ impl ReadyStreams {
         if !waits {
             self.ids.remove(&number);
         }
+    }
+
+    /// The end of a stream that has a place waits from now on. It takes no memory.
+    pub(crate) fn put_end(&mut self, id: StreamId)
+        requires { has_place self.old.ends id ≡ true }
+        ensures put { IsOneTest id true (is_ending self.old.ends) (is_ending self.new.ends) }
+        ensures places { (q : ℕ) → has_place self.new.ends q ≡ has_place self.old.ends q }
+        ensures bytes { (q : ℕ) → is_ready self.new q ≡ is_ready self.old q }
+    {
+        self.ends.put(id);
+    }
+
+    /// The end of a stream waits no longer, and its place goes. It takes no memory.
+    pub(crate) fn take_end(&mut self, id: StreamId)
+        ensures taken { IsOneTest id false (is_ending self.old.ends) (is_ending self.new.ends) }
+        ensures places { (q : ℕ) → q ≢ id → has_place self.new.ends q ≡ has_place self.old.ends q }
+        ensures bytes { (q : ℕ) → is_ready self.new q ≡ is_ready self.old q }
+    {
+        self.ends.take(id);
+    }
+
+    /// Neither bytes nor an end wait on a stream from now on. It takes no memory.
+    pub(crate) fn leave(&mut self, id: StreamId)
+        ensures bytes { IsOneTest id false (is_ready self.old) (is_ready self.new) }
+        ensures taken { IsOneTest id false (is_ending self.old.ends) (is_ending self.new.ends) }
+        ensures places { (q : ℕ) → q ≢ id → has_place self.new.ends q ≡ has_place self.old.ends q }
+    {
+        self.settle(id, false);
+        self.ends.take(id);
+    }
+
+    /// The first stream from this id on whose end waits.
+    pub(crate) fn next_end(&self, from: u64) -> Option<StreamId>
+        ensures { IsLeast (is_ending self.now.ends) from result }
+    {
+        self.ends.next(from)
     }
 
     /// The first stream from this id on on which bytes wait.

@@ -3,7 +3,7 @@ ghost use Rattle.std.specs.Prelude.{◌≡◌, ◌||◌, ◌+◌, ◌<◌, ◌�
 ghost use Rattle.std.specs.List.{concat};
 ghost use Rattle.h3_connection.specs.Calls.{fresh_request};
 ghost use Rattle.h3_connection.specs.Delivering.{kept};
-ghost use Rattle.h3_requests.specs.Over.{IsOver, ReceivesAlike, SendsAlike};
+ghost use Rattle.h3_requests.specs.Over.{IsOver, ReceivesAlike, SendsAlike, with_end_taken};
 
 use bytes::Bytes;
 use h3_incoming::IncomingStream;
@@ -101,6 +101,17 @@ impl RequestStream {
         }
     }
 
+    // The same with its end taken.
+    pub(crate) fn with_end_taken(&self, alloc: Global) -> RequestStream
+        requires { IsOver self.now }
+        ensures { result ≡ with_end_taken self.now }
+    {
+        RequestStream {
+            incoming: self.incoming.like(alloc),
+            outgoing: self.outgoing.like_taken(alloc),
+        }
+    }
+
     // Whether so many bytes more have room: no queue of 2^62 bytes fits into memory, and what is refused is 2^61 bytes or more.
     fn has_room_for(&self, len: usize) -> bool
         ensures room { result ≡ true → length (concat self.now.incoming.unread) + len < 2 ^ 64 }
@@ -143,4 +154,5 @@ fn sends_alike(stream: &OutgoingStream, other: &OutgoingStream) -> bool
     stream.place() == other.place()
         && stream.is_finished() == other.is_finished()
         && stream.is_reset() == other.is_reset()
+        && stream.end_taken() == other.end_taken()
 }

@@ -25,7 +25,7 @@ pub struct RequestStreams {
     streams: StreamMap,
     // what the streams wait for
     blocked: Blocked,
-    // those on which bytes wait to be sent
+    // those on which bytes or an end wait to be sent
     ready: ReadyStreams,
 }
 
@@ -73,7 +73,7 @@ impl RequestStreams {
             return Err(AllocError);
         };
         self.blocked.replace(before, 0);
-        self.ready.settle(id, false);
+        self.ready.leave(id);
         Ok(())
     }
 
@@ -83,6 +83,6 @@ impl RequestStreams {
     {
         let before = self.streams.remove(id);
         self.blocked.replace(before, 0);
-        self.ready.settle(id, false);
+        self.ready.leave(id);
     }
 }

@@ -7,6 +7,7 @@ pub mod Parts
 pub mod SendingBodies
 pub mod Taking
 pub mod Next
+pub mod Endings
 pub mod Held
 pub mod Inserting
 pub mod SendingSections

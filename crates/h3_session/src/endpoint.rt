@@ -19,6 +19,7 @@ use std::collections::VecDeque;
 use std::marker::Model;
 
 mod copying;
+mod ending;
 mod heads;
 mod next;
 mod pulling;

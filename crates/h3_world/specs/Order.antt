@@ -17,9 +17,9 @@ is_end _ = false
 abbrev pub is_finished : Flow → Bool
 is_finished f = not f.is_reset && is_end (last_part f.sent)
 
--- The flow as an endpoint has it that sends it: its rules say which part may come next.
+-- The flow as an endpoint has it that sends it: its rules say which part may come next. No event of a schedule says that a FIN was taken.
 abbrev pub outgoing_of : Flow → Outgoing
-outgoing_of f = record { parts = flat_map own_part f.sent; taken = f.delivered; is_finished = is_finished f; is_reset = f.is_reset }
+outgoing_of f = record { parts = flat_map own_part f.sent; taken = f.delivered; is_finished = is_finished f; is_reset = f.is_reset; end_taken = false }
 
 -- reset before, or finished and handed over whole
 abbrev pub is_sent_off : Flow → Bool

@@ -18,7 +18,7 @@ use h3_proto::stream::StreamId;
 use std::alloc::Global;
 
 impl RequestStreams {
-    /// Room for the frame of a head, so that sending it needs no memory. Refused are, in this order, a stream that is not there, one
+    /// Room for the frame of a head, and for the stream's end, so that neither needs memory. Refused are, in this order, a stream that is not there, one
     /// whose final head or end was sent, what `later` refuses, and want of memory.
     pub fn reserve_head(
         &mut self,
@@ -42,7 +42,7 @@ impl RequestStreams {
         let Ok(frame) = stream.outgoing.reserve() else {
             return Err(Refusal::OutOfMemory);
         };
-        let Ok(()) = self.ready.reserve(id) else {
+        let Ok(()) = self.ready.reserve_both(id) else {
             return Err(Refusal::OutOfMemory);
         };
         Ok(SectionRoom::of(id, frame, &self.ready))
@@ -123,6 +123,7 @@ impl RequestStreams {
         }
         stream.outgoing.finish();
         let is_over = stream.is_over();
+        self.ready.put_end(id);
         self.streams.retire_if(id, is_over);
         Ok(())
     }
@@ -143,7 +144,7 @@ impl RequestStreams {
         }
         stream.outgoing.reset();
         let is_over = stream.is_over();
-        self.ready.settle(id, false);
+        self.ready.leave(id);
         self.streams.retire_if(id, is_over);
         Ok(())
     }

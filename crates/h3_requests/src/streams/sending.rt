@@ -1,11 +1,12 @@
 //! What is sent on a request stream.
-ghost use Rattle.std.specs.Prelude.{◌≡◌, None, is_some, length, min, OnOk, IfErr, IfSome, IsSome};
+ghost use Rattle.std.specs.Prelude.{◌≡◌, true, false, None, is_some, length, min, OnOk, IfErr, IfSome, IsSome};
 ghost use Rattle.h3_connection.specs.Calls.{Sets, AllSame};
 ghost use Rattle.h3_connection.specs.NextWaiting.{IsLeast};
 ghost use Rattle.h3_connection.specs.State.{kept_at};
 ghost use Rattle.h3_connection.specs.WaitingPieces.{bytes_of};
 ghost use Rattle.h3_outgoing.specs.Sent.{has_section, taken_from};
-ghost use Rattle.h3_requests.specs.HasBytes.{has_bytes};
+ghost use Rattle.h3_requests.specs.HasBytes.{has_bytes, has_end, gives_end};
+ghost use Rattle.h3_requests.specs.Over.{with_end_taken};
 
 use super::RequestStreams;
 use crate::room::SectionRoom;
@@ -31,7 +32,7 @@ impl RequestStreams {
         let Some(stream) = self.streams.get_mut(id) else {
             return Err(section);
         };
-        let Ok(()) = self.ready.reserve(id) else {
+        let Ok(()) = self.ready.reserve_both(id) else {
             return Err(section);
         };
         if let Err(section) = stream.outgoing.send_section(frame, section, place) {
@@ -66,5 +67,34 @@ impl RequestStreams {
         ensures { IsLeast (λ id. has_bytes (kept_at self.now id)) from result }
     {
         self.ready.next(from)
+    }
+
+    /// Takes the end of a stream, where it waits and no bytes wait ahead of it, and answers whether that is so. It takes no memory.
+    /// Nothing happens where it is not so.
+    pub fn take_end(&mut self, id: StreamId) -> bool
+        ensures told { result ≡ gives_end (kept_at self.old id) }
+        ensures taken { result ≡ true → IfSome (kept_at self.old id) (λ r. Sets self.old self.new id (with_end_taken r)) }
+        ensures same { result ≡ false → AllSame self.old self.new }
+    {
+        let Some(stream) = self.streams.get_mut(id) else {
+            if !self.streams.take_end(id) {
+                return false;
+            }
+            self.ready.take_end(id);
+            return true;
+        };
+        if !stream.outgoing.take_end() {
+            return false;
+        }
+        self.ready.take_end(id);
+        true
+    }
+
+    /// The first stream from this id on whose end waits, and none where no end waits from there on. It takes no memory, and looks at 64
+    /// streams at once, among those that may be finished or whose ends wait.
+    pub fn next_end(&self, from: u64) -> Option<StreamId>
+        ensures { IsLeast (λ id. has_end (kept_at self.now id)) from result }
+    {
+        self.ready.next_end(from)
     }
 }

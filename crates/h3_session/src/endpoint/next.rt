@@ -60,7 +60,7 @@ impl Endpoint {
 }
 
 /// The lesser of two ids.
-fn earlier(one: Option<StreamId>, other: Option<StreamId>) -> Option<StreamId>
+pub(super) fn earlier(one: Option<StreamId>, other: Option<StreamId>) -> Option<StreamId>
     ensures { result ≡ earlier_of one other }
 {
     match (one, other) {

@@ -1,4 +1,4 @@
-use Rattle.h3_connection.proofs.StandsBounds.{made_bounded, received_bounded, pulled_bounded, opened_bounded, head_bounded, body_bounded, trailer_bounded, finish_bounded, reset_bounded, goaway_bounded, cancel_bounded, advance_bounded}
+use Rattle.h3_connection.proofs.StandsBounds.{made_bounded, received_bounded, pulled_bounded, opened_bounded, head_bounded, body_bounded, trailer_bounded, finish_bounded, reset_bounded, goaway_bounded, cancel_bounded, advance_bounded, end_bounded}
 use Rattle.h3_connection.proofs.laws.endpoints_stay_bounded.Goals as goal
 
 pub returns-clause-made : goal.returns-clause-made
@@ -36,3 +36,6 @@ returns-clause-canceled c = cancel_bounded
 
 pub returns-clause-advanced : goal.returns-clause-advanced
 returns-clause-advanced c = advance_bounded
+
+pub returns-clause-end : goal.returns-clause-end
+returns-clause-end c = end_bounded

@@ -6,12 +6,12 @@ use Rattle.h3_requests.proofs.over.OverStreams.put.Goals as goal
 
 pub invariant_of-self : goal.invariant_of-self
 invariant_of-self c =
-    still_marked c.self.inside.ways.items c.way_of-way.new.ways.items (mark_at c.self.inside.marks) (mark_at c.self.inside.marks) c.self.invariant c.way_of-way.ensures.others c.way_of-way.ensures.over (λ id. refl)
+    still_marked c.self.inside.ways.items c.way_of-way.new.ways.items (mark_at c.self.inside.marks) (mark_at c.self.inside.marks) c.self.invariant c.way_of-way.ensures.others c.way_of-way.ensures.adds (λ id. refl)
 
 pub invariant_of-self-2 : goal.invariant_of-self-2
 invariant_of-self-2 c =
     still_or_too c.self.inside.ways.items c.way_of-way.new.ways.items (mark_at c.self.inside.marks) (mark_at c.set.new.self) c.into_inner.result c.way_of-way.result c.set.result c.self.invariant c.way_of-way.ensures.others
-    c.way_of-way.ensures.over c.set.ensures.set c.set.ensures.same c.way_of-way.ensures.known
+    c.way_of-way.ensures.adds c.set.ensures.set c.set.ensures.same c.way_of-way.ensures.known
 
 pub returns-clause-put : goal.returns-clause-put
 returns-clause-put c = λ set.

@@ -4,7 +4,7 @@ use Rattle.std.specs.Option.{option_copied_mut}
 use Rattle.h3_connection.specs.State.{kept_at}
 use Rattle.h3_requests.specs.Stored.{either, over_at}
 use Rattle.h3_requests.proofs.Ways.{over_advanced}
-use Rattle.h3_requests.proofs.Sendable.{moved, listed_before, settled}
+use Rattle.h3_requests.proofs.Sendable.{had_place, moved, listed_before, settled}
 use Rattle.h3_requests.proofs.streams.RequestStreams.advance.Goals as goal
 
 pub settle-requires : goal.settle-requires
@@ -13,7 +13,8 @@ settle-requires c = listed_before _ _ _ c.args.id c.min.result _ c.in-Some.strea
 pub invariant_of-self-2 : goal.invariant_of-self-2
 invariant_of-self-2 c =
     moved c.retire_if.ensures
-    (settled _ _ _ _ _ c.args.id _ c.in-Some.stream.now _ (c.get_mut.follows.holds _) (search rules) (search rules) c.settle.ensures (search rules) c.self.invariant)
+    (settled _ _ _ _ _ c.args.id _ c.in-Some.stream.now _ (c.get_mut.follows.holds _) (search rules) (search rules) c.settle.ensures.bytes (search rules) c.settle.ensures.ends (search rules)
+    (had_place _ _ _ _ c.args.id c.in-Some.stream.now _ (c.get_mut.follows.holds _) (search rules) (search rules) c.self.invariant) c.self.invariant)
 
 -- nothing waits on a stream that is over
 pub returns-in_default-clause-there : goal.returns-in_default-clause-there

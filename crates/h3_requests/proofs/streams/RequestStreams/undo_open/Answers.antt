@@ -9,4 +9,4 @@ replace-requires-clause-among c = has_count_at _ _ c.args.id _ c.remove-before.e
 pub invariant_of-self : goal.invariant_of-self
 invariant_of-self c =
     removed _ _ _ _ _ _ c.args.id _ c.remove-before.ensures.takes_out c.remove-before.ensures.distinct c.remove-before.ensures.before
-    c.replace.ensures.sound c.replace.ensures.replaced c.settle.ensures c.self.invariant
+    c.replace.ensures.sound c.replace.ensures.replaced c.leave.ensures.bytes c.leave.ensures.taken c.leave.ensures.places c.self.invariant

@@ -1,0 +1,194 @@
+//! The request streams whose ends wait, in the order of their ids.
+ghost use Rattle.std.specs.Prelude.{◌≡◌, ◌≢◌, ◌<◌, ◌≤◌, ◌+◌, ◌*◌, ◌/◌, ◌%◌, ◌^◌, ◌==◌, ℕ, true, false, bit_and, bit_or, IfSome, IfNone, OnOk, OnErr};
+ghost use Rattle.std.specs.Int.{bit_not, w64};
+ghost use Rattle.h3_connection.specs.NextWaiting.{IsLeast};
+ghost use Rattle.h3_requests.specs.Ends.{has_place, is_ending, places_at, waiting_at, IsFirstWord, IsOneWord, HaveSameWords};
+ghost use Rattle.h3_requests.specs.Ready.{IsOneTest};
+
+use h3_proto::stream::StreamId;
+use std::alloc::{AllocError, Global};
+use std::collections::BTreeMap;
+
+/// The ids of request streams are four apart (RFC 9000, section 2.1).
+const STEP: u64 = 4;
+
+/// How many streams share a word.
+const WORD: u64 = 64;
+
+/// Of 64 streams, one behind the other, which have a place, and which ends wait.
+#[derive(Clone, Copy)]
+struct Word {
+    places: u64,
+    waiting: u64,
+}
+
+/// The streams whose ends wait, by a bit each in words of 64, and those that have a place: one that has a place is put in with no memory.
+#[derive(Drop)]
+pub(crate) struct EndStreams {
+    // of each number the streams from 256 times that on, where one has a place or its end waits
+    words: BTreeMap<u64, Word>,
+}
+
+/// The number of the word in which a stream has its bit.
+fn word_of(stream: u64) -> u64
+    ensures { result ≡ stream / 256 }
+{
+    stream / (STEP * WORD)
+}
+
+/// The stream's bit in its word.
+fn bit_of(stream: u64) -> u64
+    ensures { result ≡ 1 * 2 ^ (stream / 4 % 64) % 2 ^ 64 }
+{
+    1 << (stream / STEP % WORD)
+}
+
+/// The stream of a place in a word; none beyond the last stream id.
+fn stream_at(number: u64, place: u64) -> Option<StreamId>
+    requires { place < 64 }
+    ensures some { IfSome result (λ id. (id ≡ number * 256 + place * 4) × (id < 2 ^ 62)) }
+    ensures none { IfNone result (2 ^ 62 ≤ number * 256 + place * 4) }
+{
+    if number >= 1 << 54 {
+        return None;
+    }
+    let Ok(id) = StreamId::try_from((number * WORD + place) * STEP) else {
+        return None;
+    };
+    Some(id)
+}
+
+impl EndStreams {
+    /// No stream. It takes no memory.
+    pub(crate) fn new(alloc: Global) -> EndStreams
+        ensures { (q : ℕ) → is_ending result q ≡ false }
+    {
+        EndStreams {
+            words: BTreeMap::new(alloc),
+        }
+    }
+
+    /// A place for a request stream, so that its end can come to wait with no memory. Which ends wait stays as it was.
+    pub(crate) fn reserve(&mut self, id: StreamId) -> Result<(), AllocError>
+        ensures placed { OnOk result (has_place self.new id ≡ true) }
+        ensures kept { (q : ℕ) → has_place self.old q ≡ true → has_place self.new q ≡ true }
+        ensures same { (q : ℕ) → is_ending self.new q ≡ is_ending self.old q }
+    {
+        let number = id.into_inner();
+        if number % STEP != 0 {
+            return Err(AllocError);
+        }
+        self.add_places(word_of(number), bit_of(number))
+    }
+
+    // Places are added to a word.
+    fn add_places(&mut self, number: u64, bits: u64) -> Result<(), AllocError>
+        ensures ok { OnOk result (IsOneWord number (bit_or (places_at self.old number) bits) (places_at self.old) (places_at self.new)) }
+        ensures err { OnErr result (HaveSameWords (places_at self.old) (places_at self.new)) }
+        ensures waiting { HaveSameWords (waiting_at self.old) (waiting_at self.new) }
+    {
+        if let Some(word) = self.words.get_mut(&number) {
+            word.places |= bits;
+            return Ok(());
+        }
+        let word = Word {
+            places: bits,
+            waiting: 0,
+        };
+        let Ok(_) = self.words.insert(number, word) else {
+            return Err(AllocError);
+        };
+        Ok(())
+    }
+
+    /// The end of a stream that has a place waits from now on. It takes no memory.
+    pub(crate) fn put(&mut self, id: StreamId)
+        requires { has_place self.old id ≡ true }
+        ensures put { IsOneTest id true (is_ending self.old) (is_ending self.new) }
+        ensures places { (q : ℕ) → has_place self.new q ≡ has_place self.old q }
+    {
+        let number = id.into_inner();
+        self.add_waiting(word_of(number), bit_of(number));
+    }
+
+    // Ends are added to a word that is there.
+    fn add_waiting(&mut self, number: u64, bits: u64)
+        requires { places_at self.old number ≢ 0 }
+        ensures waiting { IsOneWord number (bit_or (waiting_at self.old number) bits) (waiting_at self.old) (waiting_at self.new) }
+        ensures places { HaveSameWords (places_at self.old) (places_at self.new) }
+    {
+        if let Some(word) = self.words.get_mut(&number) {
+            word.waiting |= bits;
+        }
+    }
+
+    /// The end of a stream waits no longer, and its place goes. It takes no memory.
+    pub(crate) fn take(&mut self, id: StreamId)
+        ensures taken { IsOneTest id false (is_ending self.old) (is_ending self.new) }
+        ensures places { (q : ℕ) → q ≢ id → has_place self.new q ≡ has_place self.old q }
+    {
+        let number = id.into_inner();
+        if number % STEP != 0 {
+            return;
+        }
+        self.take_bits(word_of(number), bit_of(number));
+    }
+
+    // Takes bits out of a word. One without bits goes.
+    fn take_bits(&mut self, number: u64, bits: u64)
+        ensures waiting { IsOneWord number (bit_and (waiting_at self.old number) (bit_not w64 bits)) (waiting_at self.old) (waiting_at self.new) }
+        ensures places { IsOneWord number (bit_and (places_at self.old number) (bit_not w64 bits)) (places_at self.old) (places_at self.new) }
+    {
+        let Some(word) = self.words.get_mut(&number) else {
+            return;
+        };
+        word.places &= !bits;
+        word.waiting &= !bits;
+        if word.places == 0 && word.waiting == 0 {
+            self.words.remove(&number);
+        }
+    }
+
+    /// The first stream from this id on whose end waits. It takes no memory, and looks at 64 streams at once.
+    pub(crate) fn next(&self, from: u64) -> Option<StreamId>
+        ensures { IsLeast (is_ending self.now) from result }
+    {
+        let Some(end) = from.checked_add(STEP - 1) else {
+            return None;
+        };
+        let first = end / STEP;
+        let number = first / WORD;
+        let place = first % WORD;
+        let here = self.waiting_in(number) >> place;
+        if here != 0 {
+            return stream_at(number, place + here.trailing_zeros() as u64);
+        }
+        let Some((number, word)) = self.next_word(number + 1) else {
+            return None;
+        };
+        stream_at(number, word.trailing_zeros() as u64)
+    }
+
+    // Which ends of a word wait.
+    fn waiting_in(&self, number: u64) -> u64
+        ensures { result ≡ waiting_at self.now number }
+    {
+        match self.words.get(&number) {
+            Some(word) => word.waiting,
+            None => 0,
+        }
+    }
+
+    // The first word from this number on in which an end waits.
+    fn next_word(&self, from: u64) -> Option<(u64, u64)>
+        ensures { IsFirstWord (waiting_at self.now) from result }
+    {
+        for (number, word) in self.words.range(from..) {
+            let waiting = word.waiting;
+            if waiting != 0 {
+                return Some((*number, waiting));
+            }
+        }
+        None
+    }
+}
