@@ -13,3 +13,6 @@ pub mod Typed
 pub mod Headlines
 pub mod Messages
 pub mod Frames
+pub mod Outline
+pub mod SendingLists
+pub mod JudgedLists
