@@ -15,9 +15,8 @@ help: ## list the commands
 need-rt:
 	@bash scripts/need.sh rt
 
-run: need-rt ## run the program on examples/first.talk, or SCRIPT=file, built without proof (rt try): the answers are printed
-	@log=$$(mktemp); cd crates/h3_talk && rt try < "$(abspath $(SCRIPT))" 2> "$$log"; status=$$?; \
-	if [ $$status -ne 0 ] && ! grep -q '^run=ended status=[12] ' "$$log"; then cat "$$log" >&2; fi; rm -f "$$log"; exit $$status
+run: need-rt ## run the program on examples/first.talk, or SCRIPT=file: the answers are printed (built without proof, where `make build` left none)
+	@python3 scripts/talk.py "$(SCRIPT)"
 
 draw: need-rt ## draw what examples/first.talk, or SCRIPT=file, does, as a sequence diagram (Mermaid; scripts/draw.py SCRIPT --svg FILE: a picture)
 	@python3 scripts/draw.py "$(SCRIPT)"
