@@ -8,6 +8,7 @@
 - No line of a page is longer than 140 characters (in rows of tables the targets of links are not counted, and the tables of WIDE_TABLES may be
   wider), and no page has more than 300 lines, README at most 90. The pages of WHOLE are left aside, and the contracts that a CALLING.md quotes.
 - A block of code behind a line `<!-- from PATH -->` stands in that file, line by line; in the pages SNIPPETS every block of C, Rust, Go and Mermaid has such a line.
+- Each page of docs has a paragraph below its title, and ends with a line 'Next: ..'.
 - docs/C_API.md has each call of include/h3.h, and names none that is not there.
 - scripts/README.md has each file of scripts/.
 - README and docs/PROVED.md say how many edits must be refused, and how many of them a reader judged."""
@@ -180,6 +181,16 @@ def miscounted():
                 yield f"{page}: there are {count}, and it says '{found and found[0]}' (python3 scripts/pages.py --write)"
 
 
+def without_frame():
+    """pages of docs that have no purpose below their title, or no link to the next at their end"""
+    for page in sorted(it for it in files("docs") if it.endswith(".md")):
+        parts = read(page).strip().split("\n\n")
+        if not re.match(r"# [^\n]+$", parts[0]) or not re.match(r"\w", parts[1]):
+            yield f"{page} has no sentence below its title that says what it is for"
+        if not re.match(r"Next: \[", parts[-1]):
+            yield f"{page} has no line 'Next: [..](..).' at its end"
+
+
 def api():
     """where docs/C_API.md lacks a call of the header, or names what is not there"""
     header, page = read("include/h3.h"), read("docs/C_API.md")
@@ -216,6 +227,7 @@ def main():
     wrong = [it for _, them in found for it in them]
     fine &= say(wrong, f"pages: {sum(count for count, _ in found)} snippets stand in their files", "pages, a snippet")
     fine &= say(list(miscounted()), f"{' and '.join(COUNTING)} count the edits", "pages, a count of edits")
+    fine &= say(list(without_frame()), "docs: each page says what it is for, and which page comes next", "docs")
     fine &= say(list(api()), "docs/C_API.md has each call of include/h3.h", "docs/C_API.md")
     fine &= say(list(not_in_index()), f"{INDEX} has each file of scripts", INDEX)
     sys.exit(0 if fine else 1)
