@@ -69,7 +69,7 @@ bench-long: ## print what a connection that lives long costs, EXCHANGES=1000000 
 interop: need-rt ## show that nghttp3 reads what we write and we what it writes, and that the examples talk with HTTP/3 peers over QUIC
 	@bash scripts/interop.sh
 
-upstream-root: ## make in build/trixie, once and as root, a root of Debian 13 with the Rust crate h3, beside which `make interop` then runs ours
+upstream-root: ## make in build/trixie, once and as root, a root of Debian 13 with the Rust crate h3 and further peers, for `make interop`
 	@bash scripts/interop/upstream.sh root
 
 load: ## print what the example servers carry under load, beside gtlsserver and Caddy, over the folder that `make lib` leaves

@@ -253,12 +253,6 @@ async def case_fields(client, words):
         await client.whole(client.ask("GET", "/hello.txt", *fields))
 
 
-async def case_large(client, words):
-    fields = [(f"x-large-{i}".encode(), b"a" * 800) for i in range(20)]
-    for _ in range(3):
-        await client.whole(client.ask("GET", "/hello.txt", *fields))
-
-
 async def case_trailers(client, words):
     stream_id = client.ask("POST", "/answer", (b"trailer", b"x-sum"), end=False)
     client.send(stream_id, b"abc", False)
@@ -313,7 +307,6 @@ CASES = {
     "100 requests at once": case_many,
     "500 requests, one behind the other": case_serial,
     "100 fields, three times": case_fields,
-    "a head of 16,000 bytes, three times": case_large,
     "a request with a trailer": case_trailers,
     "20 uploads that are aborted": case_upload_aborted,
     "20 downloads that are stopped": case_download_stopped,
