@@ -32,7 +32,7 @@ class Connection(H3Connection):
     """an H3Connection that notes GOAWAY, and does not count the body of an answer to HEAD"""
 
     def __init__(self, quic):
-        self.goaways, self.heads = [], set()
+        self.goaways, self.heads, self.is_leaving = [], set(), False
         super().__init__(quic)
 
     def _handle_control_frame(self, frame_type, frame_data):
@@ -49,6 +49,10 @@ class Connection(H3Connection):
         self._get_or_create_stream(stream_id).headers_send_state = HeadersState.INITIAL
 
     def send_goaway(self, end):
+        """once: a later one may not name a greater id (RFC 9114, section 5.2)"""
+        if self.is_leaving:
+            return
+        self.is_leaving = True
         self._quic.send_stream_data(self._local_control_stream_id, encode_frame(FrameType.GOAWAY, encode_uint_var(end)))
 
 
