@@ -52,8 +52,9 @@ curl_says() { # TEXT, arguments of curl: status, a blank, and the bytes of the b
   shift
   [ "$(within 60 "${curl3[@]}" -o /dev/null -w '%{http_version} %{response_code} %{size_download}' "$@")" = "3 $text" ]
 }
-# One connection of curl 8.14.1 in twenty, of those that begin with requests at once, never sends its control and encoder stream: the requests that
-# name entries of its table then wait for ever. So there are three tries.
+# One connection of curl 8.14.1 in twenty, of those that begin with many requests at once, never sends its control and encoder stream (so in the log of
+# quic-go's own HTTP/3: of 80 connections 4 without a frame of these streams, and no packet missing). Where it names entries of its table, the requests that do
+# wait for ever. So there are three tries.
 curl_many() { # PORT
   curl_once "$1" || curl_once "$1" || curl_once "$1"
 }
