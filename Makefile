@@ -15,9 +15,8 @@ help: ## list the commands
 need-rt:
 	@bash scripts/need.sh rt
 
-run: need-rt ## run the program on examples/first.talk, or SCRIPT=file, built without proof (rt try): the answers are printed
-	@log=$$(mktemp); cd crates/h3_talk && rt try < "$(abspath $(SCRIPT))" 2> "$$log"; status=$$?; \
-	if [ $$status -ne 0 ] && ! grep -q '^run=ended status=[12] ' "$$log"; then cat "$$log" >&2; fi; rm -f "$$log"; exit $$status
+run: need-rt ## run the program on examples/first.talk, or SCRIPT=file: the answers are printed (built without proof, where `make build` left none)
+	@python3 scripts/talk.py "$(SCRIPT)"
 
 draw: need-rt ## draw what examples/first.talk, or SCRIPT=file, does, as a sequence diagram (Mermaid; scripts/draw.py SCRIPT --svg FILE: a picture)
 	@python3 scripts/draw.py "$(SCRIPT)"
@@ -70,7 +69,7 @@ bench-long: ## print what a connection that lives long costs, EXCHANGES=1000000 
 interop: need-rt ## show that nghttp3 reads what we write and we what it writes, and that the examples talk with HTTP/3 peers over QUIC
 	@bash scripts/interop.sh
 
-upstream-root: ## make in build/trixie, once and as root, a root of Debian 13 with the Rust crate h3, beside which `make interop` then runs ours
+upstream-root: ## make in build/trixie, once and as root, a root of Debian 13 with the Rust crate h3 and further peers, for `make interop`
 	@bash scripts/interop/upstream.sh root
 
 load: ## print what the example servers carry under load, beside gtlsserver and Caddy, over the folder that `make lib` leaves

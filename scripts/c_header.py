@@ -62,6 +62,17 @@ def crate_structs():
     return found
 
 
+RUST = {"Config": "h3_config", "FieldSize": "h3_field_size", "RawItem": "h3_item", "StreamState": "h3_stream_state", "ConnectionState": "h3_state"}
+
+
+def rust_structs():
+    """the structs of the wrapper in Rust, by their names in C: what is handed over has to have all fields"""
+    found = {}
+    for name, body in re.findall(r"#\[repr\(C\)\]\n(?:#\[[^\n]*\n)*(?:pub )?struct (\w+) \{\n(.*?)^\}", open("examples/rust/h3.rs").read(), re.M | re.S):
+        found[RUST.get(name, name)] = [(TYPES[kind], field) for field, kind in re.findall(r"^    (?:pub )?(\w+): (\w+),", body, re.M)]
+    return found
+
+
 def numbers(text, enum):
     body = re.search(r"enum %s \{(.*?)\};" % enum, text, re.S)[1]
     return {name: int(n) for name, n in re.findall(r"(H3_\w+) = (\d+)", body)}
@@ -90,6 +101,9 @@ def main():
     here, there = c_structs(header), crate_structs()
     wrong = [(it, there[it], here.get(TYPES[it])) for it in sorted(there) if it != "Handle" and there[it] != here.get(TYPES[it])]
     tell(len(there) == 6 and here["h3_endpoint"] == [] and not wrong, "its structs are those that cross", wrong)
+    rust = rust_structs()
+    wrong = [(it, rust.get(it), here[it]) for it in RUST.values() if rust.get(it) != here[it]]
+    tell(not wrong, "the structs of examples/rust/h3.rs have its fields", wrong)
     code, answers = open("crates/h3_c/src/numbers.rt").read(), numbers(header, "h3_answer")
     told = {snake(name): int(n) for name, n in re.findall(r"Refusal::(\w+)(?:\(\w+\))? => (?:plain|with)\((\d+)", code)}
     told.update({f"H3_{name}": int(n) for name, n in re.findall(r"const (\w+): Told = Told \{\s+number: (\d+),", code)})

@@ -5,15 +5,17 @@
     python3 scripts/calling.py --write   writes the quoted contracts anew; what stands above them stays
 
 A page is written by hand up to its heading '## Contracts'; code that it quotes below a line 'From `PATH`:' has to stand in that file so. Below the heading stand the public functions of the crate's public modules, each with its
-`requires` and `ensures`, in the order of the sources. A clause that is longer than a line is joined to one. What is private, `pub(crate)` or a
-law is left out.
+`requires` and `ensures`, in the order of the sources. A clause is joined to one line, and wrapped where that is too long. What is private, `pub(crate)` or
+a law is left out.
 """
 import os
 import re
 import sys
+import textwrap
 
 TOP = os.path.dirname(os.path.dirname(os.path.abspath(__file__)))
 HEADING = "## Contracts"
+LONGEST = 140
 INTRODUCTION = """
 These are quoted from `src/` by `scripts/calling.py`. In a clause `x.old` and `x.new` are what a borrowed value is at the call and at the
 return, and `x.now` what a shared one is; `IfOk result P` says P of the value where the result is `Ok`, `OnOk result F` says F where it is.
@@ -97,12 +99,17 @@ def contracts_of(file):
         at += 1
 
 
+def wrapped(line, indent):
+    return textwrap.wrap(line, LONGEST, subsequent_indent=indent, break_long_words=False, break_on_hyphens=False)
+
+
 def quoted(crate):
     written = []
     for file in public_files(crate):
         lines = []
         for signature, clauses in contracts_of(file):
-            lines += [signature, *[f"  {it}" for it in clauses]]
+            lines += wrapped(signature, "    ")
+            lines += [line for it in clauses for line in wrapped(f"  {it}", "      ")]
         if lines:
             path = os.path.relpath(file, f"{TOP}/crates/{crate}/src")
             written += [f"`{path}`:", "", "```text", *lines, "```", ""]

@@ -52,10 +52,16 @@ curl_says() { # TEXT, arguments of curl: status, a blank, and the bytes of the b
   shift
   [ "$(within 60 "${curl3[@]}" -o /dev/null -w '%{http_version} %{response_code} %{size_download}' "$@")" = "3 $text" ]
 }
+# One connection of curl 8.14.1 in twenty, of those that begin with many requests at once, never sends its control and encoder stream (so in the log of
+# quic-go's own HTTP/3: of 80 connections 4 without a frame of these streams, and no packet missing). Where it names entries of its table, the requests that do
+# wait for ever. So there are three tries.
 curl_many() { # PORT
+  curl_once "$1" || curl_once "$1" || curl_once "$1"
+}
+curl_once() { # PORT
   local urls=()
   for i in $(seq 0 99); do urls+=(-o "$there/small-$i" "$(url "$1" "/small/$i.txt")"); done
-  within 60 "${curl3[@]}" -Z --parallel-max 50 "${urls[@]}" || return 1
+  within 20 "${curl3[@]}" -Z --parallel-max 50 "${urls[@]}" || return 1
   for i in $(seq 0 99); do cmp -s "$root$there/small-$i" "$folder/small/$i.txt" || return 1; done
 }
 curl_aborts() { # PORT: the upload is given up behind a second, and the server goes on
@@ -230,20 +236,20 @@ debian13() {
   relay "${ports[7]}" "${ports[6]}"
   servers13 aioquic "${ports[6]}" "${ports[7]}"
   verbose "aioquic: 103" "interim 103 status 200" "$work/hints" /103 "${ports[6]}"
-  both "aioquic: a response that the peer resets" "refuses reset\|kind.14" /reset "${ports[6]}"
+  both "aioquic: a response that the peer resets" "refuses reset\|H3_FAULT_RESET" /reset "${ports[6]}"
   both "aioquic: an answer that stops a POST of 10 MB" "gives $work/early" /early "${ports[6]}" --post "$big"
   check "fetch, aioquic: GOAWAY" refuses "takes no more requests" "${ours[@]}" --count 2 "$(url "${ports[6]}" /goaway)"
-  check "Go client, aioquic: GOAWAY" refuses "answer 7" "${go_ours[@]}" --count 2 "$cert" "$(url "${ports[6]}" /goaway)"
+  check "Go client, aioquic: GOAWAY" refuses "H3_GOING_AWAY" "${go_ours[@]}" --count 2 "$cert" "$(url "${ports[6]}" /goaway)"
 
   proxies
   servers13 nginx "${ports[8]}" "${ports[9]}"
-  both "nginx: a response that is cut" "refuses reset\|kind.14\|closed" /cut "${ports[8]}"
+  both "nginx: a response that is cut" "refuses reset\|H3_FAULT_RESET\|closed" /cut "${ports[8]}"
   both "nginx: an answer that stops a POST of 10 MB" "gives $work/early" /early "${ports[8]}" --post "$big"
   check "fetch, nginx with keepalive_requests 50: GOAWAY" refuses "takes no more requests" "${ours[@]}" --count 80 "$(url "${ports[10]}" /hello.txt)"
-  check "Go client, nginx with keepalive_requests 50: GOAWAY" refuses "answer 7" "${go_ours[@]}" --count 80 "$cert" "$(url "${ports[10]}" /hello.txt)"
+  check "Go client, nginx with keepalive_requests 50: GOAWAY" refuses "H3_GOING_AWAY\|error 0x100" "${go_ours[@]}" --count 80 "$cert" "$(url "${ports[10]}" /hello.txt)"
   servers13 haproxy "${ports[11]}" "${ports[12]}"
-  verbose "haproxy: 103" "interim 103 status 200" "$work/hints" /103 "${ports[11]}"
-  both "haproxy: a response that is cut" "refuses reset\|kind.14" /cut "${ports[11]}"
+  # no 103 of haproxy: 3.0.11 sends a broken message, and then fails a check of its own, with curl as with ours
+  both "haproxy: a response that is cut" "refuses reset\|H3_FAULT_RESET" /cut "${ports[11]}"
 
   start13 "${ports[13]}" gtlsserver.log gtlsserver -q -d $there/folder 127.0.0.1 "${ports[13]}" $there/key.pem $there/cert.pem
   both "gtlsserver 1.11: 10 MB" "gives $big" /big.bin "${ports[13]}"

@@ -2,24 +2,30 @@
 """Are the pages of this repository as a reader needs them?
 
     python3 scripts/pages.py           compares: one line 'ok ..' or 'failed ..' for each of these
-    python3 scripts/pages.py --write   writes the counts of edits into README anew
+    python3 scripts/pages.py --write   wraps the paragraphs that have a line that is too long, and writes the counts of edits into README anew
 
 - No link of a page is dead: neither its file nor its heading.
-- No line of the pages in SHORT_LINES is longer than 140 characters (of the rows of tables targets of links are not counted), and README has at
-  most 110 lines.
+- No line of a page is longer than 140 characters (in rows of tables the targets of links are not counted, and the tables of WIDE_TABLES may be
+  wider), and no page has more than 300 lines, README at most 90. The pages of WHOLE are left aside, and the contracts that a CALLING.md quotes.
 - A block of code behind a line `<!-- from PATH -->` stands in that file, line by line; in the pages SNIPPETS every block of C, Rust, Go and Mermaid has such a line.
+- Each page of docs has a paragraph below its title, and ends with a line 'Next: ..'.
+- docs/C_API.md has each call of include/h3.h, and names none that is not there.
 - scripts/README.md has each file of scripts/.
-- README says how many edits must be refused, and how many of them a reader judged."""
+- README and docs/PROVED.md say how many edits must be refused, and how many of them a reader judged."""
 import os
 import re
 import sys
+import textwrap
 
 ROOT = os.path.dirname(os.path.dirname(os.path.realpath(__file__)))
-SHORT_LINES = ["README.md", "CHANGELOG.md", "CONTRIBUTING.md", "bench/README.md", "docs/PERFORMANCE.md", "docs/TUTORIAL.md", "examples/c/README.md",
-               "examples/go/README.md", "examples/rust/README.md", "scripts/README.md"]
+WHOLE = ["docs/RFC.md", "bench/RESULTS.md"]  # one table each, or nearly
+WIDE_TABLES = ["docs/ARCHITECTURE.md", "docs/DIFFERENCES.md", "crates/h3_cases/README.md", "crates/h3_examples/README.md", "crates/h3_script/README.md",
+               "crates/h3_session/README.md", "docs/model/connection.md", "SECURITY.md"]
 LONGEST = 140
-MOST_LINES = {"README.md": 110, "docs/TUTORIAL.md": 300}
-SNIPPETS = ["README.md", "docs/TUTORIAL.md"]
+MOST_LINES = {"README.md": 90}
+MOST_OF_OTHERS = 300
+SNIPPETS = ["README.md", "docs/TUTORIAL.md", "docs/C_API.md"]
+COUNTING = ["README.md", "docs/PROVED.md"]
 LANGUAGES = {"c", "rust", "go", "mermaid"}
 INDEX = "scripts/README.md"
 LINK = re.compile(r"\[((?:[^\[\]]|\[[^\]]*\])*)\]\(([^()\s]+)\)")
@@ -70,10 +76,49 @@ def count_of_links(text):
 
 
 def long_lines(page):
-    for number, line in enumerate(read(page).split("\n"), 1):
+    text = read(page)
+    if page.endswith("/CALLING.md"):  # its code stands so in a source
+        text = FENCE.sub(lambda it: re.sub(r"[^\n]+", "", it[0]), text)
+    for number, line in enumerate(text.split("\n"), 1):
         shown = LINK.sub(r"[\1]", line) if line.startswith("|") else line
-        if len(shown) > LONGEST:
-            yield f"{page}:{number} has {len(shown)} characters"
+        if len(shown) > LONGEST and not (line.startswith("|") and page in WIDE_TABLES):
+            yield f"{page}:{number} has {len(shown)} characters (python3 scripts/pages.py --write)"
+
+
+def too_many_lines(page):
+    text = read(page)
+    if page.endswith("/CALLING.md"):
+        text = text.partition("\n## Contracts\n")[0]
+    most = MOST_LINES.get(page, MOST_OF_OTHERS)
+    if text.count("\n") > most:
+        yield f"{page} has {text.count(chr(10))} lines, more than {most}"
+
+
+def wrapped(text):
+    """a page, of which paragraphs and items of lists that have a line that is too long are wrapped anew"""
+    out, part, in_code = [], [], False
+
+    def end_part():
+        if any(len(line) > LONGEST for line in part):
+            mark = re.match(r" *(?:(?:[-*]|\d+\.) +)?", part[0])[0]
+            words = " ".join(line.strip() for line in part)[len(mark.strip()) :].strip()
+            out.extend(textwrap.wrap(words, LONGEST - 2, initial_indent=mark, subsequent_indent=" " * len(mark), break_long_words=False, break_on_hyphens=False))
+        else:
+            out.extend(part)
+        part.clear()
+
+    for line in text.split("\n"):
+        is_fence = line.strip().startswith("```")
+        if in_code or is_fence or not line.strip() or line.startswith(("|", "#", "<")) or (line.startswith("    ") and not part):
+            end_part()
+            out.append(line)
+            in_code ^= is_fence
+            continue
+        if re.match(r" *([-*]|\d+\.) ", line):
+            end_part()
+        part.append(line)
+    end_part()
+    return "\n".join(out)
 
 
 def stands_in(block, lines):
@@ -112,26 +157,47 @@ def not_in_index():
             yield path
 
 
-def counts():
-    """what README says of the edits that must be refused: a form of its words, and the number in it"""
+def counts(page):
+    """what a page says of the edits that must be refused: a form of its words, and the number in it"""
     edits = [it for it in files("crates") if "/refused/" in it and it.endswith(".edit")]
     judged = [it for it in edits if re.search(r"^judged:", read(it), re.M)]
-    return ((r"(attacked\W+: )\d+( edits)", len(edits)), (r"(of the )\d+(\s+edits of)", len(edits)), (r"(\. )\d+( of the edits have such a\s+line)", len(judged)))
+    if page == "README.md":
+        return ((r"(attacked\W+: )\d+( edits)", len(edits)),)
+    return ((r"(Of the )\d+(\s+edits\s+of)", len(edits)), (r"(\.\s)\d+(\s+of\s+the\s+edits\s+have\s+such\s+a\s+line)", len(judged)))
 
 
-def counted(text):
-    for form, count in counts():
+def counted(page, text):
+    for form, count in counts(page):
         text = re.sub(form, rf"\g<1>{count}\g<2>", text)
     return text
 
 
 def miscounted():
-    """where README says another number of edits than there are"""
-    text = read("README.md")
-    for form, count in counts():
-        found = re.search(form, text)
-        if found is None or found[0] != f"{found[1]}{count}{found[2]}":
-            yield f"there are {count}, and it says '{found and found[0]}' (python3 scripts/pages.py --write)"
+    """where the pages of COUNTING say another number of edits than there are"""
+    for page in COUNTING:
+        for form, count in counts(page):
+            found = re.search(form, read(page))
+            if found is None or found[0] != f"{found[1]}{count}{found[2]}":
+                yield f"{page}: there are {count}, and it says '{found and found[0]}' (python3 scripts/pages.py --write)"
+
+
+def without_frame():
+    """pages of docs that have no purpose below their title, or no link to the next at their end"""
+    for page in sorted(it for it in files("docs") if it.endswith(".md")):
+        parts = read(page).strip().split("\n\n")
+        if not re.match(r"# [^\n]+$", parts[0]) or not re.match(r"\w", parts[1]):
+            yield f"{page} has no sentence below its title that says what it is for"
+        if not re.match(r"Next: \[", parts[-1]):
+            yield f"{page} has no line 'Next: [..](..).' at its end"
+
+
+def api():
+    """where docs/C_API.md lacks a call of the header, or names what is not there"""
+    header, page = read("include/h3.h"), read("docs/C_API.md")
+    calls = set(re.findall(r"^static inline [\w ]+?\*?(h3_(?!raw_)\w*[a-z])\(", header, re.M))
+    named = set(re.findall(r"\b[hH]3_\w+", re.sub(r"\]\([^)]*\)", "", page)))
+    yield from (f"it has no {it}" for it in sorted(calls - named))
+    yield from (f"h3.h has no {it}" for it in sorted(named - set(re.findall(r"\w+", header))))
 
 
 def say(wrong, good, what):
@@ -143,21 +209,26 @@ def say(wrong, good, what):
 
 
 def main():
-    if sys.argv[1:] == ["--write"]:
-        text = counted(read("README.md"))
-        with open(os.path.join(ROOT, "README.md"), "w", encoding="utf-8") as file:
-            file.write(text)
-        return
     pages = [it for it in files(".") if it.endswith(".md")]
+    if sys.argv[1:] == ["--write"]:
+        for page in pages:
+            text = read(page)
+            new = text if page in WHOLE else wrapped(counted(page, text) if page in COUNTING else text)
+            if new != text:
+                with open(os.path.join(ROOT, page), "w", encoding="utf-8") as file:
+                    file.write(new)
+        return
     links = sum(count_of_links(read(it)) for it in pages)
     fine = say([it for page in pages for it in dead_links(page, read(page))], f"pages: {links} links of {len(pages)} pages lead somewhere", "pages, a dead link")
-    too_long = [it for page in SHORT_LINES for it in long_lines(page)]
-    too_long += [f"{page} has more than {most} lines" for page, most in MOST_LINES.items() if read(page).count("\n") > most]
-    fine &= say(too_long, f"pages: no line above {LONGEST} characters in {len(SHORT_LINES)} of them", "pages, too long")
+    judged = [page for page in pages if page not in WHOLE]
+    too_long = [it for page in judged for it in [*long_lines(page), *too_many_lines(page)]]
+    fine &= say(too_long, f"pages: {len(judged)} have no line above {LONGEST} characters, and none too many lines", "pages, too long")
     found = [snippets(page) for page in pages]
     wrong = [it for _, them in found for it in them]
     fine &= say(wrong, f"pages: {sum(count for count, _ in found)} snippets stand in their files", "pages, a snippet")
-    fine &= say(list(miscounted()), "README.md counts the edits", "README.md")
+    fine &= say(list(miscounted()), f"{' and '.join(COUNTING)} count the edits", "pages, a count of edits")
+    fine &= say(list(without_frame()), "docs: each page says what it is for, and which page comes next", "docs")
+    fine &= say(list(api()), "docs/C_API.md has each call of include/h3.h", "docs/C_API.md")
     fine &= say(list(not_in_index()), f"{INDEX} has each file of scripts", INDEX)
     sys.exit(0 if fine else 1)
 

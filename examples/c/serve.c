@@ -4,99 +4,25 @@
  *   --requests N     at most so many requests on a connection: GOAWAY goes out when 100 are left (100,000; 0: no limit)
  *
  * SIGTERM and SIGINT: GOAWAY on each connection; what was begun ends, whatever its reader's speed. The second signal cuts it off. */
+#include "files.h"
 #include "http3.h"
-#include <fcntl.h>
 #include <getopt.h>
 #include <gnutls/crypto.h>
 #include <signal.h>
 #include <stdio.h>
 #include <stdlib.h>
 #include <string.h>
-#include <strings.h>
-#include <sys/stat.h>
-#include <unistd.h>
 
 static volatile sig_atomic_t asked_to_end; /* how often */
-static int root; /* the folder */
 
 /* One request: the file that is sent, or the hash of what came. */
 typedef struct {
-  bool head_only; /* of HEAD: no body goes out */
-  int file;       /* -1: none */
-  off_t left;
+  bool head_only;          /* of HEAD: no body goes out */
+  shared_file *file;       /* NULL: none */
+  uint64_t sent;
   gnutls_hash_hd_t hash; /* NULL: none */
   unsigned long long count;
 } work;
-
-/* ---- names of files ---- */
-
-static int hex(char digit) {
-  const char *digits = "0123456789abcdef", *at = digit ? strchr(digits, digit | 0x20) : NULL;
-  return at ? (int)(at - digits) : -1;
-}
-
-/* The segments of a path, with its %XX read and its query cut off, at `text`. false: it is no path of a file here. */
-static bool read_path(const char *path, char *text, size_t room) {
-  size_t count = 0;
-  if (*path != '/') return false;
-  for (; *path && *path != '?' && *path != '#'; path++) {
-    int byte = (unsigned char)*path;
-    if (byte == '%') {
-      int high = hex(path[1]), low = high < 0 ? -1 : hex(path[2]);
-      if (low < 0) return false;
-      byte = 16 * high + low;
-      path += 2;
-    }
-    if (byte == 0 || count + 1 >= room) return false;
-    text[count++] = (char)byte;
-  }
-  text[count] = 0;
-  return true;
-}
-
-/* Opens a path below the folder, segment by segment, so that neither `..` nor a link leads out of it. -1: there is none. */
-static int open_below(char *path) {
-  char *rest, *segment = strtok_r(path, "/", &rest);
-  int at = segment ? root : dup(root);
-  while (at >= 0 && segment) {
-    int found = strcmp(segment, "..") == 0 || strcmp(segment, ".") == 0
-                    ? -1
-                    : openat(at, segment, O_RDONLY | O_NOFOLLOW | O_CLOEXEC | O_NONBLOCK);
-    if (at != root) close(at);
-    at = found;
-    segment = strtok_r(NULL, "/", &rest);
-  }
-  return at;
-}
-
-/* Opens the file that a path names, or the index of a folder. -1: there is none. */
-static int open_file(const char *path, struct stat *status) {
-  char text[4096];
-  int file = read_path(path, text, sizeof text) ? open_below(text) : -1;
-  bool found = file >= 0 && fstat(file, status) == 0;
-  if (found && S_ISDIR(status->st_mode)) {
-    int index = openat(file, "index.html", O_RDONLY | O_NOFOLLOW | O_CLOEXEC | O_NONBLOCK);
-    close(file);
-    file = index;
-    found = file >= 0 && fstat(file, status) == 0;
-  }
-  if (found && S_ISREG(status->st_mode)) return file;
-  if (file >= 0) close(file);
-  return -1;
-}
-
-static const char *type_of(const char *path) {
-  static const char *const types[][2] = {{".html", "text/html; charset=utf-8"}, {".txt", "text/plain; charset=utf-8"},
-                                         {".css", "text/css"},                  {".js", "text/javascript"},
-                                         {".png", "image/png"},                 {".svg", "image/svg+xml"}};
-  size_t count = strcspn(path, "?#");
-  if (count > 0 && path[count - 1] == '/') return types[0][1];
-  for (size_t i = 0; i < sizeof types / sizeof *types; i++) {
-    size_t end = strlen(types[i][0]);
-    if (count >= end && strncasecmp(path + count - end, types[i][0], end) == 0) return types[i][1];
-  }
-  return "application/octet-stream";
-}
 
 /* ---- answers ---- */
 
@@ -126,12 +52,10 @@ static void refuse(http3_request *request, const char *status, const char *text)
 
 static void answer_file(http3_request *request, const char *path) {
   work *work = request->data;
-  struct stat status;
-  work->file = open_file(path, &status);
-  if (work->file < 0) return answer_text(request, "404", "no such file\n");
-  if (!answer(request, "200", type_of(path), (unsigned long long)status.st_size)) return;
-  work->left = status.st_size;
-  if (work->head_only || work->left == 0) http3_finish(request);
+  work->file = files_open(path);
+  if (!work->file) return answer_text(request, "404", "no such file\n");
+  if (!answer(request, "200", files_type(path), files_length(work->file))) return;
+  if (work->head_only || files_length(work->file) == 0) http3_finish(request);
 }
 
 static void on_head(http3_request *request, const h3_item *head) {
@@ -139,7 +63,6 @@ static void on_head(http3_request *request, const h3_item *head) {
   if (request->data) return; /* a trailer, which is passed over */
   work *work = request->data = calloc(1, sizeof *work);
   if (!work) return http3_give_up(request, H3_CODE_INTERNAL_ERROR);
-  work->file = -1;
   if (head->kind == H3_TOO_LARGE_HEAD) return refuse(request, "431", "the fields are too large\n");
   if (!http3_value(request->connection, head, ":method", method, sizeof method) ||
       !http3_value(request->connection, head, ":path", path, sizeof path))
@@ -181,20 +104,19 @@ static void on_failed(http3_request *request, const h3_item *item) {
 static void on_room(http3_request *request) {
   work *work = request->data;
   uint8_t bytes[16 * 1024];
-  if (!work || work->file < 0) return;
-  while (work->left > 0 && http3_room(request) >= sizeof bytes) {
-    ssize_t count = read(work->file, bytes, sizeof bytes);
-    if (count > work->left) count = work->left; /* the file has grown behind its length */
-    if (count <= 0 || !http3_body(request, bytes, (size_t)count)) return http3_give_up(request, H3_CODE_INTERNAL_ERROR);
-    work->left -= count;
+  if (!work || !work->file) return;
+  while (work->sent < files_length(work->file) && http3_room(request) >= sizeof bytes) {
+    size_t count = files_read(work->file, work->sent, bytes, sizeof bytes);
+    if (count == 0 || !http3_body(request, bytes, count)) return http3_give_up(request, H3_CODE_INTERNAL_ERROR); /* the file has shrunk */
+    work->sent += count;
   }
-  if (work->left == 0) http3_finish(request);
+  if (work->sent == files_length(work->file)) http3_finish(request);
 }
 
 static void on_freed(http3_request *request) {
   work *work = request->data;
   if (!work) return;
-  if (work->file >= 0) close(work->file);
+  if (work->file) files_close(work->file);
   if (work->hash) gnutls_hash_deinit(work->hash, NULL);
   free(work);
 }
@@ -241,8 +163,7 @@ int main(int count, char **arguments) {
     return 2;
   }
   const char *address = arguments[optind], *port = arguments[optind + 1], *folder = arguments[optind + 4];
-  root = open(folder, O_RDONLY | O_DIRECTORY | O_CLOEXEC);
-  if (root < 0) {
+  if (!files_begin(folder)) {
     perror(folder);
     return 1;
   }
@@ -256,6 +177,6 @@ int main(int count, char **arguments) {
     run(socket);
     quic_free(socket);
   }
-  close(root);
+  files_end();
   return socket ? 0 : 1;
 }

@@ -16,14 +16,17 @@ import (
 // Endpoint is one endpoint of an HTTP/3 connection. One call at a time: Connection's lock sees to it. Close frees it.
 type Endpoint struct{ raw C.h3_endpoint }
 
-// Refusal is why a call was refused: an answer of h3.h, and the number beside it.
+// Refusal is why a call was refused: an answer of h3.h, and the number beside it. Without an answer it is a fault of the connection.
 type Refusal struct {
 	Answer uint32
 	Detail uint64
 }
 
 func (r Refusal) Error() string {
-	return fmt.Sprintf("h3 refused: answer %d, detail %d", r.Answer, r.Detail)
+	if r.Answer == C.H3_OK {
+		return fmt.Sprintf("the connection has a fault, detail %d", r.Detail)
+	}
+	return fmt.Sprintf("h3 refused: %s, detail %d", C.GoString(C.h3_answer_text(C.uint32_t(r.Answer))), r.Detail)
 }
 
 func refusal(answer C.uint32_t, detail C.uint64_t) error {
@@ -84,7 +87,11 @@ type Fault struct {
 }
 
 func (f Fault) Error() string {
-	return fmt.Sprintf("the message is none: kind %d, %d", f.Kind, f.Number)
+	kind := "a frame is too large"
+	if f.Kind != TooLarge {
+		kind = C.GoString(C.h3_kind_text(C.uint32_t(f.Kind)))
+	}
+	return fmt.Sprintf("the message is none: %s, %d", kind, f.Number)
 }
 
 // Code is what the stream of a message with this fault is ended with (RFC 9114, sections 4.1.1 and 4.1.2).
@@ -136,15 +143,28 @@ func start(bytes []byte) unsafe.Pointer {
 	return unsafe.Pointer(&bytes[0])
 }
 
-// SendHead sends a head, its fields in the order that they have here: pseudo-header fields first.
-func (e *Endpoint) SendHead(id uint64, fields []Field) error {
-	var detail C.uint64_t
-	sizes := make([]C.h3_field_size, len(fields)+1)
-	var bytes []byte
+// inARow is the sizes of names and values, with one more behind them, and all their bytes.
+func inARow(fields []Field) (sizes []C.h3_field_size, bytes []byte) {
+	sizes = make([]C.h3_field_size, len(fields)+1)
 	for i, field := range fields {
 		sizes[i].name, sizes[i].value = C.uint32_t(len(field.Name)), C.uint32_t(len(field.Value))
 		bytes = append(append(bytes, field.Name...), field.Value...)
 	}
+	return sizes, bytes
+}
+
+// SendTrailer sends a trailer.
+func (e *Endpoint) SendTrailer(id uint64, fields []Field) error {
+	var detail C.uint64_t
+	sizes, bytes := inARow(fields)
+	answer := C.h3_send_trailer(&e.raw, C.uint64_t(id), &sizes[0], C.size_t(len(fields)), start(bytes), C.size_t(len(bytes)), &detail)
+	return refusal(answer, detail)
+}
+
+// SendHead sends a head, its fields in the order that they have here: pseudo-header fields first.
+func (e *Endpoint) SendHead(id uint64, fields []Field) error {
+	var detail C.uint64_t
+	sizes, bytes := inARow(fields)
 	answer := C.h3_send_fields(&e.raw, C.uint64_t(id), &sizes[0], C.size_t(len(fields)), start(bytes), C.size_t(len(bytes)), &detail)
 	return refusal(answer, detail)
 }

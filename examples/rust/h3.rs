@@ -76,6 +76,39 @@ struct RawItem {
     len: usize,
 }
 
+/// What is to be seen of a stream, as `h3_stream_state`.
+#[repr(C)]
+#[derive(Debug, Default, Clone, Copy)]
+pub struct StreamState {
+    /// Bytes that wait to be sent.
+    pub waiting: u64,
+    /// Bytes that were delivered and are still held: credit is granted for the others.
+    pub unread: u64,
+    pub has_outgoing: u32,
+    pub is_finished: u32,
+    pub is_reset: u32,
+    /// How often the field section that is next was tried.
+    pub tries: u32,
+}
+
+/// What is to be seen of the connection, as `h3_state`.
+#[repr(C)]
+#[derive(Debug, Default, Clone, Copy)]
+pub struct ConnectionState {
+    pub sending_table: u64,
+    pub receiving_table: u64,
+    pub waiting_heads: u64,
+    pub sent: u64,
+    /// The id of the peer's last GOAWAY, where `has_goaway` is 1.
+    pub goaway: u64,
+    /// The peer's limits, where `has_settings` is 1: its table, how many streams may wait, and its field sections.
+    pub peer_table: u64,
+    pub peer_blocked: u64,
+    pub peer_section: u64,
+    pub has_goaway: u32,
+    pub has_settings: u32,
+}
+
 #[rustfmt::skip]
 extern "C" {
     fn h3_raw_config_default(config: *mut Config);
@@ -83,6 +116,10 @@ extern "C" {
     fn h3_raw_free(endpoint: Raw);
     fn h3_raw_open_request(endpoint: Raw, id: *mut u64, detail: *mut u64, out: *mut Raw) -> u32;
     fn h3_raw_send_fields(endpoint: Raw, id: u64, sizes: *const FieldSize, count: usize, bytes: *const u8, len: usize, detail: *mut u64, out: *mut Raw) -> u32;
+    fn h3_raw_send_trailer(endpoint: Raw, id: u64, sizes: *const FieldSize, count: usize, bytes: *const u8, len: usize, detail: *mut u64, out: *mut Raw) -> u32;
+    fn h3_raw_stream(endpoint: Raw, id: u64, state: *mut StreamState, out: *mut Raw) -> u32;
+    fn h3_raw_connection(endpoint: Raw, state: *mut ConnectionState, out: *mut Raw) -> u32;
+    fn h3_raw_peer_setting(endpoint: Raw, setting: u64, value: *mut u64, out: *mut Raw) -> u32;
     fn h3_raw_send_body(endpoint: Raw, id: u64, bytes: *const u8, len: usize, detail: *mut u64, out: *mut Raw) -> u32;
     fn h3_raw_finish(endpoint: Raw, id: u64, detail: *mut u64, out: *mut Raw) -> u32;
     fn h3_raw_reset(endpoint: Raw, id: u64, detail: *mut u64, out: *mut Raw) -> u32;
@@ -182,6 +219,12 @@ fn answered(answer: u32, detail: u64) -> Result<(), Refusal> {
 
 // SAFETY, of all calls below: the handle holds an endpoint, since `new` answers one alone where it was made, and each call writes
 // the handle back through its last argument; pointers and lengths are those of slices and of local variables.
+/// The sizes of names and values, and all their bytes in one row.
+fn in_a_row(fields: &[(&[u8], &[u8])]) -> (Vec<FieldSize>, Vec<u8>) {
+    let sizes = fields.iter().map(|(name, value)| FieldSize { name: name.len() as u32, value: value.len() as u32 }).collect();
+    (sizes, fields.iter().flat_map(|(name, value)| name.iter().chain(*value)).copied().collect())
+}
+
 impl Endpoint {
     pub fn new(config: &Config) -> Result<Endpoint, Refusal> {
         let mut raw = Raw { at: ptr::null_mut() };
@@ -206,11 +249,16 @@ impl Endpoint {
 
     /// The fields go out in their order: pseudo-header fields first.
     pub fn send_head(&mut self, id: u64, fields: &[(&[u8], &[u8])]) -> Result<(), Refusal> {
-        let sizes: Vec<FieldSize> =
-            fields.iter().map(|(name, value)| FieldSize { name: name.len() as u32, value: value.len() as u32 }).collect();
-        let bytes: Vec<u8> = fields.iter().flat_map(|(name, value)| name.iter().chain(*value)).copied().collect();
+        let (sizes, bytes) = in_a_row(fields);
         self.call(|raw, detail, out| unsafe {
             h3_raw_send_fields(raw, id, sizes.as_ptr(), sizes.len(), bytes.as_ptr(), bytes.len(), detail, out)
+        })
+    }
+
+    pub fn send_trailer(&mut self, id: u64, fields: &[(&[u8], &[u8])]) -> Result<(), Refusal> {
+        let (sizes, bytes) = in_a_row(fields);
+        self.call(|raw, detail, out| unsafe {
+            h3_raw_send_trailer(raw, id, sizes.as_ptr(), sizes.len(), bytes.as_ptr(), bytes.len(), detail, out)
         })
     }
 
@@ -258,6 +306,27 @@ impl Endpoint {
         let (mut count, mut end) = (0, 0);
         self.call(|raw, _, out| unsafe { h3_raw_outgoing(raw, id, buffer.as_mut_ptr(), buffer.len(), &mut count, &mut end, out) })?;
         Ok((count, end == 1))
+    }
+
+    /// What is to be seen of a stream.
+    pub fn stream(&mut self, id: u64) -> Result<StreamState, Refusal> {
+        let mut state = StreamState::default();
+        self.call(|raw, _, out| unsafe { h3_raw_stream(raw, id, &mut state, out) })?;
+        Ok(state)
+    }
+
+    /// What is to be seen of the connection.
+    pub fn connection(&mut self) -> Result<ConnectionState, Refusal> {
+        let mut state = ConnectionState::default();
+        self.call(|raw, _, out| unsafe { h3_raw_connection(raw, &mut state, out) })?;
+        Ok(state)
+    }
+
+    /// A setting that the peer announced.
+    pub fn peer_setting(&mut self, setting: u64) -> Option<u64> {
+        let mut value = 0;
+        self.call(|raw, _, out| unsafe { h3_raw_peer_setting(raw, setting, &mut value, out) }).ok()?;
+        Some(value)
     }
 
     /// QUIC has taken so many bytes of a stream.

@@ -54,6 +54,7 @@ fn read(endpoint: &mut Endpoint, id: u64) -> Result<(Vec<Field>, Vec<u8>), Strin
         match endpoint.pull(id).map_err(|refusal| refusal.to_string())? {
             Pulled::Head(fields) => head = fields,
             Pulled::Body(bytes) => body.extend(bytes),
+            Pulled::Trailer(_) => {}
             Pulled::End => return Ok((head, body)),
             other => return Err(format!("{other:?}")),
         }
@@ -79,6 +80,7 @@ fn answer(server: &mut Endpoint, id: u64) -> Result<String, String> {
     let refused = |refusal: Refusal| refusal.to_string();
     server.send_head(id, &[(b":status", b"200"), (b"x-example", b"rust")]).map_err(refused)?;
     server.send_body(id, &body).map_err(refused)?;
+    server.send_trailer(id, &[(b"x-count", b"1")]).map_err(refused)?;
     server.finish(id).map_err(refused)?;
     Ok(text(&head))
 }
@@ -103,6 +105,10 @@ fn exchange(piece: usize) -> Result<(), String> {
     let (response, got) = read(&mut client, id)?;
     if client.next_to_send(0).is_some_and(|id| id % 4 == 0) || server.next_to_send(0).is_some_and(|id| id % 4 == 0) {
         return Err("a stream whose end was taken is named again".to_string());
+    }
+    let (stream, connection) = (client.stream(id).map_err(refused)?, client.connection().map_err(refused)?);
+    if stream.unread != 0 || stream.is_finished != 1 || connection.peer_table != 4096 || client.peer_setting(6) != Some(65536) {
+        return Err(format!("{stream:?}, {connection:?}"));
     }
     println!("request {head}; response {}; {} bytes", text(&response), got.len());
     let expected = ":method=POST :scheme=https :authority=localhost :path=/echo x-example=rust";

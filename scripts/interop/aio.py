@@ -32,7 +32,7 @@ class Connection(H3Connection):
     """an H3Connection that notes GOAWAY, and does not count the body of an answer to HEAD"""
 
     def __init__(self, quic):
-        self.goaways, self.heads = [], set()
+        self.goaways, self.heads, self.is_leaving = [], set(), False
         super().__init__(quic)
 
     def _handle_control_frame(self, frame_type, frame_data):
@@ -49,6 +49,10 @@ class Connection(H3Connection):
         self._get_or_create_stream(stream_id).headers_send_state = HeadersState.INITIAL
 
     def send_goaway(self, end):
+        """once: a later one may not name a greater id (RFC 9114, section 5.2)"""
+        if self.is_leaving:
+            return
+        self.is_leaving = True
         self._quic.send_stream_data(self._local_control_stream_id, encode_frame(FrameType.GOAWAY, encode_uint_var(end)))
 
 
@@ -253,12 +257,6 @@ async def case_fields(client, words):
         await client.whole(client.ask("GET", "/hello.txt", *fields))
 
 
-async def case_large(client, words):
-    fields = [(f"x-large-{i}".encode(), b"a" * 800) for i in range(20)]
-    for _ in range(3):
-        await client.whole(client.ask("GET", "/hello.txt", *fields))
-
-
 async def case_trailers(client, words):
     stream_id = client.ask("POST", "/answer", (b"trailer", b"x-sum"), end=False)
     client.send(stream_id, b"abc", False)
@@ -313,7 +311,6 @@ CASES = {
     "100 requests at once": case_many,
     "500 requests, one behind the other": case_serial,
     "100 fields, three times": case_fields,
-    "a head of 16,000 bytes, three times": case_large,
     "a request with a trailer": case_trailers,
     "20 uploads that are aborted": case_upload_aborted,
     "20 downloads that are stopped": case_download_stopped,

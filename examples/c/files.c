@@ -1,0 +1,177 @@
+#include "files.h"
+#include <fcntl.h>
+#include <stdlib.h>
+#include <string.h>
+#include <strings.h>
+#include <sys/stat.h>
+#include <time.h>
+#include <unistd.h>
+
+enum {
+  PLACES = 64,       /* files that are kept for a second */
+  SMALL = 16 * 1024, /* bytes of a file that is read whole when it is opened */
+  PATH = 4096
+};
+
+/* A regular file that is open, or a small one that was read. It is freed when nobody uses it any more. */
+struct shared_file {
+  int file;       /* -1: `bytes` has all of it */
+  uint64_t length;
+  uint8_t *bytes;
+  size_t users;   /* requests, and its place below */
+  time_t at;      /* when it was opened */
+  char path[];    /* as the request has it */
+};
+
+static int root = -1; /* the folder */
+static shared_file *places[PLACES];
+
+static int hex(char digit) {
+  const char *digits = "0123456789abcdef", *at = digit ? strchr(digits, digit | 0x20) : NULL;
+  return at ? (int)(at - digits) : -1;
+}
+
+/* The segments of a path, with its %XX read and its query cut off, at `text`. false: it is no path of a file here. */
+static bool read_path(const char *path, char *text, size_t room) {
+  size_t count = 0;
+  if (*path != '/') return false;
+  for (; *path && *path != '?' && *path != '#'; path++) {
+    int byte = (unsigned char)*path;
+    if (byte == '%') {
+      int high = hex(path[1]), low = high < 0 ? -1 : hex(path[2]);
+      if (low < 0) return false;
+      byte = 16 * high + low;
+      path += 2;
+    }
+    if (byte == 0 || count + 1 >= room) return false;
+    text[count++] = (char)byte;
+  }
+  text[count] = 0;
+  return true;
+}
+
+/* Opens a path below the folder, segment by segment, so that neither `..` nor a link leads out of it. -1: there is none. */
+static int open_below(char *path) {
+  char *rest, *segment = strtok_r(path, "/", &rest);
+  int at = segment ? root : dup(root);
+  while (at >= 0 && segment) {
+    int found = strcmp(segment, "..") == 0 || strcmp(segment, ".") == 0
+                    ? -1
+                    : openat(at, segment, O_RDONLY | O_NOFOLLOW | O_CLOEXEC | O_NONBLOCK);
+    if (at != root) close(at);
+    at = found;
+    segment = strtok_r(NULL, "/", &rest);
+  }
+  return at;
+}
+
+/* The regular file that a path names, or the index of a folder. -1: there is none. */
+static int open_file(const char *path, struct stat *status) {
+  char text[PATH];
+  int file = read_path(path, text, sizeof text) ? open_below(text) : -1;
+  bool found = file >= 0 && fstat(file, status) == 0;
+  if (found && S_ISDIR(status->st_mode)) {
+    int index = openat(file, "index.html", O_RDONLY | O_NOFOLLOW | O_CLOEXEC | O_NONBLOCK);
+    close(file);
+    file = index;
+    found = file >= 0 && fstat(file, status) == 0;
+  }
+  if (found && S_ISREG(status->st_mode)) return file;
+  if (file >= 0) close(file);
+  return -1;
+}
+
+/* Reads a small file whole, which then needs no descriptor. Where that fails the file is read as others are. */
+static void read_small(shared_file *file) {
+  if (file->length > SMALL || !(file->bytes = malloc(file->length + 1))) return;
+  ssize_t count = pread(file->file, file->bytes, file->length + 1, 0);
+  if (count >= 0 && (uint64_t)count == file->length) {
+    close(file->file);
+    file->file = -1;
+    return;
+  }
+  free(file->bytes);
+  file->bytes = NULL;
+}
+
+static shared_file *open_new(const char *path, time_t now) {
+  struct stat status;
+  size_t count = strlen(path) + 1;
+  int opened = open_file(path, &status);
+  if (opened < 0) return NULL;
+  shared_file *file = malloc(sizeof *file + count);
+  if (!file) {
+    close(opened);
+    return NULL;
+  }
+  *file = (shared_file){.file = opened, .length = (uint64_t)status.st_size, .users = 1, .at = now};
+  memcpy(file->path, path, count);
+  read_small(file);
+  return file;
+}
+
+/* The place of a path (FNV-1a). */
+static shared_file **place_of(const char *path) {
+  uint32_t hash = 2166136261;
+  for (; *path; path++) hash = (hash ^ (unsigned char)*path) * 16777619;
+  return &places[hash % PLACES];
+}
+
+bool files_begin(const char *folder) {
+  root = open(folder, O_RDONLY | O_DIRECTORY | O_CLOEXEC);
+  return root >= 0;
+}
+
+shared_file *files_open(const char *path) {
+  shared_file **place = place_of(path), *file = *place;
+  time_t now = time(NULL);
+  if (file && (file->at != now || strcmp(file->path, path) != 0)) {
+    files_close(file);
+    *place = file = NULL;
+  }
+  if (!file) *place = file = open_new(path, now);
+  if (file) file->users++;
+  return file;
+}
+
+void files_close(shared_file *file) {
+  if (--file->users > 0) return;
+  if (file->file >= 0) close(file->file);
+  free(file->bytes);
+  free(file);
+}
+
+uint64_t files_length(const shared_file *file) { return file->length; }
+
+size_t files_read(const shared_file *file, uint64_t from, uint8_t *bytes, size_t room) {
+  uint64_t left = from < file->length ? file->length - from : 0; /* the file may have grown since */
+  size_t count = left < room ? (size_t)left : room;
+  if (file->file < 0) {
+    memcpy(bytes, file->bytes + from, count);
+    return count;
+  }
+  ssize_t done = count > 0 ? pread(file->file, bytes, count, (off_t)from) : 0;
+  return done > 0 ? (size_t)done : 0;
+}
+
+const char *files_type(const char *path) {
+  static const char *const types[][2] = {{".html", "text/html; charset=utf-8"}, {".txt", "text/plain; charset=utf-8"},
+                                         {".css", "text/css"},                  {".js", "text/javascript"},
+                                         {".png", "image/png"},                 {".svg", "image/svg+xml"}};
+  size_t count = strcspn(path, "?#");
+  if (count > 0 && path[count - 1] == '/') return types[0][1];
+  for (size_t i = 0; i < sizeof types / sizeof *types; i++) {
+    size_t end = strlen(types[i][0]);
+    if (count >= end && strncasecmp(path + count - end, types[i][0], end) == 0) return types[i][1];
+  }
+  return "application/octet-stream";
+}
+
+void files_end(void) {
+  for (size_t i = 0; i < PLACES; i++) {
+    if (places[i]) files_close(places[i]);
+    places[i] = NULL;
+  }
+  if (root >= 0) close(root);
+  root = -1;
+}
