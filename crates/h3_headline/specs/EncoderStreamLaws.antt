@@ -5,7 +5,6 @@ use Rattle.std.proofs.lemmas.Grind.{common_steps}
 use Rattle.std.proofs.lemmas.List.{nil_from_length}
 use Rattle.h3_field.specs.Instruction.{EncoderInstruction, encoder_bytes}
 use Rattle.h3_qpack.specs.DecoderState.{DecoderState, announcing, decoder_after_all}
-use Rattle.h3_qpack.specs.EncoderHistory.{EncoderHistory}
 use Rattle.h3_qpack.specs.Encodings.{IsWrittenInstruction}
 use Rattle.h3_qpack.specs.Exchange as exchange
 use Rattle.h3_qpack.specs.Hearing.{heard, hear}

@@ -222,6 +222,9 @@ keeps_reset w Server id g f there opened seen = λ unseen. absurd (differ (sym (
     flow_first : (exchange (with_flow w Server id g) id).request.seen ≡ (exchange w id).request.seen
     flow_first = ap (λ x. x.seen) (flow-with_other w Server id id g there)
 
+itself : (n : ℕ) → (n == n) ≡ true
+itself n = grind (arith, common_steps)
+
 pub reset_sound : (setup : Setup) (w : World) (writer : Side) (id : ℕ) → IsSoundWorld setup w → is_open w writer id ≡ true → (flow w writer id).is_reset ≡ true → IsSoundWorld setup (delivered_reset w writer id)
 reset_sound setup w writer id h opened reset = by_fault (flow w writer id).fault refl
   where
@@ -240,9 +243,6 @@ reset_sound setup w writer id h opened reset = by_fault (flow w writer id).fault
     sound : IsSoundWorld setup new
     sound =
         marks_sound setup w writer id g h there (reset_kept (party w writer) f (flow_sound w writer id h.exchanges) reset) (keeps_seen w writer id g opened refl) refl refl refl
-
-    itself : (n : ℕ) → (n == n) ≡ true
-    itself n = grind (arith, common_steps)
 
     at_new : flow new writer id ≡ g
     at_new = flow-with_flow w writer id id g there ∙ ap (λ b. if b then g else f) (itself id)

@@ -81,11 +81,11 @@ section_short s id fields =
     let e = writing_on s id in
     let d = draft_of e fields in
     let start : Draft = record { inserted = e.inserted; instructions = []; lines = []; references = [] } in
-    let front = prefix_bytes e.capacity (required_insert_count d) (length e.inserted) in
+    let front = prefix_bytes e.announced (required_insert_count d) (length e.inserted) in
     omega (
       arith,
       length-append front (flat_map line_bytes d.lines),
-      prefix_short e.capacity (required_insert_count d) (length e.inserted),
+      prefix_short e.announced (required_insert_count d) (length e.inserted),
       fields_short 0 e start fields (omega arith),
     )
 
