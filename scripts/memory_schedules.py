@@ -1,10 +1,10 @@
 """Scripts by chance for a client and a server that are refused memory in their middle: `schedule(seed)`.
 
 Each begins with requests that are opened, and with a body of the client on stream 0 that nobody reads. A delivery of `BEGINS` bytes of it says
-where refusals may begin, one of `ENDS` bytes where memory is back: no other delivery has that size, and a delivery copies its bytes first. Between
-them stand events as scripts/independent_talk.py draws them, more often deliveries on control, encoder and decoder streams, since these alone
-are read as they come and so kept. Behind each event stand lines that change nothing and tell most of what both sides have read. At the end
-everything is delivered and pulled.
+where refusals may begin, one of `ENDS` bytes where memory is back: a delivery first copies its bytes, and no other one has so many. Between
+them messages are sent, with many fields to insert, and go over: most of all what stands on control, encoder and decoder streams, since these alone
+are read as they come and so kept. Half of the deliveries are made once more, for where they were refused. Behind each event stand lines
+that change nothing and tell most of what both sides have read. At the end everything is delivered and pulled.
 """
 import os
 import random
@@ -22,52 +22,74 @@ PROBES = ["show c", "show s"] + [f"deliver {side} {id} {TOO_MANY}" for side, ids
 # more than what waits on any stream, by halves: all goes over, however much it is
 HALVES = [2**power for power in range(11, -1, -1)]
 ROUNDS, PULLS = 3, 8
+SECTIONS, TABLES, BLOCKED = (160, 1000, GREATEST, GREATEST), (64, 144, 400, 4096, 4096), (0, 1, 2, 8, 100)
+NAMES = ("x-a", "x-b", "server", "x-longer-name")
 
 
 class Schedule:
     """the lines of a script, while two endpoints without refused memory answer along"""
 
     def __init__(self, rng):
-        limits = [[rng.choice([160, 230, 1000, GREATEST]), rng.choice([64, 100, 144, 220, 400]), rng.choice([0, 1, 2, 3, 8])] for _ in "cs"]
-        self.lines = ["config " + " ".join(str(n) for side in limits for n in side)]
+        limits = [rng.choice(it) for _ in "cs" for it in (SECTIONS, TABLES, BLOCKED)]
+        self.lines = ["config " + " ".join(map(str, limits))]
         self.ends = setup(self.lines[0])
 
     def add(self, line):
         self.lines.append(line)
-        return answered(self.ends, *event_of(line))
+        answered(self.ends, *event_of(line))
 
     def waits(self, side, id):
         return len(self.ends[SIDES[side]].outgoing(id)[1])
 
 
-def opened(schedule, rng, ids):
-    """the requests are open, the server has seen some of them, and some settings came"""
-    schedule.add("open c")
-    schedule.add("head c 0 POST https://a.b/")
-    schedule.add(f"body c 0 {'x' * (BEGINS + ENDS)}")
+def fields(rng):
+    return [f"{name}={rng.randrange(20)}" for name in rng.choices(NAMES, k=rng.choice([1, 3, 6]))]
+
+
+def message(rng, side, id):
+    """the lines of a message"""
+    interim = [" ".join([f"head s {id} 103", *fields(rng)]) for _ in range(rng.randrange(3))] if side == "s" else []
+    head = " ".join([f"head {side} {id}", "GET https://a.b/" if side == "c" else "200", *fields(rng)])
+    body = [f"body {side} {id} {'text' * rng.randrange(4)}" for _ in range(rng.randrange(2))]
+    return [*interim, head, *body, " ".join([f"trailer {side} {id}", *fields(rng)]), f"finish {side} {id}"]
+
+
+def open_requests(made, rng, ids):
+    """The requests are open, and the server has seen some of them. On stream 0 nothing but a body waits."""
+    made.add("open c")
+    made.add("head c 0 POST https://a.b/")
+    made.add(f"body c 0 {'x' * (BEGINS + ENDS)}")
+    made.add(f"deliver c 0 {made.waits('c', 0) - BEGINS - ENDS}")
     for id in ids:
-        schedule.add("open c")
+        made.add("open c")
     for id in ids:
         if rng.random() < 0.7:
-            schedule.add(f"deliver c {id} 0")
+            made.add(f"deliver c {id} 0")
+
+
+def first_events(made, rng, ids):
+    """the settings, which a cancellation may go ahead of"""
+    lines = []
     if rng.random() < 0.3:
-        # cancellations come before the settings
-        schedule.add(f"cancel c {rng.choice(ids)}")
-        schedule.add(f"deliver c 10 {schedule.waits('c', 10)}")
-        return
-    for side, id in (("s", 3), ("c", 2)):
-        if rng.random() < 0.6:
-            schedule.add(f"deliver {side} {id} {schedule.waits(side, id)}")
+        lines += [f"cancel c {rng.choice(ids)}", "deliver c 10 2"]
+    return lines + [f"deliver {side} {id} {made.waits(side, id)}" for side, id in (("s", 3), ("c", 2)) if rng.random() < 0.9]
 
 
-def own_moved(schedule, rng):
+def own_moved(made, rng):
     """a delivery of some of what waits on a control, encoder or decoder stream; None where nothing does"""
-    waiting = [(side, id) for side, ids in OWN.items() for id in ids if schedule.waits(side, id)]
+    waiting = [(side, id) for side, ids in OWN.items() for id in ids if made.waits(side, id)]
     if not waiting:
         return None
     side, id = rng.choice(waiting)
-    count = schedule.waits(side, id)
-    return f"deliver {side} {id} {count if rng.random() < 0.6 else rng.randint(0, count)}"
+    count = made.waits(side, id)
+    return f"deliver {side} {id} {count if rng.random() < 0.7 else rng.randint(0, count)}"
+
+
+def one_event(made, rng, ids, queues):
+    choice, ready = rng.random(), [queue for queue in queues if queue]
+    if choice < 0.3 and ready:
+        return rng.choice(ready).pop(0)
+    return choice < 0.6 and own_moved(made, rng) or next_line(rng, made.ends, ids, queues)
 
 
 def handed_out(ids):
@@ -85,13 +107,15 @@ def schedule(seed):
     """the lines of a script"""
     rng = random.Random(seed)
     made, ids = Schedule(rng), [4 * number for number in range(1, rng.randint(2, 6))]
-    opened(made, rng, ids)
-    queues = [sent_lines(rng, side, id) for id in ids for side in "cs"]
+    open_requests(made, rng, ids)
+    queues = [(message if rng.random() < 0.7 else sent_lines)(rng, side, id) for id in ids for side in "cs"]
     made.add(f"deliver c 0 {BEGINS}")
-    for _ in range(rng.randint(15, 45)):
-        line = own_moved(made, rng) if rng.random() < 0.3 else None
-        made.add(line or next_line(rng, made.ends, ids, queues))
-        made.lines += PROBES
+    first = first_events(made, rng, ids)
+    for number in range(rng.randint(20, 45)):
+        line = first[number] if number < len(first) else one_event(made, rng, ids, queues)
+        for _ in range(1 + (line.startswith("deliver") and rng.random() < 0.5)):
+            made.add(line)
+            made.lines += PROBES
     made.add(f"deliver c 0 {ENDS}")
     made.lines += handed_out([0, *ids])
     return made.lines

@@ -27,12 +27,10 @@ PLAIN = {int, bytes, str, bool, tuple, type(None)}
 
 def copied(it):
     """a copy that shares nothing which a call may change"""
-    if type(it) in PLAIN:
-        return it
     if isinstance(it, dict):
-        return {key: copied(value) for key, value in it.items()}
+        return {name: value if type(value) in PLAIN else copied(value) for name, value in it.items()}
     if isinstance(it, (list, set)):
-        return type(it)(map(copied, it))
+        return type(it)(value if type(value) in PLAIN else copied(value) for value in it)
     made = object.__new__(type(it))
     made.__dict__ = copied(it.__dict__)
     return made
