@@ -1,4 +1,5 @@
-"""Scripts by chance for a client and a server that are refused memory in their middle: `schedule(seed)`.
+"""Scripts for a client and a server that are refused memory in their middle: by chance (`schedule`), and two small ones (`SMALL`), of which each call
+for memory can be refused in turn.
 
 Each begins with requests that are opened, and with a body of the client on stream 0 that nobody reads. A delivery of `BEGINS` bytes of it says
 where refusals may begin, one of `ENDS` bytes where memory is back: a delivery first copies its bytes, and no other one has so many. Between
@@ -29,8 +30,7 @@ NAMES = ("x-a", "x-b", "server", "x-longer-name")
 class Schedule:
     """the lines of a script, while two endpoints without refused memory answer along"""
 
-    def __init__(self, rng):
-        limits = [rng.choice(it) for _ in "cs" for it in (SECTIONS, TABLES, BLOCKED)]
+    def __init__(self, limits):
         self.lines = ["config " + " ".join(map(str, limits))]
         self.ends = setup(self.lines[0])
 
@@ -54,17 +54,16 @@ def message(rng, side, id):
     return [*interim, head, *body, " ".join([f"trailer {side} {id}", *fields(rng)]), f"finish {side} {id}"]
 
 
-def open_requests(made, rng, ids):
+def open_requests(made, seen, ids):
     """The requests are open, and the server has seen some of them. On stream 0 nothing but a body waits."""
     made.add("open c")
     made.add("head c 0 POST https://a.b/")
     made.add(f"body c 0 {'x' * (BEGINS + ENDS)}")
     made.add(f"deliver c 0 {made.waits('c', 0) - BEGINS - ENDS}")
-    for id in ids:
+    for _ in ids:
         made.add("open c")
-    for id in ids:
-        if rng.random() < 0.7:
-            made.add(f"deliver c {id} 0")
+    for id in seen:
+        made.add(f"deliver c {id} 0")
 
 
 def first_events(made, rng, ids):
@@ -103,11 +102,18 @@ def handed_out(ids):
     return lines
 
 
+def ended(made, ids):
+    """the lines, once memory is back too"""
+    made.add(f"deliver c 0 {ENDS}")
+    return made.lines + handed_out([0, *ids])
+
+
 def schedule(seed):
-    """the lines of a script"""
+    """a script by chance"""
     rng = random.Random(seed)
-    made, ids = Schedule(rng), [4 * number for number in range(1, rng.randint(2, 6))]
-    open_requests(made, rng, ids)
+    ids = [4 * number for number in range(1, rng.randint(2, 6))]
+    made = Schedule([rng.choice(it) for _ in "cs" for it in (SECTIONS, TABLES, BLOCKED)])
+    open_requests(made, [id for id in ids if rng.random() < 0.7], ids)
     queues = [(message if rng.random() < 0.7 else sent_lines)(rng, side, id) for id in ids for side in "cs"]
     made.add(f"deliver c 0 {BEGINS}")
     first = first_events(made, rng, ids)
@@ -116,6 +122,24 @@ def schedule(seed):
         for _ in range(1 + (line.startswith("deliver") and rng.random() < 0.5)):
             made.add(line)
             made.lines += PROBES
-    made.add(f"deliver c 0 {ENDS}")
-    made.lines += handed_out([0, *ids])
-    return made.lines
+    return ended(made, ids)
+
+
+def small(lines):
+    """a script of these events, in which a stream id stands for a delivery of all that waits there"""
+    made = Schedule([1000, 220, 1, 1000, 220, 1])
+    open_requests(made, [4], [4])
+    made.add(f"deliver c 0 {BEGINS}")
+    for line in lines:
+        side, _, id = line.partition(" ")
+        made.add(f"deliver {line} {made.waits(side, int(id))}" if side in OWN else line)
+        made.lines += PROBES
+    return ended(made, [4])
+
+
+SMALL = {
+    # what the client's decoder wrote is read behind its settings, and then no section of stream 4 refers to the table
+    "a cancellation before the settings": small(["cancel c 4", "c 10", "c 2", "head s 4 103 x-a=1", "head s 4 200 x-a=2"]),
+    # the second section refers to what the first one inserted before memory was refused
+    "a head with two insertions, sent twice": small(["s 3", *["head c 4 GET https://www.example.com/sample/path"] * 2, "c 6", "c 6", "c 4", "pull s 4", "pull s 4"]),
+}

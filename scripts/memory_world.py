@@ -47,6 +47,10 @@ def key(it):
     return key(it.__dict__)
 
 
+class Unread(Exception):
+    """what was taken can't be read: never with these rules"""
+
+
 @dataclass(frozen=True)
 class Delivery:
     """what goes over of a stream, by the script's word for it: bytes (`deliver`), its end (`end`) or its reset (`gone`)"""
@@ -58,7 +62,8 @@ class Delivery:
     def read_by(self, end):
         calls = {"deliver": lambda: end.deliver(self.id, self.data), "end": lambda: end.deliver_end(self.id), "gone": lambda: end.deliver_reset(self.id, CANCELLED)}
         answer = calls[self.kind]()
-        assert answer == ("done",), f"{self} was taken, and is read as {answer}"
+        if answer != ("done",):
+            raise Unread(f"{self} is read as {answer}")
 
 
 @dataclass
@@ -262,18 +267,17 @@ def distinct(states):
 
 
 class TooMany(Exception):
-    """more states than this model follows"""
+    """more states than are followed"""
 
 
 def follow(script, answers):
-    """The number of the first event of a script whose answer is not allowed, from 1, or None; and the greatest number of states on the way."""
-    states, most = [State(setup(script[0]), {CLIENT: (), SERVER: ()})], 1
+    """the number of the first event of a script, from 1, that is not answered as is allowed, or None"""
+    states = [State(setup(script[0]), {CLIENT: (), SERVER: ()})]
     for number, (line, answer) in enumerate(zip(script[1:], answers, strict=True), 1):
         event = event_of(line)
         states = distinct([it for state in states for it in after(state, event, answer)])
-        most = max(most, len(states))
         if not states:
-            return number, most
-        if most > MOST_STATES:
-            raise TooMany
-    return None, most
+            return number
+        if len(states) > MOST_STATES:
+            raise TooMany(f"more than {MOST_STATES} states behind event {number}")
+    return None
