@@ -33,7 +33,7 @@ SCHEDULES, SHOWN = 30, 5
 
 
 def each_in_turn(calls):
-    return [Refused(first, first + more) for first in range(1, calls + 1) for more in (0, 2, 5, FOR_GOOD)]
+    return [Refused(first, first + more) for first in range(1, calls + 1) for more in (0, 3, 8, FOR_GOOD)]
 
 
 def by_chance(rng, calls):
@@ -192,7 +192,7 @@ def is_never_settled(_end, _id):
     return False
 
 
-def holds_nothing_back(_end, _delivery):
+def holds_nothing_back(_end, _delivery, _reader):
     return None
 
 

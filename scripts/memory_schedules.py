@@ -137,9 +137,10 @@ def small(lines):
     return ended(made, [4])
 
 
+SIMPLE = "head c 4 GET https://www.example.com/sample/path"
 SMALL = {
     # what the client's decoder wrote is read behind its settings, and then no section of stream 4 refers to the table
     "a cancellation before the settings": small(["cancel c 4", "c 10", "c 2", "head s 4 103 x-a=1", "head s 4 200 x-a=2"]),
-    # the second section refers to what the first one inserted before memory was refused
-    "a head with two insertions, sent twice": small(["s 3", *["head c 4 GET https://www.example.com/sample/path"] * 2, "c 6", "c 6", "c 4", "pull s 4", "pull s 4"]),
+    # The second section refers to what the first one inserted before memory was refused. A pull of stream 0, which was given up, reads nothing.
+    "a head with two insertions, sent twice": small(["cancel s 0", "s 3", SIMPLE, SIMPLE, "c 6", "pull s 0", "c 6", "c 4", "pull s 4", "pull s 4"]),
 }

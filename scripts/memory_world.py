@@ -1,8 +1,8 @@
 """What a client and a server may answer to a schedule in which memory may be refused at any event.
 
 A state is two endpoints of scripts/independent_model.py, which know no refused memory, and what each side keeps: deliveries that it took and
-could not read yet, in their order. What is kept has left its writer, and the reader's endpoint stands in front of it. `after` gives the states
-that may stand behind an event that was answered by a line of the program, and none where no such answer is allowed. The rules:
+could not read yet, in the order in which they came. What is kept has left its writer, and of the reader it counts as not delivered. `after` gives
+the states that may stand behind an event that was answered by a line of the program, and none where no such answer is allowed. The rules:
 
 - A line that tells of no refused memory is exact. A delivery that is taken, and a pull, have read all that their side keeps.
 - `refused OutOfMemory`: the call would have been accepted, and nothing has changed. A head or trailer may have made the insertions of a front
@@ -16,7 +16,7 @@ import sys
 from dataclasses import dataclass
 
 sys.path.insert(0, os.path.dirname(os.path.abspath(__file__)))
-from independent_model import CLIENT, CONTROL, DECODER, SERVER, Endpoint  # noqa: E402
+from independent_model import CLIENT, DECODER, SERVER, Endpoint  # noqa: E402
 from independent_talk import CANCELLED, answered, event_of, printed, setup  # noqa: E402
 
 OUT_OF_MEMORY, KEPT, NOT_PULLED = MEMORY = ("refused OutOfMemory", "refused Kept", "fault out of memory")
@@ -74,7 +74,7 @@ class State:
     def copy(self):
         return State(copied(self.ends), dict(self.kept))
 
-    def read(self, side, end, left):
+    def with_side(self, side, end, left):
         """this side stands so now, and keeps what is left"""
         return State({**self.ends, side: end}, {**self.kept, side: left})
 
@@ -111,17 +111,16 @@ def front_read(end, delivery, count):
     return end, Delivery(delivery.kind, delivery.id, delivery.data[count:])
 
 
-def held_back(end, delivery):
-    """What the peer's decoder wrote is held until its SETTINGS are read. Where memory is refused behind these it is still to be read then: a delivery
-    of its own. None where nothing is held, or where this delivery cannot have the settings."""
-    stream = end.incoming.get(delivery.id)
+def held_back(end, delivery, reader):
+    """What the peer's decoder wrote is held until its SETTINGS are read. Where memory is refused behind these it is still to be read: a delivery of its
+    own, behind the one that brings them. None where nothing is held, or where they are there already or do not come with this delivery, which `reader` has read."""
     held = end.critical.get(DECODER)
-    if end.settings is not None or not held or delivery.kind != "deliver" or stream is None or stream.kind != CONTROL:
+    if not held or end.settings is not None or reader.settings is None:
         return None
     end = copied(end)
     end.critical[DECODER] = b""
     id = next(id for id, stream in end.incoming.items() if stream.kind == DECODER)
-    return end, Delivery("deliver", id, held)
+    return end, (delivery, Delivery("deliver", id, held))
 
 
 def parts_read(end, kept):
@@ -141,11 +140,11 @@ def parts_read(end, kept):
         first.read_by(reader)
         todo.append((reader, rest, False))
         for count in whole_in(end, first):
-            reader, left = front_read(end, first, count)
-            todo.append((reader, (left, *rest), True))
-        back = held_back(end, first)
+            cut, left = front_read(end, first, count)
+            todo.append((cut, (left, *rest), True))
+        back = held_back(end, first, reader)
         if back is not None:
-            todo.append((back[0], (first, back[1], *rest), False))
+            todo.append((back[0], (*back[1], *rest), False))
     return list(found.values())
 
 
@@ -171,8 +170,8 @@ def taken_from(end, kind, id, count=0):
 
 
 def kept_behind(state, kind, side, arguments):
-    """The states where a delivery is kept. One of a request stream needs no memory to be read but for what stands in front of it; and a stream
-    of which something is kept is open."""
+    """The states where a delivery is kept. What comes on a request stream is only stored, so it is kept for what stands in front of it alone; and a
+    stream of which something is kept is open."""
     after, reader, id = state.copy(), OTHER[side], arguments[0]
     delivery = taken_from(after.ends[side], kind, *arguments)
     if after.ends[reader].is_request(id):
@@ -180,7 +179,7 @@ def kept_behind(state, kind, side, arguments):
             return []
         after.ends[reader].deliver(id, b"")
     parts = parts_read(after.ends[reader], (*state.kept[reader], delivery))
-    return [after.read(reader, end, left) for end, left in parts if left]
+    return [after.with_side(reader, end, left) for end, left in parts if left]
 
 
 def handed_over(state, event, line):
@@ -212,7 +211,7 @@ def pulled(state, event, line):
     if is_settled(end, id):
         return [state] if line == printed(end.pull(id)) else []
     if line == NOT_PULLED:
-        return [state.read(side, *part) for part in parts_read(end, state.kept[side])]
+        return [state.with_side(side, *part) for part in parts_read(end, state.kept[side])]
     after = caught_up(state, side)
     # where a body is cut is promised to nobody: any front of what came is right
     piece = ("Body", line[len("body "):].encode()) if line.startswith("body ") else None
@@ -232,7 +231,7 @@ def with_insertions(end, id, fields):
 def fronts_inserted(state, side, id, fields):
     """the states that a refused head or trailer may leave"""
     ends = [with_insertions(state.ends[side], id, fields[:count]) for count in range(len(fields) + 1)]
-    return [state.read(side, end, state.kept[side]) for end in ends]
+    return [state.with_side(side, end, state.kept[side]) for end in ends]
 
 
 def called(state, event, line):
