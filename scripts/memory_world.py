@@ -272,7 +272,7 @@ class TooMany(Exception):
 def follow(script, answers):
     """the number of the first event of a script, from 1, that is not answered as is allowed, or None"""
     states = [State(setup(script[0]), {CLIENT: (), SERVER: ()})]
-    for number, (line, answer) in enumerate(zip(script[1:], answers, strict=True), 1):
+    for number, (line, answer) in enumerate(zip(script[1:], answers), 1):
         event = event_of(line)
         states = distinct([it for state in states for it in after(state, event, answer)])
         if not states:
