@@ -16,6 +16,7 @@ import random
 import sys
 from collections import Counter
 from dataclasses import dataclass, field
+from functools import partial
 from unittest import mock
 
 sys.path.insert(0, os.path.dirname(os.path.abspath(__file__)))
@@ -26,7 +27,7 @@ from memory_schedules import BEGINS, ENDS, SMALL, schedule  # noqa: E402
 from memory_world import MEMORY, OTHER, Delivery, TooMany, follow  # noqa: E402
 from refusing import FOR_GOOD, Refused, Refusing, can_refuse  # noqa: E402
 
-SCHEDULES, SHOWN = 30, 5
+SCHEDULES, SHOWN = 20, 5
 
 
 # ---- which calls are refused, run by run
@@ -144,8 +145,7 @@ def all_runs(refusing, program, seeds):
     for name, script in SMALL.items():
         yield from runs_of(refusing, program, name, script, each_in_turn)
     for seed in seeds:
-        rng = random.Random(seed)
-        yield from runs_of(refusing, program, f"schedule {seed}", schedule(seed), lambda calls, rng=rng: by_chance(rng, calls))
+        yield from runs_of(refusing, program, f"schedule {seed}", schedule(seed), partial(by_chance, random.Random(seed)))
 
 
 def told(what, faults, good):

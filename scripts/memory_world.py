@@ -1,8 +1,8 @@
 """What a client and a server may answer to a schedule in which memory may be refused at any event.
 
 A state is two endpoints of scripts/independent_model.py, which know no refused memory, and what each side keeps: deliveries that it took and
-could not read yet, in the order in which they came. What is kept has left its writer, and of the reader it counts as not delivered. `after` gives
-the states that may stand behind an event that was answered by a line of the program, and none where no such answer is allowed. The rules:
+could not read yet, in the order in which they came. What is kept has left its writer, and of the reader it counts as not delivered. `states_behind`
+gives what may stand behind an event that was answered by a line of the program, and nothing where no such answer is allowed. The rules:
 
 - A line that tells of no refused memory is exact. A delivery that is taken, and a pull, have read all that their side keeps.
 - `refused OutOfMemory`: the call would have been accepted, and nothing has changed. A head or trailer may have made the insertions of a front
@@ -60,8 +60,10 @@ class Delivery:
     data: bytes = b""
 
     def read_by(self, end):
-        calls = {"deliver": lambda: end.deliver(self.id, self.data), "end": lambda: end.deliver_end(self.id), "gone": lambda: end.deliver_reset(self.id, CANCELLED)}
-        answer = calls[self.kind]()
+        if self.kind == "deliver":
+            answer = end.deliver(self.id, self.data)
+        else:
+            answer = end.deliver_end(self.id) if self.kind == "end" else end.deliver_reset(self.id, CANCELLED)
         if answer != ("done",):
             raise Unread(f"{self} is read as {answer}")
 
@@ -254,8 +256,8 @@ def called(state, event, line):
     return [state] if not right.startswith("refused") or right.startswith("refused TooLarge") else []
 
 
-def after(state, event, line):
-    """the states behind an event that was answered so"""
+def states_behind(state, event, line):
+    """what may stand behind an event that was answered so"""
     if event[0] in ("deliver", "end", "gone"):
         return handed_over(state, event, line)
     return pulled(state, event, line) if event[0] == "pull" else called(state, event, line)
@@ -274,7 +276,7 @@ def follow(script, answers):
     states = [State(setup(script[0]), {CLIENT: (), SERVER: ()})]
     for number, (line, answer) in enumerate(zip(script[1:], answers), 1):
         event = event_of(line)
-        states = distinct([it for state in states for it in after(state, event, answer)])
+        states = distinct([it for state in states for it in states_behind(state, event, answer)])
         if not states:
             return number
         if len(states) > MOST_STATES:
