@@ -7,14 +7,14 @@ runs the program on some scripts of examples/ again and again: at the first call
 meets no refusal; each number both for that call alone and for all from it on. Each run has to end with status 2, or with status 0 and the
 lines of the example up to one that tells of refused memory. Then it runs the program of cases (crates/h3_cases) on a head with two insertions, which
 is sent again where memory was refused: what was inserted before stands on the encoder stream, nothing on the head's own, and the second section
-refers to it. It prints a line 'ok NAME' or 'failed NAME' a script, and one for the insertions. The calls are refused by a few lines of C; where no
-C compiler is there it says so and tries nothing.
+refers to it. It prints a line 'ok NAME' or 'failed NAME' a script, and one for the insertions. The calls are refused by a few lines of C
+(scripts/refusing.py); where no C compiler is there it says so and tries nothing. What holds behind the first such line scripts/memory_runs.py tries.
 """
 import os
-import shutil
-import subprocess
 import sys
-import tempfile
+
+sys.path.insert(0, os.path.dirname(os.path.abspath(__file__)))
+from refusing import FOR_GOOD, Refused, Refusing, can_refuse  # noqa: E402
 
 TOP = os.path.dirname(os.path.dirname(os.path.abspath(__file__)))
 SCRIPTS = ("first", "table", "interim", "refused_event")
@@ -27,46 +27,6 @@ CALLS = [b"call new c 1000 0 0", b"call deliver 3 0004050140dc0702", b"call open
 CAPACITY, INSERTIONS = b"023fbd01", (b"c08cf1e3c2e5f23a6ba0ab90f4ff", b"c1896103a6ba0ac5634cff")
 # The frame: its entries are both inserted behind the base, one of them before it, both before it (RFC 9204, section 4.5).
 FRAMES = (b"01060381d1d71011", b"01060380d1d78010", b"01060300d1d78180")
-SHIM = r"""
-#define _GNU_SOURCE
-#include <dlfcn.h>
-#include <stdlib.h>
-#include <string.h>
-#include <unistd.h>
-
-static long calls;
-
-/* FAIL_FROM and FAIL_TO: the calls that are refused. The first of them is told on descriptor 9. */
-static int is_refused(void) {
-  static long from = -1, to;
-  if (from < 0) { from = atol(getenv("FAIL_FROM")); to = atol(getenv("FAIL_TO")); }
-  calls++;
-  if (calls == from && write(9, "x", 1) < 0) abort();
-  return calls >= from && calls <= to;
-}
-void *malloc(size_t size) {
-  static void *(*next)(size_t);
-  if (!next) next = dlsym(RTLD_NEXT, "malloc");
-  return is_refused() ? NULL : next(size);
-}
-void *realloc(void *old, size_t size) {
-  static void *(*next)(void *, size_t);
-  if (!next) next = dlsym(RTLD_NEXT, "realloc");
-  return is_refused() ? NULL : next(old, size);
-}
-"""
-
-
-def ran(program, shim, given, first, last):
-    """what it wrote, its status, and whether it met a refusal"""
-    told, tell = os.pipe()
-    os.set_inheritable(tell, True)
-    env = {"LD_PRELOAD": shim, "FAIL_FROM": str(first), "FAIL_TO": str(last)}
-    it = subprocess.run([program], input=given, stdout=subprocess.PIPE, stderr=subprocess.DEVNULL, env=env, timeout=60, preexec_fn=lambda: os.dup2(tell, 9), pass_fds=(9, tell))
-    os.close(tell)
-    met = os.read(told, 1) != b""
-    os.close(told)
-    return it.stdout, it.returncode, met
 
 
 def is_allowed(wrote, status, met, wanted, usual):
@@ -81,19 +41,19 @@ def is_allowed(wrote, status, met, wanted, usual):
     return len(lines) == len(wanted) and lines[:first] == wanted[:first]
 
 
-def check(program, shim, name):
+def check(refusing, program, name):
     with open(f"{TOP}/examples/{name}.talk", "rb") as script, open(f"{TOP}/examples/{name}.stdout", "rb") as file:
         given, wanted = script.read(), file.read().split(b"\n")[:-1]
     usual = 1 if wanted[0].startswith(b"line ") else 0
     runs, statuses = 0, set()
-    for last in (lambda n: n, lambda n: 10 ** 9):
+    for last in (lambda n: n, lambda n: FOR_GOOD):
         met, number = True, 0
         while met:
             number += 1
-            wrote, status, met = ran(program, shim, given, number, last(number))
-            runs, statuses = runs + 1, statuses | {status}
-            if not is_allowed(wrote, status, met, wanted, usual):
-                print(f"failed {name} with memory refused: call {number} for memory refused: status {status}, {wrote[:200]!r}")
+            ran = refusing.run(program, given, Refused(number, last(number)))
+            met, runs, statuses = ran.refused > 0, runs + 1, statuses | {ran.status}
+            if not is_allowed(ran.wrote, ran.status, met, wanted, usual):
+                print(f"failed {name} with memory refused: call {number} for memory refused: status {ran.status}, {ran.wrote[:200]!r}")
                 return 1
     print(f"ok {name} with memory refused: {runs} runs, statuses {' '.join(map(str, sorted(statuses)))}")
     return 0
@@ -103,21 +63,21 @@ def waits(bytes):
     return b"waits " + (bytes or b"-")
 
 
-def insertions(cases, shim):
+def insertions(refusing, cases):
     """each call for memory of the calls refused in turn: how often the head was refused with no insertion, one and two made"""
     begun, both = [b"ok", b"ok", b"stream 0"], waits(CAPACITY + b"".join(INSERTIONS))
     found, met, number = [0, 0, 0], True, 0
     while met:
         number += 1
-        wrote, status, met = ran(cases, shim, b"\n".join(CALLS) + b"\n", number, number)
-        lines = wrote.split(b"\n")[:-1]
+        ran = refusing.run(cases, b"\n".join(CALLS) + b"\n", Refused(number, number))
+        met, lines = ran.refused > 0, ran.wrote.split(b"\n")[:-1]
         if lines[:4] != begun + [b"refused OutOfMemory"]:
             # memory was refused elsewhere, or not at all
             continue
         wanted = {waits(CAPACITY + b"".join(INSERTIONS[:made])): made for made in range(3)}
         made = wanted.get(lines[4])
-        if made is None or lines[5:] != [waits(b""), b"ok", both, waits(FRAMES[made])] or status:
-            print(f"failed insertions with memory refused: call {number} for memory refused: status {status}, {lines[3:]}")
+        if made is None or lines[5:] != [waits(b""), b"ok", both, waits(FRAMES[made])] or ran.status:
+            print(f"failed insertions with memory refused: call {number} for memory refused: status {ran.status}, {lines[3:]}")
             return 1
         found[made] += 1
     if lines != begun + [b"ok", both, waits(FRAMES[0]), b"refused OutOfOrder", both, waits(FRAMES[0])] or not found[1]:
@@ -129,14 +89,11 @@ def insertions(cases, shim):
 
 def main():
     program, cases = map(os.path.abspath, sys.argv[1:3])
-    if not shutil.which("cc"):
+    if not can_refuse():
         print("ok refused memory: not tried, since there is no C compiler")
         return 0
-    with tempfile.TemporaryDirectory() as folder:
-        with open(f"{folder}/shim.c", "w") as file:
-            file.write(SHIM)
-        subprocess.run(["cc", "-O1", "-shared", "-fPIC", "-o", f"{folder}/shim.so", f"{folder}/shim.c", "-ldl"], check=True)
-        return max([check(program, f"{folder}/shim.so", name) for name in SCRIPTS] + [insertions(cases, f"{folder}/shim.so")])
+    with Refusing() as refusing:
+        return max([check(refusing, program, name) for name in SCRIPTS] + [insertions(refusing, cases)])
 
 
 if __name__ == "__main__":

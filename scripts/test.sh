@@ -2,8 +2,8 @@
 # The gate: the checks of this repository (scripts/check-*.sh), which take a minute and a half and each print one line 'ok NAME' or
 # 'failed NAME' for each thing that they check; then `rt ci` and beside it, with what it leaves of the processors, the wrong bodies of
 # crates/*/refused, each crate's once the libraries below it are proved (scripts/refused.py); and then the programs that rt ci built: a large
-# exchange, large input, scripts and insertions with memory refused, input and output that fail, and hostile calls of an endpoint. Where one of these
-# fails the gate ends there. The last line is the sum. The C programs of tests/c have a command of their own (make test-c), which CI runs next: it builds the library over what rt ci has proved.
+# exchange, large input, scripts, insertions and whole runs with memory refused, input and output that fail, and hostile calls of an endpoint. Where one
+# of these fails the gate ends there. The last line is the sum. The C programs of tests/c have a command of their own (make test-c), which CI runs next: it builds the library over what rt ci has proved.
 set -uo pipefail
 cd "$(dirname "$0")/.."
 
@@ -100,6 +100,7 @@ if [ "$failed" -eq 0 ]; then
   count python3 scripts/exchange.py crates/h3_talk/out/h3_talk
   count python3 scripts/sizes.py crates/h3_talk/out/h3_talk crates/h3_cases/out/h3_cases
   count python3 scripts/refused_memory.py crates/h3_talk/out/h3_talk crates/h3_cases/out/h3_cases
+  count python3 scripts/memory_runs.py crates/h3_talk/out/h3_talk
   count python3 scripts/failing_streams.py crates/h3_talk/out/h3_talk
   count python3 scripts/hostile_calls.py crates/h3_cases/out/h3_cases
 fi
