@@ -1,6 +1,7 @@
 //! The program: a script in, the answers out.
 ghost use Rattle.std.specs.Prelude.{◌≡◌, ◌⊎◌, ◌≤◌, true, IfOk};
 ghost use Rattle.std.specs.Io.KnownBytes.{Appends};
+ghost use Rattle.std.specs.Process.{exit_status};
 ghost use Rattle.h3_script.specs.Few.{AreFew};
 ghost use Rattle.h3_script.specs.Inputs.{RefusesInput};
 ghost use Rattle.h3_talk.specs.Talks.{AnswersTo, Prints, AnswersScript, Loses};
@@ -14,6 +15,7 @@ use h3_world::event::{Answer, Event};
 use h3_world::setup::Setup;
 use std::alloc::{AllocError, Global};
 use std::io::{Read, Write};
+use std::process::ExitCode;
 
 /// Answers a script: reads it whole, drives a client and a server by it and writes a line for each
 /// event. The status is 0 then. Where a line is refused nothing but `line` and the number of the
@@ -36,6 +38,19 @@ pub fn talk<R: Read, W: Write>(alloc: Global, reader: &mut R, writer: &mut W) ->
         Ok(script) => answer(alloc, script, writer),
         Err(status) => status,
     }
+}
+
+/// What the program ends with: the status of `talk`.
+pub fn exit_code<R: Read, W: Write>(alloc: Global, reader: &mut R, writer: &mut W) -> ExitCode
+    ensures answered { exit_status result ≡ 0 → AnswersScript (R.remaining reader.old) (R.remaining reader.new)
+        (W.contents writer.old) (W.contents writer.new) }
+    ensures refused { exit_status result ≡ 1 → RefusesInput (R.remaining reader.old) (R.remaining reader.new)
+        (W.contents writer.old) (W.contents writer.new) }
+    ensures lost { exit_status result ≡ 2 → Loses (R.remaining reader.old) (R.remaining reader.new)
+        (W.contents writer.old) (W.contents writer.new) }
+    ensures statuses { exit_status result ≤ 2 }
+{
+    ExitCode::from(talk(alloc, reader, writer))
 }
 
 /// Writes the answers to the events of a script.
