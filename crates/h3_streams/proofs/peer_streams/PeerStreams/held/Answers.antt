@@ -1,4 +1,4 @@
-use Rattle.std.proofs.Common.{◌≡◌, ◌∙◌, ◌++◌, sym, ap, subst}
+use Rattle.std.proofs.Common.{◌≡◌, ◌∙◌, sym, ap, subst}
 use Rattle.h3_connection.specs.Unidirectional.{Unidirectional}
 use Rattle.h3_connection.specs.Unread.{held_of_role}
 use Rattle.h3_streams.specs.Placed.{peer_stream}
