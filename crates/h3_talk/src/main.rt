@@ -1,9 +1,6 @@
 //! Scripts of what a client and a server do, and what comes of it.
 #![tactic(auto)]
 
-ghost use Rattle.std.specs.Prelude.{◌≤◌};
-ghost use Rattle.std.specs.Process.{exit_status};
-
 mod talk;
 
 pub use h3_script::script;
@@ -12,9 +9,7 @@ pub use h3_session::run::run;
 use std::process::ExitCode;
 pub use talk::{exit_code, talk};
 
-fn main(rt: HostRuntime) -> ExitCode
-    ensures { exit_status result ≤ 2 }
-{
+fn main(rt: HostRuntime) -> ExitCode {
     let mut reader = rt.reader();
     let mut writer = std::io::writer(&rt);
     exit_code(rt.alloc(), &mut reader, &mut writer)
