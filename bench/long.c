@@ -207,7 +207,8 @@ static void told_rows(size_t count) {
 }
 
 /* a client opens, sends its head and resets; the server reads the head, is told of the reset, and resets its own half */
-static void reset_rows(size_t count) {
+/* each with the same code, or each with a code of its own */
+static void reset_rows(const char *what, size_t count, int has_own_code) {
   char size[32];
   double before;
   h3_item item;
@@ -221,16 +222,17 @@ static void reset_rows(size_t count) {
     send_request(id);
     carry(CLIENT, id);
     done("h3_pull", id, h3_pull(&ends[SERVER], id, &item));
+    uint64_t code = has_own_code ? 0x52e4a40fa8db + i : H3_CODE_REQUEST_CANCELLED;
     done("h3_reset", id, h3_reset(&ends[CLIENT], id, NULL));
-    done("h3_deliver_reset", id, h3_deliver_reset(&ends[SERVER], id, H3_CODE_REQUEST_CANCELLED, NULL));
+    done("h3_deliver_reset", id, h3_deliver_reset(&ends[SERVER], id, code, NULL));
     done("h3_pull", id, h3_pull(&ends[SERVER], id, &item));
     done("h3_reset", id, h3_reset(&ends[SERVER], id, NULL));
-    done("h3_deliver_reset", id, h3_deliver_reset(&ends[CLIENT], id, H3_CODE_REQUEST_CANCELLED, NULL));
+    done("h3_deliver_reset", id, h3_deliver_reset(&ends[CLIENT], id, code, NULL));
     done("h3_pull", id, h3_pull(&ends[CLIENT], id, &item));
     carry(SERVER, h3_decoder_id(SERVER));
     carry(CLIENT, h3_decoder_id(CLIENT));
   }
-  row("a stream that its client opens and resets", size, (held - before) / (double)count / 2, "bytes an end", 32);
+  row(what, size, (held - before) / (double)count / 2, "bytes an end", 32);
   drop();
 }
 
@@ -452,7 +454,8 @@ int main(int argc, char **argv) {
   idle_row();
   exchange_rows(count);
   told_rows(count < 100000 ? count : 100000);
-  reset_rows(100000);
+  reset_rows("a stream that its client opens and resets", 100000, 0);
+  reset_rows("the same, each with a code of its own", 100000, 1);
   unknown_rows(100000);
   sweep_rows(10000);
   sweep_rows(100000);

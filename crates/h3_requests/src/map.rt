@@ -9,7 +9,7 @@ ghost use Rattle.h3_connection.specs.State.{kept_at};
 ghost use Rattle.h3_connection.specs.StreamSets.{HaveDistinctIds};
 ghost use Rattle.h3_requests.specs.Lending.{LendsStream};
 ghost use Rattle.h3_requests.specs.HasBytes.{has_end};
-ghost use Rattle.h3_requests.specs.Over.{IsOver, with_end_taken};
+ghost use Rattle.h3_requests.specs.Over.{with_end_taken, AreAlike, IsOver};
 ghost use Rattle.h3_requests.specs.Refused.{refused_over};
 ghost use Rattle.h3_requests.specs.Stored.{either, over_at, streams_in, under_way_at};
 
@@ -39,22 +39,30 @@ impl StreamMap {
         }
     }
 
-    // The stream of that id, where it is there.
-    pub(crate) fn get(&self, id: StreamId) -> Option<&RequestStream>
-        ensures { option_copied result ≡ kept_at (streams_in self.now) id }
+    // The stream of that id, where it is there, but for the code of a reset.
+    pub(crate) fn get_alike(&self, id: StreamId) -> Option<&RequestStream>
+        ensures { AreAlike (option_copied result) (kept_at (streams_in self.now) id) }
     {
         match self.under_way.get(&id.into_inner()) {
             Some(stream) => Some(stream),
-            None => self.over.get(id),
+            None => self.over.get_alike(id),
         }
     }
 
-    // The stream of that id, where it is over and not under way again.
-    pub(crate) fn get_over(&self, id: StreamId) -> Option<&RequestStream>
-        ensures value { option_copied result ≡ over_at self.now id }
+    // One like the stream of that id, where it is over and not under way again.
+    pub(crate) fn get_over(&self, id: StreamId) -> Option<RequestStream>
+        ensures value { result ≡ over_at self.now id }
         ensures over { IfSome (over_at self.now id) IsOver }
     {
         self.over.get(id)
+    }
+
+    // Whether the stream of that id is over and not under way again.
+    pub(crate) fn is_over(&self, id: StreamId) -> bool
+        ensures value { result ≡ is_some (over_at self.now id) }
+        ensures over { IfSome (over_at self.now id) IsOver }
+    {
+        self.over.contains(id)
     }
 
     // Why a call is refused on a stream that is not under way: for this on one that is over, and else since none is there.
@@ -62,10 +70,10 @@ impl StreamMap {
         ensures value { result ≡ refused_over (over_at self.now id) refusal }
         ensures over { IfSome (over_at self.now id) IsOver }
     {
-        match self.over.get(id) {
-            Some(_) => refusal,
-            None => Refusal::NotOpen,
+        if self.over.contains(id) {
+            return refusal;
         }
+        Refusal::NotOpen
     }
 
     // The stream of that id, where it is under way, to be changed.
@@ -93,7 +101,7 @@ impl StreamMap {
     {
         let number = id.into_inner();
         let Ok(before) = self.under_way.insert(number, stream) else {
-            let _over = self.over.get(id);
+            let _over = self.over.contains(id);
             return Err(AllocError);
         };
         if let Some(before) = before {
@@ -135,7 +143,7 @@ impl StreamMap {
 
     // The stream is under way from now on, where it is there, and this tells whether it is. An `Err` changes nothing: memory was
     // refused.
-    pub(crate) fn take_up(&mut self, alloc: Global, id: StreamId) -> Result<bool, AllocError>
+    pub(crate) fn take_up(&mut self, id: StreamId) -> Result<bool, AllocError>
         ensures there { IfOk result (λ is_there. is_there ≡ is_some (kept_at (streams_in self.old) id)) }
         ensures same { streams_in self.new ≡ streams_in self.old }
     {
@@ -146,13 +154,13 @@ impl StreamMap {
         let Some(stream) = self.over.get(id) else {
             return Ok(false);
         };
-        let Ok(_) = self.under_way.insert(number, stream.like(alloc)) else {
+        let Ok(_) = self.under_way.insert(number, stream) else {
             return Err(AllocError);
         };
         Ok(true)
     }
 
-    // A stream of which this tells that it is over takes one byte from now on, unless no memory was taken for that or there are
+    // A stream of which this tells that it is over takes a few bytes from now on, unless no memory was taken for that or there are
     // too many ways in which streams are over.
     pub(crate) fn retire_if(&mut self, id: StreamId, is_over: bool)
         ensures { streams_in self.new ≡ streams_in self.old }

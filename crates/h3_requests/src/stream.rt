@@ -1,11 +1,13 @@
 //! A request stream, both ways.
-ghost use Rattle.std.specs.Prelude.{◌≡◌, ◌||◌, ◌+◌, ◌<◌, ◌≤◌, ◌^◌, true, false, length, is_some, IfErr, OnErr, OnOk};
+ghost use Rattle.std.specs.Prelude.{◌≡◌, ◌||◌, ◌+◌, ◌<◌, ◌≤◌, ◌^◌, true, false, length, is_some, Some, IfErr, IfSome, OnErr, OnOk};
 ghost use Rattle.std.specs.List.{concat};
 ghost use Rattle.h3_connection.specs.Calls.{fresh_request};
 ghost use Rattle.h3_connection.specs.Delivering.{kept};
-ghost use Rattle.h3_requests.specs.Over.{IsOver, ReceivesAlike, SendsAlike, with_end_taken};
+ghost use Rattle.h3_connection.specs.declared.event.StreamFault.TheVariants.{Reset};
+ghost use Rattle.h3_requests.specs.Over.{reset_with, with_end_taken, IsOver, ReceivesAlike, SendsAlike};
 
 use bytes::Bytes;
+use h3_connection::event::StreamFault;
 use h3_incoming::IncomingStream;
 use h3_outgoing::OutgoingStream;
 use std::alloc::Global;
@@ -109,6 +111,27 @@ impl RequestStream {
         RequestStream {
             incoming: self.incoming.like(alloc),
             outgoing: self.outgoing.like_taken(alloc),
+        }
+    }
+
+    // The same, but reset by its sender with this code. It takes no memory.
+    pub(crate) fn like_reset(&self, alloc: Global, code: u64) -> RequestStream
+        requires { IsOver self.now }
+        ensures { result ≡ reset_with self.now code }
+    {
+        RequestStream {
+            incoming: self.incoming.like_reset(alloc, code),
+            outgoing: self.outgoing.like(alloc),
+        }
+    }
+
+    // The code with which its sender cut it off, where that is why it was given up.
+    pub(crate) fn code_of_reset(&self) -> Option<u64>
+        ensures { IfSome result (λ code. self.now.incoming.fault ≡ Some (Reset code)) }
+    {
+        match self.incoming.fault() {
+            Some(StreamFault::Reset(code)) => Some(code),
+            _ => None,
         }
     }
 

@@ -1,5 +1,5 @@
 //! The request streams of a connection, by their ids.
-ghost use Rattle.std.specs.Prelude.{◌≡◌, [], OnOk, OnErr, IfSome, option_copied};
+ghost use Rattle.std.specs.Prelude.{◌≡◌, [], OnOk, OnErr, IfSome};
 ghost use Rattle.h3_blocked.specs.Sums.{TakesOut};
 ghost use Rattle.h3_connection.specs.Calls.{fresh_request, Sets};
 ghost use Rattle.h3_connection.specs.State.{kept_at};
@@ -16,6 +16,7 @@ use std::marker::Model;
 mod judged;
 mod pulling;
 mod receiving;
+mod seen;
 mod sending;
 mod unread;
 
@@ -53,13 +54,6 @@ impl RequestStreams {
             blocked: Blocked::new(alloc),
             ready: ReadyStreams::new(alloc),
         }
-    }
-
-    /// The stream of that id, where it is there.
-    pub fn get(&self, id: StreamId) -> Option<&RequestStream>
-        ensures { option_copied result ≡ kept_at self.now id }
-    {
-        self.streams.get(id)
     }
 
     /// A stream on which nothing has happened is there under that id, in the place of one that was there. An `Err` changes

@@ -1,8 +1,10 @@
 //! What is left of a stream to be read.
-ghost use Rattle.std.specs.Prelude.{◌≡◌, true};
+ghost use Rattle.std.specs.Prelude.{◌≡◌, true, Some};
+ghost use Rattle.h3_connection.specs.declared.event.StreamFault.TheVariants.{Reset};
 ghost use Rattle.h3_incoming.specs.Left.{is_drained};
 
 use super::IncomingStream;
+use h3_connection::event::StreamFault;
 use h3_connection::place::Place;
 use h3_messages::Content;
 use h3_wire::frame::FrameBuffer;
@@ -51,5 +53,15 @@ impl IncomingStream {
             came_behind: false,
             fault: self.fault,
         }
+    }
+
+    /// The same, but cut off with this code. It takes no memory.
+    pub fn like_reset(&self, alloc: Global, code: u64) -> IncomingStream
+        requires { is_drained self.now ≡ true }
+        ensures { result ≡ record self.now { fault = Some (Reset code) } }
+    {
+        let mut stream = self.like(alloc);
+        stream.fault = Some(StreamFault::Reset(code));
+        stream
     }
 }

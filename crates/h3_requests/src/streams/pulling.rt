@@ -1,5 +1,5 @@
 //! How many request streams wait for insertions, and what a pull answers.
-ghost use Rattle.std.specs.Prelude.{◌≡◌, true, false, ℕ, List, None, Some, count_by, nat_lt, is_some, option_copied, IfNone, IfSome};
+ghost use Rattle.std.specs.Prelude.{◌≡◌, true, false, ℕ, List, None, Some, count_by, nat_lt, is_some, IfNone, IfSome};
 ghost use Rattle.h3_field.specs.Instruction.{DecoderInstruction};
 ghost use Rattle.h3_qpack.specs.DecoderState.{DecoderState};
 ghost use Rattle.h3_blocked.specs.Counting.{above, HasCount, IsSound, Replaces};
@@ -97,15 +97,24 @@ impl RequestStreams {
 }
 
 /// Answers for a stream that is not under way: for one that is over, or for none.
-fn answer_over(stream: Option<&RequestStream>, side: Side, are_too_many: bool, out: &mut Pull)
-    requires { IfSome (option_copied stream) IsOver }
-    ensures absent { IfNone (option_copied stream.entry) (out.new ≡ unopened_answer side) }
-    ensures there { IfSome (option_copied stream.entry) (λ r. AnswersOver r.incoming are_too_many out.new) }
+fn answer_over(stream: Option<RequestStream>, side: Side, are_too_many: bool, out: &mut Pull)
+    requires { IfSome stream IsOver }
+    ensures absent { IfNone stream (out.new ≡ unopened_answer side) }
+    ensures there { IfSome stream (λ r. AnswersOver r.incoming are_too_many out.new) }
     ensures memory { is_memory out.new ≡ false }
 {
-    let Some(stream) = stream else {
-        return unopened(side, out);
-    };
+    match stream {
+        Some(stream) => answer_for(&stream, are_too_many, out),
+        None => unopened(side, out),
+    }
+}
+
+/// Answers for a stream that is over.
+fn answer_for(stream: &RequestStream, are_too_many: bool, out: &mut Pull)
+    requires { IsOver stream.now }
+    ensures there { AnswersOver stream.now.incoming are_too_many out.new }
+    ensures memory { is_memory out.new ≡ false }
+{
     answer_settled(&stream.incoming, out);
     if are_too_many {
         fail(out, Fault::Connection(Code::QPACK_DECOMPRESSION_FAILED));

@@ -43,7 +43,7 @@ impl RequestStreams {
         ensures err { OnErr result (AllSame self.old self.new) }
     {
         let Some(stream) = self.streams.get_mut(id) else {
-            if self.streams.get_over(id).is_some() {
+            if self.streams.is_over(id) {
                 return Err(DeliverError::Refused(Refusal::AfterEnd));
             }
             return self.deliver_unopened(alloc, side, id, bytes);
@@ -177,7 +177,7 @@ impl RequestStreams {
         ensures ok { OnOk result (Sets self.old self.new id (opened_at self.old id)) }
         ensures err { OnErr result (self.new ≡ self.old) }
     {
-        if self.streams.take_up(alloc, id)? {
+        if self.streams.take_up(id)? {
             return Ok(true);
         }
         match self.open(alloc, id) {

@@ -50,7 +50,7 @@ impl RequestStreams {
         ensures absent { kept_at self.old id ≡ None → self.new ≡ self.old }
     {
         let Some(stream) = self.streams.get_mut(id) else {
-            return self.streams.get_over(id).is_some();
+            return self.streams.is_over(id);
         };
         let waiting = stream.outgoing.waiting();
         stream.outgoing.advance(count.min(waiting));

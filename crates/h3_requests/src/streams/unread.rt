@@ -13,7 +13,7 @@ impl RequestStreams {
     pub fn held(&self, id: StreamId) -> usize
         ensures { result ≡ counted (held_of_request (unwrap_or (option_map (λ r. r.incoming) (kept_at self.now id)) nothing_came)) }
     {
-        match self.get(id) {
+        match self.streams.get_alike(id) {
             Some(stream) => stream.incoming().held(),
             None => 0,
         }

@@ -73,10 +73,10 @@ impl Endpoint {
     fn head_error(&self, id: StreamId, later: FieldsError) -> FieldsError
         ensures { result ≡ error_after (head_refused_at (kept_at self.now.requests id)) later }
     {
-        let Some(stream) = self.requests.get(id) else {
+        let Some(stream) = self.requests.outgoing(id) else {
             return FieldsError::Refused(Refusal::NotOpen);
         };
-        if !stream.outgoing().takes_head() {
+        if !stream.takes_head() {
             return FieldsError::Refused(Refusal::OutOfOrder);
         }
         later
@@ -86,10 +86,10 @@ impl Endpoint {
     fn trailer_error(&self, id: StreamId, later: FieldsError) -> FieldsError
         ensures { result ≡ error_after (body_refused_at (kept_at self.now.requests id)) later }
     {
-        let Some(stream) = self.requests.get(id) else {
+        let Some(stream) = self.requests.outgoing(id) else {
             return FieldsError::Refused(Refusal::NotOpen);
         };
-        if !stream.outgoing().takes_body() {
+        if !stream.takes_body() {
             return FieldsError::Refused(Refusal::OutOfOrder);
         }
         later

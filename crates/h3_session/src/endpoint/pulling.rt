@@ -21,7 +21,7 @@ use h3_connection::setup::Announced;
 use h3_incoming::answer::{fail, no_messages, put};
 use h3_proto::error::Code;
 use h3_proto::stream::{Side, StreamId};
-use h3_requests::{RequestStream, RequestStreams};
+use h3_requests::RequestStreams;
 use h3_streams::ids::StreamKind;
 use h3_streams::streams::ConnectionStreams;
 use h3_unidirectional::waiting::WaitingBytes;
@@ -41,19 +41,6 @@ fn fault_of(answer: &Pull) -> Option<Code>
         Pull::Pending => None,
         Pull::Waiting(_) => None,
         Pull::NoMessages => None,
-    }
-}
-
-/// Whether the answer to each further pull is settled: the stream was given up, or its end was handed out.
-fn is_settled(stream: Option<&RequestStream>) -> bool
-    ensures { result ≡ is_settled_request (option_map (λ r. r.incoming) (option_copied stream.entry)) }
-{
-    match stream {
-        Some(stream) => {
-            let incoming = stream.incoming();
-            incoming.fault().is_some() || incoming.is_over()
-        }
-        None => false,
     }
 }
 
@@ -155,7 +142,7 @@ impl Endpoint {
         ensures { result ≡ settled_in self.now id (kind_of self.now.side id) }
     {
         match StreamKind::of(self.side, id) {
-            StreamKind::Request => is_settled(self.requests.get(id)),
+            StreamKind::Request => self.requests.is_settled(id),
             StreamKind::PeerUnidirectional => match self
                 .streams
                 .unidirectional

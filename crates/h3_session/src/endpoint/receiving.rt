@@ -4,7 +4,7 @@ ghost use Rattle.std.specs.VecDeque.{deque_len, deque_capacity};
 ghost use Rattle.h3_connection.specs.Arrivals.{stream_of, closes, is_closed_in};
 ghost use Rattle.h3_blocked.specs.Sums.{TakesOut};
 ghost use Rattle.h3_connection.specs.Calls.{AllSame, Sets, fresh_request};
-ghost use Rattle.h3_connection.specs.Delivering.{kept, request_refusal, server_opened_refusal};
+ghost use Rattle.h3_connection.specs.Delivering.{kept, server_opened_refusal};
 ghost use Rattle.h3_connection.specs.Endpoint.{EndpointHistory, kind_of};
 ghost use Rattle.h3_connection.specs.Endpoint.Kind.{Request};
 ghost use Rattle.h3_connection.specs.Keeping.{arrival_refusal};
@@ -20,7 +20,7 @@ use bytes::Bytes;
 use h3_connection::arrival::Arrival;
 use h3_connection::event::{DeliverError, Refusal};
 use h3_proto::stream::{Side, StreamId};
-use h3_requests::{RequestStream, RequestStreams};
+use h3_requests::RequestStreams;
 use h3_streams::ids::StreamKind;
 use h3_unidirectional::waiting::WaitingBytes;
 use std::alloc::{AllocError, Global};
@@ -101,25 +101,6 @@ fn is_closed_in(arrivals: &[Arrival], id: StreamId) -> bool
         }
     }
     false
-}
-
-/// Why what comes on a request stream is refused.
-fn request_refusal(side: Side, stream: Option<&RequestStream>) -> Option<Refusal>
-    ensures { result ≡ request_refusal side (option_map (λ r. r.incoming) (option_copied stream.entry)) }
-{
-    match stream {
-        Some(stream) => {
-            let incoming = stream.incoming();
-            if incoming.ended() || incoming.was_reset() {
-                return Some(Refusal::AfterEnd);
-            }
-            None
-        }
-        None => match side {
-            Side::Client => Some(Refusal::NotOpen),
-            Side::Server => None,
-        },
-    }
 }
 
 /// Why what comes on a stream that a server would open is refused.
@@ -230,7 +211,7 @@ impl Endpoint {
             if self.kept.is_empty() {
                 return self.receive_at_once(arrival);
             }
-            if self.requests.get(id).is_none() {
+            if !self.requests.contains(id) {
                 return self.take_first(arrival);
             }
         }
@@ -338,7 +319,7 @@ impl Endpoint {
         ensures { result ≡ delivery_refused self.now id (kind_of self.now.side id) }
     {
         match StreamKind::of(self.side, id) {
-            StreamKind::Request => request_refusal(self.side, self.requests.get(id)),
+            StreamKind::Request => self.requests.delivery_refusal(self.side, id),
             StreamKind::ServerOpened => server_opened_refusal(self.side),
             StreamKind::OwnUnidirectional => Some(Refusal::NotReceiving),
             StreamKind::PeerUnidirectional => {

@@ -96,10 +96,10 @@ impl Endpoint {
     fn uncounted_refusal(&self, id: StreamId) -> Refusal
         ensures { result ≡ unwrap_or (body_refused_at (kept_at self.now.requests id)) OutOfMemory }
     {
-        let Some(stream) = self.requests.get(id) else {
+        let Some(stream) = self.requests.outgoing(id) else {
             return Refusal::NotOpen;
         };
-        if !stream.outgoing().takes_body() {
+        if !stream.takes_body() {
             return Refusal::OutOfOrder;
         }
         Refusal::OutOfMemory
@@ -256,10 +256,7 @@ impl Endpoint {
     pub(super) fn sender(&self, id: StreamId) -> Option<&OutgoingStream>
         ensures { option_copied result ≡ sender_in self.now id }
     {
-        match self.requests.get(id) {
-            Some(stream) => Some(stream.outgoing()),
-            None => None,
-        }
+        self.requests.outgoing(id)
     }
 
     // What waits on an own stream, and nothing on a stream that is none.

@@ -104,10 +104,7 @@ impl Endpoint {
         ensures value { ShowsTries self.now id result }
         ensures bound { TriesAreBounded result }
     {
-        match self.requests.get(id) {
-            Some(stream) => stream.incoming().tries(),
-            None => 0,
-        }
+        self.requests.tries(id)
     }
 
     /// The bytes that came and were not read, of a request stream that is there or of the peer's control stream. Their `tries` say how often
@@ -119,10 +116,7 @@ impl Endpoint {
         if let Some(frames) = self.streams.control_frames(id) {
             return Some(frames);
         }
-        match self.requests.get(id) {
-            Some(stream) => Some(stream.incoming().frames()),
-            None => None,
-        }
+        self.requests.frames(id)
     }
 }
 

@@ -10,7 +10,7 @@ use Rattle.h3_requests.proofs.map.StreamMap.insert.Goals as goal
 
 pub returns-in_default-clause-over : goal.returns-in_default-clause-over
 returns-in_default-clause-over c =
-    subst (λ o. IfSome o IsOver) (sym (under c.args.self.now c.into_inner-number.result c.args.id None c.into_inner-number.ensures.value c.into_inner-number.ensures.bound (sym c.in_default.ensures.absent))) c.get-over.ensures.over
+    subst (λ o. IfSome o IsOver) (sym (under c.args.self.now c.into_inner-number.result c.args.id None c.into_inner-number.ensures.value c.into_inner-number.ensures.bound (sym c.in_default.ensures.absent))) c.contains-over.ensures.over
 
 pub returns-in_default-clause-distinct : goal.returns-in_default-clause-distinct
 returns-in_default-clause-distinct c = distinct_in (record { under_way = c.insert.new.self; over = c.args.self.now.over })

@@ -1,6 +1,6 @@
 -- A stream that is over is taken up as it is.
 use Rattle.std.proofs.Common.{◌≡◌, true, false, Some, None, refl, sym, ◌∙◌, ap}
-use Rattle.std.specs.Prelude.{Option, is_some, option_copied}
+use Rattle.std.specs.Prelude.{Option, is_some}
 use Rattle.h3_connection.specs.State.{kept_at}
 use Rattle.h3_requests.specs.Stored.{either}
 use Rattle.h3_requests.proofs.Found.{same_stored, under}
@@ -22,7 +22,7 @@ returns-then-contains_key-clause-there c =
 pub returns-in_default-clause-there : goal.returns-in_default-clause-there
 returns-in_default-clause-there c =
     sym (ap is_some (under c.args.self.now c.into_inner-number.result c.args.id None c.into_inner-number.ensures.value c.into_inner-number.ensures.bound (none_first _ (sym c.contains_key.ensures ∙ c.if-contains_key.false)))
-    ∙ ap is_some (sym c.get.ensures.value) ∙ ap (λ o. is_some (option_copied o)) c.in_default.is)
+    ∙ ap is_some (sym c.get.ensures.value) ∙ ap is_some c.in_default.is)
 
 pub returns-in_default-insert-clause-same : goal.returns-in_default-insert-clause-same
 returns-in_default-insert-clause-same c = same_stored c.args.self.now (record { under_way = c.insert.new.self; over = c.args.self.now.over }) c.in_default-insert.ensures.err refl

@@ -23,5 +23,5 @@ pub returns-in_default-clause-there : goal.returns-in_default-clause-there
 returns-in_default-clause-there c =
     let found : kept_at c.args.self.now c.args.id ≡ over_at c.self.inside.streams c.args.id =
     ap (λ l. kept_at l c.args.id) (sym c.self.view_is) ∙ c.get_mut.ensures.found ∙ ap (λ o. either o (over_at c.self.inside.streams c.args.id)) (sym c.get_mut.ensures.value ∙ ap option_copied_mut c.in_default.is) in
-    let h = over_advanced c.args.self.now c.args.id c.args.count (over_at c.self.inside.streams c.args.id) found (search (rules, c.get_over.ensures.over)) in
+    let h = over_advanced c.args.self.now c.args.id c.args.count (over_at c.self.inside.streams c.args.id) found (search (rules, c.is_over.ensures.over)) in
     search (rules, h)
