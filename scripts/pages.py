@@ -12,7 +12,7 @@
 - Each page of docs has a paragraph below its title, and ends with a line 'Next: ..'.
 - docs/C_API.md has each call of include/h3.h, and names none that is not there.
 - scripts/README.md has each file of scripts/.
-- README and docs/PROVED.md say how many edits must be refused, and how many of them a reader judged."""
+- README and docs/PROVED.md say how many edits must be refused, how many of them the prover refuses by itself, and how many a reader judged."""
 import os
 import re
 import sys
@@ -163,9 +163,10 @@ def counts(page):
     """what a page says of the edits that must be refused: a form of its words, and the number in it"""
     edits = [it for it in files("crates") if "/refused/" in it and it.endswith(".edit")]
     judged = [it for it in edits if re.search(r"^judged:", read(it), re.M)]
+    by_itself = (r"(prover\s+refuses\s+)\d+(\s+by\s+itself)", len(edits) - len(judged))
     if page == "README.md":
-        return ((r"(attacked\W+: )\d+( edits)", len(edits)),)
-    return ((r"(Of the )\d+(\s+edits\s+of)", len(edits)), (r"(\.\s)\d+(\s+of\s+the\s+edits\s+have\s+such\s+a\s+line)", len(judged)))
+        return ((r"(attacked\W+: )\d+( edits)", len(edits)), by_itself, (r"(of\s+the\s+other\s+)\d+(\s+a\s+reader)", len(judged)))
+    return ((r"(There are )\d+(\s+edits\s+of)", len(edits)), by_itself, (r"(reader judged )\d+(\W)", len(judged)))
 
 
 def counted(page, text):
