@@ -1,6 +1,6 @@
 -- What is found in the streams of a map, by what is stored of each.
 use Rattle.std.proofs.Common.{◌≡◌, ◌<◌, ℕ, ◌^◌, false, [], refl, sym, ◌∙◌, ap, inl, inr, arith}
-use Rattle.std.specs.Prelude.{Option, Some, None, ◌≢◌, IsSome}
+use Rattle.std.specs.Prelude.{Option, Some, None, ◌≢◌, IfSome, IsSome}
 use Rattle.std.specs.BTreeMap.{is_at}
 use Rattle.std.specs.Cmp.{unsigned_tied}
 use Rattle.std.specs.Map.{set_value}
@@ -88,6 +88,18 @@ pub put_back : {X : Type 0} (u v w o p : Streams X) (id : ℕ) → kept_at u id 
 put_back u v w o p id was others none again same =
     listed.same_streams (stored u o) (stored w p) (at_each (stored u o) (stored w p) id (stored_alike u w o p id (none ∙ sym was) (ap (λ l. kept_at l id) same))
     (λ q differs. stored_alike u w o p q (again q (not_at id q differs) ∙ others q (not_at id q differs)) (ap (λ l. kept_at l q) same)))
+
+-- or set among those that are over,
+set_over : {X : Type 0} (u o p : Streams X) (id : ℕ) (x : X) → id < 2 ^ 64 → kept_at u id ≡ None → Sets o p id x → Sets (streams_of (stored u o)) (streams_of (stored u p)) id x
+set_over u o p id x below none s = sets (stored u o) (stored u p) id x below (ap (λ y. either y (kept_at p id)) none ∙ s.here) (λ q differs. stored_alike u u o p q refl (s.others q differs))
+
+pub over_set : (change : RequestState → RequestState) (u o p : Streams RequestState) (id : ℕ) → id < 2 ^ 62 → kept_at u id ≡ None → IfSome (kept_at o id) (λ r. Sets o p id (change r))
+    → IfSome (kept_at o id) (λ r. Sets (streams_of (stored u o)) (streams_of (stored u p)) id (change r))
+over_set change u o p id below none h = by_what (kept_at o id) h
+  where
+    by_what : (there : Option RequestState) → IfSome there (λ r. Sets o p id (change r)) → IfSome there (λ r. Sets (streams_of (stored u o)) (streams_of (stored u p)) id (change r))
+    by_what None h = tt
+    by_what (Some r) h = set_over u o p id (change r) (omega (arith, below)) none h
 
 -- or taken out of both,
 pub taken_out : {X : Type 0} (u v o p : Streams X) (id : ℕ) → id < 2 ^ 64 → kept_at v id ≡ None → KeepsOthers u v id → TakesOut o p id → TakesOut (streams_of (stored u o)) (streams_of (stored v p)) id

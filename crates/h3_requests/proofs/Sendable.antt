@@ -147,15 +147,15 @@ left counts s t old new id before after writes there same none unfinished reset 
     (λ q differs has. places q differs ∙ has) (λ takes. absurd (let wrong : false ≡ true = sym closed ∙ takes in cc)) h
 
 -- or it was finished
-pub ended : {under_way : Option RequestState} (counts : Blocked) (s t : ReadyStreams) (old new : Streams RequestState) (id : ℕ) (before after : RequestState) → Writes old new under_way id after → under_way ≡ Some before
-    → after.incoming.waits_for ≡ before.incoming.waits_for → after.outgoing.pieces ≡ before.outgoing.pieces → end_waits after.outgoing ≡ true → is_open after.outgoing ≡ false
-    → ((q : ℕ) → is_ready t q ≡ is_ready s q) → IsOneTest id true (is_ending s.ends) (is_ending t.ends) → ((q : ℕ) → has_place t.ends q ≡ has_place s.ends q) → AreKept counts s old → AreKept counts t new
-ended counts s t old new id before after writes there same sent waits closed ready end places h =
+pub ended : {under_way : Option RequestState} (counts : Blocked) (s t : ReadyStreams) (old new : Streams RequestState) (id : ℕ) (is : Bool) (before after : RequestState) → Writes old new under_way id after → under_way ≡ Some before
+    → after.incoming.waits_for ≡ before.incoming.waits_for → after.outgoing.pieces ≡ before.outgoing.pieces → is ≡ end_waits after.outgoing → is_open after.outgoing ≡ false
+    → ((q : ℕ) → is_ready t q ≡ is_ready s q) → IsOneTest id is (is_ending s.ends) (is_ending t.ends) → ((q : ℕ) → q ≢ id → has_place t.ends q ≡ has_place s.ends q) → AreKept counts s old → AreKept counts t new
+ended counts s t old new id is before after writes there same sent waits closed ready end places h =
     let was = counting.kept_there old new id before after writes there in
     let takes_none : takes_end after.outgoing ≡ false = rw closed refl in
     after_call counts counts s t old new id after (writes.0 (ap is_some there)) (counting.written counts old new id before after writes there same h.counted)
-    (bytes_before counts s t old id before after was ready sent h) (subst (λ b. IsOneTest id b (is_ending s.ends) (is_ending t.ends)) (sym waits) end)
-    (λ q differs has. places q ∙ has) (λ takes. absurd (let wrong : false ≡ true = sym takes_none ∙ takes in cc)) h
+    (bytes_before counts s t old id before after was ready sent h) (subst (λ b. IsOneTest id b (is_ending s.ends) (is_ending t.ends)) waits end)
+    (λ q differs has. places q differs ∙ has) (λ takes. absurd (let wrong : false ≡ true = sym takes_none ∙ takes in cc)) h
 
 -- a stream whose FIN was taken
 both : (a b : Bool) → (a && b) ≡ true → (a ≡ true) × (b ≡ true)

@@ -416,3 +416,28 @@ refused_reset (Some r) h = rw (over_sent r h) refl
 pub refused_cancel : (o : Option RequestState) → IfSome o IsOver → Some (refused_over o refusal.Ended) ≡ cancel_refused_at o
 refused_cancel None h = refl
 refused_cancel (Some r) h = rw (over_settled r h) refl
+
+-- the way with the end taken is one of the ways
+pub next_way : (ways : List RequestState) (marks : ℕ → ℕ) (way : ℕ) (r : RequestState) → AreMarked ways marks → way_at ways way ≡ Some r → end_waits r.outgoing ≡ true
+    → (way_at ways (way + 1) ≡ Some (with_end_taken r)) × (way + 1 ≤ 255) × (way + 1 ≤ length ways)
+next_way ways marks way r h there waits =
+    let paired : IsPaired ways way r = subst (λ o. IfSome o (IsPaired ways way)) there (h.paired way) in
+    let next = paired waits in
+    let within = within_ways ways (way + 1) (with_end_taken r) next in
+    (next, omega (arith, within, h.few), within)
+
+pub same_ways : (ways : List RequestState) → HasWays ways ways
+same_ways ways = record { longer = omega arith; same = λ way least. refl }
+
+-- a mark that is not 0 can be set
+pub was_set : (is_set : Bool) (mark way : ℕ) → (is_set ≡ false → mark ≡ 0) → way ≡ mark → way ≢ 0 → is_set ≡ true
+was_set true mark way none is some = refl
+was_set false mark way none is some = absurd (some (is ∙ none refl))
+
+-- the stream is in that way then
+pub goes_on : (ways : List RequestState) (marks later : ℕ → ℕ) (model : Streams RequestState) (number id way : ℕ) (r : RequestState) → streams_of (over_in ways marks) ≡ model → AreMarked ways marks → number ≡ id → number < 2 ^ 62
+    → IsOneMark number (way + 1) marks later → way_at ways way ≡ Some r → end_waits r.outgoing ≡ true → kept_at model id ≡ Some r
+    → IfSome (kept_at model id) (λ s. Sets model (streams_of (over_in ways later)) id (with_end_taken s))
+goes_on ways marks later model number id way r view h is below one there waits found_ =
+    subst (λ o. IfSome o (λ s. Sets model (streams_of (over_in ways later)) id (with_end_taken s))) (sym found_)
+    (marked_in ways ways marks later model number id (way + 1) (with_end_taken r) view h (same_ways ways) is below one (next_way ways marks way r h there waits).0)

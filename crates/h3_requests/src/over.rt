@@ -1,5 +1,5 @@
 //! The request streams that are over, in one byte each.
-ghost use Rattle.std.specs.Prelude.{◌≡◌, ◌<◌, ◌≤◌, ℕ, [], Some, true, false, length, option_copied, IfSome};
+ghost use Rattle.std.specs.Prelude.{◌≡◌, ◌<◌, ◌≤◌, ◌^◌, ℕ, [], Some, true, false, length, option_copied, IfSome};
 ghost use Rattle.h3_blocked.specs.Sums.{TakesOut};
 ghost use Rattle.h3_connection.specs.Calls.{Sets};
 ghost use Rattle.h3_connection.specs.State.{kept_at};
@@ -95,6 +95,7 @@ impl OverStreams {
         ensures taken { result ≡ true → IfSome (kept_at self.old id) (λ r. Sets self.old self.new id (with_end_taken r)) }
         ensures same { result ≡ false → self.new ≡ self.old }
         ensures over { IfSome (kept_at self.old id) IsOver }
+        ensures number { id < 2 ^ 62 }
     {
         let number = id.into_inner();
         let way = self.marks.get(number);

@@ -90,23 +90,18 @@ impl ReadyStreams {
         }
     }
 
-    /// The end of a stream that has a place waits from now on. It takes no memory.
-    pub(crate) fn put_end(&mut self, id: StreamId)
-        requires { has_place self.old.ends id ≡ true }
-        ensures put { IsOneTest id true (is_ending self.old.ends) (is_ending self.new.ends) }
-        ensures places { (q : ℕ) → has_place self.new.ends q ≡ has_place self.old.ends q }
-        ensures bytes { (q : ℕ) → is_ready self.new q ≡ is_ready self.old q }
-    {
-        self.ends.put(id);
-    }
-
-    /// The end of a stream waits no longer, and its place goes. It takes no memory.
-    pub(crate) fn take_end(&mut self, id: StreamId)
-        ensures taken { IsOneTest id false (is_ending self.old.ends) (is_ending self.new.ends) }
+    /// The end of a stream waits from now on, for which there is a place; or it does not, and its place goes. It takes no memory.
+    pub(crate) fn settle_end(&mut self, id: StreamId, waits: bool)
+        requires { waits ≡ true → has_place self.old.ends id ≡ true }
+        ensures end { IsOneTest id waits (is_ending self.old.ends) (is_ending self.new.ends) }
         ensures places { (q : ℕ) → q ≢ id → has_place self.new.ends q ≡ has_place self.old.ends q }
         ensures bytes { (q : ℕ) → is_ready self.new q ≡ is_ready self.old q }
     {
-        self.ends.take(id);
+        if !waits {
+            self.ends.take(id);
+            return;
+        }
+        self.ends.put(id);
     }
 
     /// Neither bytes nor an end wait on a stream from now on. It takes no memory.

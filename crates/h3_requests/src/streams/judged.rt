@@ -122,8 +122,9 @@ impl RequestStreams {
             return Err(Refusal::OutOfOrder);
         }
         stream.outgoing.finish();
+        let ends = stream.outgoing.end_waits();
         let is_over = stream.is_over();
-        self.ready.put_end(id);
+        self.ready.settle_end(id, ends);
         self.streams.retire_if(id, is_over);
         Ok(())
     }

@@ -80,13 +80,13 @@ impl RequestStreams {
             if !self.streams.take_end(id) {
                 return false;
             }
-            self.ready.take_end(id);
+            self.ready.settle_end(id, false);
             return true;
         };
         if !stream.outgoing.take_end() {
             return false;
         }
-        self.ready.take_end(id);
+        self.ready.settle_end(id, false);
         true
     }
 

@@ -1,7 +1,8 @@
 -- Whether bytes still wait is what is left of those that waited.
-use Rattle.std.proofs.Common.{rules, ◌≡◌, sym, ◌∙◌, ap}
+use Rattle.std.proofs.Common.{refl, rules, ◌≡◌, sym, ◌∙◌, ap}
 use Rattle.std.specs.Option.{option_copied_mut}
-use Rattle.h3_connection.specs.State.{kept_at}
+use Rattle.h3_connection.specs.State.{RequestState, kept_at}
+use Rattle.h3_outgoing.specs.Sent.{end_waits, takes_end}
 use Rattle.h3_requests.specs.Stored.{either, over_at}
 use Rattle.h3_requests.proofs.Ways.{over_advanced}
 use Rattle.h3_requests.proofs.Sendable.{had_place, moved, listed_before, settled}
@@ -12,9 +13,10 @@ settle-requires c = listed_before _ _ _ c.args.id c.min.result _ c.in-Some.strea
 
 pub invariant_of-self-2 : goal.invariant_of-self-2
 invariant_of-self-2 c =
+    let after : RequestState = record { incoming = c.stream.inside.incoming; outgoing = c.advance.new.self } in
     moved c.retire_if.ensures
-    (settled _ _ _ _ _ c.args.id _ c.in-Some.stream.now _ (c.get_mut.follows.holds _) (search rules) (search rules) c.settle.ensures.bytes (search rules) c.settle.ensures.ends (search rules)
-    (had_place _ _ _ _ c.args.id c.in-Some.stream.now _ (c.get_mut.follows.holds _) (search rules) (search rules) c.self.invariant) c.self.invariant)
+    (settled _ _ _ _ _ c.args.id _ c.in-Some.stream.now after (c.get_mut.follows.holds _) (search rules) (ap (λ (r : RequestState). r.incoming.waits_for) c.stream.view_is) c.settle.ensures.bytes (search rules) c.settle.ensures.ends (ap end_waits c.advance.ensures ∙ ap (λ (r : RequestState). end_waits r.outgoing) c.stream.view_is)
+    (had_place _ _ _ _ c.args.id c.in-Some.stream.now after (c.get_mut.follows.holds _) (search rules) (ap takes_end c.advance.ensures ∙ ap (λ (r : RequestState). takes_end r.outgoing) c.stream.view_is) c.self.invariant) c.self.invariant)
 
 -- nothing waits on a stream that is over
 pub returns-in_default-clause-there : goal.returns-in_default-clause-there
