@@ -11,6 +11,9 @@ pub mod Held
 pub mod Inserting
 pub mod SendingSections
 pub mod SendingHeads
+pub mod Outlines
+pub mod JudgedLists
+pub mod Lists
 pub mod Costs
 pub mod ReceivingKept
 pub mod PullingResumes

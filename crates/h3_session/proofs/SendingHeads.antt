@@ -2,7 +2,7 @@
 use Rattle.std.proofs.Common.{◌≡◌, ℕ, Bool, true, false, if◌then◌else◌, List, [], ◌∷◌, ◌++◌, take, Option, Some, None, Result, Err, refl, ap, sym, subst, ◌∙◌}
 use Rattle.std.specs.Prelude.{◌≢◌, not, ◌&&◌, unwrap_or}
 use Rattle.h3_field.specs.Field.{Field, section_size}
-use Rattle.h3_header.specs.Head.{Head, has_pseudo, head_fields}
+use Rattle.h3_header.specs.Head.{Head, has_pseudo}
 use Rattle.h3_outgoing.specs.Sent as sent
 use Rattle.h3_connection.specs.Answers.{call_refused}
 use Rattle.h3_connection.specs.Calls.{IsSame, AllSame}
@@ -11,8 +11,8 @@ use Rattle.h3_connection.specs.Outgoing.{OwnPart, OwnInterim, OwnHead, OwnTraile
 use Rattle.h3_connection.specs.OwnIds.{other}
 use Rattle.h3_connection.specs.Pulling.{is_for, is_interim}
 use Rattle.h3_connection.specs.Sections.{encoded_section, with_insertions}
-use Rattle.h3_connection.specs.Sending.{does, closed_or, appended, encoded, outgoing_at, fields_cost, counted, head_part, is_too_large, head_refusal, trailer_refusal, send_head, send_trailer}
-use Rattle.h3_connection.specs.SendingContracts.{CutsOff, MayLackMemory, SendsSection, SendsHead, SendsTrailer}
+use Rattle.h3_connection.specs.Sending.{does, closed_or, appended, encoded, outgoing_at, fields_cost, counted, head_part, is_too_large}
+use Rattle.h3_connection.specs.SendingContracts.{CutsOff, MayLackMemory, SendsSection}
 use Rattle.h3_connection.specs.State.{EndpointState, RequestState, StandsFor, kept_at, place_of}
 use Rattle.h3_connection.specs.StreamSets.{Streams}
 use Rattle.h3_connection.specs.WaitingPieces.{piece_of, frame_piece}
@@ -22,6 +22,7 @@ use Rattle.h3_connection.specs.declared.place.SendPlace.{SendPlace}
 use Rattle.h3_connection.specs.declared.place.SendPlace.TheVariants.{NothingSent, HeadSent, TrailerSent}
 use Rattle.h3_requests.specs.Refused.{or_later, refused_if, head_refused_at, body_refused_at}
 use Rattle.h3_session.specs.OpenedLaws.{stands_same}
+use Rattle.h3_session.specs.SendingLists.{SendsListedHead, SendsListedTrailer, after_head, after_trailer, listed_head_refusal, listed_trailer_refusal, send_listed_head, send_listed_trailer}
 use Rattle.h3_session.specs.Refused.{size_refused, side_refused, pseudo_refused, head_refused, trailer_refused}
 use Rattle.h3_session.proofs.ReceivingCancel.{requests_same}
 use Rattle.h3_session.specs.SendingFields.{IsPart, SendsFields}
@@ -154,71 +155,68 @@ head_allowed b (Some code) there h = absurd (cc)
 head_allowed b None None h = absurd (cc)
 head_allowed b None (Some r) h = not_first (sent.takes_head r.outgoing) refusal.OutOfOrder (refused_if b refusal.WrongSide) h
 
-head_is : (s : EndpointState) (e : EndpointHistory) (id : ℕ) (head : Head) (there : Option RequestState) → StandsFor s e → kept_at s.requests id ≡ there → TakesHead there
-    → IsPart e id (head_fields head) (place_behind (is_interim head.status)) (head_part head (encoded_section e.encoder id (head_fields head)))
-head_is s e id head None h was takes = absurd takes
-head_is s e id head (Some r) h was takes =
+head_is : (s : EndpointState) (e : EndpointHistory) (id : ℕ) (head : Head) (fields : List Field) (there : Option RequestState) → StandsFor s e → kept_at s.requests id ≡ there → TakesHead there
+    → IsPart e id fields (place_behind (is_interim head.status)) (head_part head (encoded_section e.encoder id fields))
+head_is s e id head fields None h was takes = absurd takes
+head_is s e id head fields (Some r) h was takes =
     let o = before_head (outgoing_at e id) r.outgoing (sender_of s e id r h was) takes in
-    let section = encoded_section e.encoder id (head_fields head) in
+    let section = encoded_section e.encoder id fields in
     record { sends_on = o.here; piece = head_piece (is_interim head.status) section; place_is = head_place (outgoing_at e id).parts (is_interim head.status) section o.unsent }
 
-abbrev after_head : ℕ → Head → EndpointHistory → EndpointHistory
-after_head id head e = counted (appended (encoded e id (head_fields head)) id (head_part head (encoded_section e.encoder id (head_fields head)))) (fields_cost (head_fields head))
+head_rule : (s : EndpointState) (id : ℕ) (head : Head) (fields : List Field) → head_refused s id head ≡ None → (e : EndpointHistory) → StandsFor s e → listed_head_refusal e id head fields ≡ size_refused s.peer.settings fields
+head_rule s id head fields none e h = sym (head_refusal_is s e id head fields h) ∙ ap (λ o. or_later o (size_refused s.peer.settings fields)) none
 
-head_rule : (s : EndpointState) (id : ℕ) (head : Head) → head_refused s id head ≡ None → (e : EndpointHistory) → StandsFor s e → head_refusal e id head ≡ size_refused s.peer.settings (head_fields head)
-head_rule s id head none e h = sym (head_refusal_is s e id head h) ∙ ap (λ o. or_later o (size_refused s.peer.settings (head_fields head))) none
+head_refuses : (s : EndpointState) (id : ℕ) (head : Head) (fields : List Field) (r : Refusal) → head_refused s id head ≡ Some r → SendsListedHead s s id head fields (Err r)
+head_refuses s id head fields r is =
+    section_refused (λ e. listed_head_refusal e id head fields) (λ e. after_head e id head fields) s id fields r
+    (λ e h. sym (head_refusal_is s e id head fields h) ∙ ap (λ o. or_later o (size_refused s.peer.settings fields)) is) (λ memory. head_takes_none s id head (is ∙ ap Some memory))
 
-head_refuses : (s : EndpointState) (id : ℕ) (head : Head) (r : Refusal) → head_refused s id head ≡ Some r → SendsHead s s id head (Err r)
-head_refuses s id head r is =
-    section_refused (λ e. head_refusal e id head) (after_head id head) s id (head_fields head) r
-    (λ e h. sym (head_refusal_is s e id head h) ∙ ap (λ o. or_later o (size_refused s.peer.settings (head_fields head))) is) (λ memory. head_takes_none s id head (is ∙ ap Some memory))
+head_lacks : (s : EndpointState) (id : ℕ) (head : Head) (fields : List Field) → head_refused s id head ≡ None → SendsListedHead s s id head fields (Err refusal.OutOfMemory)
+head_lacks s id head fields none = section_lacks (λ e. listed_head_refusal e id head fields) (λ e. after_head e id head fields) s id fields (head_rule s id head fields none)
 
-head_lacks : (s : EndpointState) (id : ℕ) (head : Head) → head_refused s id head ≡ None → SendsHead s s id head (Err refusal.OutOfMemory)
-head_lacks s id head none = section_lacks (λ e. head_refusal e id head) (after_head id head) s id (head_fields head) (head_rule s id head none)
-
-head_sends : (old new : EndpointState) (id : ℕ) (head : Head) (fields : List Field) (place : SendPlace) (result : Result Unit Refusal) → head_refused old id head ≡ None → fields ≡ head_fields head
-    → place ≡ (if is_interim head.status then NothingSent else HeadSent) → SendsFields old new id fields place (call_refused result) → SendsHead old new id head result
-head_sends old new id head fields place result none are at h =
-    let sent_here : SendsFields old new id (head_fields head) (place_behind (is_interim head.status)) (call_refused result)
-    = subst (λ p. SendsFields old new id (head_fields head) p (call_refused result)) at (subst (λ fs. SendsFields old new id fs place (call_refused result)) are h) in
-    section_sends (λ e. head_refusal e id head) (after_head id head) old id (head_fields head) new (place_behind (is_interim head.status)) (call_refused result) (λ e. head_part head (encoded_section e.encoder id (head_fields head)))
-    (head_rule old id head none) (λ e stands. head_is old e id head (kept_at old.requests id) stands refl (head_allowed (not (is_for (other old.side) head)) old.closed (kept_at old.requests id) none)) (λ e. refl) sent_here
+head_sends : (old new : EndpointState) (id : ℕ) (head : Head) (given fields : List Field) (place : SendPlace) (result : Result Unit Refusal) → head_refused old id head ≡ None → given ≡ fields
+    → place ≡ (if is_interim head.status then NothingSent else HeadSent) → SendsFields old new id given place (call_refused result) → SendsListedHead old new id head fields result
+head_sends old new id head given fields place result none are at h =
+    let sent_here : SendsFields old new id fields (place_behind (is_interim head.status)) (call_refused result)
+    = subst (λ p. SendsFields old new id fields p (call_refused result)) at (subst (λ fs. SendsFields old new id fs place (call_refused result)) are h) in
+    section_sends (λ e. listed_head_refusal e id head fields) (λ e. after_head e id head fields) old id fields new (place_behind (is_interim head.status)) (call_refused result) (λ e. head_part head (encoded_section e.encoder id fields))
+    (head_rule old id head fields none) (λ e stands. head_is old e id head fields (kept_at old.requests id) stands refl (head_allowed (not (is_for (other old.side) head)) old.closed (kept_at old.requests id) none)) (λ e. refl) sent_here
 
 head_open : (s : EndpointState) (id : ℕ) (head : Head) → s.closed ≡ None → head_refused s id head ≡ or_later (head_refused_at (kept_at s.requests id)) (side_refused s.side head)
 head_open s id head closed = ap (λ c. closed_or c (or_later (head_refused_at (kept_at s.requests id)) (side_refused s.side head))) closed
 
-head_refused_by : (s : EndpointState) (id : ℕ) (head : Head) (rule : Option Refusal) → head_refused s id head ≡ rule → SendsHead s s id head (Err (unwrap_or rule refusal.OutOfMemory))
-head_refused_by s id head (Some r) is = head_refuses s id head r is
-head_refused_by s id head None is = head_lacks s id head is
+head_refused_by : (s : EndpointState) (id : ℕ) (head : Head) (fields : List Field) (rule : Option Refusal) → head_refused s id head ≡ rule → SendsListedHead s s id head fields (Err (unwrap_or rule refusal.OutOfMemory))
+head_refused_by s id head fields (Some r) is = head_refuses s id head fields r is
+head_refused_by s id head fields None is = head_lacks s id head fields is
 
-pub head_closed : (s : EndpointState) (id : ℕ) (head : Head) (code : ℕ) → s.closed ≡ Some code → SendsHead s s id head (Err (refusal.Closed code))
-head_closed s id head code closed = head_refuses s id head (refusal.Closed code) (ap (λ c. closed_or c (or_later (head_refused_at (kept_at s.requests id)) (side_refused s.side head))) closed)
+pub head_closed : (s : EndpointState) (id : ℕ) (head : Head) (fields : List Field) (code : ℕ) → s.closed ≡ Some code → SendsListedHead s s id head fields (Err (refusal.Closed code))
+head_closed s id head fields code closed = head_refuses s id head fields (refusal.Closed code) (ap (λ c. closed_or c (or_later (head_refused_at (kept_at s.requests id)) (side_refused s.side head))) closed)
 
 -- no room was made for it,
-pub head_unreserved : (s n : EndpointState) (id : ℕ) (head : Head) (later : Option Refusal) (r : Refusal) → s.closed ≡ None → later ≡ side_refused s.side head → n ≡ record s { requests = n.requests } → AllSame s.requests n.requests
-    → r ≡ unwrap_or (or_later (head_refused_at (kept_at s.requests id)) later) refusal.OutOfMemory → SendsHead s n id head (Err r)
-head_unreserved s n id head later r closed is rest same why =
+pub head_unreserved : (s n : EndpointState) (id : ℕ) (head : Head) (fields : List Field) (later : Option Refusal) (r : Refusal) → s.closed ≡ None → later ≡ side_refused s.side head → n ≡ record s { requests = n.requests } → AllSame s.requests n.requests
+    → r ≡ unwrap_or (or_later (head_refused_at (kept_at s.requests id)) later) refusal.OutOfMemory → SendsListedHead s n id head fields (Err r)
+head_unreserved s n id head fields later r closed is rest same why =
     let rule = or_later (head_refused_at (kept_at s.requests id)) (side_refused s.side head) in
-    subst (λ v. SendsHead s v id head (Err r)) (sym rest)
-    (subst (λ r. SendsHead s (record s { requests = n.requests }) id head (Err r)) (sym (why ∙ ap (λ l. unwrap_or (or_later (head_refused_at (kept_at s.requests id)) l) refusal.OutOfMemory) is))
-    (section_alike (λ e. send_head e id head) s id (head_fields head) n.requests same (unwrap_or rule refusal.OutOfMemory) (head_refused_by s id head rule (head_open s id head closed))))
+    subst (λ v. SendsListedHead s v id head fields (Err r)) (sym rest)
+    (subst (λ r. SendsListedHead s (record s { requests = n.requests }) id head fields (Err r)) (sym (why ∙ ap (λ l. unwrap_or (or_later (head_refused_at (kept_at s.requests id)) l) refusal.OutOfMemory) is))
+    (section_alike (λ e. send_listed_head e id head fields) s id fields n.requests same (unwrap_or rule refusal.OutOfMemory) (head_refused_by s id head fields rule (head_open s id head closed))))
 
 -- its fields could not be listed,
-pub head_unlisted : (s n : EndpointState) (id : ℕ) (head : Head) (later : Option Refusal) → s.closed ≡ None → later ≡ side_refused s.side head → n ≡ record s { requests = n.requests } → AllSame s.requests n.requests
-    → or_later (head_refused_at (kept_at s.requests id)) later ≡ None → SendsHead s n id head (Err refusal.OutOfMemory)
-head_unlisted s n id head later closed is rest same none =
-    head_unreserved s n id head later refusal.OutOfMemory closed is rest same (ap (λ o. unwrap_or o refusal.OutOfMemory) (sym none))
+pub head_unlisted : (s n : EndpointState) (id : ℕ) (head : Head) (fields : List Field) (later : Option Refusal) → s.closed ≡ None → later ≡ side_refused s.side head → n ≡ record s { requests = n.requests } → AllSame s.requests n.requests
+    → or_later (head_refused_at (kept_at s.requests id)) later ≡ None → SendsListedHead s n id head fields (Err refusal.OutOfMemory)
+head_unlisted s n id head fields later closed is rest same none =
+    head_unreserved s n id head fields later refusal.OutOfMemory closed is rest same (ap (λ o. unwrap_or o refusal.OutOfMemory) (sym none))
 
 -- or they were sent
-pub head_sent : (s m n : EndpointState) (id : ℕ) (head : Head) (later : Option Refusal) (fields : List Field) (place : SendPlace) (result : Result Unit Refusal) → s.closed ≡ None → later ≡ side_refused s.side head
-    → m ≡ record s { requests = m.requests } → AllSame s.requests m.requests → or_later (head_refused_at (kept_at s.requests id)) later ≡ None → fields ≡ head_fields head
-    → place ≡ (if is_interim head.status then NothingSent else HeadSent) → SendsFields m n id fields place (call_refused result) → SendsHead s n id head result
-head_sent s m n id head later fields place result closed is rest same none are at h =
+pub head_sent : (s m n : EndpointState) (id : ℕ) (head : Head) (later : Option Refusal) (given fields : List Field) (place : SendPlace) (result : Result Unit Refusal) → s.closed ≡ None → later ≡ side_refused s.side head
+    → m ≡ record s { requests = m.requests } → AllSame s.requests m.requests → or_later (head_refused_at (kept_at s.requests id)) later ≡ None → given ≡ fields
+    → place ≡ (if is_interim head.status then NothingSent else HeadSent) → SendsFields m n id given place (call_refused result) → SendsListedHead s n id head fields result
+head_sent s m n id head later given fields place result closed is rest same none are at h =
     let mid = record s { requests = m.requests } in
     let taken : head_refused mid id head ≡ None = head_open mid id head closed
     ∙ ap (λ o. or_later (head_refused_at o) (side_refused s.side head)) (same.each id) ∙ ap (or_later (head_refused_at (kept_at s.requests id))) (sym is) ∙ none in
-    section_begun (λ e. send_head e id head) s id (head_fields head) m.requests same n (call_refused result)
-    (head_sends mid n id head fields place result taken are at (subst (λ v. SendsFields v n id fields place (call_refused result)) rest h))
+    section_begun (λ e. send_listed_head e id head fields) s id fields m.requests same n (call_refused result)
+    (head_sends mid n id head given fields place result taken are at (subst (λ v. SendsFields v n id given place (call_refused result)) rest h))
 
 -- `send_trailer`
 trailer_allowed : (b : Bool) (closed : Option ℕ) (there : Option RequestState) → closed_or closed (or_later (body_refused_at there) (refused_if b refusal.PseudoInTrailer)) ≡ None → TakesBody there
@@ -238,60 +236,57 @@ trailer_is s e id fields (Some r) h was takes =
       place_is = sym (place_pushed (outgoing_at e id).parts (OwnTrailer section) ∙ ap (λ b. if b && false then NothingSent else TrailerSent) o.sent);
     }
 
-abbrev after_trailer : ℕ → List Field → EndpointHistory → EndpointHistory
-after_trailer id fields e = counted (appended (encoded e id fields) id (OwnTrailer (encoded_section e.encoder id fields))) (fields_cost fields)
+trailer_rule : (s : EndpointState) (id : ℕ) (trailer : Head) (fields : List Field) → trailer_refused s id trailer ≡ None → (e : EndpointHistory) → StandsFor s e → listed_trailer_refusal e id trailer fields ≡ size_refused s.peer.settings fields
+trailer_rule s id trailer fields none e h = sym (trailer_refusal_is s e id trailer fields h) ∙ ap (λ o. or_later o (size_refused s.peer.settings fields)) none
 
-trailer_rule : (s : EndpointState) (id : ℕ) (trailer : Head) → trailer_refused s id trailer ≡ None → (e : EndpointHistory) → StandsFor s e → trailer_refusal e id trailer ≡ size_refused s.peer.settings (head_fields trailer)
-trailer_rule s id trailer none e h = sym (trailer_refusal_is s e id trailer h) ∙ ap (λ o. or_later o (size_refused s.peer.settings (head_fields trailer))) none
+trailer_refuses : (s : EndpointState) (id : ℕ) (trailer : Head) (fields : List Field) (r : Refusal) → trailer_refused s id trailer ≡ Some r → SendsListedTrailer s s id trailer fields (Err r)
+trailer_refuses s id trailer fields r is =
+    section_refused (λ e. listed_trailer_refusal e id trailer fields) (λ e. after_trailer e id fields) s id fields r
+    (λ e h. sym (trailer_refusal_is s e id trailer fields h) ∙ ap (λ o. or_later o (size_refused s.peer.settings fields)) is) (λ memory. trailer_takes_none s id trailer (is ∙ ap Some memory))
 
-trailer_refuses : (s : EndpointState) (id : ℕ) (trailer : Head) (r : Refusal) → trailer_refused s id trailer ≡ Some r → SendsTrailer s s id trailer (Err r)
-trailer_refuses s id trailer r is =
-    section_refused (λ e. trailer_refusal e id trailer) (after_trailer id (head_fields trailer)) s id (head_fields trailer) r
-    (λ e h. sym (trailer_refusal_is s e id trailer h) ∙ ap (λ o. or_later o (size_refused s.peer.settings (head_fields trailer))) is) (λ memory. trailer_takes_none s id trailer (is ∙ ap Some memory))
+trailer_lacks : (s : EndpointState) (id : ℕ) (trailer : Head) (fields : List Field) → trailer_refused s id trailer ≡ None → SendsListedTrailer s s id trailer fields (Err refusal.OutOfMemory)
+trailer_lacks s id trailer fields none = section_lacks (λ e. listed_trailer_refusal e id trailer fields) (λ e. after_trailer e id fields) s id fields (trailer_rule s id trailer fields none)
 
-trailer_lacks : (s : EndpointState) (id : ℕ) (trailer : Head) → trailer_refused s id trailer ≡ None → SendsTrailer s s id trailer (Err refusal.OutOfMemory)
-trailer_lacks s id trailer none = section_lacks (λ e. trailer_refusal e id trailer) (after_trailer id (head_fields trailer)) s id (head_fields trailer) (trailer_rule s id trailer none)
-
-trailer_sends : (old new : EndpointState) (id : ℕ) (trailer : Head) (fields : List Field) (result : Result Unit Refusal) → trailer_refused old id trailer ≡ None → fields ≡ head_fields trailer
-    → SendsFields old new id fields TrailerSent (call_refused result) → SendsTrailer old new id trailer result
-trailer_sends old new id trailer fields result none are h =
-    section_sends (λ e. trailer_refusal e id trailer) (after_trailer id (head_fields trailer)) old id (head_fields trailer) new TrailerSent (call_refused result) (λ e. OwnTrailer (encoded_section e.encoder id (head_fields trailer)))
-    (trailer_rule old id trailer none)
-    (λ e stands. trailer_is old e id (head_fields trailer) (kept_at old.requests id) stands refl (trailer_allowed (has_pseudo trailer) old.closed (kept_at old.requests id) none)) (λ e. refl)
+trailer_sends : (old new : EndpointState) (id : ℕ) (trailer : Head) (given fields : List Field) (result : Result Unit Refusal) → trailer_refused old id trailer ≡ None → given ≡ fields
+    → SendsFields old new id given TrailerSent (call_refused result) → SendsListedTrailer old new id trailer fields result
+trailer_sends old new id trailer given fields result none are h =
+    section_sends (λ e. listed_trailer_refusal e id trailer fields) (λ e. after_trailer e id fields) old id fields new TrailerSent (call_refused result) (λ e. OwnTrailer (encoded_section e.encoder id fields))
+    (trailer_rule old id trailer fields none)
+    (λ e stands. trailer_is old e id fields (kept_at old.requests id) stands refl (trailer_allowed (has_pseudo trailer) old.closed (kept_at old.requests id) none)) (λ e. refl)
     (subst (λ fs. SendsFields old new id fs TrailerSent (call_refused result)) are h)
 
 trailer_open : (s : EndpointState) (id : ℕ) (trailer : Head) → s.closed ≡ None → trailer_refused s id trailer ≡ or_later (body_refused_at (kept_at s.requests id)) (pseudo_refused trailer)
 trailer_open s id trailer closed = ap (λ c. closed_or c (or_later (body_refused_at (kept_at s.requests id)) (pseudo_refused trailer))) closed
 
-trailer_refused_by : (s : EndpointState) (id : ℕ) (trailer : Head) (rule : Option Refusal) → trailer_refused s id trailer ≡ rule → SendsTrailer s s id trailer (Err (unwrap_or rule refusal.OutOfMemory))
-trailer_refused_by s id trailer (Some r) is = trailer_refuses s id trailer r is
-trailer_refused_by s id trailer None is = trailer_lacks s id trailer is
+trailer_refused_by : (s : EndpointState) (id : ℕ) (trailer : Head) (fields : List Field) (rule : Option Refusal) → trailer_refused s id trailer ≡ rule → SendsListedTrailer s s id trailer fields (Err (unwrap_or rule refusal.OutOfMemory))
+trailer_refused_by s id trailer fields (Some r) is = trailer_refuses s id trailer fields r is
+trailer_refused_by s id trailer fields None is = trailer_lacks s id trailer fields is
 
-pub trailer_closed : (s : EndpointState) (id : ℕ) (trailer : Head) (code : ℕ) → s.closed ≡ Some code → SendsTrailer s s id trailer (Err (refusal.Closed code))
-trailer_closed s id trailer code closed = trailer_refuses s id trailer (refusal.Closed code) (ap (λ c. closed_or c (or_later (body_refused_at (kept_at s.requests id)) (pseudo_refused trailer))) closed)
+pub trailer_closed : (s : EndpointState) (id : ℕ) (trailer : Head) (fields : List Field) (code : ℕ) → s.closed ≡ Some code → SendsListedTrailer s s id trailer fields (Err (refusal.Closed code))
+trailer_closed s id trailer fields code closed = trailer_refuses s id trailer fields (refusal.Closed code) (ap (λ c. closed_or c (or_later (body_refused_at (kept_at s.requests id)) (pseudo_refused trailer))) closed)
 
 -- no room was made for it,
-pub trailer_unreserved : (s n : EndpointState) (id : ℕ) (trailer : Head) (later : Option Refusal) (r : Refusal) → s.closed ≡ None → later ≡ pseudo_refused trailer → n ≡ record s { requests = n.requests } → AllSame s.requests n.requests
-    → r ≡ unwrap_or (or_later (body_refused_at (kept_at s.requests id)) later) refusal.OutOfMemory → SendsTrailer s n id trailer (Err r)
-trailer_unreserved s n id trailer later r closed is rest same why =
+pub trailer_unreserved : (s n : EndpointState) (id : ℕ) (trailer : Head) (fields : List Field) (later : Option Refusal) (r : Refusal) → s.closed ≡ None → later ≡ pseudo_refused trailer → n ≡ record s { requests = n.requests } → AllSame s.requests n.requests
+    → r ≡ unwrap_or (or_later (body_refused_at (kept_at s.requests id)) later) refusal.OutOfMemory → SendsListedTrailer s n id trailer fields (Err r)
+trailer_unreserved s n id trailer fields later r closed is rest same why =
     let rule = or_later (body_refused_at (kept_at s.requests id)) (pseudo_refused trailer) in
-    subst (λ v. SendsTrailer s v id trailer (Err r)) (sym rest)
-    (subst (λ r. SendsTrailer s (record s { requests = n.requests }) id trailer (Err r)) (sym (why ∙ ap (λ l. unwrap_or (or_later (body_refused_at (kept_at s.requests id)) l) refusal.OutOfMemory) is))
-    (section_alike (λ e. send_trailer e id trailer) s id (head_fields trailer) n.requests same (unwrap_or rule refusal.OutOfMemory) (trailer_refused_by s id trailer rule (trailer_open s id trailer closed))))
+    subst (λ v. SendsListedTrailer s v id trailer fields (Err r)) (sym rest)
+    (subst (λ r. SendsListedTrailer s (record s { requests = n.requests }) id trailer fields (Err r)) (sym (why ∙ ap (λ l. unwrap_or (or_later (body_refused_at (kept_at s.requests id)) l) refusal.OutOfMemory) is))
+    (section_alike (λ e. send_listed_trailer e id trailer fields) s id fields n.requests same (unwrap_or rule refusal.OutOfMemory) (trailer_refused_by s id trailer fields rule (trailer_open s id trailer closed))))
 
 -- its fields could not be listed,
-pub trailer_unlisted : (s n : EndpointState) (id : ℕ) (trailer : Head) (later : Option Refusal) → s.closed ≡ None → later ≡ pseudo_refused trailer → n ≡ record s { requests = n.requests } → AllSame s.requests n.requests
-    → or_later (body_refused_at (kept_at s.requests id)) later ≡ None → SendsTrailer s n id trailer (Err refusal.OutOfMemory)
-trailer_unlisted s n id trailer later closed is rest same none =
-    trailer_unreserved s n id trailer later refusal.OutOfMemory closed is rest same (ap (λ o. unwrap_or o refusal.OutOfMemory) (sym none))
+pub trailer_unlisted : (s n : EndpointState) (id : ℕ) (trailer : Head) (fields : List Field) (later : Option Refusal) → s.closed ≡ None → later ≡ pseudo_refused trailer → n ≡ record s { requests = n.requests } → AllSame s.requests n.requests
+    → or_later (body_refused_at (kept_at s.requests id)) later ≡ None → SendsListedTrailer s n id trailer fields (Err refusal.OutOfMemory)
+trailer_unlisted s n id trailer fields later closed is rest same none =
+    trailer_unreserved s n id trailer fields later refusal.OutOfMemory closed is rest same (ap (λ o. unwrap_or o refusal.OutOfMemory) (sym none))
 
 -- or they were sent
-pub trailer_sent : (s m n : EndpointState) (id : ℕ) (trailer : Head) (later : Option Refusal) (fields : List Field) (result : Result Unit Refusal) → s.closed ≡ None → later ≡ pseudo_refused trailer
-    → m ≡ record s { requests = m.requests } → AllSame s.requests m.requests → or_later (body_refused_at (kept_at s.requests id)) later ≡ None → fields ≡ head_fields trailer
-    → SendsFields m n id fields TrailerSent (call_refused result) → SendsTrailer s n id trailer result
-trailer_sent s m n id trailer later fields result closed is rest same none are h =
+pub trailer_sent : (s m n : EndpointState) (id : ℕ) (trailer : Head) (later : Option Refusal) (given fields : List Field) (result : Result Unit Refusal) → s.closed ≡ None → later ≡ pseudo_refused trailer
+    → m ≡ record s { requests = m.requests } → AllSame s.requests m.requests → or_later (body_refused_at (kept_at s.requests id)) later ≡ None → given ≡ fields
+    → SendsFields m n id given TrailerSent (call_refused result) → SendsListedTrailer s n id trailer fields result
+trailer_sent s m n id trailer later given fields result closed is rest same none are h =
     let mid = record s { requests = m.requests } in
     let taken : trailer_refused mid id trailer ≡ None = trailer_open mid id trailer closed
     ∙ ap (λ o. or_later (body_refused_at o) (pseudo_refused trailer)) (same.each id) ∙ ap (or_later (body_refused_at (kept_at s.requests id))) (sym is) ∙ none in
-    section_begun (λ e. send_trailer e id trailer) s id (head_fields trailer) m.requests same n (call_refused result)
-    (trailer_sends mid n id trailer fields result taken are (subst (λ v. SendsFields v n id fields TrailerSent (call_refused result)) rest h))
+    section_begun (λ e. send_listed_trailer e id trailer fields) s id fields m.requests same n (call_refused result)
+    (trailer_sends mid n id trailer given fields result taken are (subst (λ v. SendsFields v n id given TrailerSent (call_refused result)) rest h))

@@ -1,7 +1,7 @@
 -- The refusals by what is stored are those of every history that it stands for.
 use Rattle.std.proofs.Common.{◌≡◌, ◌==◌, ℕ, ◌%◌, Bool, true, false, if◌then◌else◌, List, [], ◌∷◌, Option, Some, None, refl, ap, sym, ◌∙◌}
 use Rattle.std.specs.Prelude.{◌^◌, ◌≢◌, not, ◌&&◌, nat_le, nat_lt, option_map, is_some, unwrap_or}
-use Rattle.h3_header.specs.Head.{Head, has_pseudo, head_fields}
+use Rattle.h3_header.specs.Head.{Head, has_pseudo}
 use Rattle.h3_field.specs.Field.{Field, section_size}
 use Rattle.h3_proto.specs.declared.stream.Side.{Side}
 use Rattle.h3_proto.specs.declared.stream.Side.TheVariants.{Client, Server}
@@ -14,12 +14,13 @@ use Rattle.h3_connection.specs.Lasts.{last_id}
 use Rattle.h3_connection.specs.Outgoing.{Outgoing, nothing_sent, takes_head, takes_body, takes_end, is_sent_off}
 use Rattle.h3_connection.specs.OwnIds.{other}
 use Rattle.h3_connection.specs.Pulling.{is_client, is_for}
-use Rattle.h3_connection.specs.Sending.{closed_or, first_of, going_away, outgoing_at, raised, open_refusal, head_refusal, body_refusal, trailer_refusal, finish_refusal, reset_refusal, goaway_refusal, is_too_large}
+use Rattle.h3_connection.specs.Sending.{closed_or, first_of, going_away, outgoing_at, raised, open_refusal, body_refusal, finish_refusal, reset_refusal, goaway_refusal, is_too_large}
 use Rattle.h3_connection.specs.State.{EndpointState, RequestState, StandsFor, IsOfOutgoing, SameAt, kept_at}
 use Rattle.h3_connection.specs.StreamSets.{stream_at}
 use Rattle.h3_connection.specs.declared.event.Refusal.{Refusal}
 use Rattle.h3_connection.specs.declared.event.Refusal.TheVariants as refusal
 use Rattle.h3_requests.specs.Refused.{or_later, refused_if, head_refused_at, body_refused_at, end_refused_at, reset_refused_at}
+use Rattle.h3_session.specs.SendingLists.{listed_head_refusal, listed_trailer_refusal, place_refusal}
 use Rattle.h3_session.specs.Refused.{size_refused, streams_of, side_refused, pseudo_refused, head_refused, body_refused, trailer_refused, end_refused, is_critical_in, reset_refused, goaway_refused}
 
 -- the sender's part of a stream, by what is stored of it
@@ -99,29 +100,40 @@ sized None false true c p q r settings fields = refl
 sized None false false true p q r settings fields = refl
 sized None false false false p q r settings fields = refl
 
--- Sending a head.
-pub head_refusal_is : (s : EndpointState) (e : EndpointHistory) (id : ℕ) (head : Head) → StandsFor s e
-    → or_later (head_refused s id head) (size_refused s.peer.settings (head_fields head)) ≡ head_refusal e id head
-head_refusal_is s e id head h =
+-- Sending a head, as a list.
+pub head_refusal_is : (s : EndpointState) (e : EndpointHistory) (id : ℕ) (head : Head) (fields : List Field) → StandsFor s e
+    → or_later (head_refused s id head) (size_refused s.peer.settings fields) ≡ listed_head_refusal e id head fields
+head_refusal_is s e id head fields h =
     let wrong = not (is_for (other e.side) head) in
     let early : head_refused s id head ≡ closed_or e.closed (first_of ((not (is_some (stream_at e.outgoing id)), refusal.NotOpen) ∷ (not (takes_head (outgoing_at e id)), refusal.OutOfOrder) ∷ (wrong, refusal.WrongSide) ∷ []))
     = ap (λ c. closed_or c (or_later (head_refused_at (kept_at s.requests id)) (side_refused s.side head))) h.closed
     ∙ ap (λ side. closed_or e.closed (or_later (head_refused_at (kept_at s.requests id)) (side_refused side head))) h.side
     ∙ ap (closed_or e.closed) (head_at (stream_at e.outgoing id) (kept_at s.requests id) wrong refusal.WrongSide (sender s e id h)) in
-    ap (λ o. or_later o (size_refused s.peer.settings (head_fields head))) early
-    ∙ ap (λ p. or_later (closed_or e.closed (first_of ((not (is_some (stream_at e.outgoing id)), refusal.NotOpen) ∷ (not (takes_head (outgoing_at e id)), refusal.OutOfOrder) ∷ (wrong, refusal.WrongSide) ∷ []))) (size_refused p.settings (head_fields head))) h.peer
-    ∙ sized e.closed (not (is_some (stream_at e.outgoing id))) (not (takes_head (outgoing_at e id))) wrong refusal.NotOpen refusal.OutOfOrder refusal.WrongSide e.peer.settings (head_fields head)
+    ap (λ o. or_later o (size_refused s.peer.settings fields)) early
+    ∙ ap (λ p. or_later (closed_or e.closed (first_of ((not (is_some (stream_at e.outgoing id)), refusal.NotOpen) ∷ (not (takes_head (outgoing_at e id)), refusal.OutOfOrder) ∷ (wrong, refusal.WrongSide) ∷ []))) (size_refused p.settings fields)) h.peer
+    ∙ sized e.closed (not (is_some (stream_at e.outgoing id))) (not (takes_head (outgoing_at e id))) wrong refusal.NotOpen refusal.OutOfOrder refusal.WrongSide e.peer.settings fields
 
--- Sending a trailer.
-pub trailer_refusal_is : (s : EndpointState) (e : EndpointHistory) (id : ℕ) (head : Head) → StandsFor s e
-    → or_later (trailer_refused s id head) (size_refused s.peer.settings (head_fields head)) ≡ trailer_refusal e id head
-trailer_refusal_is s e id head h =
+-- the stream's own refusal of a head
+place_at : (o : Option Outgoing) (r : Option RequestState) → SameSender o r
+    → head_refused_at r ≡ first_of ((not (is_some o), refusal.NotOpen) ∷ (not (takes_head (unwrap_or o nothing_sent)), refusal.OutOfOrder) ∷ [])
+place_at None None h = refl
+place_at (Some o) (Some r) h = ap (λ b. refused_if (not b) refusal.OutOfOrder) (head_taken o r.outgoing h.same)
+place_at None (Some r) h = absurd h.same
+place_at (Some o) None h = absurd h.same
+
+pub place_refusal_is : (s : EndpointState) (e : EndpointHistory) (id : ℕ) → StandsFor s e → closed_or s.closed (head_refused_at (kept_at s.requests id)) ≡ place_refusal e id
+place_refusal_is s e id h = ap (λ c. closed_or c (head_refused_at (kept_at s.requests id))) h.closed ∙ ap (closed_or e.closed) (place_at (stream_at e.outgoing id) (kept_at s.requests id) (sender s e id h))
+
+-- Sending a trailer, as a list.
+pub trailer_refusal_is : (s : EndpointState) (e : EndpointHistory) (id : ℕ) (head : Head) (fields : List Field) → StandsFor s e
+    → or_later (trailer_refused s id head) (size_refused s.peer.settings fields) ≡ listed_trailer_refusal e id head fields
+trailer_refusal_is s e id head fields h =
     let early : trailer_refused s id head ≡ closed_or e.closed (first_of ((not (is_some (stream_at e.outgoing id)), refusal.NotOpen) ∷ (not (takes_body (outgoing_at e id)), refusal.OutOfOrder) ∷ (has_pseudo head, refusal.PseudoInTrailer) ∷ []))
     = ap (λ c. closed_or c (or_later (body_refused_at (kept_at s.requests id)) (pseudo_refused head))) h.closed
     ∙ ap (closed_or e.closed) (trailer_at (stream_at e.outgoing id) (kept_at s.requests id) (has_pseudo head) refusal.PseudoInTrailer (sender s e id h)) in
-    ap (λ o. or_later o (size_refused s.peer.settings (head_fields head))) early
-    ∙ ap (λ p. or_later (closed_or e.closed (first_of ((not (is_some (stream_at e.outgoing id)), refusal.NotOpen) ∷ (not (takes_body (outgoing_at e id)), refusal.OutOfOrder) ∷ (has_pseudo head, refusal.PseudoInTrailer) ∷ []))) (size_refused p.settings (head_fields head))) h.peer
-    ∙ sized e.closed (not (is_some (stream_at e.outgoing id))) (not (takes_body (outgoing_at e id))) (has_pseudo head) refusal.NotOpen refusal.OutOfOrder refusal.PseudoInTrailer e.peer.settings (head_fields head)
+    ap (λ o. or_later o (size_refused s.peer.settings fields)) early
+    ∙ ap (λ p. or_later (closed_or e.closed (first_of ((not (is_some (stream_at e.outgoing id)), refusal.NotOpen) ∷ (not (takes_body (outgoing_at e id)), refusal.OutOfOrder) ∷ (has_pseudo head, refusal.PseudoInTrailer) ∷ []))) (size_refused p.settings fields)) h.peer
+    ∙ sized e.closed (not (is_some (stream_at e.outgoing id))) (not (takes_body (outgoing_at e id))) (has_pseudo head) refusal.NotOpen refusal.OutOfOrder refusal.PseudoInTrailer e.peer.settings fields
 
 -- What refuses a stream whatever is stored of it comes before the stream's own rule, and where nothing does, that rule is left.
 pub critical_first : (closed : Option ℕ) (b : Bool) (rest : Option Refusal) (r : Refusal) → closed_or closed (refused_if b refusal.Critical) ≡ Some r → closed_or closed (or_later (refused_if b refusal.Critical) rest) ≡ Some r

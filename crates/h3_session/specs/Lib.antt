@@ -12,3 +12,6 @@ pub mod Copied
 pub mod Typed
 pub mod Headlines
 pub mod Frames
+pub mod Outline
+pub mod SendingLists
+pub mod JudgedLists

@@ -20,13 +20,17 @@ use std::marker::Model;
 
 mod copying;
 mod heads;
+mod lists;
 mod next;
+mod outline;
 mod pulling;
 mod reading;
 mod receiving;
 mod sending;
 mod showing;
 mod unread;
+
+pub use lists::FieldsError;
 
 /// One endpoint of a connection: what was sent and what came on all its streams. It reads no socket: the caller delivers what
 /// comes, and takes what waits to be sent. A contract sees it as the definitions' `EndpointState`.

@@ -22,6 +22,7 @@ pub use h3_connection::event::{
     DeliverError, Fault, Item, Malformation, PeerLimits, Pull, Refusal, StreamFault, TableSizes,
 };
 pub use h3_connection::setup::{Announced, Limits, NewError};
+pub use h3_field::HeaderField;
 pub use h3_header::{Header, HeaderError, Protocol};
 pub use h3_proto::config::Config;
 pub use h3_proto::error::Code;

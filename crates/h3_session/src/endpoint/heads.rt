@@ -29,6 +29,7 @@ use h3_proto::stream::{Side, StreamId};
 use h3_qpack::laws::sections_leave_their_counts;
 use h3_requests::SectionRoom;
 use h3_streams::streams::ConnectionStreams;
+use http::StatusCode;
 use std::alloc::{AllocError, Global};
 
 impl Endpoint {
@@ -51,11 +52,15 @@ impl Endpoint {
         let Ok(fields) = head.fields(self.alloc) else {
             return Err(Refusal::OutOfMemory);
         };
-        self.send_fields(room, fields.as_slice(), place_behind(head))
+        self.send_section(room, fields.as_slice(), place_behind(head))
     }
 
     // Room for the frame of a head on a stream that takes one, unless `later` refuses it. The streams are found as they were.
-    fn reserve_head(&mut self, id: StreamId, later: Option<Refusal>) -> Result<SectionRoom, Refusal>
+    pub(super) fn reserve_head(
+        &mut self,
+        id: StreamId,
+        later: Option<Refusal>,
+    ) -> Result<SectionRoom, Refusal>
         ensures room { IfOk result (λ room. room ≡ id) }
         ensures rest { self.new ≡ record self.old { requests = self.new.requests } }
         ensures taken { OnOk result (or_later (head_refused_at (kept_at self.old.requests id)) later ≡ None) }
@@ -82,11 +87,11 @@ impl Endpoint {
         let Ok(fields) = trailer.fields(self.alloc) else {
             return Err(Refusal::OutOfMemory);
         };
-        self.send_fields(room, fields.as_slice(), SendPlace::TrailerSent)
+        self.send_section(room, fields.as_slice(), SendPlace::TrailerSent)
     }
 
     // Room for the frame of a trailer on a stream that takes one, unless `later` refuses it. The streams are found as they were.
-    fn reserve_trailer(
+    pub(super) fn reserve_trailer(
         &mut self,
         id: StreamId,
         later: Option<Refusal>,
@@ -101,7 +106,7 @@ impl Endpoint {
     }
 
     // Sends fields on a stream that takes them and has room for their frame, where their size is allowed.
-    fn send_fields(
+    pub(super) fn send_section(
         &mut self,
         room: SectionRoom,
         fields: &[HeaderField],
@@ -274,11 +279,18 @@ fn is_sent_by(side: Side, head: &Header) -> bool
     }
 }
 
-/// Where the message is behind a head: a status from 100 to 199 (RFC 9110, section 15.2) is not that of the final one.
+/// Where the message is behind a head.
 fn place_behind(head: &Header) -> SendPlace
     ensures { result ≡ (if is_interim head.now.status then SendPlace.NothingSent else SendPlace.HeadSent) }
 {
-    match head.status() {
+    place_of(head.status())
+}
+
+/// Where it is behind one with this status: one from 100 to 199 (RFC 9110, section 15.2) is not that of the final head.
+pub(super) fn place_of(status: Option<StatusCode>) -> SendPlace
+    ensures { result ≡ (if is_interim status then SendPlace.NothingSent else SendPlace.HeadSent) }
+{
+    match status {
         Some(status) => {
             if (100..=199).contains(&status.as_u16()) {
                 SendPlace::NothingSent

@@ -1,0 +1,299 @@
+-- Lists of fields that are sent or refused do to what is stored what their contracts say.
+use Rattle.std.proofs.Common.{◌≡◌, ℕ, ◌<◌, Bool, true, false, if◌then◌else◌, List, [], ◌∷◌, length, Option, Some, None, Result, Err, refl, ap, sym, subst, ◌∙◌, arith}
+use Rattle.std.specs.Prelude.{◌≢◌, not, option_map}
+use Rattle.h3_field.specs.Field.{Field, section_size}
+use Rattle.h3_header.specs.Head.{Head, has_pseudo}
+use Rattle.h3_header.specs.HeadRead.{HeadRead, IsHead, IsNone, head_of}
+use Rattle.h3_outgoing.specs.Sent as sent
+use Rattle.h3_connection.specs.Answers.{call_refused}
+use Rattle.h3_connection.specs.Endpoint.{EndpointHistory}
+use Rattle.h3_connection.specs.OwnIds.{other}
+use Rattle.h3_connection.specs.Pulling.{is_for, is_interim}
+use Rattle.h3_connection.specs.Outgoing.{takes_head, takes_body}
+use Rattle.h3_connection.specs.Sending.{does, closed_or, first_of, is_open, is_too_large, outgoing_at, body_refusal}
+use Rattle.h3_connection.specs.SendingContracts.{MayLackMemory, SendsSection}
+use Rattle.h3_connection.specs.State.{EndpointState, RequestState, StandsFor, kept_at}
+use Rattle.h3_connection.specs.declared.event.Refusal.{Refusal}
+use Rattle.h3_connection.specs.declared.event.Refusal.TheVariants as refusal
+use Rattle.h3_connection.specs.declared.place.SendPlace.{SendPlace}
+use Rattle.h3_connection.specs.declared.place.SendPlace.TheVariants.{NothingSent, HeadSent}
+use Rattle.h3_requests.specs.Refused.{refused_if, head_refused_at, body_refused_at}
+use Rattle.h3_session.specs.JudgedLists.{head_list_error, trailer_list_error, IsHeadAt, IsTrailer}
+use Rattle.h3_session.specs.Refused.{side_refused, pseudo_refused}
+use Rattle.h3_session.specs.SendingLists.{SendsList, SendsFieldList, SendsTrailerList, SendsListedHead, SendsListedTrailer, MayLackSize, MayLackMap, as_error, error_after, list_told, malformed, no_memory, place_refusal, send_fields, send_trailer_fields, send_read_head, send_read_trailer, send_listed_head, send_listed_trailer, listed_head_refusal, listed_trailer_refusal, after_head, after_trailer}
+use Rattle.h3_session.specs.declared.endpoint.lists.FieldsError.{FieldsError}
+use Rattle.h3_session.specs.declared.endpoint.lists.FieldsError.TheVariants as error
+use Rattle.h3_session.proofs.SendingCalls.{same_itself}
+use Rattle.h3_session.proofs.SendingRefusals.{place_refusal_is, body_refusal_is}
+use Rattle.h3_session.proofs.SendingSections.{not_begun}
+
+-- The call with a header of these fields, as one with the list.
+memory_back : (o : Option Refusal) → option_map error.Refused o ≡ Some no_memory → o ≡ Some refusal.OutOfMemory
+memory_back None is = absurd (cc)
+memory_back (Some r) is = let same : r ≡ refusal.OutOfMemory = cc in ap Some same
+
+may_size : (o : Option Refusal) → MayLackMemory o → MayLackSize (option_map error.Refused o)
+may_size None m = tt
+may_size (Some r) m = m
+
+may_map : (o : Option Refusal) → MayLackMemory o → MayLackMap (option_map error.Refused o)
+may_map None m = tt
+may_map (Some refusal.WrongSide) m = tt
+may_map (Some refusal.PseudoInTrailer) m = tt
+may_map (Some (refusal.TooLarge size)) m = tt
+may_map (Some (refusal.Closed code)) m = m
+may_map (Some (refusal.Connection code)) m = m
+may_map (Some refusal.NotReceiving) m = m
+may_map (Some refusal.AfterEnd) m = m
+may_map (Some refusal.Kept) m = m
+may_map (Some refusal.NotClient) m = m
+may_map (Some (refusal.GoingAway id)) m = m
+may_map (Some refusal.IdsUsedUp) m = m
+may_map (Some refusal.NotOpen) m = m
+may_map (Some refusal.OutOfOrder) m = m
+may_map (Some refusal.Critical) m = m
+may_map (Some refusal.Ended) m = m
+may_map (Some refusal.NotRequestId) m = m
+may_map (Some (refusal.Raised id)) m = m
+may_map (Some refusal.OutOfMemory) m = m
+
+listed : (act : EndpointHistory → Option Refusal × EndpointHistory) (old new : EndpointState) (id : ℕ) (fields : List Field) (refused : Option Refusal)
+    → SendsSection act old new id fields refused → SendsList (λ e. as_error (act e)) old new id fields (option_map error.Refused refused)
+listed act old new id fields refused h =
+    record {
+      done = λ e stands told.
+          let d = h.done e stands (λ is. told (ap (option_map error.Refused) is)) in
+          (ap (option_map error.Refused) d.0, d.1);
+      same = λ some told. h.same (λ none. some (ap (option_map error.Refused) none)) (λ is. told (ap (option_map error.Refused) is));
+      memory = λ e stands told. let m = h.memory e stands (memory_back refused told) in (may_map (act e).0 m.0, m.1);
+      short = λ e stands told few. may_size (act e).0 (h.memory e stands (memory_back refused told)).0;
+      refused = λ e stands told some. h.too_large e stands (memory_back refused told) (λ none. some (ap (option_map error.Refused) none));
+    }
+
+-- A call that is refused by its list or its stream, with nothing changed.
+module _ (act : EndpointHistory → Option FieldsError × EndpointHistory) (s : EndpointState) (id : ℕ) (fields : List Field) where
+  refuses : (told : FieldsError) → ((e : EndpointHistory) → StandsFor s e → act e ≡ (Some told, e)) → told ≢ no_memory → SendsList act s s id fields (Some told)
+  refuses told is unlike =
+      record {
+        done = λ e stands ne. (sym (ap (λ p. p.0) (is e stands)), subst (StandsFor s) (sym (ap (λ p. p.1) (is e stands))) stands);
+        same = λ some ne. same_itself s;
+        memory = λ e stands memory. absurd (unlike (let same : told ≡ no_memory = cc in same));
+        short = λ e stands memory few. absurd (unlike (let same : told ≡ no_memory = cc in same));
+        refused = λ e stands memory some. same_itself s;
+      }
+
+  lacks : 24576 < length fields → ((e : EndpointHistory) → StandsFor s e → MayLackMap (act e).0) → SendsList act s s id fields (Some no_memory)
+  lacks many may =
+      record {
+        done = λ e stands ne. absurd (ne refl);
+        same = λ some ne. absurd (ne refl);
+        memory = λ e stands memory. (may e stands, not_begun s e id fields stands);
+        short = λ e stands memory few. absurd (omega (arith, many, few));
+        refused = λ e stands memory some. same_itself s;
+      }
+
+-- the first refusal is that of the whole rule
+sized_first : (closed : Option ℕ) (a b : Bool) (p q : Refusal) (rest : Option Refusal) (r : Refusal)
+    → closed_or closed (if a then Some p else (if b then Some q else None)) ≡ Some r → closed_or closed (if a then Some p else (if b then Some q else rest)) ≡ Some r
+sized_first (Some code) a b p q rest r is = is
+sized_first None true b p q rest r is = is
+sized_first None false true p q rest r is = is
+sized_first None false false p q rest r is = absurd (cc)
+
+-- and where there is none, what comes behind it
+sized_rest : (closed : Option ℕ) (a b : Bool) (p q : Refusal) (rest : Option Refusal)
+    → closed_or closed (if a then Some p else (if b then Some q else None)) ≡ None → closed_or closed (if a then Some p else (if b then Some q else rest)) ≡ rest
+sized_rest (Some code) a b p q rest is = absurd (cc)
+sized_rest None true b p q rest is = absurd (cc)
+sized_rest None false true p q rest is = absurd (cc)
+sized_rest None false false p q rest is = refl
+
+abbrev is_no_memory : FieldsError → Bool
+is_no_memory (error.Refused refusal.OutOfMemory) = true
+is_no_memory (error.Refused _) = false
+is_no_memory (error.Malformed why) = false
+
+no_memory_is : (e : FieldsError) → is_no_memory e ≡ true → e ≡ no_memory
+no_memory_is (error.Refused refusal.OutOfMemory) is = refl
+no_memory_is (error.Refused _) is = cc
+no_memory_is (error.Malformed why) is = cc
+
+told_of : (rule : Option Refusal) (e f : EndpointHistory) → (as_error (does rule e f)).0 ≡ option_map error.Refused rule
+told_of None e f = refl
+told_of (Some r) e f = refl
+
+-- What is sent of a list by its rule, which begins with the stream's own refusal: that one comes first,
+module _ (act : EndpointHistory → Option FieldsError × EndpointHistory) (own : EndpointHistory → Option Refusal) (s : EndpointState) (id : ℕ) (fields : List Field) where
+  -- the call by the stream's refusal, what comes behind that, and what is told of that
+  record Begins (later : FieldsError) : Type 0 where
+    first : (e : EndpointHistory) (r : Refusal) → own e ≡ Some r → act e ≡ (Some (error.Refused r), e)
+    told : later ≢ no_memory → (e : EndpointHistory) → StandsFor s e → own e ≡ None → act e ≡ (Some later, e)
+    map : later ≡ no_memory → (24576 < length fields) × ((e : EndpointHistory) → own e ≡ None → MayLackMap (act e).0)
+
+  by_stream : (later : FieldsError) (there : Option Refusal) → Begins later → ((e : EndpointHistory) → StandsFor s e → own e ≡ there) → there ≢ Some refusal.OutOfMemory
+      → SendsList act s s id fields (Some (error_after there later))
+  by_stream later (Some r) begins is unlike =
+      refuses act s id fields (error.Refused r) (λ e stands. begins.first e r (is e stands)) (λ same. unlike (memory_back (Some r) (ap Some same)))
+  by_stream later None begins is unlike = by (is_no_memory later) refl
+    where
+      by : (b : Bool) → is_no_memory later ≡ b → SendsList act s s id fields (Some later)
+      by true memory =
+          let m = begins.map (no_memory_is later memory) in
+          subst (λ t. SendsList act s s id fields (Some t)) (sym (no_memory_is later memory)) (lacks act s id fields m.0 (λ e stands. m.1 e (is e stands)))
+      by false other_one =
+          let differs : later ≢ no_memory = λ same. let wrong : true ≡ false = sym (ap is_no_memory same) ∙ other_one in cc in
+          refuses act s id fields later (λ e stands. begins.told differs e stands (is e stands)) differs
+
+-- a list in the place of a head
+not_memory_at : (b : Bool) → refused_if b refusal.OutOfOrder ≢ Some refusal.OutOfMemory
+not_memory_at true is = absurd (cc)
+not_memory_at false is = absurd (cc)
+
+head_not_memory : (there : Option RequestState) → head_refused_at there ≢ Some refusal.OutOfMemory
+head_not_memory None is = absurd (cc)
+head_not_memory (Some r) is = not_memory_at (not (sent.takes_head r.outgoing)) is
+
+body_not_memory : (there : Option RequestState) → body_refused_at there ≢ Some refusal.OutOfMemory
+body_not_memory None is = absurd (cc)
+body_not_memory (Some r) is = not_memory_at (not (sent.takes_body r.outgoing)) is
+
+-- what is behind the stream's refusal
+may_behind : (a b : Bool) (p : Refusal) (size : ℕ) → MayLackMap (Some (error.Refused p)) → MayLackMap (option_map error.Refused (if a then Some p else (if b then Some (refusal.TooLarge size) else None)))
+may_behind true b p size may = may
+may_behind false true p size may = tt
+may_behind false false p size may = tt
+
+behind_is : (a b : Bool) (p : Refusal) (size : ℕ) (later : FieldsError) → option_map error.Refused (refused_if a p) ≡ Some later
+    → option_map error.Refused (if a then Some p else (if b then Some (refusal.TooLarge size) else None)) ≡ Some later
+behind_is true b p size later is = is
+behind_is false b p size later is = absurd (cc)
+
+behind_rule : (a b : Bool) (p : Refusal) (size : ℕ) (later : FieldsError) → option_map error.Refused (refused_if a p) ≡ Some later
+    → (if a then Some p else (if b then Some (refusal.TooLarge size) else None)) ≡ Some p
+behind_rule true b p size later is = refl
+behind_rule false b p size later is = absurd (cc)
+
+refused_later : (a : Bool) (p : Refusal) (later : FieldsError) → option_map error.Refused (refused_if a p) ≡ Some later → error.Refused p ≡ later
+refused_later true p later is = let same : error.Refused p ≡ later = cc in same
+refused_later false p later is = absurd (cc)
+
+module _ (s : EndpointState) (id : ℕ) (fields : List Field) where
+  head_first : (r : HeadRead) (e : EndpointHistory) (x : Refusal) → place_refusal e id ≡ Some x → send_read_head e id fields r ≡ (Some (error.Refused x), e)
+  head_first (IsHead head) e x is =
+      ap (λ o. as_error (does o e (after_head e id head fields)))
+      (sized_first e.closed (not (is_open e id)) (not (takes_head (outgoing_at e id))) refusal.NotOpen refusal.OutOfOrder
+      (if not (is_for (other e.side) head) then Some refusal.WrongSide else (if is_too_large e.peer.settings fields then Some (refusal.TooLarge (section_size fields)) else None)) x is)
+  head_first (IsNone why) e x is = ap (λ o. (Some (error_after o (malformed why)), e)) is
+
+  head_behind : (e : EndpointHistory) (head : Head) → place_refusal e id ≡ None
+      → listed_head_refusal e id head fields ≡ (if not (is_for (other e.side) head) then Some refusal.WrongSide else (if is_too_large e.peer.settings fields then Some (refusal.TooLarge (section_size fields)) else None))
+  head_behind e head is = sized_rest e.closed (not (is_open e id)) (not (takes_head (outgoing_at e id))) refusal.NotOpen refusal.OutOfOrder _ is
+
+  head_begins : (r : HeadRead) (later : FieldsError) → (later ≢ no_memory → head_list_error s.side r ≡ Some later) → (later ≡ no_memory → 24576 < length fields)
+      → Begins (λ e. send_read_head e id fields r) (λ e. place_refusal e id) s id fields later
+  head_begins (IsHead head) later errs many =
+      record {
+        first = head_first (IsHead head);
+        told = λ differs e stands is.
+            let here : option_map error.Refused (refused_if (not (is_for (other e.side) head)) refusal.WrongSide) ≡ Some later
+            = subst (λ side. option_map error.Refused (side_refused side head) ≡ Some later) stands.side (errs differs) in
+            ap (λ o. as_error (does o e (after_head e id head fields)))
+            (head_behind e head is ∙ behind_rule (not (is_for (other e.side) head)) (is_too_large e.peer.settings fields) refusal.WrongSide (section_size fields) later here)
+            ∙ ap (λ t. (Some t, e)) (refused_later (not (is_for (other e.side) head)) refusal.WrongSide later here);
+        map = λ memory. (
+          many memory,
+          λ e is.
+              subst MayLackMap (ap (option_map error.Refused) (sym (head_behind e head is))
+              ∙ sym (told_of (listed_head_refusal e id head fields) e (after_head e id head fields)))
+              (may_behind (not (is_for (other e.side) head)) (is_too_large e.peer.settings fields) refusal.WrongSide (section_size fields) tt),
+        );
+      }
+  head_begins (IsNone why) later errs many =
+      record {
+        first = head_first (IsNone why);
+        told = λ differs e stands is. ap (λ o. (Some (error_after o (malformed why)), e)) is ∙ ap (λ t. (t, e)) (errs differs);
+        map = λ memory. (many memory, λ e is. subst (λ o. MayLackMap (Some (error_after o (malformed why)))) (sym is) tt);
+      }
+
+  pub head_list_closed : (code : ℕ) → s.closed ≡ Some code → SendsFieldList s s id fields (Err (error.Refused (refusal.Closed code)))
+  head_list_closed code closed =
+      refuses (λ e. send_fields e id fields) s id fields (error.Refused (refusal.Closed code))
+      (λ e stands. head_first (head_of fields) e (refusal.Closed code)
+      (ap (λ c. closed_or c (first_of ((not (is_open e id), refusal.NotOpen) ∷ (not (takes_head (outgoing_at e id)), refusal.OutOfOrder) ∷ []))) (sym stands.closed ∙ closed))) (λ same. absurd (cc))
+
+  pub head_list_refused : (later told : FieldsError) → s.closed ≡ None → (later ≢ no_memory → head_list_error s.side (head_of fields) ≡ Some later) → (later ≡ no_memory → 24576 < length fields)
+      → told ≡ error_after (head_refused_at (kept_at s.requests id)) later → SendsFieldList s s id fields (Err told)
+  head_list_refused later told closed errs many is =
+      subst (λ t. SendsFieldList s s id fields (Err t)) (sym is)
+      (by_stream (λ e. send_fields e id fields) (λ e. place_refusal e id) s id fields later (head_refused_at (kept_at s.requests id)) (head_begins (head_of fields) later errs many)
+      (λ e stands. sym (place_refusal_is s e id stands) ∙ ap (λ c. closed_or c (head_refused_at (kept_at s.requests id))) closed) (head_not_memory (kept_at s.requests id)))
+
+  pub head_list_sent : (new : EndpointState) (place : SendPlace) (answer : Result Unit Refusal) (result : Result Unit FieldsError) → IsHeadAt s.side (head_of fields) place
+      → ((head : Head) → side_refused s.side head ≡ None → place ≡ (if is_interim head.status then NothingSent else HeadSent) → SendsListedHead s new id head fields answer)
+      → list_told result ≡ option_map error.Refused (call_refused answer) → SendsFieldList s new id fields result
+  head_list_sent new place answer result at sends is = by (head_of fields) at
+    where
+      by : (r : HeadRead) → IsHeadAt s.side r place → SendsList (λ e. send_read_head e id fields r) s new id fields (list_told result)
+      by (IsHead head) here =
+          subst (SendsList (λ e. as_error (send_listed_head e id head fields)) s new id fields) (sym is)
+          (listed (λ e. send_listed_head e id head fields) s new id fields (call_refused answer) (sends head here.0 here.1))
+      by (IsNone why) here = absurd here
+
+  -- a list in the place of a trailer
+  trailer_first : (r : HeadRead) (e : EndpointHistory) (x : Refusal) → body_refusal e id ≡ Some x → send_read_trailer e id fields r ≡ (Some (error.Refused x), e)
+  trailer_first (IsHead trailer) e x is =
+      ap (λ o. as_error (does o e (after_trailer e id fields)))
+      (sized_first e.closed (not (is_open e id)) (not (takes_body (outgoing_at e id))) refusal.NotOpen refusal.OutOfOrder
+      (if has_pseudo trailer then Some refusal.PseudoInTrailer else (if is_too_large e.peer.settings fields then Some (refusal.TooLarge (section_size fields)) else None)) x is)
+  trailer_first (IsNone why) e x is = ap (λ o. (Some (error_after o (malformed why)), e)) is
+
+  trailer_behind : (e : EndpointHistory) (trailer : Head) → body_refusal e id ≡ None
+      → listed_trailer_refusal e id trailer fields ≡ (if has_pseudo trailer then Some refusal.PseudoInTrailer else (if is_too_large e.peer.settings fields then Some (refusal.TooLarge (section_size fields)) else None))
+  trailer_behind e trailer is = sized_rest e.closed (not (is_open e id)) (not (takes_body (outgoing_at e id))) refusal.NotOpen refusal.OutOfOrder _ is
+
+  trailer_begins : (r : HeadRead) (later : FieldsError) → (later ≢ no_memory → trailer_list_error r ≡ Some later) → (later ≡ no_memory → 24576 < length fields)
+      → Begins (λ e. send_read_trailer e id fields r) (λ e. body_refusal e id) s id fields later
+  trailer_begins (IsHead trailer) later errs many =
+      record {
+        first = trailer_first (IsHead trailer);
+        told = λ differs e stands is.
+            ap (λ o. as_error (does o e (after_trailer e id fields)))
+            (trailer_behind e trailer is ∙ behind_rule (has_pseudo trailer) (is_too_large e.peer.settings fields) refusal.PseudoInTrailer (section_size fields) later (errs differs))
+            ∙ ap (λ t. (Some t, e)) (refused_later (has_pseudo trailer) refusal.PseudoInTrailer later (errs differs));
+        map = λ memory. (
+          many memory,
+          λ e is.
+              subst MayLackMap (ap (option_map error.Refused) (sym (trailer_behind e trailer is))
+              ∙ sym (told_of (listed_trailer_refusal e id trailer fields) e (after_trailer e id fields)))
+              (may_behind (has_pseudo trailer) (is_too_large e.peer.settings fields) refusal.PseudoInTrailer (section_size fields) tt),
+        );
+      }
+  trailer_begins (IsNone why) later errs many =
+      record {
+        first = trailer_first (IsNone why);
+        told = λ differs e stands is. ap (λ o. (Some (error_after o (malformed why)), e)) is ∙ ap (λ t. (t, e)) (errs differs);
+        map = λ memory. (many memory, λ e is. subst (λ o. MayLackMap (Some (error_after o (malformed why)))) (sym is) tt);
+      }
+
+  pub trailer_list_closed : (code : ℕ) → s.closed ≡ Some code → SendsTrailerList s s id fields (Err (error.Refused (refusal.Closed code)))
+  trailer_list_closed code closed =
+      refuses (λ e. send_trailer_fields e id fields) s id fields (error.Refused (refusal.Closed code))
+      (λ e stands. trailer_first (head_of fields) e (refusal.Closed code)
+      (ap (λ c. closed_or c (first_of ((not (is_open e id), refusal.NotOpen) ∷ (not (takes_body (outgoing_at e id)), refusal.OutOfOrder) ∷ []))) (sym stands.closed ∙ closed))) (λ same. absurd (cc))
+
+  pub trailer_list_refused : (later told : FieldsError) → s.closed ≡ None → (later ≢ no_memory → trailer_list_error (head_of fields) ≡ Some later) → (later ≡ no_memory → 24576 < length fields)
+      → told ≡ error_after (body_refused_at (kept_at s.requests id)) later → SendsTrailerList s s id fields (Err told)
+  trailer_list_refused later told closed errs many is =
+      subst (λ t. SendsTrailerList s s id fields (Err t)) (sym is)
+      (by_stream (λ e. send_trailer_fields e id fields) (λ e. body_refusal e id) s id fields later (body_refused_at (kept_at s.requests id)) (trailer_begins (head_of fields) later errs many)
+      (λ e stands. sym (body_refusal_is s e id stands) ∙ ap (λ c. closed_or c (body_refused_at (kept_at s.requests id))) closed) (body_not_memory (kept_at s.requests id)))
+
+  pub trailer_list_sent : (new : EndpointState) (answer : Result Unit Refusal) (result : Result Unit FieldsError) → IsTrailer (head_of fields)
+      → ((trailer : Head) → pseudo_refused trailer ≡ None → SendsListedTrailer s new id trailer fields answer) → list_told result ≡ option_map error.Refused (call_refused answer) → SendsTrailerList s new id fields result
+  trailer_list_sent new answer result at sends is = by (head_of fields) at
+    where
+      by : (r : HeadRead) → IsTrailer r → SendsList (λ e. send_read_trailer e id fields r) s new id fields (list_told result)
+      by (IsHead trailer) here =
+          subst (SendsList (λ e. as_error (send_listed_trailer e id trailer fields)) s new id fields) (sym is)
+          (listed (λ e. send_listed_trailer e id trailer fields) s new id fields (call_refused answer) (sends trailer here))
+      by (IsNone why) here = absurd here

@@ -1,0 +1,13 @@
+use Rattle.std.proofs.Common.{None, refl, sym}
+use Rattle.h3_session.proofs.SendingHeads.{head_unreserved, head_sent}
+use Rattle.h3_session.proofs.endpoint.Endpoint.send_head_at.Goals as goal
+
+pub returns-in-Err : goal.returns-in-Err
+returns-in-Err c = λ head sent at.
+    head_unreserved c.args.self.now c.reserve_head.new.self c.args.id head c.args.fields.now None c.in-Err.refusal c.requires (sym sent)
+    c.reserve_head.ensures.rest c.reserve_head.ensures.same c.in-Err.ensures.why
+
+pub returns : goal.returns
+returns c = λ head sent at.
+    head_sent c.args.self.now c.reserve_head.new.self c.send_section.new.self c.args.id head None c.args.fields.now c.args.fields.now c.args.place c.send_section.result c.requires (sym sent)
+    c.reserve_head.ensures.rest c.reserve_head.ensures.same c.in-Ok.ensures.taken refl at (rw c.in-Ok.ensures.room at c.send_section.ensures)

@@ -1,0 +1,14 @@
+use Rattle.std.proofs.Common.{ap, sym, ◌∙◌}
+use Rattle.h3_connection.specs.State.{EndpointState}
+use Rattle.h3_session.proofs.Lists.{trailer_list_refused, trailer_list_sent}
+use Rattle.h3_session.proofs.endpoint.Endpoint.send_trailer_fields.Goals as goal
+
+pub returns-in-Err : goal.returns-in-Err
+returns-in-Err c =
+    trailer_list_refused c.args.self.now c.args.id c.args.fields.now c.in-Err.later c.trailer_error.result (ap (λ (s : EndpointState). s.closed) (sym c.self.view_is) ∙ c.in_default.is)
+    c.in-Err.ensures.err c.in-Err.ensures.memory c.trailer_error.ensures
+
+pub returns : goal.returns
+returns c =
+    trailer_list_sent c.args.self.now c.args.id c.args.fields.now c.send_trailer_list.new.self c.send_trailer_list.result c.as_error.result
+    c.in_default-judge_trailer.ensures.ok c.send_trailer_list.ensures c.as_error.ensures

@@ -1,0 +1,126 @@
+-- Lists of fields that go out as they are, in their order: what each reads as says whether it may go, as of a head or trailer (RFC 9114,
+-- sections 4.1 to 4.3).
+use Rattle.std.specs.Prelude.{◌≡◌, ◌≢◌, ℕ, ◌≤◌, not, List, [], ◌∷◌, length, Option, Some, None, option_map, Result, Ok, Err}
+use Rattle.h3_field.specs.Field.{Field, section_size}
+use Rattle.h3_header.specs.Head.{Head, has_pseudo}
+use Rattle.h3_header.specs.HeadRead.{HeadRead, HeadRefusal, IsHead, IsNone, head_of}
+use Rattle.h3_connection.specs.Answers.{call_refused}
+use Rattle.h3_connection.specs.Calls.{IsSame}
+use Rattle.h3_connection.specs.Endpoint.{EndpointHistory}
+use Rattle.h3_connection.specs.Outgoing.{takes_head, takes_body}
+use Rattle.h3_connection.specs.Outgoing.OwnPart.{OwnTrailer}
+use Rattle.h3_connection.specs.OwnIds.{other}
+use Rattle.h3_connection.specs.Pulling.{is_for, malformation_of}
+use Rattle.h3_connection.specs.Sections.{encoded_section}
+use Rattle.h3_connection.specs.Sending.{does, unless_closed, first_of, is_open, is_too_large, outgoing_at, body_refusal, appended, counted, encoded, fields_cost, head_part}
+use Rattle.h3_connection.specs.SendingContracts.{CutsOff, MayLackMemory, SendsSection}
+use Rattle.h3_connection.specs.State.{EndpointState, StandsFor}
+use Rattle.h3_connection.specs.declared.event.Refusal.{Refusal}
+use Rattle.h3_connection.specs.declared.event.Refusal.TheVariants as refusal
+use Rattle.h3_session.specs.declared.endpoint.lists.FieldsError.{FieldsError}
+use Rattle.h3_session.specs.declared.endpoint.lists.FieldsError.TheVariants as error
+
+-- A head that is sent as this list: as `send_head`, which sends `head_fields`.
+abbrev pub listed_head_refusal : EndpointHistory → ℕ → Head → List Field → Option Refusal
+listed_head_refusal e id head fields = unless_closed e (first_of (
+    (not (is_open e id), refusal.NotOpen) ∷
+    (not (takes_head (outgoing_at e id)), refusal.OutOfOrder) ∷
+    (not (is_for (other e.side) head), refusal.WrongSide) ∷
+    (is_too_large e.peer.settings fields, refusal.TooLarge (section_size fields)) ∷ []))
+
+abbrev pub after_head : EndpointHistory → ℕ → Head → List Field → EndpointHistory
+after_head e id head fields = counted (appended (encoded e id fields) id (head_part head (encoded_section e.encoder id fields))) (fields_cost fields)
+
+abbrev pub send_listed_head : EndpointHistory → ℕ → Head → List Field → Option Refusal × EndpointHistory
+send_listed_head e id head fields = does (listed_head_refusal e id head fields) e (after_head e id head fields)
+
+-- A trailer that is sent as this list: as `send_trailer`.
+abbrev pub listed_trailer_refusal : EndpointHistory → ℕ → Head → List Field → Option Refusal
+listed_trailer_refusal e id trailer fields = unless_closed e (first_of (
+    (not (is_open e id), refusal.NotOpen) ∷
+    (not (takes_body (outgoing_at e id)), refusal.OutOfOrder) ∷
+    (has_pseudo trailer, refusal.PseudoInTrailer) ∷
+    (is_too_large e.peer.settings fields, refusal.TooLarge (section_size fields)) ∷ []))
+
+abbrev pub after_trailer : EndpointHistory → ℕ → List Field → EndpointHistory
+after_trailer e id fields = counted (appended (encoded e id fields) id (OwnTrailer (encoded_section e.encoder id fields))) (fields_cost fields)
+
+abbrev pub send_listed_trailer : EndpointHistory → ℕ → Head → List Field → Option Refusal × EndpointHistory
+send_listed_trailer e id trailer fields = does (listed_trailer_refusal e id trailer fields) e (after_trailer e id fields)
+
+abbrev pub SendsListedHead : EndpointState → EndpointState → ℕ → Head → List Field → Result Unit Refusal → Type 0
+SendsListedHead old new id head fields result = SendsSection (λ e. send_listed_head e id head fields) old new id fields (call_refused result)
+
+abbrev pub SendsListedTrailer : EndpointState → EndpointState → ℕ → Head → List Field → Result Unit Refusal → Type 0
+SendsListedTrailer old new id trailer fields result = SendsSection (λ e. send_listed_trailer e id trailer fields) old new id fields (call_refused result)
+
+-- Why a stream takes no head now, whatever is in it. Of a trailer that is why it takes no body.
+abbrev pub place_refusal : EndpointHistory → ℕ → Option Refusal
+place_refusal e id = unless_closed e (first_of (
+    (not (is_open e id), refusal.NotOpen) ∷
+    (not (takes_head (outgoing_at e id)), refusal.OutOfOrder) ∷ []))
+
+-- That comes before what is malformed.
+abbrev pub error_after : Option Refusal → FieldsError → FieldsError
+error_after (Some r) later = error.Refused r
+error_after None later = later
+
+abbrev pub malformed : HeadRefusal → FieldsError
+malformed why = error.Malformed (malformation_of why)
+
+-- a call that is refused as this one is
+abbrev pub as_error : Option Refusal × EndpointHistory → Option FieldsError × EndpointHistory
+as_error p = (option_map error.Refused p.0, p.1)
+
+abbrev pub send_read_head : EndpointHistory → ℕ → List Field → HeadRead → Option FieldsError × EndpointHistory
+send_read_head e id fields (IsHead head) = as_error (send_listed_head e id head fields)
+send_read_head e id fields (IsNone why) = (Some (error_after (place_refusal e id) (malformed why)), e)
+
+abbrev pub send_read_trailer : EndpointHistory → ℕ → List Field → HeadRead → Option FieldsError × EndpointHistory
+send_read_trailer e id fields (IsHead trailer) = as_error (send_listed_trailer e id trailer fields)
+send_read_trailer e id fields (IsNone why) = (Some (error_after (body_refusal e id) (malformed why)), e)
+
+-- A list goes out as a head, or as a trailer, where it reads as one.
+abbrev pub send_fields : EndpointHistory → ℕ → List Field → Option FieldsError × EndpointHistory
+send_fields e id fields = send_read_head e id fields (head_of fields)
+
+abbrev pub send_trailer_fields : EndpointHistory → ℕ → List Field → Option FieldsError × EndpointHistory
+send_trailer_fields e id fields = send_read_trailer e id fields (head_of fields)
+
+abbrev pub no_memory : FieldsError
+no_memory = error.Refused refusal.OutOfMemory
+
+-- Want of memory comes last: it may be told of a list that is too large.
+abbrev pub MayLackSize : Option FieldsError → Type 0
+MayLackSize None = Unit {0}
+MayLackSize (Some (error.Refused r)) = MayLackMemory (Some r)
+MayLackSize (Some (error.Malformed why)) = ⊥
+
+-- Where a map has to be made for the list, also of one that is malformed, or none of this place.
+abbrev pub MayLackMap : Option FieldsError → Type 0
+MayLackMap None = Unit {0}
+MayLackMap (Some (error.Refused refusal.WrongSide)) = Unit {0}
+MayLackMap (Some (error.Refused refusal.PseudoInTrailer)) = Unit {0}
+MayLackMap (Some (error.Refused r)) = MayLackMemory (Some r)
+MayLackMap (Some (error.Malformed why)) = Unit {0}
+
+-- The list is sent, or refused with nothing changed; or memory was refused, and it was cut off.
+pub record SendsList (act : EndpointHistory → Option FieldsError × EndpointHistory) (old new : EndpointState) (id : ℕ) (fields : List Field) (told : Option FieldsError) : Type 0 where
+  pub done : (e : EndpointHistory) → StandsFor old e → told ≢ Some no_memory → (told ≡ (act e).0) × StandsFor new (act e).1
+  pub same : told ≢ None → told ≢ Some no_memory → IsSame old new
+  pub memory : (e : EndpointHistory) → StandsFor old e → told ≡ Some no_memory → MayLackMap (act e).0 × CutsOff e id fields new
+  -- no map is made of so few fields
+  pub short : (e : EndpointHistory) → StandsFor old e → told ≡ Some no_memory → length fields ≤ 24576 → MayLackSize (act e).0
+  -- of a list that is refused nothing was inserted
+  pub refused : (e : EndpointHistory) → StandsFor old e → told ≡ Some no_memory → (act e).0 ≢ None → IsSame old new
+
+abbrev pub list_told : Result Unit FieldsError → Option FieldsError
+list_told (Ok done) = None
+list_told (Err e) = Some e
+
+-- `send_fields` and `send_trailer_fields`
+abbrev pub SendsFieldList : EndpointState → EndpointState → ℕ → List Field → Result Unit FieldsError → Type 0
+SendsFieldList old new id fields result = SendsList (λ e. send_fields e id fields) old new id fields (list_told result)
+
+abbrev pub SendsTrailerList : EndpointState → EndpointState → ℕ → List Field → Result Unit FieldsError → Type 0
+SendsTrailerList old new id fields result = SendsList (λ e. send_trailer_fields e id fields) old new id fields (list_told result)

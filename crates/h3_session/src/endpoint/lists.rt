@@ -1,0 +1,188 @@
+//! Lists of fields that an endpoint sends as they are, with no header made of them.
+ghost use Rattle.std.specs.Prelude.{◌≡◌, ◌≢◌, ◌<◌, true, false, None, Some, IfOk, IfErr, OnOk, length, option_map, if◌then◌else◌};
+ghost use Rattle.h3_header.specs.Head.{Head};
+ghost use Rattle.h3_header.specs.HeadRead.{head_of};
+ghost use Rattle.h3_connection.specs.Answers.{call_refused};
+ghost use Rattle.h3_connection.specs.Pulling.{is_interim};
+ghost use Rattle.h3_connection.specs.State.{kept_at};
+ghost use Rattle.h3_connection.specs.declared.event.Refusal.TheVariants as refusal;
+ghost use Rattle.h3_requests.specs.Refused.{head_refused_at, body_refused_at};
+ghost use Rattle.h3_session.specs.Refused.{side_refused, pseudo_refused};
+ghost use Rattle.h3_session.specs.SendingLists.{SendsFieldList, SendsTrailerList, SendsListedHead, SendsListedTrailer, error_after, no_memory, list_told};
+ghost use Rattle.h3_session.specs.Outline.{is_sent_outline};
+ghost use Rattle.h3_session.specs.declared.endpoint.lists.FieldsError.TheVariants as error;
+ghost use Rattle.h3_session.specs.JudgedLists.{head_list_error, trailer_list_error, IsHeadAt, IsTrailer};
+
+use super::Endpoint;
+use super::heads::place_of;
+use super::outline::{ListRead, Outline, read_list};
+use h3_connection::event::{Malformation, Refusal};
+use h3_connection::place::SendPlace;
+use h3_field::HeaderField;
+use h3_proto::stream::{Side, StreamId};
+use std::alloc::Global;
+
+/// Why a list of fields is not sent.
+#[derive(Clone, Copy, Debug, PartialEq, Eq)]
+pub enum FieldsError {
+    /// As a header of these fields is refused.
+    Refused(Refusal),
+    /// It is no list of a header (`Name`, `Value`, `TooMany`), as `Header::try_from` tells it.
+    Malformed(Malformation),
+}
+
+impl Endpoint {
+    /// A head goes out on a stream, as `send_head` sends it, but as the list that it is given as: in its order, and from where its fields lie.
+    /// No header is made of it. Refused are, in this order, every call after a connection fault, a stream that is not open, one whose final
+    /// head or end was sent, a list that `Header::try_from` refuses, a head of the other side's messages, and one whose size is above what
+    /// the peer's settings allow. Where memory is refused the encoder stream may have gained whole instructions, and the stream is as it
+    /// was. A list of more than 24,576 fields also takes memory to be judged.
+    pub fn send_fields(&mut self, id: StreamId, fields: &[HeaderField]) -> Result<(), FieldsError>
+        ensures { SendsFieldList self.old self.new id fields.now result }
+    {
+        if let Some(code) = self.closed {
+            return Err(FieldsError::Refused(Refusal::Closed(code)));
+        }
+        let place = match judge_head(self.alloc, self.side, fields) {
+            Ok(place) => place,
+            Err(later) => return Err(self.head_error(id, later)),
+        };
+        as_error(self.send_head_at(id, fields, place))
+    }
+
+    /// A trailer goes out on a stream, as `send_trailer` sends it, but as the list that it is given as. Refused are, in this order, every
+    /// call after a connection fault, a stream that is not open, one whose final head was not sent, or whose trailer or end was, a list
+    /// that `Header::try_from` refuses, one with a pseudo-header field, and one whose size is above what the peer's settings allow.
+    pub fn send_trailer_fields(
+        &mut self,
+        id: StreamId,
+        fields: &[HeaderField],
+    ) -> Result<(), FieldsError>
+        ensures { SendsTrailerList self.old self.new id fields.now result }
+    {
+        if let Some(code) = self.closed {
+            return Err(FieldsError::Refused(Refusal::Closed(code)));
+        }
+        if let Err(later) = judge_trailer(self.alloc, fields) {
+            return Err(self.trailer_error(id, later));
+        }
+        as_error(self.send_trailer_list(id, fields))
+    }
+
+    // Why a list is refused in the place of a head that is refused by itself: the stream's own refusal comes first.
+    fn head_error(&self, id: StreamId, later: FieldsError) -> FieldsError
+        ensures { result ≡ error_after (head_refused_at (kept_at self.now.requests id)) later }
+    {
+        let Some(stream) = self.requests.get(id) else {
+            return FieldsError::Refused(Refusal::NotOpen);
+        };
+        if !stream.outgoing().takes_head() {
+            return FieldsError::Refused(Refusal::OutOfOrder);
+        }
+        later
+    }
+
+    // The same of a trailer.
+    fn trailer_error(&self, id: StreamId, later: FieldsError) -> FieldsError
+        ensures { result ≡ error_after (body_refused_at (kept_at self.now.requests id)) later }
+    {
+        let Some(stream) = self.requests.get(id) else {
+            return FieldsError::Refused(Refusal::NotOpen);
+        };
+        if !stream.outgoing().takes_body() {
+            return FieldsError::Refused(Refusal::OutOfOrder);
+        }
+        later
+    }
+
+    // A list that reads as a head of this side goes out, and the message is at this place behind it.
+    fn send_head_at(
+        &mut self,
+        id: StreamId,
+        fields: &[HeaderField],
+        place: SendPlace,
+    ) -> Result<(), Refusal>
+        requires { self.old.closed ≡ None }
+        ensures { (head : Head) → side_refused self.old.side head ≡ None → place ≡ (if is_interim head.status then SendPlace.NothingSent else SendPlace.HeadSent) → SendsListedHead self.old self.new id head fields.now result }
+    {
+        let room = match self.reserve_head(id, None) {
+            Ok(room) => room,
+            Err(refusal) => return Err(refusal),
+        };
+        self.send_section(room, fields, place)
+    }
+
+    // A list that reads as a trailer goes out.
+    fn send_trailer_list(&mut self, id: StreamId, fields: &[HeaderField]) -> Result<(), Refusal>
+        requires { self.old.closed ≡ None }
+        ensures { (trailer : Head) → pseudo_refused trailer ≡ None → SendsListedTrailer self.old self.new id trailer fields.now result }
+    {
+        let room = match self.reserve_trailer(id, None) {
+            Ok(room) => room,
+            Err(refusal) => return Err(refusal),
+        };
+        self.send_section(room, fields, SendPlace::TrailerSent)
+    }
+}
+
+// Where the message is behind a list in the place of a head, or why that is none of this side.
+fn judge_head(alloc: Global, side: Side, fields: &[HeaderField]) -> Result<SendPlace, FieldsError>
+    ensures ok { IfOk result (IsHeadAt side (head_of fields.now)) }
+    ensures err { IfErr result (λ e. e ≢ no_memory → head_list_error side (head_of fields.now) ≡ Some e) }
+    ensures memory { IfErr result (λ e. e ≡ no_memory → 24576 < length fields.now) }
+{
+    let Ok(read) = read_list(alloc, fields) else {
+        return Err(FieldsError::Refused(Refusal::OutOfMemory));
+    };
+    match read {
+        ListRead::Malformed(why) => Err(FieldsError::Malformed(why)),
+        ListRead::Head(outline) => place_behind(side, &outline),
+    }
+}
+
+// Where the message is behind a head, or that it is one of the other side.
+fn place_behind(side: Side, outline: &Outline) -> Result<SendPlace, FieldsError>
+    ensures ok { IfOk result (λ place. (is_sent_outline side outline.now ≡ true) × (place ≡ (if is_interim outline.now.status then SendPlace.NothingSent else SendPlace.HeadSent))) }
+    ensures err { IfErr result (λ e. (is_sent_outline side outline.now ≡ false) × (e ≡ error.Refused refusal.WrongSide)) }
+{
+    if !outline.is_sent_by(side) {
+        return Err(FieldsError::Refused(Refusal::WrongSide));
+    }
+    Ok(place_of(outline.status()))
+}
+
+// Why a list is no trailer.
+fn judge_trailer(alloc: Global, fields: &[HeaderField]) -> Result<(), FieldsError>
+    ensures ok { OnOk result (IsTrailer (head_of fields.now)) }
+    ensures err { IfErr result (λ e. e ≢ no_memory → trailer_list_error (head_of fields.now) ≡ Some e) }
+    ensures memory { IfErr result (λ e. e ≡ no_memory → 24576 < length fields.now) }
+{
+    let Ok(read) = read_list(alloc, fields) else {
+        return Err(FieldsError::Refused(Refusal::OutOfMemory));
+    };
+    match read {
+        ListRead::Malformed(why) => Err(FieldsError::Malformed(why)),
+        ListRead::Head(outline) => without_pseudo(&outline),
+    }
+}
+
+// That a trailer has no pseudo-header field.
+fn without_pseudo(outline: &Outline) -> Result<(), FieldsError>
+    ensures ok { OnOk result (outline.now.pseudo ≡ false) }
+    ensures err { IfErr result (λ e. (outline.now.pseudo ≡ true) × (e ≡ error.Refused refusal.PseudoInTrailer)) }
+{
+    if outline.has_pseudo() {
+        return Err(FieldsError::Refused(Refusal::PseudoInTrailer));
+    }
+    Ok(())
+}
+
+// A refusal as one of a list.
+fn as_error(sent: Result<(), Refusal>) -> Result<(), FieldsError>
+    ensures { list_told result ≡ option_map error.Refused (call_refused sent) }
+{
+    match sent {
+        Ok(()) => Ok(()),
+        Err(refusal) => Err(FieldsError::Refused(refusal)),
+    }
+}
