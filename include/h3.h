@@ -41,8 +41,9 @@
  * ANSWERS
  *
  * Every call but h3_free answers a number: H3_OK (0), or why it was refused. A refused call changed nothing, with these exceptions:
- * H3_CONNECTION of a delivery (the connection has its fault now), H3_KEPT (the bytes were taken), and H3_MEMORY of h3_send_head and
- * h3_send_trailer (some instructions may stand on the own encoder stream; the request stream is as it was, and the call may be made again).
+ * H3_CONNECTION of a delivery (the connection has its fault now), H3_KEPT (the bytes were taken), and H3_MEMORY of h3_send_head,
+ * h3_send_trailer, h3_send_fields and h3_send_trailer_fields (some instructions may stand on the own encoder stream; the request stream is as it
+ * was, and the call may be made again).
  * Where a call refuses for several reasons, it answers the first in the order that its comment gives. Many calls have a last argument
  * `detail`, which may be NULL: it gets the number that the reason names (below), else 0.
  * On H3_NO_ENDPOINT nothing is written; on any other refusal `detail` is, and no other result unless its comment says so.
@@ -90,7 +91,8 @@
  * WHICH CALL CAN FILL WHICH STREAM (so that the caller knows where to look; h3_next_waiting finds them all)
  *
  *   h3_new                                  the own control, encoder and decoder stream
- *   h3_send_head, h3_send_trailer           that stream, and the own encoder stream
+ *   h3_send_head, h3_send_trailer,          that stream, and the own encoder stream
+ *   h3_send_fields, h3_send_trailer_fields
  *   h3_send_body                            that stream
  *   h3_finish                               no bytes; the end of that stream (h3_outgoing then says fin, with 0 bytes where none wait)
  *   h3_goaway                               the own control stream
@@ -270,6 +272,20 @@ static inline uint32_t h3_send_head(h3_endpoint *endpoint, uint64_t id, const h3
  * H3_MEMORY. */
 static inline uint32_t h3_send_trailer(h3_endpoint *endpoint, uint64_t id, const h3_field_size *sizes, size_t count, const void *bytes, size_t len,
                                        uint64_t *detail);
+
+/* Sends a head as h3_send_head does, but as the list that it is given as: in its order, each field that it has. No map is made of it, so this
+ * call is the faster one. It accepts the lists that h3_send_head accepts. A peer may refuse one whose pseudo-header fields are not in front, or
+ * come twice (RFC 9114, section 4.3): their order is the caller's here.
+ * Refused, in this order: H3_ARGUMENT (id not below 2^62; len is not the sum), H3_MEMORY of the copy of the list, then H3_CLOSED, H3_NOT_OPEN,
+ * H3_OUT_OF_ORDER, H3_FIELD_NAME, H3_FIELD_VALUE and H3_FIELD_COUNT (the first field that is refused decides), H3_WRONG_SIDE, H3_TOO_LARGE,
+ * H3_MEMORY. (A list of more than 24,576 fields takes memory to be judged: H3_MEMORY may then come before the refusals behind H3_OUT_OF_ORDER.) */
+static inline uint32_t h3_send_fields(h3_endpoint *endpoint, uint64_t id, const h3_field_size *sizes, size_t count, const void *bytes, size_t len,
+                                      uint64_t *detail);
+
+/* Sends a trailer as the list that it is given as. Refused as h3_send_fields, but behind the list's own refusals: H3_PSEUDO_IN_TRAILER,
+ * H3_TOO_LARGE, H3_MEMORY. */
+static inline uint32_t h3_send_trailer_fields(h3_endpoint *endpoint, uint64_t id, const h3_field_size *sizes, size_t count, const void *bytes,
+                                              size_t len, uint64_t *detail);
 
 /* Sends a piece of a body, as one DATA frame; no bytes write nothing. Refused, in this order: H3_ARGUMENT (id not below 2^62), H3_CLOSED,
  * H3_NOT_OPEN, H3_OUT_OF_ORDER, H3_MEMORY. (Where the copy of the bytes itself is refused memory, H3_MEMORY comes before H3_CLOSED.) */
@@ -459,6 +475,10 @@ uint32_t h3_raw_send_head(h3_endpoint endpoint, uint64_t id, const h3_field_size
                           uint64_t *detail, h3_endpoint *out);
 uint32_t h3_raw_send_trailer(h3_endpoint endpoint, uint64_t id, const h3_field_size *sizes, size_t count, const uint8_t *bytes, size_t len,
                              uint64_t *detail, h3_endpoint *out);
+uint32_t h3_raw_send_fields(h3_endpoint endpoint, uint64_t id, const h3_field_size *sizes, size_t count, const uint8_t *bytes, size_t len,
+                            uint64_t *detail, h3_endpoint *out);
+uint32_t h3_raw_send_trailer_fields(h3_endpoint endpoint, uint64_t id, const h3_field_size *sizes, size_t count, const uint8_t *bytes, size_t len,
+                                    uint64_t *detail, h3_endpoint *out);
 uint32_t h3_raw_send_body(h3_endpoint endpoint, uint64_t id, const uint8_t *bytes, size_t len, uint64_t *detail, h3_endpoint *out);
 uint32_t h3_raw_finish(h3_endpoint endpoint, uint64_t id, uint64_t *detail, h3_endpoint *out);
 uint32_t h3_raw_reset(h3_endpoint endpoint, uint64_t id, uint64_t *detail, h3_endpoint *out);
@@ -518,6 +538,22 @@ static inline uint32_t h3_send_trailer(h3_endpoint *endpoint, uint64_t id, const
   if (!endpoint || !endpoint->at) return H3_NO_ENDPOINT;
   if ((!sizes && count) || (!bytes && len)) return H3_ARGUMENT;
   return h3_raw_send_trailer(*endpoint, id, sizes ? sizes : &no_size, count, h3_in_(bytes), len, detail ? detail : &none, endpoint);
+}
+static inline uint32_t h3_send_fields(h3_endpoint *endpoint, uint64_t id, const h3_field_size *sizes, size_t count, const void *bytes, size_t len,
+                                      uint64_t *detail) {
+  uint64_t none;
+  h3_field_size no_size = {0, 0};
+  if (!endpoint || !endpoint->at) return H3_NO_ENDPOINT;
+  if ((!sizes && count) || (!bytes && len)) return H3_ARGUMENT;
+  return h3_raw_send_fields(*endpoint, id, sizes ? sizes : &no_size, count, h3_in_(bytes), len, detail ? detail : &none, endpoint);
+}
+static inline uint32_t h3_send_trailer_fields(h3_endpoint *endpoint, uint64_t id, const h3_field_size *sizes, size_t count, const void *bytes,
+                                              size_t len, uint64_t *detail) {
+  uint64_t none;
+  h3_field_size no_size = {0, 0};
+  if (!endpoint || !endpoint->at) return H3_NO_ENDPOINT;
+  if ((!sizes && count) || (!bytes && len)) return H3_ARGUMENT;
+  return h3_raw_send_trailer_fields(*endpoint, id, sizes ? sizes : &no_size, count, h3_in_(bytes), len, detail ? detail : &none, endpoint);
 }
 static inline uint32_t h3_send_body(h3_endpoint *endpoint, uint64_t id, const void *bytes, size_t len, uint64_t *detail) {
   uint64_t none;

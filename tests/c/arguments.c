@@ -29,6 +29,8 @@ static void of_none(h3_endpoint *e) {
   IS(h3_open_request(e, &id, &detail), H3_NO_ENDPOINT);
   IS(h3_send_head(e, 0, &f, 1, "ab", 2, &detail), H3_NO_ENDPOINT);
   IS(h3_send_trailer(e, 0, &f, 1, "ab", 2, &detail), H3_NO_ENDPOINT);
+  IS(h3_send_fields(e, 0, &f, 1, "ab", 2, &detail), H3_NO_ENDPOINT);
+  IS(h3_send_trailer_fields(e, 0, &f, 1, "ab", 2, &detail), H3_NO_ENDPOINT);
   IS(h3_send_body(e, 0, "ab", 2, &detail), H3_NO_ENDPOINT);
   IS(h3_finish(e, 0, &detail), H3_NO_ENDPOINT);
   IS(h3_reset(e, 0, &detail), H3_NO_ENDPOINT);
@@ -71,6 +73,10 @@ static void of_pointers(h3_endpoint *e, uint64_t id) {
   IS(h3_send_head(e, id, &f, 1, NULL, 10, NULL), H3_ARGUMENT);
   IS(h3_send_trailer(e, id, NULL, 1, ":methodGET", 10, NULL), H3_ARGUMENT);
   IS(h3_send_trailer(e, id, &f, 1, NULL, 10, NULL), H3_ARGUMENT);
+  IS(h3_send_fields(e, id, NULL, 1, ":methodGET", 10, NULL), H3_ARGUMENT);
+  IS(h3_send_fields(e, id, &f, 1, NULL, 10, NULL), H3_ARGUMENT);
+  IS(h3_send_trailer_fields(e, id, NULL, 1, ":methodGET", 10, NULL), H3_ARGUMENT);
+  IS(h3_send_trailer_fields(e, id, &f, 1, NULL, 10, NULL), H3_ARGUMENT);
   IS(h3_send_body(e, id, NULL, 64, NULL), H3_ARGUMENT);
   IS(h3_deliver(e, id, NULL, 64, NULL), H3_ARGUMENT);
   IS(h3_deliver(e, id, NULL, 0, NULL), H3_OK);
@@ -134,6 +140,8 @@ static void of_ids(h3_endpoint *e) {
   for (int i = 0; i < 3; i++) {
     IS(h3_send_head(e, ids[i], &f, 1, ":methodGET", 10, &detail), H3_ARGUMENT);
     IS(h3_send_trailer(e, ids[i], &f, 1, ":methodGET", 10, &detail), H3_ARGUMENT);
+    IS(h3_send_fields(e, ids[i], &f, 1, ":methodGET", 10, &detail), H3_ARGUMENT);
+    IS(h3_send_trailer_fields(e, ids[i], &f, 1, ":methodGET", 10, &detail), H3_ARGUMENT);
     IS(h3_send_body(e, ids[i], "ab", 2, &detail), H3_ARGUMENT);
     IS(h3_finish(e, ids[i], &detail), H3_ARGUMENT);
     IS(h3_reset(e, ids[i], &detail), H3_ARGUMENT);
@@ -173,6 +181,59 @@ static void of_fields(h3_endpoint *e, uint64_t id) {
   IS(h3_send_head(e, id, sizes, 2, row, 14, NULL), H3_OUT_OF_ORDER);
   IS(h3_send_trailer(e, id, sizes, 1, row, 10, NULL), H3_PSEUDO_IN_TRAILER);
   IS(h3_send_trailer(e, id, NULL, 0, NULL, 0, NULL), H3_OK);
+}
+
+/* the bytes that wait on a stream are taken, and are these: HEADERS frames of static entries (RFC 9204, section 4.5.2) */
+static void of_bytes(h3_endpoint *e, uint64_t id, const void *bytes, size_t len) {
+  uint8_t buffer[64];
+  size_t n = 0;
+  IS(h3_outgoing(e, id, buffer, sizeof buffer, &n, NULL), H3_OK);
+  HOLDS(n == len && !memcmp(buffer, bytes, len));
+  IS(h3_advance(e, id, n), H3_OK);
+}
+
+/* a list goes out in its order; what refuses it, and in which order */
+static void of_lists(void) {
+  h3_endpoint client = H3_NONE_YET, server = H3_NONE_YET;
+  h3_config c;
+  uint64_t id;
+  h3_field_size get = {7, 3}, status = {7, 3}, upper = {3, 1}, twice[2] = {{7, 3}, {7, 4}}, behind[2] = {{13, 5}, {7, 3}};
+  h3_config_default(&c);
+  IS(h3_new(&client, &c, NULL), H3_OK);
+  c.server = 1;
+  IS(h3_new(&server, &c, NULL), H3_OK);
+  /* what the stream refuses comes before what is malformed, and that before the side */
+  IS(h3_send_fields(&client, 0, &upper, 1, "X-ab", 4, NULL), H3_NOT_OPEN);
+  IS(h3_send_trailer_fields(&client, 0, &upper, 1, "X-ab", 4, NULL), H3_NOT_OPEN);
+  IS(h3_open_request(&client, &id, NULL), H3_OK);
+  IS(h3_send_fields(&client, id, &get, 1, ":methodGET", 9, NULL), H3_ARGUMENT);
+  IS(h3_send_trailer_fields(&client, id, &upper, 1, "X-ab", 4, NULL), H3_OUT_OF_ORDER);
+  IS(h3_send_fields(&client, id, &upper, 1, "X-ab", 4, NULL), H3_FIELD_NAME);
+  IS(h3_send_fields(&client, id, &upper, 1, "x-a\n", 4, NULL), H3_FIELD_VALUE);
+  IS(h3_send_fields(&client, id, &get, 1, ":methodG T", 10, NULL), H3_FIELD_VALUE);
+  IS(h3_send_fields(&client, id, &status, 1, ":status200", 10, NULL), H3_WRONG_SIDE);
+  IS(h3_send_fields(&client, id, NULL, 0, NULL, 0, NULL), H3_WRONG_SIDE);
+  /* the pseudo-header field stays behind: entries 32 (accept-ranges: bytes) and 17 (:method: GET) of the static table */
+  IS(h3_send_fields(&client, id, behind, 2, "accept-rangesbytes:methodGET", 28, NULL), H3_OK);
+  of_bytes(&client, id, "\x01\x04\x00\x00\xe0\xd1", 6);
+  IS(h3_send_fields(&client, id, &get, 1, ":methodGET", 10, NULL), H3_OUT_OF_ORDER);
+  IS(h3_send_trailer_fields(&client, id, &get, 1, ":methodGET", 10, NULL), H3_PSEUDO_IN_TRAILER);
+  IS(h3_send_trailer_fields(&client, id, &upper, 1, "X-ab", 4, NULL), H3_FIELD_NAME);
+  IS(h3_send_trailer_fields(&client, id, NULL, 0, NULL, 0, NULL), H3_OK);
+  of_bytes(&client, id, "\x01\x02\x00\x00", 4);
+  /* a field that comes twice stays twice */
+  IS(h3_open_request(&client, &id, NULL), H3_OK);
+  IS(h3_send_fields(&client, id, twice, 2, ":methodGET:methodPOST", 21, NULL), H3_OK);
+  of_bytes(&client, id, "\x01\x04\x00\x00\xd1\xd4", 6);
+  /* an interim head, and then the final one */
+  IS(h3_deliver(&server, 0, "\x01\x03\x00\x00\xd1", 5, NULL), H3_OK);
+  IS(h3_send_fields(&server, 0, &status, 1, ":status103", 10, NULL), H3_OK);
+  of_bytes(&server, 0, "\x01\x03\x00\x00\xd8", 5);
+  IS(h3_send_fields(&server, 0, &status, 1, ":status200", 10, NULL), H3_OK);
+  of_bytes(&server, 0, "\x01\x03\x00\x00\xd9", 5);
+  IS(h3_send_fields(&server, 0, &status, 1, ":status200", 10, NULL), H3_OUT_OF_ORDER);
+  h3_free(&client);
+  h3_free(&server);
 }
 
 static void of_counts(h3_endpoint *e, uint64_t id) {
@@ -380,6 +441,7 @@ int main(void) {
   of_ids(&e);
   IS(h3_open_request(&e, &id, NULL), H3_OK);
   of_fields(&e, id);
+  of_lists();
   of_counts(&e, id);
   of_pointers(&e, id);
   h3_free(&e);

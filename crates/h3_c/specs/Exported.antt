@@ -13,10 +13,11 @@ use Rattle.h3_connection.specs.State.{StandsFor}
 use Rattle.h3_connection.specs.declared.event.Refusal.{Refusal}
 use Rattle.h3_outgoing.specs.Copied.{put}
 use Rattle.h3_session.specs.Copied.{CopiesTo}
+use Rattle.h3_session.specs.declared.endpoint.lists.FieldsError.{FieldsError}
 use Rattle.h3_c.specs.declared.items.PulledItem.{PulledItem}
 use Rattle.h3_c.specs.declared.numbers.Told.{Told}
 use Rattle.h3_c.specs.Items.{bytes_of, fields_of, shown}
-use Rattle.h3_c.specs.Numbers.{ok, none, room, argument, memory, call_told, head_told}
+use Rattle.h3_c.specs.Numbers.{ok, none, room, argument, memory, call_told, head_told, list_told}
 use Rattle.h3_c.specs.Seen.{Seen}
 use Rattle.h3_c.specs.Showing.{bit}
 
@@ -48,6 +49,11 @@ abbrev pub SendsGiven : Option HeadRead → Told → Seen → Seen → (Head →
 SendsGiven None n v w does = (n ≡ argument) × (w ≡ v)
 SendsGiven (Some (IsNone why)) n v w does = (n ≡ head_told why) × (w ≡ v)
 SendsGiven (Some (IsHead h)) n v w does = Calls call_told n v w (does h)
+
+-- The list that C gave is sent; or its sizes are not those of its bytes.
+abbrev pub SendsCut : Option (List Field) → Told → Seen → Seen → (List Field → Result Unit FieldsError → Type 0) → Type 0
+SendsCut None n v w does = (n ≡ argument) × (w ≡ v)
+SendsCut (Some fields) n v w does = Calls list_told n v w (does fields)
 
 -- A pull: its answer stays until the next one, and C gets what it is.
 pub record Pulls (id : ℕ) (n : Told) (v w : Seen) (given : PulledItem) : Type 0 where

@@ -5,10 +5,14 @@ use Rattle.h3_proto.specs.declared.frame.SettingsError.{SettingsError}
 use Rattle.h3_proto.specs.declared.frame.SettingsError.TheVariants as settings_error
 use Rattle.h3_connection.specs.declared.event.DeliverError.{DeliverError}
 use Rattle.h3_connection.specs.declared.event.DeliverError.TheVariants as deliver_error
+use Rattle.h3_connection.specs.declared.event.Malformation.{Malformation}
+use Rattle.h3_connection.specs.declared.event.Malformation.TheVariants as malformation
 use Rattle.h3_connection.specs.declared.event.Refusal.{Refusal}
 use Rattle.h3_connection.specs.declared.event.Refusal.TheVariants as refusal
 use Rattle.h3_connection.specs.declared.setup.NewError.{NewError}
 use Rattle.h3_connection.specs.declared.setup.NewError.TheVariants as new_error
+use Rattle.h3_session.specs.declared.endpoint.lists.FieldsError.{FieldsError}
+use Rattle.h3_session.specs.declared.endpoint.lists.FieldsError.TheVariants as fields_error
 use Rattle.h3_c.specs.declared.numbers.Told.{Told}
 
 -- a number, with another one beside it
@@ -90,3 +94,15 @@ abbrev pub head_told : HeadRefusal → Told
 head_told Name = number 22 0
 head_told Value = number 23 0
 head_told TooMany = number 24 0
+
+-- Why a list that is to be sent is malformed: as `head_told`. The rules of strict messages, which no call asks of a list, would be told of a value.
+abbrev pub malformed_told : Malformation → Told
+malformed_told malformation.Name = number 22 0
+malformed_told malformation.TooMany = number 24 0
+malformed_told _ = number 23 0
+
+-- what a call tells that sends a list
+abbrev pub list_told : {X : Type 0} → Result X FieldsError → Told
+list_told (Ok done) = ok
+list_told (Err (fields_error.Refused r)) = refusal_told r
+list_told (Err (fields_error.Malformed why)) = malformed_told why

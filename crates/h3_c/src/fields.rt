@@ -101,9 +101,13 @@ fn push_field(
     Ok(())
 }
 
-// The fields, where the sizes are those of all bytes.
+/// The fields, where the sizes are those of all bytes.
 #[tactic(auto, using(crate::proofs::Cuts::start, crate::proofs::Cuts::lacks))]
-fn cut_fields(alloc: Global, sizes: &[FieldSize], bytes: &[u8]) -> Result<Vec<HeaderField>, Told>
+pub(crate) fn cut_fields(
+    alloc: Global,
+    sizes: &[FieldSize],
+    bytes: &[u8],
+) -> Result<Vec<HeaderField>, Told>
     ensures ok { IfOk result (λ v. fields_cut sizes.now bytes.now ≡ Some v.items) }
     ensures err { IfErr result (RefusesFields (fields_cut sizes.now bytes.now)) }
 {

@@ -1,13 +1,14 @@
 //! The numbers that C sees: `enum h3_answer` of the header.
 ghost use Rattle.std.specs.Prelude.{◌≡◌};
 ghost use Rattle.h3_c.specs.Giving.{error_told};
-ghost use Rattle.h3_c.specs.Numbers.{refusal_told, call_told, body_told, delivery_told, setting_of, new_told};
+ghost use Rattle.h3_c.specs.Numbers.{refusal_told, call_told, body_told, delivery_told, list_told, malformed_told, setting_of, new_told};
 
 use bytes::Bytes;
-use h3_connection::event::{DeliverError, Refusal};
+use h3_connection::event::{DeliverError, Malformation, Refusal};
 use h3_connection::setup::NewError;
 use h3_header::HeaderError;
 use h3_proto::frame::SettingsError;
+use h3_session::endpoint::FieldsError;
 
 /// What a call answers: a number, and the code, id or size that it names, else 0.
 #[derive(Clone, Copy)]
@@ -101,6 +102,43 @@ pub(crate) fn sent(call: &Result<(), (Refusal, Bytes)>) -> Told
     match call {
         Ok(()) => OK,
         Err((refusal, _)) => refused(*refusal),
+    }
+}
+
+/// What a call tells that sends a list.
+pub(crate) fn listed(call: &Result<(), FieldsError>) -> Told
+    ensures { result ≡ list_told call.now }
+{
+    match call {
+        Ok(()) => OK,
+        Err(FieldsError::Refused(refusal)) => refused(*refusal),
+        Err(FieldsError::Malformed(why)) => malformed(*why),
+    }
+}
+
+fn malformed(why: Malformation) -> Told
+    ensures { result ≡ malformed_told why }
+{
+    match why {
+        Malformation::Name => plain(22),
+        Malformation::TooMany => plain(24),
+        Malformation::Value
+        | Malformation::WrongSide
+        | Malformation::PseudoInTrailer
+        | Malformation::NoHead
+        | Malformation::PseudoOrder
+        | Malformation::WrongPseudo
+        | Malformation::RepeatedPseudo
+        | Malformation::ConnectionField
+        | Malformation::ContentLength
+        | Malformation::Protocol
+        | Malformation::Connect
+        | Malformation::MissingPseudo
+        | Malformation::Scheme
+        | Malformation::Authority
+        | Malformation::Path
+        | Malformation::Status
+        | Malformation::TrailerField => plain(23),
     }
 }
 

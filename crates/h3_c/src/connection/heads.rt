@@ -1,13 +1,15 @@
 //! The heads and trailers that C sends.
 ghost use Rattle.std.specs.Prelude.{◌≡◌};
 ghost use Rattle.h3_connection.specs.SendingContracts.{SendsHead, SendsTrailer};
-ghost use Rattle.h3_c.specs.Exported.{Calls, OnStream, OrMemory, SendsGiven};
-ghost use Rattle.h3_c.specs.Given.{head_given};
-ghost use Rattle.h3_c.specs.Numbers.{call_told};
+ghost use Rattle.h3_session.specs.SendingLists.{SendsFieldList, SendsTrailerList};
+ghost use Rattle.h3_c.specs.Exported.{Calls, OnStream, OrMemory, SendsCut, SendsGiven};
+ghost use Rattle.h3_c.specs.Given.{fields_cut, head_given};
+ghost use Rattle.h3_c.specs.Numbers.{call_told, list_told};
 
 use super::Connection;
-use crate::fields::{FieldSize, given_head};
-use crate::numbers::{ARGUMENT, Told, called};
+use crate::fields::{FieldSize, cut_fields, given_head};
+use crate::numbers::{ARGUMENT, Told, called, listed};
+use h3_field::HeaderField;
 use h3_header::Header;
 use h3_proto::stream::StreamId;
 use std::alloc::Global;
@@ -73,5 +75,67 @@ impl Connection {
         ensures { Calls call_told result self.old self.new (λ call. SendsTrailer self.old.endpoint self.new.endpoint stream trailer.now call) }
     {
         called(self.endpoint.send_trailer(stream, trailer))
+    }
+
+    /// A list goes out on a stream in the place of a head.
+    pub(crate) fn send_fields(
+        &mut self,
+        alloc: Global,
+        id: u64,
+        sizes: &[FieldSize],
+        bytes: &[u8],
+    ) -> Told
+        ensures { OnStream id result self.old self.new (OrMemory result self.old self.new
+            (SendsCut (fields_cut sizes.now bytes.now) result self.old self.new (λ fields call. SendsFieldList self.old.endpoint self.new.endpoint id fields call))) }
+    {
+        let Ok(stream) = StreamId::try_from(id) else {
+            return ARGUMENT;
+        };
+        match cut_fields(alloc, sizes, bytes) {
+            Ok(fields) => {
+                let told = self.put_fields(stream, fields.as_slice());
+                drop(fields);
+                told
+            }
+            Err(told) => told,
+        }
+    }
+
+    // (a function of its own: each exit of one that owns the fields would drop them)
+    fn put_fields(&mut self, stream: StreamId, fields: &[HeaderField]) -> Told
+        ensures { Calls list_told result self.old self.new (λ call. SendsFieldList self.old.endpoint self.new.endpoint stream fields.now call) }
+    {
+        listed(&self.endpoint.send_fields(stream, fields))
+    }
+
+    /// A list goes out on a stream in the place of a trailer.
+    pub(crate) fn send_trailer_fields(
+        &mut self,
+        alloc: Global,
+        id: u64,
+        sizes: &[FieldSize],
+        bytes: &[u8],
+    ) -> Told
+        ensures { OnStream id result self.old self.new (OrMemory result self.old self.new
+            (SendsCut (fields_cut sizes.now bytes.now) result self.old self.new (λ fields call. SendsTrailerList self.old.endpoint self.new.endpoint id fields call))) }
+    {
+        let Ok(stream) = StreamId::try_from(id) else {
+            return ARGUMENT;
+        };
+        match cut_fields(alloc, sizes, bytes) {
+            Ok(fields) => {
+                let told = self.put_trailer_fields(stream, fields.as_slice());
+                drop(fields);
+                told
+            }
+            Err(told) => told,
+        }
+    }
+
+    // (a function of its own: each exit of one that owns the fields would drop them)
+    fn put_trailer_fields(&mut self, stream: StreamId, fields: &[HeaderField]) -> Told
+        ensures { Calls list_told result self.old self.new (λ call. SendsTrailerList self.old.endpoint self.new.endpoint stream fields.now call) }
+    {
+        listed(&self.endpoint.send_trailer_fields(stream, fields))
     }
 }
