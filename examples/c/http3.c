@@ -350,7 +350,7 @@ bool http3_head(http3_request *request, const http3_field *fields, size_t count)
     total += name + value;
     sizes[i] = (h3_field_size){(uint32_t)name, (uint32_t)value};
   }
-  if (h3_send_head(&request->connection->endpoint, request->id, sizes, count, bytes, total, NULL) != H3_OK) return false;
+  if (h3_send_fields(&request->connection->endpoint, request->id, sizes, count, bytes, total, NULL) != H3_OK) return false;
   return request->sending = true;
 }
 

@@ -133,7 +133,7 @@ func start(bytes []byte) unsafe.Pointer {
 	return unsafe.Pointer(&bytes[0])
 }
 
-// SendHead sends a head.
+// SendHead sends a head, its fields in the order that they have here: pseudo-header fields first.
 func (e *Endpoint) SendHead(id uint64, fields []Field) error {
 	var detail C.uint64_t
 	sizes := make([]C.h3_field_size, len(fields)+1)
@@ -142,7 +142,7 @@ func (e *Endpoint) SendHead(id uint64, fields []Field) error {
 		sizes[i].name, sizes[i].value = C.uint32_t(len(field.Name)), C.uint32_t(len(field.Value))
 		bytes = append(append(bytes, field.Name...), field.Value...)
 	}
-	answer := C.h3_send_head(&e.raw, C.uint64_t(id), &sizes[0], C.size_t(len(fields)), start(bytes), C.size_t(len(bytes)), &detail)
+	answer := C.h3_send_fields(&e.raw, C.uint64_t(id), &sizes[0], C.size_t(len(fields)), start(bytes), C.size_t(len(bytes)), &detail)
 	return refusal(answer, detail)
 }
 

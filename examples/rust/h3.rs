@@ -79,7 +79,7 @@ extern "C" {
     fn h3_raw_new(config: *const Config, detail: *mut u64, out: *mut Raw) -> u32;
     fn h3_raw_free(endpoint: Raw);
     fn h3_raw_open_request(endpoint: Raw, id: *mut u64, detail: *mut u64, out: *mut Raw) -> u32;
-    fn h3_raw_send_head(endpoint: Raw, id: u64, sizes: *const FieldSize, count: usize, bytes: *const u8, len: usize, detail: *mut u64, out: *mut Raw) -> u32;
+    fn h3_raw_send_fields(endpoint: Raw, id: u64, sizes: *const FieldSize, count: usize, bytes: *const u8, len: usize, detail: *mut u64, out: *mut Raw) -> u32;
     fn h3_raw_send_body(endpoint: Raw, id: u64, bytes: *const u8, len: usize, detail: *mut u64, out: *mut Raw) -> u32;
     fn h3_raw_finish(endpoint: Raw, id: u64, detail: *mut u64, out: *mut Raw) -> u32;
     fn h3_raw_reset(endpoint: Raw, id: u64, detail: *mut u64, out: *mut Raw) -> u32;
@@ -199,12 +199,13 @@ impl Endpoint {
         Ok(id)
     }
 
+    /// The fields go out in their order: pseudo-header fields first.
     pub fn send_head(&mut self, id: u64, fields: &[(&[u8], &[u8])]) -> Result<(), Refusal> {
         let sizes: Vec<FieldSize> =
             fields.iter().map(|(name, value)| FieldSize { name: name.len() as u32, value: value.len() as u32 }).collect();
         let bytes: Vec<u8> = fields.iter().flat_map(|(name, value)| name.iter().chain(*value)).copied().collect();
         self.call(|raw, detail, out| unsafe {
-            h3_raw_send_head(raw, id, sizes.as_ptr(), sizes.len(), bytes.as_ptr(), bytes.len(), detail, out)
+            h3_raw_send_fields(raw, id, sizes.as_ptr(), sizes.len(), bytes.as_ptr(), bytes.len(), detail, out)
         })
     }
 
