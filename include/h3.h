@@ -22,7 +22,7 @@
  * h3_endpoint is one pointer, owned by the caller. H3_NONE_YET (all bytes zero) is none. h3_new makes an endpoint, and h3_free lets
  * it go; each h3_new needs one h3_free, or memory leaks. A copy of the struct is the same endpoint: keep one, and move it at will.
  * Bytes that go in are copied within the call: the caller may free or change them as soon as it returns. Bytes that come out are
- * copied into the caller's buffer. No pointer into the library is ever handed out, and none of the caller's is kept. What does not
+ * copied into the caller's buffer. No pointer into the library is ever handed out, and none of the caller's is kept but by h3_send_body_lent. What does not
  * fit into a buffer is not lost: outgoing bytes wait until h3_advance, and a pulled item stays until the next h3_pull.
  * Buffers and results of one call must not overlap each other, nor the h3_endpoint.
  *
@@ -93,7 +93,7 @@
  *   h3_new                                  the own control, encoder and decoder stream
  *   h3_send_head, h3_send_trailer,          that stream, and the own encoder stream
  *   h3_send_fields, h3_send_trailer_fields
- *   h3_send_body                            that stream
+ *   h3_send_body, h3_send_body_lent         that stream
  *   h3_finish                               no bytes; the end of that stream (h3_outgoing then says fin, with 0 bytes where none wait)
  *   h3_goaway                               the own control stream
  *   h3_deliver, h3_deliver_end,             the own encoder stream (the peer's settings came), the own decoder stream (the peer's encoder
@@ -291,6 +291,11 @@ static inline uint32_t h3_send_trailer_fields(h3_endpoint *endpoint, uint64_t id
  * H3_NOT_OPEN, H3_OUT_OF_ORDER, H3_MEMORY. (Where the copy of the bytes itself is refused memory, H3_MEMORY comes before H3_CLOSED.) */
 static inline uint32_t h3_send_body(h3_endpoint *endpoint, uint64_t id, const void *bytes, size_t len, uint64_t *detail);
 
+/* Sends a piece of a body as h3_send_body does, with no copy: the library reads the bytes where they lie. The caller leaves them there unchanged
+ * until h3_advance has taken all that waits on the stream (`waiting` of h3_stream is 0), or h3_reset of the stream was answered H3_OK, or the
+ * endpoint was freed. A refused call keeps nothing. Refused, in this order: H3_ARGUMENT, H3_CLOSED, H3_NOT_OPEN, H3_OUT_OF_ORDER, H3_MEMORY. */
+static inline uint32_t h3_send_body_lent(h3_endpoint *endpoint, uint64_t id, const void *bytes, size_t len, uint64_t *detail);
+
 /* The message is whole: FIN goes behind what waits (h3_outgoing says when). Takes no memory. Refused, in this order: H3_ARGUMENT, H3_CLOSED,
  * H3_NOT_OPEN, H3_OUT_OF_ORDER. */
 static inline uint32_t h3_finish(h3_endpoint *endpoint, uint64_t id, uint64_t *detail);
@@ -480,6 +485,7 @@ uint32_t h3_raw_send_fields(h3_endpoint endpoint, uint64_t id, const h3_field_si
 uint32_t h3_raw_send_trailer_fields(h3_endpoint endpoint, uint64_t id, const h3_field_size *sizes, size_t count, const uint8_t *bytes, size_t len,
                                     uint64_t *detail, h3_endpoint *out);
 uint32_t h3_raw_send_body(h3_endpoint endpoint, uint64_t id, const uint8_t *bytes, size_t len, uint64_t *detail, h3_endpoint *out);
+uint32_t h3_raw_send_body_lent(h3_endpoint endpoint, uint64_t id, const uint8_t *bytes, size_t len, uint64_t *detail, h3_endpoint *out);
 uint32_t h3_raw_finish(h3_endpoint endpoint, uint64_t id, uint64_t *detail, h3_endpoint *out);
 uint32_t h3_raw_reset(h3_endpoint endpoint, uint64_t id, uint64_t *detail, h3_endpoint *out);
 uint32_t h3_raw_cancel(h3_endpoint endpoint, uint64_t id, uint64_t *detail, h3_endpoint *out);
@@ -560,6 +566,12 @@ static inline uint32_t h3_send_body(h3_endpoint *endpoint, uint64_t id, const vo
   if (!endpoint || !endpoint->at) return H3_NO_ENDPOINT;
   if (!bytes && len) return H3_ARGUMENT;
   return h3_raw_send_body(*endpoint, id, h3_in_(bytes), len, detail ? detail : &none, endpoint);
+}
+static inline uint32_t h3_send_body_lent(h3_endpoint *endpoint, uint64_t id, const void *bytes, size_t len, uint64_t *detail) {
+  uint64_t none;
+  if (!endpoint || !endpoint->at) return H3_NO_ENDPOINT;
+  if (!bytes && len) return H3_ARGUMENT;
+  return h3_raw_send_body_lent(*endpoint, id, h3_in_(bytes), len, detail ? detail : &none, endpoint);
 }
 static inline uint32_t h3_finish(h3_endpoint *endpoint, uint64_t id, uint64_t *detail) {
   uint64_t none;

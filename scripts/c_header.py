@@ -16,7 +16,7 @@ def parameter(text):
     kind = text.split(":", 1)[1].strip()
     if kind == ALLOCATOR:
         return []
-    found = re.fullmatch(r"&(mut )?\[(\w+)\]", kind)
+    found = re.fullmatch(r"&(?:'static )?(mut )?\[(\w+)\]", kind)
     if found:
         return [("" if found[1] else "const ") + TYPES[found[2]] + " *", "size_t"]
     found = re.fullmatch(r"&(mut )?(\w+)", kind)

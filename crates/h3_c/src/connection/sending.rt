@@ -38,6 +38,16 @@ impl Connection {
         sent(&self.endpoint.send_body(stream, body))
     }
 
+    /// The same of bytes that stay as they lie: they are not copied.
+    pub(crate) fn send_body_lent(&mut self, id: u64, body: &'static [u8]) -> Told
+        ensures { OnStream id result self.old self.new (Calls body_told result self.old self.new (λ call. SendsBody self.old.endpoint self.new.endpoint id body.now call)) }
+    {
+        let Ok(stream) = StreamId::try_from(id) else {
+            return ARGUMENT;
+        };
+        sent(&self.endpoint.send_body(stream, Bytes::from_static(body)))
+    }
+
     /// The message on a stream is whole.
     pub(crate) fn finish(&mut self, id: u64) -> Told
         ensures { CallsOn call_told id result self.old self.new (λ call. Finishes self.old.endpoint self.new.endpoint id call) }

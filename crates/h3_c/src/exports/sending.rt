@@ -48,6 +48,27 @@ pub extern "C" fn h3_raw_send_body(
     told.number
 }
 
+/// The same of bytes that stay as they lie, in `include/h3.h` for how long.
+#[unsafe(no_mangle)]
+pub extern "C" fn h3_raw_send_body_lent(
+    alloc: Global,
+    handle: Handle,
+    id: u64,
+    bytes: &'static [u8],
+    detail: &mut u64,
+    out: &mut Handle,
+) -> u32
+    requires { IsSome handle.value }
+    ensures there { IsSome out.new.value }
+    ensures goes { Steps handle.value out.new.value (λ v w. OnStream id (number result detail.new) v w (Calls body_told (number result detail.new) v w (λ call. SendsBody v.endpoint w.endpoint id bytes.now call))) }
+{
+    let mut connection = opened(alloc, handle);
+    let told = connection.send_body_lent(id, bytes);
+    *out = kept(connection);
+    *detail = told.detail;
+    told.number
+}
+
 /// The message on a stream is whole.
 #[unsafe(no_mangle)]
 pub extern "C" fn h3_raw_finish(
