@@ -42,10 +42,10 @@ examples: ## build the examples in C, Go and Rust over the folder that `make lib
 test-c: need-rt ## build the library, and run the C programs of tests/c over it
 	@bash scripts/test-c.sh
 
-test: need-rt ## prove every crate from nothing, try the wrong bodies that must be refused, run the tests and the programs
+test: need-rt ## prove every crate from nothing, try the edits of crates/*/refused but those that a reader judged, run the tests and the programs
 	@bash scripts/test.sh
 
-refused: need-rt ## try the wrong bodies of crates/*/refused, or of CRATE=name: the prover must refuse each
+refused: need-rt ## try all edits of crates/*/refused, or of CRATE=name, those that a reader judged too: run it before a contract changes
 	@python3 scripts/refused.py $(CRATE)
 
 bench: need-rt ## print our figures beside nghttp3's and plain C's, measured in one run

@@ -13,7 +13,7 @@
  *   h3_field_size f[4] = {{7,3},{7,5},{10,9},{5,1}};           // sizes of names and values, all their bytes in one row
  *   h3_send_head(&e, id, f, 4, ":methodGET:schemehttps:authoritylocalhost:path/", 47, NULL);
  *   h3_finish(&e, id, NULL);
- *   for (uint64_t s = 0; !h3_next_waiting(&e, s, &s); s++) .. // h3_outgoing, hand to QUIC, h3_advance
+ *   for (uint64_t s = 0; !h3_next_to_send(&e, s, &s); s++) .. // h3_outgoing, hand to QUIC, h3_advance, and h3_end_taken with the FIN
  *   .. h3_deliver(&e, s, bytes, len, NULL); h3_pull(&e, id, &item);
  *   h3_free(&e);
  *
@@ -21,9 +21,10 @@
  *
  * h3_endpoint is one pointer, owned by the caller. H3_NONE_YET (all bytes zero) is none. h3_new makes an endpoint, and h3_free lets
  * it go; each h3_new needs one h3_free, or memory leaks. A copy of the struct is the same endpoint: keep one, and move it at will.
- * Bytes that go in are copied within the call: the caller may free or change them as soon as it returns. Bytes that come out are
- * copied into the caller's buffer. No pointer into the library is ever handed out, and none of the caller's is kept but by h3_send_body_lent. What does not
- * fit into a buffer is not lost: outgoing bytes wait until h3_advance, and a pulled item stays until the next h3_pull.
+ * Bytes that go in are copied within the call, but by h3_send_body_lent: the caller may free or change them as soon as it returns. Bytes
+ * that come out are copied into the caller's buffer. No pointer into the library is ever handed out, and h3_send_body_lent alone keeps one
+ * of the caller's. What does not fit into a buffer is not lost: outgoing bytes wait until h3_advance, and a pulled item stays until the
+ * next h3_pull.
  * Buffers and results of one call must not overlap each other, nor the h3_endpoint.
  *
  * POINTERS

@@ -6,12 +6,13 @@
 
 - No link of a page is dead: neither its file nor its heading.
 - No line of a page is longer than 140 characters (in rows of tables the targets of links are not counted, and the tables of WIDE_TABLES may be
-  wider), and no page has more than 300 lines, README at most 90. The pages of WHOLE are left aside, and the contracts that a CALLING.md quotes.
+  wider), and no page has more than 300 lines, README at most 90. The pages of WHOLE are left aside, code that is quoted from a file, and the
+  contracts that a CALLING.md quotes.
 - A block of code behind a line `<!-- from PATH -->` stands in that file, line by line; in the pages SNIPPETS every block of C, Rust, Go and Mermaid has such a line.
 - Each page of docs has a paragraph below its title, and ends with a line 'Next: ..'.
 - docs/C_API.md has each call of include/h3.h, and names none that is not there.
 - scripts/README.md has each file of scripts/.
-- README and docs/PROVED.md say how many edits must be refused, and how many of them a reader judged."""
+- README and docs/PROVED.md say how many edits must be refused, how many of them the prover refuses by itself, and how many a reader judged."""
 import os
 import re
 import sys
@@ -30,6 +31,7 @@ LANGUAGES = {"c", "rust", "go", "mermaid"}
 INDEX = "scripts/README.md"
 LINK = re.compile(r"\[((?:[^\[\]]|\[[^\]]*\])*)\]\(([^()\s]+)\)")
 FENCE = re.compile(r"^( *)```(\w*)\n(.*?)^\1```$", re.M | re.S)
+QUOTED = re.compile(r"^<!-- from \S+ -->\n\n?```\w*\n.*?^```$", re.M | re.S)
 LEFT_OUT = {".git", "out", "build", "__pycache__"}
 
 
@@ -76,9 +78,9 @@ def count_of_links(text):
 
 
 def long_lines(page):
-    text = read(page)
-    if page.endswith("/CALLING.md"):  # its code stands so in a source
-        text = FENCE.sub(lambda it: re.sub(r"[^\n]+", "", it[0]), text)
+    # what stands so in a source is as long as it is there
+    quoted = FENCE if page.endswith("/CALLING.md") else QUOTED
+    text = quoted.sub(lambda it: re.sub(r"[^\n]+", "", it[0]), read(page))
     for number, line in enumerate(text.split("\n"), 1):
         shown = LINK.sub(r"[\1]", line) if line.startswith("|") else line
         if len(shown) > LONGEST and not (line.startswith("|") and page in WIDE_TABLES):
@@ -161,9 +163,10 @@ def counts(page):
     """what a page says of the edits that must be refused: a form of its words, and the number in it"""
     edits = [it for it in files("crates") if "/refused/" in it and it.endswith(".edit")]
     judged = [it for it in edits if re.search(r"^judged:", read(it), re.M)]
+    by_itself = (r"(prover\s+refuses\s+)\d+(\s+by\s+itself)", len(edits) - len(judged))
     if page == "README.md":
-        return ((r"(attacked\W+: )\d+( edits)", len(edits)),)
-    return ((r"(Of the )\d+(\s+edits\s+of)", len(edits)), (r"(\.\s)\d+(\s+of\s+the\s+edits\s+have\s+such\s+a\s+line)", len(judged)))
+        return ((r"(attacked\W+: )\d+( edits)", len(edits)), by_itself, (r"(of\s+the\s+other\s+)\d+(\s+a\s+reader)", len(judged)))
+    return ((r"(There are )\d+(\s+edits\s+of)", len(edits)), by_itself, (r"(reader judged )\d+(\W)", len(judged)))
 
 
 def counted(page, text):

@@ -1,7 +1,8 @@
 #!/usr/bin/env bash
 # The gate: the checks of this repository (scripts/check-*.sh), which take a minute and a half and each print one line 'ok NAME' or
-# 'failed NAME' for each thing that they check; then `rt ci` and beside it, with what it leaves of the processors, the wrong bodies of
-# crates/*/refused, each crate's once the libraries below it are proved (scripts/refused.py); and then the programs that rt ci built: a large
+# 'failed NAME' for each thing that they check; then `rt ci` and beside it, with what it leaves of the processors, the edits of
+# crates/*/refused, each crate's once the libraries below it are proved (scripts/refused.py), but those with a line `judged:`, which cost most
+# and which `make refused` tries by hand, before a contract changes; and then the programs that rt ci built: a large
 # exchange, large input, scripts, insertions and whole runs with memory refused, input and output that fail, and hostile calls of an endpoint. Where one
 # of these fails the gate ends there. The last line is the sum. The C programs of tests/c have a command of their own (make test-c), which CI runs next: it builds the library over what rt ci has proved.
 set -uo pipefail

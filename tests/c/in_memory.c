@@ -15,7 +15,6 @@ typedef struct {
   const char *name;
   int is_server;
   int is_waiting[REQUESTS]; /* its last pull answered H3_WAITING */
-  int has_ended[REQUESTS];  /* FIN or RESET_STREAM went out */
 } side;
 
 static void fail(const side *at, const char *call, uint32_t answer) {
@@ -64,7 +63,7 @@ static uint64_t ask(side *client, const char *path, const char *body) {
   add(&head, ":scheme", "https");
   add(&head, ":authority", "localhost");
   add(&head, ":path", path);
-  answer = h3_send_head(&client->h3, id, head.sizes, head.count, head.bytes, head.len, NULL);
+  answer = h3_send_fields(&client->h3, id, head.sizes, head.count, head.bytes, head.len, NULL);
   if (answer == H3_OK && body) answer = h3_send_body(&client->h3, id, body, strlen(body), NULL);
   if (answer == H3_OK) answer = h3_finish(&client->h3, id, NULL);
   if (answer != H3_OK) fail(client, "a request", answer);
@@ -78,7 +77,7 @@ static void respond(side *server, uint64_t id) {
   fields head = {.count = 0};
   add(&head, ":status", "200");
   add(&head, "content-type", "text/plain");
-  uint32_t answer = h3_send_head(&server->h3, id, head.sizes, head.count, head.bytes, head.len, NULL);
+  uint32_t answer = h3_send_fields(&server->h3, id, head.sizes, head.count, head.bytes, head.len, NULL);
   if (answer == H3_OK) answer = h3_send_body(&server->h3, id, body, strlen(body), NULL);
   if (answer == H3_OK) answer = h3_finish(&server->h3, id, NULL);
   if (answer != H3_OK) fail(server, "a response", answer);
@@ -154,7 +153,7 @@ static void carry_stream(side *from, side *to, uint64_t id) {
     received(to, id, bytes, n, (int)fin);
     h3_advance(&from->h3, id, n); /* these n bytes were taken */
     if (!fin) continue;
-    from->has_ended[id / 4] = 1; /* h3_outgoing says fin again, so the caller remembers that FIN went out */
+    h3_end_taken(&from->h3, id); /* and the FIN: h3_next_to_send names the stream no longer */
     return;
   }
 }
@@ -162,8 +161,7 @@ static void carry_stream(side *from, side *to, uint64_t id) {
 static void carry(side *from, side *to) {
   uint64_t own[] = {h3_control_id(from->is_server), h3_encoder_id(from->is_server), h3_decoder_id(from->is_server)};
   for (int i = 0; i < 3; i++) carry_stream(from, to, own[i]); /* first: heads may wait for them */
-  for (uint64_t id = 0; id < 4 * REQUESTS; id += 4)
-    if (!from->has_ended[id / 4]) carry_stream(from, to, id);
+  for (uint64_t id = 0; h3_next_to_send(&from->h3, id, &id) == H3_OK; id++) carry_stream(from, to, id);
 }
 
 /* ---- a request is given up: no further bytes go out on it, and nothing more of the answer is wanted ---- */
@@ -173,7 +171,6 @@ static void give_up(side *at, side *other, uint64_t id) {
   if (answer != H3_OK) fail(at, "h3_cancel", answer);
   answer = h3_reset(&at->h3, id, NULL);
   if (answer != H3_OK) fail(at, "h3_reset", answer);
-  at->has_ended[id / 4] = 1;
   answer = h3_deliver_reset(&other->h3, id, H3_CODE_REQUEST_CANCELLED, NULL); /* QUIC: RESET_STREAM with this code */
   if (answer != H3_OK && answer != H3_KEPT) fail(other, "h3_deliver_reset", answer);
   pull(other, id);

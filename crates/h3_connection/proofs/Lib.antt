@@ -37,3 +37,5 @@ pub mod UnknownStreams
 pub mod EndedWell
 pub mod EndOverLists
 pub mod WellFormed
+pub mod CountedContent
+pub mod HeadContent

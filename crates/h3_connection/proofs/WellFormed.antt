@@ -92,8 +92,8 @@ module _ (side : Side) (own : Announced) (strict : own.choices.strict_messages �
 
   judged_well : (i : Incoming) (replies : List DecoderInstruction) (content : Content) (fields : List Field) (read : HeadRead) → head_of fields ≡ read
       → Well (judged side id i replies (rule content i.place fields) read)
-  judged_well i replies content fields (IsNone why) is = tt
-  judged_well i replies content fields (IsHead h) is = section_well i replies content i.place fields h is
+  judged_well i replies _ fields (IsNone why) is = tt
+  judged_well i replies expected fields (IsHead h) is = section_well i replies expected i.place fields h is
 
   read_well : (i : Incoming) (replies : List DecoderInstruction) (fields : List Field) → Well (read_section side own id r i replies fields)
   read_well i replies fields = either (nat_lt (section_of own) (told_size fields)) _ _ tt (judged_well (with_content side own i fields) replies i.content fields (head_of fields) refl)

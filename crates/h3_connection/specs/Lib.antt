@@ -25,6 +25,7 @@ pub mod WaitingPieceLaws
 pub mod Endpoint
 pub mod Control
 pub mod Delivering
+pub mod CountedContent
 pub mod UnknownFrames
 pub mod DeliveryCuts
 pub mod PullCuts

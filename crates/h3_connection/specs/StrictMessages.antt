@@ -54,8 +54,8 @@ content_of_head Server fields = content_of_request fields
 
 -- a trailer says nothing of it
 abbrev pub content_behind : Side → Place → Content → List Field → Content
-content_behind side BeforeHead content fields = content_of_head side fields
-content_behind side _ content fields = content
+content_behind side BeforeHead _ fields = content_of_head side fields
+content_behind side _ expected fields = expected
 
 abbrev pub content_at : Side → Announced → Place → Content → List Field → Content
 content_at side own place content fields = if own.choices.strict_messages then content_behind side place content fields else content

@@ -219,3 +219,13 @@ ghost use Rattle.h3_connection.specs.StrictPulls.{PullsWellFormed};
 pub fn strict_endpoints_hand_out_no_broken_list()
     ensures { PullsWellFormed }
 {}
+
+ghost use Rattle.h3_connection.specs.CountedContent.{CountsContent, HeadsHaveTheirContent};
+
+/// Of a message whose head says how long its content is, no more is handed out than that, however it comes and is pulled; and its end, and a
+/// trailer, are handed out behind exactly as much (RFC 9114, section 4.1.2). Behind a head that a strict endpoint hands out stands the content that
+/// its field list says: for a server that of a request.
+pub fn content_is_as_long_as_was_said()
+    ensures counts { CountsContent }
+    ensures heads { HeadsHaveTheirContent }
+{}

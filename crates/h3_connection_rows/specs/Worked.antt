@@ -1,5 +1,5 @@
 -- Values of worked cases: bytes written as digits, heads by their field lists, and plain configurations.
-use Rattle.std.specs.Prelude.{ℕ, ◌+◌, ◌*◌, ◌-◌, List, [], ◌∷◌, map, if◌then◌else◌, nat_lt}
+use Rattle.std.specs.Prelude.{true, ℕ, ◌+◌, ◌*◌, ◌-◌, List, [], ◌∷◌, map, if◌then◌else◌, nat_lt}
 use Rattle.h3_field.specs.Field.{Field}
 use Rattle.h3_header.specs.Head.{Head, trailer_head, head_fields}
 use Rattle.h3_header.specs.HeadRead.{HeadRead, IsHead, IsNone, head_of}

@@ -20,9 +20,9 @@ delivered i pieces ends = record i { unread = i.unread ++ pieces; ended = i.ende
 
 -- a section may come there, as a head or a trailer; in a tunnel none
 abbrev pub permits_section : Place → Content → Bool
-permits_section BeforeHead content = true
-permits_section InBody content = takes_trailer content
-permits_section _ content = false
+permits_section BeforeHead expected = true
+permits_section InBody expected = takes_trailer expected
+permits_section _ expected = false
 
 -- What a frame gives was begun, and nothing of it was handed out.
 abbrev pub Begins : Place → Frame PayloadLen → Incoming → Incoming → Type 0

@@ -46,11 +46,11 @@ fields_kept : (s : EncoderHistory) (d : Draft) (fields : List Field) → s.capac
 fields_kept s d [] h = refl
 fields_kept s d (f ∷ fields) h = fields_kept s (add_field s d f) fields h ∙ field_kept s d f h
 
-same_inserted : (s : EncoderHistory) (b : Bool) → (if b then record s { capacity = 0; limit = 0 } else s).inserted ≡ s.inserted
+same_inserted : (s : EncoderHistory) (b : Bool) → (if b then record s { announced = 0; capacity = 0; limit = 0 } else s).inserted ≡ s.inserted
 same_inserted s true = refl
 same_inserted s false = refl
 
-no_capacity : (s : EncoderHistory) (b : Bool) → s.capacity ≡ 0 → (if b then record s { capacity = 0; limit = 0 } else s).capacity ≡ 0
+no_capacity : (s : EncoderHistory) (b : Bool) → s.capacity ≡ 0 → (if b then record s { announced = 0; capacity = 0; limit = 0 } else s).capacity ≡ 0
 no_capacity s true h = refl
 no_capacity s false h = h
 

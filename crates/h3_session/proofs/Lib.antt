@@ -15,6 +15,7 @@ pub mod SendingHeads
 pub mod Outlines
 pub mod JudgedLists
 pub mod Lists
+pub mod ReadLists
 pub mod Costs
 pub mod ReceivingKept
 pub mod PullingResumes

@@ -1,24 +1,31 @@
 -- A list's outline is that of its head, field by field.
-use Rattle.std.proofs.Common.{◌≡◌, ℕ, ◌+◌, ◌<◌, ◌≤◌, Bool, true, false, not, ◌&&◌, ◌||◌, List, [], ◌∷◌, length, drop, get_or, fold, Option, Some, None, refl, ap, subst, sym, ◌∙◌, arith, if◌then◌else◌, take_all}
+use Rattle.std.proofs.Common.{◌≡◌, ℕ, ◌+◌, ◌<◌, ◌≤◌, Bool, true, false, not, ◌&&◌, ◌||◌, List, [], ◌∷◌, length, drop, get_or, fold, Option, Some, None, refl, ap, subst, sym, ◌∙◌, arith, if◌then◌else◌, take_all, nat_le, nat_lt, bytes_eq}
 use Rattle.std.specs.Prelude.{All, is_some}
+use Rattle.std.proofs.lemmas.Bool.{leb-true, ltb-true}
 use Rattle.std.proofs.lemmas.List.{drop_more, drop_all}
-use Rattle.http.specs.StatusCode.{IsCodeText}
+use Rattle.std.proofs.lemmas.Slice.Eq.{bytes_eq-Decides}
+use Rattle.http.specs.StatusCode.{IsCodeText, code_digits}
 use Rattle.h3_field.specs.Field.{Field}
 use Rattle.h3_header.specs.BadPart.{bad_part, bad_part_at, AreGood, IsHeadUnlessMany}
 use Rattle.h3_header.specs.Head.{Head, is_request, is_response, trailer_head}
 use Rattle.h3_header.specs.HeadRead.{HeadRead, IsHead, IsNone, head_of, is_name_at, is_value_at}
-use Rattle.h3_header.specs.HeadTests.{is_code_text}
+use Rattle.h3_header.specs.HeadTests.{is_code_text, number_of}
 use Rattle.h3_header.specs.Reads.{IsHeadOf, kind_of, with_kind, with_field}
 use Rattle.h3_header.specs.declared.headers.judge.BadPart.TheVariants as part
 use Rattle.h3_header.specs.declared.headers.kind.FieldKind.{FieldKind}
 use Rattle.h3_header.specs.declared.headers.kind.FieldKind.TheVariants.{Method, Scheme, Authority, Path, Status, Protocol, Regular}
-use Rattle.h3_header.proofs.HeadTestLaws.{code_text}
 use Rattle.h3_session.specs.Outline.{outline_of, empty_outline, outlined, outlined_by, list_read}
 use Rattle.h3_session.specs.declared.endpoint.outline.Outline.{Outline}
 use Rattle.h3_session.specs.declared.endpoint.outline.ListRead.TheVariants as read
 
 pub is_status : (text : List ℕ) → is_code_text text ≡ true → IsCodeText text
-is_status text is = (code_text text).0 is
+is_status text is = by (nat_le 100 (number_of text)) (nat_lt (number_of text) 1000) (bytes_eq text (code_digits (number_of text))) refl refl refl is
+  where
+    by : (a b c : Bool) → nat_le 100 (number_of text) ≡ a → nat_lt (number_of text) 1000 ≡ b → bytes_eq text (code_digits (number_of text)) ≡ c → ((a && b) && c) ≡ true → IsCodeText text
+    by true true true p q r is = (number_of text, (leb-true 100 (number_of text) p, ltb-true (number_of text) 1000 q), (bytes_eq-Decides text (code_digits (number_of text))).0 r)
+    by true true false p q r is = absurd (cc)
+    by true false c p q r is = absurd (cc)
+    by false b c p q r is = absurd (cc)
 
 pub method_with_status : (h : Head) → is_some h.status ≡ true → not (is_response h) ≡ is_some h.method
 method_with_status h is = by (is_some h.status) (is_some h.method) is
