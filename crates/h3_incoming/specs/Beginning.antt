@@ -27,6 +27,6 @@ begun_as side own id r i (begun.Fault code) = connection_fault code i
 -- A section or a payload is begun by its frame. A payload is empty only in a frame that is passed.
 abbrev pub IsBegunBy : Place → Content → Frame PayloadLen → Begun → Type 0
 IsBegunBy place content f (begun.Section bytes) = (i : Incoming) → i.content ≡ content → Begins place f i (begun_section i bytes)
-IsBegunBy place content f (begun.Payload size) = ((i : Incoming) → Begins place f i (begun_payload i size)) × ((is_body place && is_empty_data f) ≡ false → 0 < size)
-IsBegunBy place content f (begun.Session session) = Unit {0}
-IsBegunBy place content f (begun.Fault code) = Unit {0}
+IsBegunBy place _ f (begun.Payload size) = ((i : Incoming) → Begins place f i (begun_payload i size)) × ((is_body place && is_empty_data f) ≡ false → 0 < size)
+IsBegunBy place _ f (begun.Session session) = Unit {0}
+IsBegunBy place _ f (begun.Fault code) = Unit {0}
