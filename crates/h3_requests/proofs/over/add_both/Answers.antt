@@ -22,4 +22,4 @@ returns-clause-adds c =
     let w : Way = record { stream = c.args.stream.now; has_code = c.args.has_code } in
     let is : IsWay w = record { over = c.requires.over; code = c.requires.code } in
     let items : c.push_reserved-2.new.self.items ≡ (c.args.ways.now.items ++ w ∷ []) ++ ended_way w ∷ [] = search rules in
-    subst (AddsWays c.args.ways.now.items) (sym items) (grown_two c.args.ways.now.items w is (omega (arith, c.if-count-ge-most.false, c.len-count.ensures, c.requires.most)))
+    subst (AddsWays c.args.ways.now.items) (sym items) (grown_two c.args.ways.now.items w is (omega (arith, c.if-count-most.false, c.len-count.ensures, c.requires.most)))

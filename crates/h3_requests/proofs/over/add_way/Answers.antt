@@ -12,4 +12,4 @@ pub returns-clause-adds : goal.returns-clause-adds
 returns-clause-adds c =
     let w : Way = record { stream = c.args.stream.now; has_code = c.args.has_code } in
     let is : IsWay w = record { over = c.requires.over; code = c.requires.code } in
-    subst (AddsWays c.args.ways.now.items) (sym (search rules)) (grown_one c.args.ways.now.items w is c.requires.ended (omega (arith, c.if-count-ge-most.false, c.len-count.ensures, c.requires.most)))
+    subst (AddsWays c.args.ways.now.items) (sym (search rules)) (grown_one c.args.ways.now.items w is c.requires.ended (omega (arith, c.if-count-most.false, c.len-count.ensures, c.requires.most)))
