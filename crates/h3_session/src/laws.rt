@@ -6,7 +6,8 @@
 //!   `cut_calls_are_answered_alike`).
 //! - Bounds: no section is tried more than twice, and no more streams wait than were announced (`tries_and_waiting_streams_are_bounded`).
 //! - Well-formed messages: where an endpoint asks for strict messages it hands out no head and no trailer whose list breaks a rule
-//!   (`strict_endpoints_hand_out_no_broken_list`).
+//!   (`strict_endpoints_hand_out_no_broken_list`), and of content no more than the head says, and the end behind all of it
+//!   (`content_is_as_long_as_was_said`).
 //! - What stays: a connection fault (`a_connection_fault_stays`), and the end of a stream once it was handed out (`the_end_stays`). Where nothing is
 //!   kept, calls are the plain ones (`nothing_kept_is_plain`).
 //! - Two endpoints: a schedule's answers are those of a run of the world of a connection (`two_endpoints_run_in_a_world`), in which each endpoint
@@ -22,10 +23,11 @@ ghost use Rattle.h3_connection.specs.Sending.{send_head, send_trailer};
 ghost use Rattle.h3_session.specs.SendingLists.{as_error, send_fields, send_trailer_fields};
 
 pub use h3_connection::laws::{
-    a_connection_fault_stays, cut_calls_are_answered_alike, cut_deliveries_are_answered_alike,
-    cut_pulls_are_answered_alike, each_stream_is_isolated, nothing_kept_is_plain,
-    strict_endpoints_hand_out_no_broken_list, the_end_stays, tries_and_waiting_streams_are_bounded,
-    unknown_frames_give_nothing, unknown_streams_change_nothing_else,
+    a_connection_fault_stays, content_is_as_long_as_was_said, cut_calls_are_answered_alike,
+    cut_deliveries_are_answered_alike, cut_pulls_are_answered_alike, each_stream_is_isolated,
+    nothing_kept_is_plain, strict_endpoints_hand_out_no_broken_list, the_end_stays,
+    tries_and_waiting_streams_are_bounded, unknown_frames_give_nothing,
+    unknown_streams_change_nothing_else,
 };
 use h3_header::Header;
 pub use h3_headline::laws::{endpoints_decode_what_was_sent, two_endpoints_run_in_a_world};
