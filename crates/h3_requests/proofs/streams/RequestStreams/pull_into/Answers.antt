@@ -1,7 +1,7 @@
 -- The counts go along, and the limit is judged by them.
 use Rattle.std.proofs.Common.{rules, ◌≡◌, Some, refl, sym, subst, ap, ◌∙◌}
 use Rattle.std.specs.Option.{option_copied_mut}
-use Rattle.std.specs.Prelude.{is_some, nat_lt, option_copied, IfSome}
+use Rattle.std.specs.Prelude.{is_some, nat_lt, IfSome}
 use Rattle.h3_blocked.specs.Counting.{above, Replaces, waits_at}
 use Rattle.h3_connection.specs.Incoming.{Incoming}
 use Rattle.h3_connection.specs.Pulling.{pull_stream}
