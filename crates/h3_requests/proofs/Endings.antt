@@ -1,6 +1,6 @@
 -- Streams by their bits.
-use Rattle.std.proofs.Common.{arith, ◌≡◌, ◌≢◌, ◌<◌, ◌≤◌, ℕ, ◌+◌, ◌*◌, ◌/◌, ◌%◌, ◌^◌, Bool, true, false, ◌&&◌, refl, sym, ◌∙◌, ap, subst, bit_and, bit_or, w64, inl, inr}
-use Rattle.std.specs.Prelude.{◌==◌, nat_lt, Option, Some, None, Result, Ok, Err, OnOk, OnErr}
+use Rattle.std.proofs.Common.{arith, ◌≡◌, ◌≢◌, ◌<◌, ℕ, ◌*◌, ◌/◌, ◌%◌, ◌^◌, Bool, true, false, ◌&&◌, refl, sym, ◌∙◌, ap, subst, bit_and, bit_or, w64, inl, inr}
+use Rattle.std.specs.Prelude.{◌==◌, nat_lt, Result, Ok, Err, OnOk, OnErr}
 use Rattle.std.specs.Int.{bit_at, bit_not}
 use Rattle.std.proofs.lemmas.Bool.{cases_eq}
 use Rattle.std.proofs.lemmas.Grind.{common_steps}

@@ -14,7 +14,7 @@ use Rattle.h3_connection.specs.State.{OutgoingState, RequestState, kept_at}
 use Rattle.h3_connection.specs.StreamSets.{Streams}
 use Rattle.h3_connection.specs.WaitingPieces.{bytes_of, without_front}
 use Rattle.h3_connection.specs.declared.event.Refusal.TheVariants as refusal
-use Rattle.h3_outgoing.specs.Sent.{end_waits, is_end_next, has_end_taken, is_sent_off, is_open, takes_head, takes_body, takes_end, taken_from}
+use Rattle.h3_outgoing.specs.Sent.{end_waits, is_sent_off, is_open, takes_head, takes_body, takes_end, taken_from}
 use Rattle.h3_requests.specs.HasBytes.{has_bytes}
 use Rattle.h3_requests.specs.Listed.{streams_of}
 use Rattle.h3_requests.specs.Marks.{HaveSameMarks, IsOneMark}

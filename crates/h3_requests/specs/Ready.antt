@@ -1,5 +1,5 @@
 -- Which streams are ready: bytes wait on them.
-use Rattle.std.specs.Prelude.{◌≡◌, ◌≢◌, ℕ, ◌^◌, Bool, not, ◌&&◌, ◌==◌, false, nat_lt, Option, Some, None, true, List}
+use Rattle.std.specs.Prelude.{◌≡◌, ◌≢◌, ℕ, ◌^◌, Bool, not, ◌&&◌, ◌==◌, false, nat_lt, Option, Some, None, true}
 use Rattle.std.specs.BTreeSet.{contains}
 use Rattle.std.specs.Ordering.{nat_cmp}
 use Rattle.h3_blocked.specs.declared.counts.Blocked.{Blocked}

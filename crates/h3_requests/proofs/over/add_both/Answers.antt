@@ -1,8 +1,8 @@
 -- Two ways more.
-use Rattle.std.proofs.Common.{arith, ◌≡◌, ◌+◌, ◌∷◌, ◌++◌, [], List, length, ℕ, rules, refl, sym, subst, ◌∙◌, ap}
+use Rattle.std.proofs.Common.{arith, ◌≡◌, ◌+◌, ◌∷◌, ◌++◌, [], List, rules, sym, subst, ◌∙◌, ap}
 use Rattle.h3_requests.specs.Over.{AddsWays, HasWays, IsWay, ended_way, way_at}
 use Rattle.h3_requests.specs.declared.over.Way.{Way}
-use Rattle.h3_requests.proofs.Ways.{at_first, grown_both, grown_two, none_more}
+use Rattle.h3_requests.proofs.Ways.{at_first, grown_both, grown_two}
 use Rattle.h3_requests.proofs.over.add_both.Goals as goal
 
 pub returns-clause-is : goal.returns-clause-is

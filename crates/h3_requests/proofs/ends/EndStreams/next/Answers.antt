@@ -1,5 +1,5 @@
 -- It is the lowest bit of the first word that has one there.
-use Rattle.std.proofs.Common.{arith, ◌≡◌, ◌+◌, ◌/◌, ◌%◌, ◌^◌, refl, sym, ◌∙◌, ap, rules}
+use Rattle.std.proofs.Common.{arith, ◌≡◌, ◌+◌, ◌/◌, ◌%◌, ◌^◌, refl, ap, rules}
 use Rattle.h3_requests.specs.Ends.{waiting_at}
 use Rattle.h3_requests.proofs.LeastEnd.{first_here, first_later, lies_in, none_later}
 use Rattle.h3_requests.proofs.ends.EndStreams.next.Goals as goal

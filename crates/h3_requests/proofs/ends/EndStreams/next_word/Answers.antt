@@ -1,5 +1,5 @@
 -- The words are passed in order.
-use Rattle.std.proofs.Common.{◌∙◌, rules}
+use Rattle.std.proofs.Common.{rules}
 use Rattle.h3_requests.proofs.EndWords.{all_left, passed, first_found}
 use Rattle.h3_requests.proofs.ends.EndStreams.next_word.Goals as goal
 

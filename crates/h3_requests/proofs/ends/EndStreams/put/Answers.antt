@@ -1,5 +1,4 @@
 -- Its bit is set in its word.
-use Rattle.std.proofs.Common.{sym, ◌∙◌}
 use Rattle.h3_requests.specs.Ends.{places_at, waiting_at}
 use Rattle.h3_requests.proofs.Endings.{below, of_request, set_in}
 use Rattle.h3_requests.proofs.ends.EndStreams.put.Goals as goal

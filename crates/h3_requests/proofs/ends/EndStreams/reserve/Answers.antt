@@ -1,6 +1,4 @@
 -- Its bit is set in its word, where memory was there for it.
-use Rattle.std.proofs.Common.{◌≡◌}
-use Rattle.std.specs.Prelude.{◌%◌}
 use Rattle.h3_requests.specs.Ends.{places_at}
 use Rattle.h3_requests.proofs.Endings.{placed_if, still_if}
 use Rattle.h3_requests.proofs.ends.EndStreams.reserve.Goals as goal

@@ -1,5 +1,4 @@
 -- Its mark is not 0.
-use Rattle.std.proofs.Common.{sym, ◌∙◌}
 use Rattle.h3_requests.specs.Marks.{code_at, mark_at}
 use Rattle.h3_requests.proofs.Ways.{over_known, over_there}
 use Rattle.h3_requests.proofs.over.OverStreams.contains.Goals as goal

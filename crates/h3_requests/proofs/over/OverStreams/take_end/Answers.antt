@@ -1,5 +1,5 @@
 -- Its mark goes up to the way with the end taken.
-use Rattle.std.proofs.Common.{arith, ◌≡◌, ◌<◌, ◌≤◌, ◌+◌, true, false, rules, sym, ap, ◌∙◌}
+use Rattle.std.proofs.Common.{arith, ◌≡◌, ◌+◌, true, false, rules, sym, ap, ◌∙◌}
 use Rattle.std.specs.Prelude.{Some}
 use Rattle.h3_connection.specs.State.{kept_at}
 use Rattle.h3_outgoing.specs.Sent.{end_waits}

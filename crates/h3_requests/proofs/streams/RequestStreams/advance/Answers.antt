@@ -1,5 +1,5 @@
 -- Whether bytes still wait is what is left of those that waited.
-use Rattle.std.proofs.Common.{refl, rules, ◌≡◌, sym, ◌∙◌, ap}
+use Rattle.std.proofs.Common.{rules, ◌≡◌, sym, ◌∙◌, ap}
 use Rattle.std.specs.Option.{option_copied_mut}
 use Rattle.h3_connection.specs.State.{RequestState, kept_at}
 use Rattle.h3_outgoing.specs.Sent.{end_waits, takes_end}

@@ -1,5 +1,5 @@
 -- What has no code is what stands for it.
-use Rattle.std.proofs.Common.{Some, None, refl, rules}
+use Rattle.std.proofs.Common.{Some, None, rules}
 use Rattle.h3_requests.specs.Stored.{streams_in}
 use Rattle.h3_requests.proofs.Alike.{refusal_is}
 use Rattle.h3_requests.proofs.streams.RequestStreams.delivery_refusal.Goals as goal

@@ -1,5 +1,5 @@
 -- What has no code is what stands for it.
-use Rattle.std.proofs.Common.{Some, None, refl, rules, sym, ◌∙◌}
+use Rattle.std.proofs.Common.{Some, None, refl, rules}
 use Rattle.h3_requests.specs.Stored.{streams_in}
 use Rattle.h3_requests.proofs.Alike.{part_is}
 use Rattle.h3_requests.proofs.streams.RequestStreams.frames.Goals as goal

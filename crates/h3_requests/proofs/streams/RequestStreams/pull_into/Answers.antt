@@ -1,7 +1,7 @@
 -- The counts go along, and the limit is judged by them.
 use Rattle.std.proofs.Common.{rules, ◌≡◌, Some, refl, sym, subst, ap, ◌∙◌}
 use Rattle.std.specs.Option.{option_copied_mut}
-use Rattle.std.specs.Prelude.{is_some, nat_lt, option_copied, IfSome}
+use Rattle.std.specs.Prelude.{is_some, nat_lt, IfSome}
 use Rattle.h3_blocked.specs.Counting.{above, Replaces, waits_at}
 use Rattle.h3_connection.specs.Incoming.{Incoming}
 use Rattle.h3_connection.specs.Pulling.{pull_stream}
@@ -33,7 +33,10 @@ returns-then-answer_settled-clause-answer c = λ passed.
     → Gives (limited c.args.announced.now c.args.id c.args.decoder.now receivers (pull_stream c.args.side c.args.announced.now c.args.id c.args.decoder.now before.incoming)) c.within_limit.new.out c.within_limit.new.stream c.args.replies.now.items c.args.replies.now.items =
     gives_limited c.args.side c.args.announced.now c.args.id c.args.decoder.now (streams_in c.self.inside.streams) before c.answer_settled.new.out c.within_limit.new.out before.incoming c.within_limit.new.stream
     c.pass.new.self c.pass.new.self c.inserted-inserted.result _ _ (kept_again c.pass.ensures.same c.pass.ensures.sound c.self.invariant).counted there pulled (λ n. refl) c.inserted-inserted.ensures.value c.within_limit.ensures.limited in
-    search (rules, gives)
+    let now : RequestState = record { incoming = c.within_limit.new.stream; outgoing = c.stream.inside.outgoing } in
+    let found : under_way_at c.self.inside.streams c.args.id ≡ Some c.in-Some.stream.now = search rules in
+    pulled_there c.args.side c.args.announced.now c.args.id c.args.decoder.now (streams_in c.self.inside.streams) c.args.self.now (streams_in (c.get_mut.follows.lender now)) (streams_in (c.get_mut.follows.lender now)) before now
+    c.within_limit.new.out c.args.replies.now.items c.args.replies.now.items c.self.view_is there ((c.get_mut.follows.holds now).0 (ap is_some found)) refl refl gives
 
 pub invariant_of-self-in_default-make_room : goal.invariant_of-self-in_default-make_room
 invariant_of-self-in_default-make_room c =
@@ -59,14 +62,23 @@ within_limit-requires-2-clause-among c =
 
 pub invariant_of-self-2 : goal.invariant_of-self-2
 invariant_of-self-2 c =
+    let waited : Replaces c.make_room.new.self c.replace.new.self c.stream.inside.incoming.waits_for c.pull_into.new.self.waits_for =
+    subst (λ n. Replaces c.make_room.new.self c.replace.new.self n c.pull_into.new.self.waits_for) c.waits_for-before.ensures
+    (subst (λ n. Replaces c.make_room.new.self c.replace.new.self c.waits_for-before.result n) c.waits_for.ensures c.replace.ensures.replaced) in
+    let both : Replaces c.make_room.new.self c.within_limit-2.new.counts c.stream.inside.incoming.waits_for c.within_limit-2.new.stream.waits_for =
+    replaced_twice c.make_room.new.self c.replace.new.self c.within_limit-2.new.counts c.stream.inside.incoming.waits_for c.pull_into.new.self.waits_for c.within_limit-2.new.stream.waits_for waited c.within_limit-2.ensures.replaced in
+    let stands : Replaces c.make_room.new.self c.within_limit-2.new.counts c.in-Some.stream.now.incoming.waits_for c.within_limit-2.new.stream.waits_for =
+    subst (λ (r : RequestState). Replaces c.make_room.new.self c.within_limit-2.new.counts r.incoming.waits_for c.within_limit-2.new.stream.waits_for) c.stream.view_is both in
     moved c.retire_if.ensures
-    (replaced _ _ _ _ _ c.args.id c.in-Some.stream.now _ (c.get_mut.follows.holds _) (search rules) c.within_limit-2.ensures.sound (search (rules, replaced_twice)) (search rules) (kept_again c.make_room.ensures.same c.make_room.ensures.sound (kept_again c.pass.ensures.same c.pass.ensures.sound c.self.invariant)))
+    (replaced _ _ _ _ _ c.args.id c.in-Some.stream.now _ (c.get_mut.follows.holds _) (search rules) c.within_limit-2.ensures.sound stands (search rules) (kept_again c.make_room.ensures.same c.make_room.ensures.sound (kept_again c.pass.ensures.same c.pass.ensures.sound c.self.invariant)))
 
 pub returns-clause-answer : goal.returns-clause-answer
 returns-clause-answer c = λ passed.
     let before : RequestState = record { incoming = c.stream.inside.incoming; outgoing = c.stream.inside.outgoing } in
     let there : kept_at (streams_in c.self.inside.streams) c.args.id ≡ Some before = search rules in
-    let replaces : Replaces c.make_room.new.self c.replace.new.self before.incoming.waits_for c.pull_into.new.self.waits_for = search rules in
+    let replaces : Replaces c.make_room.new.self c.replace.new.self c.stream.inside.incoming.waits_for c.pull_into.new.self.waits_for =
+    subst (λ n. Replaces c.make_room.new.self c.replace.new.self n c.pull_into.new.self.waits_for) c.waits_for-before.ensures
+    (subst (λ n. Replaces c.make_room.new.self c.replace.new.self c.waits_for-before.result n) c.waits_for.ensures c.replace.ensures.replaced) in
     let gives : (receivers : Streams Incoming) → AreReceivers receivers (streams_in c.self.inside.streams)
     → Gives (limited c.args.announced.now c.args.id c.args.decoder.now receivers (pull_stream c.args.side c.args.announced.now c.args.id c.args.decoder.now before.incoming)) c.within_limit-2.new.out c.within_limit-2.new.stream c.args.replies.now.items c.pull_into.new.replies.items =
     gives_limited c.args.side c.args.announced.now c.args.id c.args.decoder.now (streams_in c.self.inside.streams) before c.pull_into.new.out c.within_limit-2.new.out c.pull_into.new.self c.within_limit-2.new.stream

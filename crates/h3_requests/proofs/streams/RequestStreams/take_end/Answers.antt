@@ -1,5 +1,5 @@
 -- The end of the stream is taken, whether it is under way or over.
-use Rattle.std.proofs.Common.{ap, refl, rules, ◌≡◌, sym, subst, ◌∙◌}
+use Rattle.std.proofs.Common.{ap, rules, ◌≡◌, sym, subst, ◌∙◌}
 use Rattle.std.specs.Prelude.{IfSome}
 use Rattle.std.specs.Option.{option_copied_mut}
 use Rattle.h3_connection.specs.Calls.{Sets}
