@@ -149,59 +149,64 @@ static void idle_row(void) {
   drop();
 }
 
-/* so many exchanges on one connection: memory, the longest opening, the cost of the last ones beside that of the first */
-static void exchange_rows(size_t count) {
-  enum { FEW = 500, FIRST = 20 };
-  char size[32];
-  double longest = 0, few = 1e9, last = 1e9, before;
-  sized(size, sizeof size, count, "exchanges");
-  for (int turn = 0; turn < FIRST; turn++) {
-    make(0, 0);
-    carry_own();
+/* how the rows of exchanges are named, and what is wanted of them */
+struct exchanges {
+  int ends_are_told; /* does the caller tell of each end that was taken, as h3.h asks? */
+  const char *memory, *cost;
+  double most_cost;
+};
+static const struct exchanges TOLD = {1, "a stream that is over", "one of these, of one of 500", 1.1};
+static const struct exchanges UNTOLD = {0, "a stream that is over, whose end nobody said was taken", "one of these, of one of 500, where nobody says so", 0};
+
+/* the least time that so many exchanges took, of twenty turns */
+static double least(size_t exchanges, int anew) {
+  enum { TURNS = 20 };
+  double found = 1e9;
+  for (int turn = 0; turn < TURNS; turn++) {
+    if (anew) {
+      make(0, 0);
+      carry_own();
+    }
     double began = now();
-    for (size_t i = 0; i < FEW; i++) exchange();
-    if (now() - began < few) few = now() - began;
-    drop();
+    for (size_t i = 0; i < exchanges; i++) exchange();
+    if (now() - began < found) found = now() - began;
+    if (anew) drop();
   }
-  make(0, 0);
-  carry_own();
-  for (size_t i = 0; i < 1000; i++) exchange();
-  before = held;
-  for (size_t i = 1000; i < count; i++) {
-    double opened = exchange();
-    if (opened > longest) longest = opened;
-  }
-  row("a stream that is over", size, (held - before) / (double)(count - 1000) / 2, "bytes an end", 4);
-  row("the longest h3_open_request", size, longest * 1e6, "us", 1000);
-  for (int turn = 0; turn < FIRST; turn++) {
-    double began = now();
-    for (size_t i = 0; i < FEW; i++) exchange();
-    if (now() - began < last) last = now() - began;
-  }
-  row("one of these, of one of 500", size, last / few, "times", 1.1);
-  drop();
+  return found;
 }
 
-/* the same memory where the caller tells of each end that was taken, and how long it takes then to learn that nothing is to be sent */
-static void told_rows(size_t count) {
+/* how long it takes to learn that nothing is to be sent */
+static void nothing_to_send_row(const char *size) {
   enum { CALLS = 1000 };
-  char size[32];
   uint64_t id;
-  double before, began;
-  sized(size, sizeof size, count, "exchanges");
-  ends_are_told = 1;
-  make(0, 0);
   carry_own();
-  for (size_t i = 0; i < 1000; i++) exchange();
-  before = held;
-  for (size_t i = 1000; i < count; i++) exchange();
-  row("a stream that is over, whose end was taken", size, (held - before) / (double)(count - 1000) / 2, "bytes an end", 4);
-  carry_own();
-  began = now();
+  double began = now();
   for (size_t i = 0; i < CALLS; i++) {
     if (h3_next_to_send(&ends[CLIENT], 0, &id) != H3_NONE) stop("a stream whose end was taken is named", id, 0);
   }
   row("h3_next_to_send, where all ends were taken", size, (now() - began) / CALLS * 1e9, "ns", 200);
+}
+
+/* so many exchanges on one connection: memory, the longest opening, the cost of the last ones beside that of the first */
+static void exchange_rows(size_t count, const struct exchanges *kind) {
+  enum { FEW = 500, FIRST = 1000 };
+  char size[32];
+  double longest = 0, before, few;
+  sized(size, sizeof size, count, "exchanges");
+  ends_are_told = kind->ends_are_told;
+  few = least(FEW, 1);
+  make(0, 0);
+  carry_own();
+  for (size_t i = 0; i < FIRST; i++) exchange();
+  before = held;
+  for (size_t i = FIRST; i < count; i++) {
+    double opened = exchange();
+    if (opened > longest) longest = opened;
+  }
+  row(kind->memory, size, (held - before) / (double)(count - FIRST) / 2, "bytes an end", 4);
+  row("the longest h3_open_request", size, longest * 1e6, "us", 1000);
+  row(kind->cost, size, least(FEW, 0) / few, "times", kind->most_cost);
+  if (kind->ends_are_told) nothing_to_send_row(size);
   ends_are_told = 0;
   drop();
 }
@@ -452,8 +457,8 @@ int main(int argc, char **argv) {
   }
   printf("| What | At | Figure | Unit | Wanted |\n|---|---|---|---|---|\n");
   idle_row();
-  exchange_rows(count);
-  told_rows(count < 100000 ? count : 100000);
+  exchange_rows(count, &TOLD);
+  exchange_rows(count, &UNTOLD);
   reset_rows("a stream that its client opens and resets", 100000, 0);
   reset_rows("the same, each with a code of its own", 100000, 1);
   unknown_rows(100000);
