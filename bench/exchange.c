@@ -93,6 +93,8 @@ int main(int argc, char **argv) {
   exchange_kind small = {&gets, &oks, 0, 100, 500, 100, MOST_CARRIED, 0, 0};
   small_rows(small);
   memory_rows(small);
+  field_lists one_authority = with_value(&pages, "one authority", ":authority", "localhost:7020");
+  heads_rows(&one_authority, &answers);
   printf("\n%d rows below their target\n", rows_below());
   return rows_below() > 0;
 }

@@ -1,4 +1,4 @@
-/* Whole exchanges of a client and a server in one program: two endpoints of build/c/libh3.a, and two of nghttp3's. Both carry the same lists and bodies, in
+/* Whole exchanges of a client and a server in one program: two endpoints of build/c/libbeanwhile_h3.a, and two of nghttp3's. Both carry the same lists and bodies, in
  * pieces that are copied into one buffer, and copy each field and each body that comes out into buffers of their own. */
 #ifndef EXCHANGE_H
 #define EXCHANGE_H
@@ -33,6 +33,9 @@ extern uint8_t carried[MOST_CARRIED], copied[LONGEST_BODY];
 void our_exchanges(void *kind, uint64_t rounds);
 void our_endpoints(void *kind, uint64_t rounds);
 void peer_exchanges(void *kind, uint64_t rounds);
+
+/* Rows of the bytes that heads take, where nghttp3's decoder reads them. */
+void heads_rows(const field_lists *requests, const field_lists *responses);
 
 /* Ends the program where an end did not get all. */
 void want_all(const char *who, const exchange_kind *kind, const came_out *at_server, const came_out *at_client);

@@ -1,4 +1,4 @@
-/* Exchanges by build/c/libh3.a. */
+/* Exchanges by build/c/libbeanwhile_h3.a. */
 #include "exchange.h"
 #include "h3.h"
 #include "measure.h"

@@ -1,4 +1,4 @@
-/* An endpoint of build/c/libh3.a beside one of nghttp3, in both roles: requests and responses with trailers, in random cuts, without a dynamic table and
+/* An endpoint of build/c/libbeanwhile_h3.a beside one of nghttp3, in both roles: requests and responses with trailers, in random cuts, without a dynamic table and
  * with tables that fill. Each message has to come out as it was sent. */
 #include "interop_exchange.h"
 #include <stdio.h>

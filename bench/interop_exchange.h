@@ -1,4 +1,4 @@
-/* One end of a connection that is driven step by step: ours by build/c/libh3.a, or nghttp3's. */
+/* One end of a connection that is driven step by step: ours by build/c/libbeanwhile_h3.a, or nghttp3's. */
 #ifndef INTEROP_EXCHANGE_H
 #define INTEROP_EXCHANGE_H
 #include "lists.h"

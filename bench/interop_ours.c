@@ -1,4 +1,4 @@
-/* One end of a connection, by build/c/libh3.a. */
+/* One end of a connection, by build/c/libbeanwhile_h3.a. */
 #include "h3.h"
 #include "interop_exchange.h"
 #include <stdlib.h>

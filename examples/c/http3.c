@@ -85,7 +85,7 @@ static void refuse(http3 *h, uint32_t answer, uint64_t code) {
 static void cut_off(http3_request *request, uint64_t code) {
   http3 *h = request->connection;
   if (h3_reset(&h->endpoint, request->id, NULL) == H3_OK) {
-    request->sending = request->finishing = false;
+    request->sending = false;
     quic_reset(h->quic, (int64_t)request->id, code);
   }
   quic_stop(h->quic, (int64_t)request->id, code);
@@ -217,7 +217,7 @@ static void was_stopped(void *owner, int64_t stream) {
   http3_request *request = find(h, (uint64_t)stream);
   if (!is_request((uint64_t)stream)) return quic_close(h->quic, 0x104); /* H3_CLOSED_CRITICAL_STREAM */
   h3_reset(&h->endpoint, (uint64_t)stream, NULL);
-  if (request) request->sending = request->finishing = false;
+  if (request) request->sending = false;
 }
 
 static void stream_closed(void *owner, int64_t stream) {
@@ -230,8 +230,8 @@ static void stream_closed(void *owner, int64_t stream) {
 
 /* ---- what goes out ---- */
 
-/* Moves what waits on a stream to QUIC, as far as it has room. Answers whether anything was moved. */
-static bool move_out(http3 *h, uint64_t id, http3_request *request) {
+/* Moves what waits on a stream to QUIC, as far as it has room, and the end behind it, once. Answers whether anything was moved. */
+static bool move_out(http3 *h, uint64_t id) {
   uint8_t bytes[PIECE];
   for (bool moved = false;; moved = true) {
     size_t room = quic_room(h->quic, (int64_t)id), count;
@@ -244,35 +244,46 @@ static bool move_out(http3 *h, uint64_t id, http3_request *request) {
     }
     h3_advance(&h->endpoint, id, count);
     if (!end) continue;
-    if (request) request->finishing = false;
+    h3_end_taken(&h->endpoint, id); /* h3_next_to_send names the stream no longer */
     return true;
   }
 }
 
-/* Asks for more of a body, and hands it to QUIC, as long as QUIC has room. */
-static void send_more(http3_request *request) {
-  http3 *h = request->connection;
-  do
-    if (request->sending && http3_room(request) > 0) h->setup->events->room(request);
-  while ((request->sending || request->finishing) && move_out(h, request->id, request));
+/* The connection's own streams, before all others: the peer's heads may wait for them. */
+static void move_own(http3 *h) {
+  move_out(h, h3_control_id(h->setup->server));
+  move_out(h, h3_encoder_id(h->setup->server));
+  move_out(h, h3_decoder_id(h->setup->server));
 }
 
-/* The connection's own streams. */
-static void move_own(http3 *h) {
-  move_out(h, h3_control_id(h->setup->server), NULL);
-  move_out(h, h3_encoder_id(h->setup->server), NULL);
-  move_out(h, h3_decoder_id(h->setup->server), NULL);
+/* All streams on which bytes or an end wait. Answers whether anything was moved. */
+static bool move_all(http3 *h) {
+  bool moved = false;
+  for (uint64_t id = 0; h3_next_to_send(&h->endpoint, id, &id) == H3_OK; id++) moved |= move_out(h, id);
+  return moved;
+}
+
+/* Asks for more of the bodies that are being sent. Answers whether there are such. */
+static bool ask_for_bodies(http3 *h) {
+  bool asked = false;
+  for (http3_request *request = h->requests; request; request = request->next)
+    if (request->sending && http3_room(request) > 0) {
+      h->setup->events->room(request);
+      asked = true;
+    }
+  return asked;
 }
 
 /* All is acknowledged, but its reader may not have it yet, and would lose it: the peer is the one to close, or falls silent. */
 static bool is_silent(const http3 *h) { return quic_silence(h->quic) >= 1000 * LINGER && time(NULL) - h->leaving_at > LINGER; }
 
-/* Hands all that waits to QUIC: the connection's own streams first, since heads may wait for them, and again for what a program sent meanwhile. */
+/* Hands all that waits to QUIC, and more of the bodies, as long as QUIC has room. */
 static void fill(void *owner) {
   http3 *h = owner;
+  bool asked;
   move_own(h);
-  for (http3_request *request = h->requests; request; request = request->next) send_more(request);
-  move_own(h);
+  do asked = ask_for_bodies(h);
+  while (move_all(h) && asked);
   for (http3_request **at = &h->requests; *at;)
     if ((*at)->closed && (*at)->settled) drop(h, at);
     else at = &(*at)->next;
@@ -291,7 +302,6 @@ static void *opened(quic_connection *quic, void *user) {
   h->end_id = setup->requests > 0 && setup->requests < ANY_ID / 4 ? 4 * setup->requests : UINT64_MAX;
   h3_config_default(&config);
   config.server = setup->server;
-  config.strict = 1; /* no program behind this one is handed a message that breaks a rule of RFC 9114, section 4 */
   bool made = h3_new(&h->endpoint, &config, NULL) == H3_OK;
   for (int i = 0; made && i < 3; i++) made = quic_open(quic, true) == (int64_t)h3_control_id(setup->server) + 4 * i;
   if (!made) {
@@ -366,7 +376,7 @@ bool http3_body(http3_request *request, const uint8_t *bytes, size_t count) {
 }
 
 void http3_finish(http3_request *request) {
-  request->finishing = h3_finish(&request->connection->endpoint, request->id, NULL) == H3_OK;
+  h3_finish(&request->connection->endpoint, request->id, NULL);
   request->sending = false;
 }
 

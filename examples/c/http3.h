@@ -16,7 +16,6 @@ typedef struct http3_request {
   size_t owed;    /* bytes that came, for which the peer has got no further credit: the endpoint holds them */
   bool waiting;   /* its head needs what the peer's encoder stream has not brought yet */
   bool sending;   /* the head was sent, the end was not */
-  bool finishing; /* FIN goes behind what waits */
   bool settled;   /* the end or a fault was told: nothing more comes */
   bool closed;    /* QUIC has forgotten the stream */
 } http3_request;

@@ -9,6 +9,7 @@ import (
 	"sync"
 	"time"
 
+	"beanwhile/h3"
 	"github.com/lucas-clemente/quic-go"
 )
 
@@ -22,6 +23,35 @@ const (
 	notice = time.Second // between the first GOAWAY and the last: requests that were on their way come
 )
 
+// errTooLarge is the fault of a frame that is larger than any that is taken.
+var errTooLarge = errors.New("a frame is too large")
+
+// codeOf is the code that a request is given up with.
+func codeOf(err error, server bool) quic.StreamErrorCode {
+	var fault h3.Fault
+	switch {
+	case err == errTooLarge:
+		return h3.ExcessiveLoad
+	case errors.As(err, &fault):
+		return quic.StreamErrorCode(fault.Code(server))
+	}
+	return h3.InternalError
+}
+
+// closingCode is the code that the connection is closed with.
+func closingCode(err error) quic.ApplicationErrorCode {
+	var refused h3.Error
+	var fault h3.Fault
+	if errors.As(err, &refused) {
+		if code, isFault := refused.Code(); isFault {
+			return quic.ApplicationErrorCode(code)
+		}
+	} else if errors.As(err, &fault) && fault.Kind == h3.FaultConnection {
+		return quic.ApplicationErrorCode(fault.Number)
+	}
+	return h3.InternalError
+}
+
 // pieces has the buffers that are not in use. A stream that waits has none.
 var pieces = sync.Pool{New: func() any { return new([piece]byte) }}
 
@@ -30,7 +60,7 @@ type Connection struct {
 	opening  sync.Mutex // one request is opened at a time
 	opened   *uint64    // the id that the endpoint gave and QUIC has no stream for yet
 	lock     sync.Mutex
-	endpoint *Endpoint
+	endpoint *h3.Endpoint
 	quic     quic.Connection
 	trace    *trace         // a server's
 	own      []*half        // control, encoder and decoder stream
@@ -62,7 +92,7 @@ type Request struct {
 
 // NewConnection opens the three own streams, and reads the peer's. A server has a trace, and takes so many requests (0: no limit).
 func NewConnection(connection quic.Connection, trace *trace, requests uint64) (*Connection, error) {
-	endpoint, err := NewEndpoint(trace != nil)
+	endpoint, err := h3.New(h3.DefaultConfig(trace != nil))
 	if err != nil {
 		return nil, err
 	}
@@ -75,7 +105,7 @@ func NewConnection(connection quic.Connection, trace *trace, requests uint64) (*
 	for i := 0; i < 3; i++ {
 		stream, err := connection.OpenUniStream()
 		if err != nil {
-			connection.CloseWithError(InternalError, "")
+			connection.CloseWithError(h3.InternalError, "")
 			c.Close()
 			return nil, err
 		}
@@ -108,12 +138,7 @@ func (c *Connection) fail(err error) error {
 	if c.broken != nil {
 		return c.broken
 	}
-	code := uint64(InternalError)
-	var refusal Refusal
-	if errors.As(err, &refusal) && refusal.Detail != 0 {
-		code = refusal.Detail
-	}
-	go c.quic.CloseWithError(quic.ApplicationErrorCode(code), "")
+	go c.quic.CloseWithError(closingCode(err), "")
 	c.over(err)
 	return err
 }
@@ -123,7 +148,7 @@ func (c *Connection) Close() {
 	c.lock.Lock()
 	c.over(io.EOF)
 	c.lock.Unlock()
-	c.quic.CloseWithError(NoError, "")
+	c.quic.CloseWithError(h3.NoError, "")
 	c.writers.Wait()
 	c.lock.Lock()
 	c.endpoint.Close()
@@ -142,9 +167,10 @@ func (c *Connection) startWriting(half *half) {
 
 // wakeOwn wakes the writers of the own unidirectional streams that have something to send. The lock is held.
 func (c *Connection) wakeOwn() {
-	for _, half := range c.own {
-		if c.endpoint.State(half.id).Waiting > 0 {
-			half.changed.Broadcast()
+	control, decoder := c.own[0], c.own[2]
+	for id, ok := c.endpoint.NextToSend(control.id); ok && id <= decoder.id; id, ok = c.endpoint.NextToSend(id + 1) {
+		if id%4 == control.id {
+			c.own[id/4].changed.Broadcast()
 		}
 	}
 }
@@ -153,11 +179,10 @@ func (c *Connection) wakeOwn() {
 func (c *Connection) write(half *half) {
 	c.lock.Lock()
 	defer c.lock.Unlock()
-	for c.broken == nil {
-		state := c.endpoint.State(half.id)
-		if state.Waiting == 0 && !state.Finished && !state.Reset {
+	for c.broken == nil && !c.endpoint.Stream(half.id).Reset {
+		if id, ok := c.endpoint.NextToSend(half.id); !ok || id != half.id {
 			half.changed.Wait()
-		} else if state.Reset || c.writePiece(half) {
+		} else if c.writePiece(half) {
 			break
 		}
 	}
@@ -181,6 +206,8 @@ func (c *Connection) writePiece(half *half) (last bool) {
 		c.endpoint.Reset(half.id) // the peer stopped it, or the connection is over
 	} else if err := c.endpoint.Advance(half.id, count); err != nil {
 		c.fail(err)
+	} else if end {
+		c.endpoint.EndTaken(half.id) // the stream is named no longer
 	}
 	half.changed.Broadcast()
 	return end || err != nil
@@ -203,18 +230,15 @@ func (c *Connection) deliver(id uint64, bytes []byte, end error) error {
 }
 
 // pull is what comes next on a stream. A fault of the connection, or want of memory, is an error. The lock is held.
-func (c *Connection) pull(id uint64) (Item, error) {
+func (c *Connection) pull(id uint64) (h3.Item, error) {
 	item, err := c.endpoint.Pull(id)
-	switch {
-	case err == nil && item.Kind == FaultConnection:
-		err = Refusal{Detail: item.Number}
-	case err == nil && item.Kind == FaultMemory:
-		err = errors.New("no memory")
+	if item.Kind > h3.FaultConnection && item.Kind != h3.FaultMemory {
+		err = nil // a fault of this stream alone: the item tells it
 	}
 	if err != nil {
-		return Item{}, c.fail(err)
+		return h3.Item{}, c.fail(err)
 	}
-	if item.Kind != Body && item.Kind != Pending {
+	if item.Kind != h3.Body && item.Kind != h3.Pending {
 		c.wakeOwn()
 	}
 	return item, nil
@@ -228,13 +252,13 @@ func (c *Connection) readOther(stream quic.ReceiveStream) {
 		c.lock.Lock()
 		err := c.deliver(id, buffer[:count], end)
 		for err == nil {
-			var item Item
-			if item, err = c.pull(id); item.Kind >= End {
+			var item h3.Item
+			if item, err = c.pull(id); item.Kind >= h3.End {
 				break
 			}
 		}
-		if err == nil && c.endpoint.State(id).Unread > heldLimit {
-			err = c.fail(Refusal{Detail: ExcessiveLoad})
+		if err == nil && c.endpoint.Stream(id).Unread > heldLimit {
+			err = c.fail(h3.Fault{Kind: h3.FaultConnection, Number: h3.ExcessiveLoad})
 		}
 		c.inserted.Broadcast()
 		c.lock.Unlock()
@@ -305,8 +329,8 @@ func (c *Connection) Accept() (*Request, error) {
 		if err != nil || request != nil {
 			return request, err
 		}
-		stream.CancelRead(RequestRejected)
-		stream.CancelWrite(RequestRejected)
+		stream.CancelRead(h3.RequestRejected)
+		stream.CancelWrite(h3.RequestRejected)
 	}
 }
 
@@ -388,10 +412,10 @@ func (r *Request) call(call func() error) error {
 	return err
 }
 
-// SendHead sends a head. The stream has a writer from the first one on.
-func (r *Request) SendHead(fields []Field) error {
+// SendHead sends a head, its fields in the order that they have here: pseudo-header fields first. The stream has a writer from the first one on.
+func (r *Request) SendHead(fields []h3.Field) error {
 	return r.call(func() error {
-		err := r.connection.endpoint.SendHead(r.id, fields)
+		err := r.connection.endpoint.SendFields(r.id, fields)
 		if err == nil && !r.hasWriter {
 			r.hasWriter = true
 			r.connection.startWriting(r.sending)
@@ -404,7 +428,7 @@ func (r *Request) SendHead(fields []Field) error {
 func (r *Request) Write(bytes []byte) (int, error) {
 	c := r.connection
 	err := r.call(func() error {
-		for c.broken == nil && c.endpoint.State(r.id).Waiting >= waitingLimit {
+		for c.broken == nil && c.endpoint.Stream(r.id).Waiting >= waitingLimit {
 			r.sending.changed.Wait()
 		}
 		return c.endpoint.SendBody(r.id, bytes)
@@ -424,7 +448,7 @@ func (r *Request) Finish() error {
 func (r *Request) IsStopped() bool {
 	r.connection.lock.Lock()
 	defer r.connection.lock.Unlock()
-	return r.connection.endpoint.State(r.id).Reset
+	return r.connection.endpoint.Stream(r.id).Reset
 }
 
 // GiveUp sends nothing more, and wants nothing more.
@@ -442,13 +466,13 @@ func (r *Request) GiveUp(code quic.StreamErrorCode) {
 // Ignore wants nothing more of the request: a server has answered (RFC 9114, section 4.1), and the client need not send the rest.
 func (r *Request) Ignore() {
 	r.call(func() error { return r.connection.endpoint.Cancel(r.id) }) // refused where the message is over
-	r.stream.CancelRead(NoError)
+	r.stream.CancelRead(h3.NoError)
 }
 
 // Next waits for the next item of the peer's message. quic-go grants credit for what is read, so no more is read of a stream of which the endpoint
 // holds so much: a frame that is larger is a fault. A fault of the message is an error. What came before the connection was over is handed
 // out all the same.
-func (r *Request) Next() (Item, error) {
+func (r *Request) Next() (h3.Item, error) {
 	c := r.connection
 	c.lock.Lock()
 	defer c.lock.Unlock()
@@ -457,21 +481,21 @@ func (r *Request) Next() (Item, error) {
 		item, err := c.pull(r.id)
 		switch {
 		case err != nil:
-			return Item{}, err
-		case item.Kind == Waiting && c.broken == nil:
+			return h3.Item{}, err
+		case item.Kind == h3.Waiting && c.broken == nil:
 			c.inserted.Wait()
-		case item.Kind == Waiting:
-			return Item{}, c.broken
-		case item.Kind == Pending && unreadable != nil:
-			return Item{}, unreadable
-		case item.Kind == Pending && c.endpoint.State(r.id).Unread > heldLimit:
-			return Item{}, Fault{Kind: TooLarge}
-		case item.Kind == Pending:
+		case item.Kind == h3.Waiting:
+			return h3.Item{}, c.broken
+		case item.Kind == h3.Pending && unreadable != nil:
+			return h3.Item{}, unreadable
+		case item.Kind == h3.Pending && c.endpoint.Stream(r.id).Unread > heldLimit:
+			return h3.Item{}, errTooLarge
+		case item.Kind == h3.Pending:
 			if unreadable, err = r.read(); err != nil {
-				return Item{}, err
+				return h3.Item{}, err
 			}
-		case item.Kind == FaultMalformed || item.Kind == FaultReset || item.Kind == FaultCanceled:
-			return item, Fault{item.Kind, item.Number}
+		case item.Kind > h3.FaultConnection:
+			return item, h3.Fault{Kind: item.Kind, Number: item.Number}
 		default:
 			return item, nil
 		}

@@ -18,6 +18,7 @@ import (
 	"os"
 	"time"
 
+	"beanwhile/h3"
 	"github.com/lucas-clemente/quic-go"
 )
 
@@ -42,7 +43,7 @@ var verbose bool
 // ask sends a request, with a file as its body where there is one. It gives it up behind so many bytes of the file (0: never).
 func ask(request *Request, wish wish, cancel int) error {
 	place := wish.place
-	fields := []Field{{":method", wish.method}, {":scheme", "https"}, {":authority", place.Host}, {":path", place.RequestURI()}}
+	fields := []h3.Field{{Name: ":method", Value: wish.method}, {Name: ":scheme", Value: "https"}, {Name: ":authority", Value: place.Host}, {Name: ":path", Value: place.RequestURI()}}
 	if wish.file == "" {
 		if err := request.SendHead(fields); err != nil {
 			return err
@@ -75,18 +76,18 @@ func tryToAsk(request *Request, wish wish, cancel int) error {
 	if err == nil || request.IsStopped() {
 		return nil
 	}
-	request.GiveUp(RequestCancelled)
+	request.GiveUp(h3.RequestCancelled)
 	return err
 }
 
 var errGivenUp = errors.New("given up")
 
 // say says what came in front of a body, or behind it.
-func say(item Item) {
+func say(item h3.Item) {
 	switch item.Kind {
-	case Head, Interim:
-		fmt.Fprintln(os.Stderr, map[bool]string{true: "status", false: "interim"}[item.Kind == Head], item.Status)
-	case Trailer:
+	case h3.Head, h3.Interim:
+		fmt.Fprintln(os.Stderr, map[bool]string{true: "status", false: "interim"}[item.Kind == h3.Head], item.Status)
+	case h3.Trailer:
 		fmt.Fprintf(os.Stderr, "trailer of %d fields\n", len(item.Fields))
 	}
 }
@@ -96,9 +97,9 @@ func answer(request *Request, cancel int) ([]byte, error) {
 	var body []byte
 	for {
 		item, err := request.Next()
-		var fault Fault
-		if errors.As(err, &fault) {
-			request.GiveUp(quic.StreamErrorCode(fault.Code(false)))
+		var fault h3.Fault
+		if errors.As(err, &fault) || err == errTooLarge {
+			request.GiveUp(codeOf(err, false))
 		}
 		if err != nil {
 			return nil, err
@@ -107,18 +108,18 @@ func answer(request *Request, cancel int) ([]byte, error) {
 			say(item)
 		}
 		switch item.Kind {
-		case Head:
+		case h3.Head:
 			if item.Status/100 != 2 {
-				request.GiveUp(RequestCancelled)
+				request.GiveUp(h3.RequestCancelled)
 				return nil, fmt.Errorf("status %d", item.Status)
 			}
-		case Body:
+		case h3.Body:
 			body = append(body, item.Bytes...)
 			if cancel > 0 && len(body) >= cancel {
-				request.GiveUp(RequestCancelled)
+				request.GiveUp(h3.RequestCancelled)
 				return nil, errGivenUp
 			}
-		case End:
+		case h3.End:
 			return body, nil
 		}
 	}
@@ -133,8 +134,8 @@ func exchange(connection *Connection, wish wish, cancel int) ([]byte, error) {
 	sent := make(chan error, 1)
 	go func() { sent <- tryToAsk(request, wish, cancel) }()
 	body, err := answer(request, cancel)
-	var fault Fault
-	if errors.As(err, &fault) && fault.Kind == FaultCanceled {
+	var fault h3.Fault
+	if errors.As(err, &fault) && fault.Kind == h3.FaultCanceled {
 		err = <-sent // why it was given up
 	}
 	return body, err

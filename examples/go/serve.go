@@ -19,6 +19,7 @@ import (
 	"syscall"
 	"time"
 
+	"beanwhile/h3"
 	"github.com/lucas-clemente/quic-go"
 )
 
@@ -32,17 +33,13 @@ type handler struct {
 	method string
 }
 
-func value(head Item, name string) string {
-	for _, field := range head.Fields {
-		if field.Name == name {
-			return field.Value
-		}
-	}
-	return ""
+func value(head h3.Item, name string) string {
+	value, _ := head.Value(name)
+	return value
 }
 
 func (h *handler) head(status, kind string, length int64) error {
-	return h.SendHead([]Field{{":status", status}, {"content-type", kind}, {"content-length", strconv.FormatInt(length, 10)}})
+	return h.SendHead([]h3.Field{{Name: ":status", Value: status}, {Name: "content-type", Value: kind}, {Name: "content-length", Value: strconv.FormatInt(length, 10)}})
 }
 
 func (h *handler) text(status, text string) error {
@@ -108,10 +105,10 @@ func (h *handler) post() error {
 		switch {
 		case err != nil:
 			return err
-		case item.Kind == Body:
+		case item.Kind == h3.Body:
 			count += len(item.Bytes)
 			hash.Write(item.Bytes)
-		case item.Kind == End:
+		case item.Kind == h3.End:
 			return h.text("200", fmt.Sprintf("%d %x\n", count, hash.Sum(nil)))
 		}
 	}
@@ -121,7 +118,7 @@ func (h *handler) post() error {
 func (h *handler) rest() error {
 	for {
 		item, err := h.Next()
-		if err != nil || item.Kind == End {
+		if err != nil || item.Kind == h3.End {
 			return err
 		}
 	}
@@ -132,12 +129,12 @@ func (h *handler) answer() error {
 	if err != nil {
 		return err
 	}
-	if head.Kind != Head && head.Kind != TooLargeHead {
-		return fmt.Errorf("kind %d is no head", head.Kind) // a session of WebTransport
+	if head.Kind != h3.Head && head.Kind != h3.TooLargeHead {
+		return fmt.Errorf("%v is no head", head.Kind) // a session of WebTransport
 	}
 	h.method = value(head, ":method")
 	switch {
-	case head.Kind == TooLargeHead:
+	case head.Kind == h3.TooLargeHead:
 		return h.refuse("431", "the fields are too large\n")
 	case h.method == http.MethodPost:
 		return h.post()
@@ -152,15 +149,6 @@ func (h *handler) answer() error {
 	return h.rest()
 }
 
-// codeOf is the code that a request is given up with.
-func codeOf(err error) quic.StreamErrorCode {
-	var fault Fault
-	if errors.As(err, &fault) {
-		return quic.StreamErrorCode(fault.Code(true))
-	}
-	return InternalError
-}
-
 // takeRequests answers each request of a connection, at once, until the connection is over.
 func takeRequests(connection *Connection, files http.FileSystem) {
 	for {
@@ -172,7 +160,7 @@ func takeRequests(connection *Connection, files http.FileSystem) {
 			defer request.Done()
 			if err := (&handler{Request: request, files: files}).answer(); err != nil {
 				fmt.Fprintln(os.Stderr, "h3go: stream", request.id, "failed:", err)
-				request.GiveUp(codeOf(err))
+				request.GiveUp(codeOf(err, true))
 			}
 		}()
 	}
@@ -250,7 +238,7 @@ func (s *server) run(listener quic.Listener) {
 			if err != nil {
 				return
 			}
-			session.CloseWithError(NoError, "")
+			session.CloseWithError(h3.NoError, "")
 		}
 	}()
 	connections.Wait()

@@ -1,0 +1,73 @@
+package h3
+
+// #include <h3.h>
+import "C"
+
+// Config is what an endpoint is and announces, as h3_config.
+type Config struct {
+	Server                  bool   // this side accepted the connection
+	MaxFieldSectionSize     uint64 // the greatest head or trailer that is taken, in bytes (RFC 9114, section 4.2.2)
+	Table                   uint64 // capacity of the own decoder's dynamic table in bytes; 0: none
+	Blocked                 uint64 // how many streams may wait for its insertions
+	EncoderTable            uint64 // the most bytes that the table of the own encoder has; 0: it uses none
+	EconomicalTable         bool   // the own encoder uses its table also where the peer lets no stream wait
+	Strict                  bool   // messages are judged by all of RFC 9114, sections 4.1.2 and 4.2 to 4.5
+	CountAcknowledgments    bool   // an acknowledgment tells the encoder of insertions (RFC 9204, section 2.1.4)
+	SendGrease              bool   // a reserved setting is sent (RFC 9114, section 7.2.4.1)
+	Grease                  uint64 // which one, below 0x210842108421083; any random number
+	ExtendedConnect         bool   // RFC 9220
+	Datagram                bool   // RFC 9297
+	WebTransport            bool
+	MaxWebTransportSessions uint64
+}
+
+// DefaultConfig has the limits of h3_config_default, which are fit for a peer that is not trusted: heads and trailers of at most 65,536 bytes, a
+// dynamic table of 4,096 bytes, for which 16 streams may wait, and one of 4,096 bytes for the own encoder. Messages are judged (Strict).
+func DefaultConfig(server bool) Config {
+	var raw C.h3_config
+	C.h3_config_default(&raw)
+	return Config{
+		Server:                  server,
+		MaxFieldSectionSize:     uint64(raw.max_field_section_size),
+		Table:                   uint64(raw.table),
+		Blocked:                 uint64(raw.blocked),
+		EncoderTable:            uint64(raw.encoder_table),
+		EconomicalTable:         raw.economical_table != 0,
+		Strict:                  raw.strict != 0,
+		CountAcknowledgments:    raw.count_acknowledgments != 0,
+		SendGrease:              raw.send_grease != 0,
+		Grease:                  uint64(raw.grease),
+		ExtendedConnect:         raw.extended_connect != 0,
+		Datagram:                raw.datagram != 0,
+		WebTransport:            raw.webtransport != 0,
+		MaxWebTransportSessions: uint64(raw.max_webtransport_sessions),
+	}
+}
+
+func number(yes bool) C.uint64_t {
+	if yes {
+		return 1
+	}
+	return 0
+}
+
+// raw is the struct that the library takes. What it has and Config has not is as h3_config_default has it.
+func (c Config) raw() C.h3_config {
+	var raw C.h3_config
+	C.h3_config_default(&raw)
+	raw.server = number(c.Server)
+	raw.max_field_section_size = C.uint64_t(c.MaxFieldSectionSize)
+	raw.table = C.uint64_t(c.Table)
+	raw.blocked = C.uint64_t(c.Blocked)
+	raw.encoder_table = C.uint64_t(c.EncoderTable)
+	raw.economical_table = number(c.EconomicalTable)
+	raw.strict = number(c.Strict)
+	raw.count_acknowledgments = number(c.CountAcknowledgments)
+	raw.send_grease = number(c.SendGrease)
+	raw.grease = C.uint64_t(c.Grease)
+	raw.extended_connect = number(c.ExtendedConnect)
+	raw.datagram = number(c.Datagram)
+	raw.webtransport = number(c.WebTransport)
+	raw.max_webtransport_sessions = C.uint64_t(c.MaxWebTransportSessions)
+	return raw
+}

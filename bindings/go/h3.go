@@ -1,0 +1,218 @@
+// Package h3 is one endpoint of an HTTP/3 connection (RFC 9114, RFC 9204), for programs that have a QUIC library: the calls of beanwhile/h3.h.
+//
+// An Endpoint reads no socket and starts no goroutine. A program delivers what came on a stream and pulls what it is (Deliver, Pull), sends
+// messages (OpenRequest, SendFields, SendBody, SendTrailerFields, Finish), and hands to QUIC what waits (NextToSend, Outgoing, Advance, EndTaken).
+//
+// The library is found by pkg-config, as beanwhile-h3.
+package h3
+
+/*
+#cgo pkg-config: beanwhile-h3
+#include <h3.h>
+*/
+import "C"
+
+import "unsafe"
+
+// Endpoint is one endpoint of a connection. One call at a time: a program with several goroutines has a lock around its calls. Two endpoints share
+// nothing. Close frees it.
+type Endpoint struct {
+	raw    C.h3_endpoint
+	unread *unread
+}
+
+// New makes an endpoint. Begin the configuration with DefaultConfig.
+func New(config Config) (*Endpoint, error) {
+	var detail C.uint64_t
+	raw := config.raw()
+	endpoint := &Endpoint{}
+	if err := refusal(C.h3_new(&endpoint.raw, &raw, &detail), detail); err != nil {
+		return nil, err
+	}
+	return endpoint, nil
+}
+
+// Close frees the endpoint. A second one does nothing, and every other call behind it answers NoEndpoint.
+func (e *Endpoint) Close() {
+	e.unread = nil
+	C.h3_free(&e.raw)
+}
+
+// OpenRequest opens a client's next request, and answers the id of its stream: 0, 4, 8, ..
+//
+// QUIC counts its streams by itself. Call OpenRequest first, and open no stream of QUIC where it is refused. Where it gives an id and QUIC has no room,
+// keep the id for the next stream that QUIC opens.
+func (e *Endpoint) OpenRequest() (uint64, error) {
+	var id, detail C.uint64_t
+	err := refusal(C.h3_open_request(&e.raw, &id, &detail), detail)
+	return uint64(id), err
+}
+
+// NextRequestID is the id that OpenRequest gives next, or its refusal. It opens nothing.
+func (e *Endpoint) NextRequestID() (uint64, error) {
+	var id, detail C.uint64_t
+	err := refusal(C.h3_next_request_id(&e.raw, &id, &detail), detail)
+	return uint64(id), err
+}
+
+// start is the address of the first byte, or nil where there is none.
+func start(bytes []byte) unsafe.Pointer {
+	if len(bytes) == 0 {
+		return nil
+	}
+	return unsafe.Pointer(&bytes[0])
+}
+
+// Field is a field of a head or trailer. A name is in lower case; a pseudo-header field's begins with ':'.
+type Field struct{ Name, Value string }
+
+// row is a list as the library takes it: the sizes of names and values, and all their bytes.
+type row struct {
+	sizes []C.h3_field_size
+	bytes []byte
+}
+
+func inARow(fields []Field) row {
+	total := 0
+	for _, field := range fields {
+		total += len(field.Name) + len(field.Value)
+	}
+	list := row{make([]C.h3_field_size, len(fields)), make([]byte, 0, total)}
+	for i, field := range fields {
+		list.sizes[i].name, list.sizes[i].value = C.uint32_t(len(field.Name)), C.uint32_t(len(field.Value))
+		list.bytes = append(append(list.bytes, field.Name...), field.Value...)
+	}
+	return list
+}
+
+func (list row) first() *C.h3_field_size {
+	if len(list.sizes) == 0 {
+		return nil
+	}
+	return &list.sizes[0]
+}
+
+func (list row) count() C.size_t { return C.size_t(len(list.sizes)) }
+
+func (list row) len() C.size_t { return C.size_t(len(list.bytes)) }
+
+// SendHead sends a head with its pseudo-header fields put in front, and the values of one name together. A response's head with a status from 100 to
+// 199 is an interim one, behind which another goes.
+func (e *Endpoint) SendHead(id uint64, fields []Field) error {
+	var detail C.uint64_t
+	list := inARow(fields)
+	return refusal(C.h3_send_head(&e.raw, C.uint64_t(id), list.first(), list.count(), start(list.bytes), list.len(), &detail), detail)
+}
+
+// SendTrailer sends a trailer with the values of one name put together.
+func (e *Endpoint) SendTrailer(id uint64, fields []Field) error {
+	var detail C.uint64_t
+	list := inARow(fields)
+	return refusal(C.h3_send_trailer(&e.raw, C.uint64_t(id), list.first(), list.count(), start(list.bytes), list.len(), &detail), detail)
+}
+
+// SendFields sends a head as the list that it is given as. It is faster than SendHead: put pseudo-header fields in front, each once.
+func (e *Endpoint) SendFields(id uint64, fields []Field) error {
+	var detail C.uint64_t
+	list := inARow(fields)
+	return refusal(C.h3_send_fields(&e.raw, C.uint64_t(id), list.first(), list.count(), start(list.bytes), list.len(), &detail), detail)
+}
+
+// SendTrailerFields sends a trailer as the list that it is given as.
+func (e *Endpoint) SendTrailerFields(id uint64, fields []Field) error {
+	var detail C.uint64_t
+	list := inARow(fields)
+	return refusal(C.h3_send_trailer_fields(&e.raw, C.uint64_t(id), list.first(), list.count(), start(list.bytes), list.len(), &detail), detail)
+}
+
+// SendBody sends a piece of a body. The bytes are copied.
+func (e *Endpoint) SendBody(id uint64, bytes []byte) error {
+	var detail C.uint64_t
+	return refusal(C.h3_send_body(&e.raw, C.uint64_t(id), start(bytes), C.size_t(len(bytes)), &detail), detail)
+}
+
+// Finish says that the own message is whole: FIN goes behind what waits.
+func (e *Endpoint) Finish(id uint64) error {
+	var detail C.uint64_t
+	return refusal(C.h3_finish(&e.raw, C.uint64_t(id), &detail), detail)
+}
+
+// Reset ends sending on a stream, and drops what waits: QUIC sends RESET_STREAM.
+func (e *Endpoint) Reset(id uint64) error {
+	var detail C.uint64_t
+	return refusal(C.h3_reset(&e.raw, C.uint64_t(id), &detail), detail)
+}
+
+// Cancel wants nothing more of a request stream: QUIC sends STOP_SENDING.
+func (e *Endpoint) Cancel(id uint64) error {
+	var detail C.uint64_t
+	return refusal(C.h3_cancel(&e.raw, C.uint64_t(id), &detail), detail)
+}
+
+// Goaway says that a server takes no request from this id on, a multiple of 4, or a client no push (RFC 9114, section 5.2).
+func (e *Endpoint) Goaway(id uint64) error {
+	var detail C.uint64_t
+	return refusal(C.h3_goaway(&e.raw, C.uint64_t(id), &detail), detail)
+}
+
+// NextWaiting is the lowest stream from an id on on which bytes wait; false: there is none.
+func (e *Endpoint) NextWaiting(from uint64) (uint64, bool) {
+	var id C.uint64_t
+	answer := C.h3_next_waiting(&e.raw, C.uint64_t(from), &id)
+	return uint64(id), answer == C.H3_OK
+}
+
+// NextToSend is the lowest stream from an id on on which bytes wait, or an end of which EndTaken did not speak; false: there is none.
+func (e *Endpoint) NextToSend(from uint64) (uint64, bool) {
+	var id C.uint64_t
+	answer := C.h3_next_to_send(&e.raw, C.uint64_t(from), &id)
+	return uint64(id), answer == C.H3_OK
+}
+
+// Outgoing copies the first bytes that wait on a stream into the buffer, and says whether the stream ends behind them. They wait until Advance.
+func (e *Endpoint) Outgoing(id uint64, buffer []byte) (count int, end bool) {
+	var n C.size_t
+	var fin C.uint32_t
+	if C.h3_outgoing(&e.raw, C.uint64_t(id), start(buffer), C.size_t(len(buffer)), &n, &fin) != C.H3_OK {
+		return 0, false
+	}
+	return int(n), fin == 1
+}
+
+// Advance says that QUIC has so many bytes of a stream: at most those that wait.
+func (e *Endpoint) Advance(id uint64, count int) error {
+	if count < 0 {
+		return Error{Answer: Argument}
+	}
+	return refusal(C.h3_advance(&e.raw, C.uint64_t(id), C.size_t(count)), 0)
+}
+
+// EndTaken says that QUIC has the FIN of a stream: NextToSend names it no longer. false: no end was next.
+func (e *Endpoint) EndTaken(id uint64) bool { return C.h3_end_taken(&e.raw, C.uint64_t(id)) == C.H3_OK }
+
+// taken is the refusal of a delivery. Bytes that were taken while memory was refused for reading them are none: the next delivery or pull reads on.
+func taken(answer C.uint32_t, detail C.uint64_t) error {
+	if answer == C.H3_KEPT {
+		return nil
+	}
+	return refusal(answer, detail)
+}
+
+// Deliver hands over bytes that came on a stream, behind those that came before. An Error with a Code ends the connection. One that is Memory took
+// nothing: deliver again.
+func (e *Endpoint) Deliver(id uint64, bytes []byte) error {
+	var detail C.uint64_t
+	return taken(C.h3_deliver(&e.raw, C.uint64_t(id), start(bytes), C.size_t(len(bytes)), &detail), detail)
+}
+
+// DeliverEnd says that the stream's FIN came.
+func (e *Endpoint) DeliverEnd(id uint64) error {
+	var detail C.uint64_t
+	return taken(C.h3_deliver_end(&e.raw, C.uint64_t(id), &detail), detail)
+}
+
+// DeliverReset says that RESET_STREAM came with this code.
+func (e *Endpoint) DeliverReset(id, code uint64) error {
+	var detail C.uint64_t
+	return taken(C.h3_deliver_reset(&e.raw, C.uint64_t(id), C.uint64_t(code), &detail), detail)
+}

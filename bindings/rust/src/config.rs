@@ -1,0 +1,94 @@
+use crate::raw;
+
+/// How many numbers `h3_config` has: its size, and those of [`Config`].
+pub(crate) const NUMBERS: usize = 15;
+
+/// What an endpoint is and announces, as `h3_config`.
+#[derive(Debug, Clone, Copy, PartialEq, Eq)]
+pub struct Config {
+    /// This side accepted the connection.
+    pub server: bool,
+    /// The greatest head or trailer that is taken, in bytes (RFC 9114, section 4.2.2).
+    pub max_field_section_size: u64,
+    /// Capacity of the own decoder's dynamic table in bytes; 0: none.
+    pub table: u64,
+    /// How many streams may wait for its insertions.
+    pub blocked: u64,
+    /// The most bytes that the dynamic table of the own encoder has (RFC 9204, section 3.2.3); 0: it uses none.
+    pub encoder_table: u64,
+    /// The own encoder uses its table also where the peer lets no stream wait.
+    pub economical_table: bool,
+    /// Messages are judged by all of RFC 9114, sections 4.1.2 and 4.2 to 4.5.
+    pub strict: bool,
+    /// An acknowledgment tells the encoder of insertions (RFC 9204, section 2.1.4).
+    pub count_acknowledgments: bool,
+    /// A reserved setting is sent (RFC 9114, section 7.2.4.1): the one that `grease` says, any random number below 0x210842108421083.
+    pub send_grease: bool,
+    pub grease: u64,
+    /// RFC 9220.
+    pub extended_connect: bool,
+    /// RFC 9297.
+    pub datagram: bool,
+    pub webtransport: bool,
+    pub max_webtransport_sessions: u64,
+}
+
+impl Config {
+    /// A client with the limits of `h3_config_default`, which are fit for a peer that is not trusted: heads and trailers of at most 65,536
+    /// bytes, a dynamic table of 4,096 bytes, for which 16 streams may wait, and one of 4,096 bytes for the own encoder. Messages are judged.
+    pub fn client() -> Config {
+        Config::of(defaults())
+    }
+
+    /// A server with the same limits.
+    pub fn server() -> Config {
+        Config { server: true, ..Config::client() }
+    }
+
+    fn of(numbers: [u64; NUMBERS]) -> Config {
+        Config {
+            max_field_section_size: numbers[1],
+            max_webtransport_sessions: numbers[2],
+            table: numbers[3],
+            blocked: numbers[4],
+            grease: numbers[5],
+            server: numbers[6] != 0,
+            send_grease: numbers[7] != 0,
+            webtransport: numbers[8] != 0,
+            extended_connect: numbers[9] != 0,
+            datagram: numbers[10] != 0,
+            strict: numbers[11] != 0,
+            count_acknowledgments: numbers[12] != 0,
+            encoder_table: numbers[13],
+            economical_table: numbers[14] != 0,
+        }
+    }
+
+    /// The numbers of `h3_config`.
+    pub(crate) fn numbers(&self) -> [u64; NUMBERS] {
+        [
+            8 * NUMBERS as u64,
+            self.max_field_section_size,
+            self.max_webtransport_sessions,
+            self.table,
+            self.blocked,
+            self.grease,
+            self.server.into(),
+            self.send_grease.into(),
+            self.webtransport.into(),
+            self.extended_connect.into(),
+            self.datagram.into(),
+            self.strict.into(),
+            self.count_acknowledgments.into(),
+            self.encoder_table,
+            self.economical_table.into(),
+        ]
+    }
+}
+
+fn defaults() -> [u64; NUMBERS] {
+    let mut numbers = [0; NUMBERS];
+    // SAFETY: it writes so many numbers at most.
+    unsafe { raw::h3_raw_config_default(numbers.as_mut_ptr(), numbers.len()) };
+    numbers
+}

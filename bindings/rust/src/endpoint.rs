@@ -1,0 +1,357 @@
+use crate::config::Config;
+use crate::error::{Error, Fault, Malformation};
+use crate::fields::{in_a_row, Fields};
+use crate::item::{Head, Item, Pause, Pulled};
+use crate::raw::{self, FieldSize, Handle, RawConnection, RawItem, RawStream};
+use crate::state::{ConnectionState, PeerLimits, StreamState};
+use std::ptr;
+
+const KEPT: u32 = 5;
+const ROOM: u32 = 26;
+
+/// A call of the library that sends a list of fields.
+type SendsList = unsafe extern "C" fn(Handle, u64, *const FieldSize, usize, *const u8, usize, *mut u64, *mut Handle) -> u32;
+
+/// One endpoint of a connection. `&mut self` is the rule of one call at a time, and `Drop` frees it. It may move between threads.
+pub struct Endpoint {
+    handle: Handle,
+    /// An item that was pulled on a stream, and that memory was refused for when it was read.
+    unread: Option<(u64, RawItem)>,
+}
+
+// SAFETY: nothing of an endpoint is shared or bound to a thread: that its handle is Send is proved (crates/h3_c/proofs, the proof of Send).
+unsafe impl Send for Endpoint {}
+
+impl Drop for Endpoint {
+    fn drop(&mut self) {
+        // SAFETY: the handle holds an endpoint from `new` on, and is not used after this.
+        unsafe { raw::h3_raw_free(self.handle) }
+    }
+}
+
+impl std::fmt::Debug for Endpoint {
+    fn fmt(&self, f: &mut std::fmt::Formatter<'_>) -> std::fmt::Result {
+        f.debug_struct("Endpoint").finish_non_exhaustive()
+    }
+}
+
+fn answered(answer: u32, detail: u64) -> Result<(), Error> {
+    match answer {
+        0 => Ok(()),
+        answer => Err(Error::of(answer, detail)),
+    }
+}
+
+// SAFETY, of all calls below: the handle holds an endpoint, since `new` hands one out alone where it was made, and each call writes the
+// handle back through its last argument; pointers and lengths are those of slices and of local variables.
+impl Endpoint {
+    pub fn new(config: &Config) -> Result<Endpoint, Error> {
+        let (numbers, mut handle, mut detail) = (config.numbers(), Handle { at: ptr::null_mut() }, 0);
+        let answer = unsafe { raw::h3_raw_new(numbers.as_ptr(), numbers.len(), &mut detail, &mut handle) };
+        answered(answer, detail)?;
+        Ok(Endpoint { handle, unread: None })
+    }
+
+    /// A call that answers a number, and may name another.
+    fn call(&mut self, call: impl FnOnce(Handle, *mut u64, *mut Handle) -> u32) -> Result<(), Error> {
+        let mut detail = 0;
+        let answer = call(self.handle, &mut detail, &mut self.handle);
+        answered(answer, detail)
+    }
+
+    /// A delivery, which is taken too where memory was refused for reading it (`H3_KEPT`): the next delivery or pull reads on.
+    fn delivery(&mut self, call: impl FnOnce(Handle, *mut u64, *mut Handle) -> u32) -> Result<(), Error> {
+        let mut detail = 0;
+        match call(self.handle, &mut detail, &mut self.handle) {
+            KEPT => Ok(()),
+            answer => answered(answer, detail),
+        }
+    }
+
+    /// Opens a client's next request, and answers the id of its stream: 0, 4, 8, ..
+    ///
+    /// QUIC counts its streams by itself. Call this first, and open no stream of QUIC where it is refused. Where it gives an id and QUIC has
+    /// no room, keep the id for the next stream that QUIC opens.
+    pub fn open_request(&mut self) -> Result<u64, Error> {
+        let mut id = 0;
+        self.call(|handle, detail, out| unsafe { raw::h3_raw_open_request(handle, &mut id, detail, out) })?;
+        Ok(id)
+    }
+
+    /// The id that `open_request` gives next, or its refusal. It opens nothing.
+    pub fn next_request_id(&mut self) -> Result<u64, Error> {
+        let mut id = 0;
+        self.call(|handle, detail, out| unsafe { raw::h3_raw_next_request_id(handle, &mut id, detail, out) })?;
+        Ok(id)
+    }
+
+    fn send_list<N: AsRef<[u8]>, V: AsRef<[u8]>>(&mut self, call: SendsList, id: u64, fields: &[(N, V)]) -> Result<(), Error> {
+        let (sizes, bytes) = in_a_row(fields).ok_or(Error::Argument)?;
+        self.call(|handle, detail, out| unsafe { call(handle, id, sizes.as_ptr(), sizes.len(), bytes.as_ptr(), bytes.len(), detail, out) })
+    }
+
+    /// Sends a head as the list that it is given as: put pseudo-header fields in front, each once. A response's head with a status from 100
+    /// to 199 is an interim one, behind which another goes.
+    pub fn send_fields<N: AsRef<[u8]>, V: AsRef<[u8]>>(&mut self, id: u64, fields: &[(N, V)]) -> Result<(), Error> {
+        self.send_list(raw::h3_raw_send_fields, id, fields)
+    }
+
+    /// Sends a trailer as the list that it is given as.
+    pub fn send_trailer_fields<N: AsRef<[u8]>, V: AsRef<[u8]>>(&mut self, id: u64, fields: &[(N, V)]) -> Result<(), Error> {
+        self.send_list(raw::h3_raw_send_trailer_fields, id, fields)
+    }
+
+    /// Sends a head with its pseudo-header fields put in front, and the values of one name together. `send_fields` is faster.
+    pub fn send_head<N: AsRef<[u8]>, V: AsRef<[u8]>>(&mut self, id: u64, fields: &[(N, V)]) -> Result<(), Error> {
+        self.send_list(raw::h3_raw_send_head, id, fields)
+    }
+
+    /// Sends a trailer with the values of one name put together.
+    pub fn send_trailer<N: AsRef<[u8]>, V: AsRef<[u8]>>(&mut self, id: u64, fields: &[(N, V)]) -> Result<(), Error> {
+        self.send_list(raw::h3_raw_send_trailer, id, fields)
+    }
+
+    /// Sends a piece of a body. The bytes are copied.
+    pub fn send_body(&mut self, id: u64, bytes: &[u8]) -> Result<(), Error> {
+        self.call(|handle, detail, out| unsafe { raw::h3_raw_send_body(handle, id, bytes.as_ptr(), bytes.len(), detail, out) })
+    }
+
+    /// The own message is whole: FIN goes behind what waits.
+    pub fn finish(&mut self, id: u64) -> Result<(), Error> {
+        self.call(|handle, detail, out| unsafe { raw::h3_raw_finish(handle, id, detail, out) })
+    }
+
+    /// Sending on a stream ends here, and what waits is dropped: QUIC sends RESET_STREAM.
+    pub fn reset(&mut self, id: u64) -> Result<(), Error> {
+        self.call(|handle, detail, out| unsafe { raw::h3_raw_reset(handle, id, detail, out) })
+    }
+
+    /// Nothing more is wanted of a request stream: QUIC sends STOP_SENDING.
+    pub fn cancel(&mut self, id: u64) -> Result<(), Error> {
+        self.call(|handle, detail, out| unsafe { raw::h3_raw_cancel(handle, id, detail, out) })
+    }
+
+    /// A server takes no request from this id on, a multiple of 4, or a client no push (RFC 9114, section 5.2).
+    pub fn goaway(&mut self, id: u64) -> Result<(), Error> {
+        self.call(|handle, detail, out| unsafe { raw::h3_raw_goaway(handle, id, detail, out) })
+    }
+
+    /// The lowest stream from an id on on which bytes wait.
+    pub fn next_waiting(&mut self, from: u64) -> Option<u64> {
+        let mut id = 0;
+        self.call(|handle, _, out| unsafe { raw::h3_raw_next_waiting(handle, from, &mut id, out) }).ok()?;
+        Some(id)
+    }
+
+    /// The lowest stream from an id on on which bytes wait, or an end that `end_taken` did not speak of.
+    pub fn next_to_send(&mut self, from: u64) -> Option<u64> {
+        let mut id = 0;
+        self.call(|handle, _, out| unsafe { raw::h3_raw_next_to_send(handle, from, &mut id, out) }).ok()?;
+        Some(id)
+    }
+
+    /// Copies the first bytes that wait on a stream into the buffer. Answers how many, and whether the stream ends behind them. They wait
+    /// until `advance`.
+    pub fn outgoing(&mut self, id: u64, buffer: &mut [u8]) -> Result<(usize, bool), Error> {
+        let (mut count, mut end) = (0, 0);
+        self.call(|handle, _, out| unsafe {
+            raw::h3_raw_outgoing(handle, id, buffer.as_mut_ptr(), buffer.len(), &mut count, &mut end, out)
+        })?;
+        Ok((count, end == 1))
+    }
+
+    /// QUIC has so many bytes of a stream: at most those that wait.
+    pub fn advance(&mut self, id: u64, count: usize) -> Result<(), Error> {
+        self.call(|handle, _, out| unsafe { raw::h3_raw_advance(handle, id, count, out) })
+    }
+
+    /// QUIC has the FIN of a stream: `next_to_send` names it no longer. Answers whether an end was next.
+    pub fn end_taken(&mut self, id: u64) -> bool {
+        self.call(|handle, _, out| unsafe { raw::h3_raw_end_taken(handle, id, out) }).is_ok()
+    }
+
+    /// Hands over bytes that came on a stream, behind those that came before. On `Error::Memory` nothing was taken: deliver again.
+    pub fn deliver(&mut self, id: u64, bytes: &[u8]) -> Result<(), Error> {
+        self.delivery(|handle, detail, out| unsafe { raw::h3_raw_deliver(handle, id, bytes.as_ptr(), bytes.len(), detail, out) })
+    }
+
+    /// The stream's FIN came.
+    pub fn deliver_end(&mut self, id: u64) -> Result<(), Error> {
+        self.delivery(|handle, detail, out| unsafe { raw::h3_raw_deliver_end(handle, id, detail, out) })
+    }
+
+    /// RESET_STREAM came with this code.
+    pub fn deliver_reset(&mut self, id: u64, code: u64) -> Result<(), Error> {
+        self.delivery(|handle, detail, out| unsafe { raw::h3_raw_deliver_reset(handle, id, code, detail, out) })
+    }
+
+    /// What comes next on a stream: an item, a pause, or a fault as the error. Where memory is refused nothing is lost: pull the same stream
+    /// again, before any other.
+    pub fn pull(&mut self, id: u64) -> Result<Pulled, Error> {
+        let mut item = RawItem::default();
+        match self.unread.take() {
+            Some((stream, unread)) if stream == id => item = unread,
+            _ => self.call(|handle, _, out| unsafe { raw::h3_raw_pull(handle, id, &mut item, out) })?,
+        }
+        let pulled = self.read(item);
+        if let Err(Error::Memory) = pulled {
+            self.unread = Some((id, item));
+        }
+        pulled
+    }
+
+    /// The items of a stream, up to the next pause or to its end.
+    pub fn items(&mut self, id: u64) -> Items<'_> {
+        Items { endpoint: self, id, is_over: false, pause: None }
+    }
+
+    /// What the item has that was pulled last.
+    fn read(&mut self, item: RawItem) -> Result<Pulled, Error> {
+        let number = item.number;
+        Ok(Pulled::Item(match item.kind {
+            1 => Item::Interim(self.head(item)?),
+            2 => Item::Head(self.head(item)?),
+            3 => Item::Body(self.bytes(item.len)?),
+            4 => Item::Trailer(self.fields(item.fields)?),
+            5 => Item::TooLargeHead(number),
+            6 => Item::Session(number),
+            7 => Item::Raw(self.bytes(item.len)?),
+            8 => Item::End,
+            9 => return Ok(Pulled::Pause(Pause::Pending)),
+            10 => return Ok(Pulled::Pause(Pause::Waiting(number))),
+            11 => return Ok(Pulled::Pause(Pause::NoMessages)),
+            12 => return Err(Fault::Connection(number).into()),
+            13 => return Err(Fault::Malformed(Malformation::of(number)).into()),
+            14 => return Err(Fault::Reset(number).into()),
+            15 => return Err(Fault::Canceled.into()),
+            16 => return Err(Fault::Memory.into()),
+            other => return Err(Error::Other(other)),
+        }))
+    }
+
+    fn head(&mut self, item: RawItem) -> Result<Head, Error> {
+        let status = u16::try_from(item.status).ok().filter(|status| *status != 0);
+        Ok(Head { fields: self.fields(item.fields)?, status })
+    }
+
+    fn fields(&mut self, count: usize) -> Result<Fields, Error> {
+        let (mut fields, mut name, mut value) = (Fields::default(), vec![0; 64], vec![0; 256]);
+        for index in 0..count {
+            let (name_len, value_len) = self.field(index, &mut name, &mut value)?;
+            fields.push(&name[..name_len], &value[..value_len]);
+        }
+        Ok(fields)
+    }
+
+    /// Reads a field into buffers, which grow where it has no room.
+    fn field(&mut self, index: usize, name: &mut Vec<u8>, value: &mut Vec<u8>) -> Result<(usize, usize), Error> {
+        loop {
+            let (mut name_len, mut value_len) = (0, 0);
+            let (name_room, value_room) = (name.len(), value.len());
+            let done = self.call(|handle, _, out| unsafe {
+                raw::h3_raw_item_field(
+                    handle,
+                    index,
+                    name.as_mut_ptr(),
+                    name_room,
+                    &mut name_len,
+                    value.as_mut_ptr(),
+                    value_room,
+                    &mut value_len,
+                    out,
+                )
+            });
+            match done {
+                Err(Error::Other(ROOM)) => {
+                    name.resize(name_len.max(name_room), 0);
+                    value.resize(value_len.max(value_room), 0);
+                }
+                Err(error) => return Err(error),
+                Ok(()) => return Ok((name_len, value_len)),
+            }
+        }
+    }
+
+    fn bytes(&mut self, count: usize) -> Result<Vec<u8>, Error> {
+        let (mut bytes, mut copied) = (vec![0; count], 0);
+        self.call(|handle, _, out| unsafe { raw::h3_raw_item_bytes(handle, 0, bytes.as_mut_ptr(), count, &mut copied, out) })?;
+        bytes.truncate(copied);
+        Ok(bytes)
+    }
+
+    /// What is to be seen of a stream.
+    pub fn stream(&mut self, id: u64) -> Result<StreamState, Error> {
+        let mut state = RawStream::default();
+        self.call(|handle, _, out| unsafe { raw::h3_raw_stream(handle, id, &mut state, out) })?;
+        Ok(StreamState {
+            waiting: state.waiting,
+            unread: state.unread,
+            has_outgoing: state.has_outgoing == 1,
+            is_finished: state.is_finished == 1,
+            is_reset: state.is_reset == 1,
+            tries: state.tries,
+        })
+    }
+
+    /// What is to be seen of the connection.
+    pub fn connection(&mut self) -> Result<ConnectionState, Error> {
+        let mut state = RawConnection::default();
+        self.call(|handle, _, out| unsafe { raw::h3_raw_connection(handle, &mut state, out) })?;
+        let peer = PeerLimits { table: state.peer_table, blocked: state.peer_blocked, section: state.peer_section };
+        Ok(ConnectionState {
+            sending_table: state.sending_table,
+            receiving_table: state.receiving_table,
+            waiting_heads: state.waiting_heads,
+            sent: state.sent,
+            goaway: (state.has_goaway == 1).then_some(state.goaway),
+            peer: (state.has_settings == 1).then_some(peer),
+        })
+    }
+
+    /// A setting that the peer announced (RFC 9114, section 7.2.4).
+    pub fn peer_setting(&mut self, setting: u64) -> Option<u64> {
+        let mut value = 0;
+        self.call(|handle, _, out| unsafe { raw::h3_raw_peer_setting(handle, setting, &mut value, out) }).ok()?;
+        Some(value)
+    }
+}
+
+/// The items of a stream, up to the next pause, to its end, or to an error.
+#[derive(Debug)]
+pub struct Items<'a> {
+    endpoint: &'a mut Endpoint,
+    id: u64,
+    is_over: bool,
+    pause: Option<Pause>,
+}
+
+impl Items<'_> {
+    /// Why the last `next` answered `None`, where the stream is not over.
+    pub fn pause(&self) -> Option<Pause> {
+        self.pause
+    }
+}
+
+impl Iterator for Items<'_> {
+    type Item = Result<Item, Error>;
+
+    fn next(&mut self) -> Option<Result<Item, Error>> {
+        if self.is_over {
+            return None;
+        }
+        match self.endpoint.pull(self.id) {
+            Ok(Pulled::Item(item)) => {
+                self.is_over = item == Item::End;
+                Some(Ok(item))
+            }
+            Ok(Pulled::Pause(pause)) => {
+                self.pause = Some(pause);
+                None
+            }
+            Err(error) => {
+                self.is_over = true;
+                Some(Err(error))
+            }
+        }
+    }
+}

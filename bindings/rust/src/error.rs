@@ -1,0 +1,293 @@
+use std::fmt;
+
+/// Codes of RFC 9114, section 8.1, that a program names.
+pub mod code {
+    pub const NO_ERROR: u64 = 0x100;
+    pub const INTERNAL_ERROR: u64 = 0x102;
+    pub const CLOSED_CRITICAL_STREAM: u64 = 0x104;
+    pub const EXCESSIVE_LOAD: u64 = 0x107;
+    pub const REQUEST_REJECTED: u64 = 0x10b;
+    pub const REQUEST_CANCELLED: u64 = 0x10c;
+    pub const REQUEST_INCOMPLETE: u64 = 0x10d;
+    pub const MESSAGE_ERROR: u64 = 0x10e;
+}
+
+/// Why a call was refused: an `h3_answer`, with the number that it names.
+#[derive(Debug, Clone, Copy, PartialEq, Eq)]
+#[non_exhaustive]
+pub enum Error {
+    /// The connection had this fault before, by its code.
+    Closed(u64),
+    /// What was delivered is a fault of the connection: close it with this code.
+    Connection(u64),
+    /// The peer sends nothing on this stream.
+    NotReceiving,
+    /// The stream's end or reset came before.
+    AfterEnd,
+    /// Only a client opens request streams.
+    NotClient,
+    /// The peer takes no request from this id on.
+    GoingAway(u64),
+    /// There are no further ids below 2^62.
+    IdsUsedUp,
+    /// The stream is not open at this side.
+    NotOpen,
+    /// Not at this place of the message: a head first, then bodies, then a trailer, then the end.
+    OutOfOrder,
+    /// A client sends heads of requests, a server those of responses.
+    WrongSide,
+    /// A trailer has no pseudo-header field.
+    PseudoInTrailer,
+    /// The field section is larger than the peer takes, by its size.
+    TooLarge(u64),
+    /// The connection needs this stream.
+    Critical,
+    /// The stream has ended.
+    Ended,
+    /// A server's GOAWAY names a request stream: a multiple of 4.
+    NotRequestId,
+    /// An earlier GOAWAY had this lower id.
+    Raised(u64),
+    /// Memory was refused. Nothing is lost: the same call may be made again.
+    Memory,
+    /// `table` is above 2^30 - 1.
+    TableLimit,
+    /// `blocked` is above 65535.
+    BlockedLimit,
+    /// The setting with this id cannot be announced.
+    Setting(u64),
+    /// A name is empty, not in lower case, or an unknown one that begins with ':'.
+    FieldName,
+    /// A value is not one of its name's grammar.
+    FieldValue,
+    /// There are more different names than fit.
+    FieldCount,
+    /// A strict peer would call the message malformed, for this reason. It was not sent.
+    Malformed(Malformation),
+    /// An argument is out of range.
+    Argument,
+    /// Nothing more is handed out of a stream.
+    Fault(Fault),
+    /// An answer that this crate does not know, as of a later library.
+    Other(u32),
+}
+
+impl Error {
+    /// The refusal that an answer tells, but for 0 and `H3_KEPT`, which are none.
+    pub(crate) fn of(answer: u32, detail: u64) -> Error {
+        match answer {
+            1 => Error::Closed(detail),
+            2 => Error::Connection(detail),
+            3 => Error::NotReceiving,
+            4 => Error::AfterEnd,
+            6 => Error::NotClient,
+            7 => Error::GoingAway(detail),
+            8 => Error::IdsUsedUp,
+            9 => Error::NotOpen,
+            10 => Error::OutOfOrder,
+            11 => Error::WrongSide,
+            12 => Error::PseudoInTrailer,
+            13 => Error::TooLarge(detail),
+            14 => Error::Critical,
+            15 => Error::Ended,
+            16 => Error::NotRequestId,
+            17 => Error::Raised(detail),
+            18 => Error::Memory,
+            19 => Error::TableLimit,
+            20 => Error::BlockedLimit,
+            21 => Error::Setting(detail),
+            22 => Error::FieldName,
+            23 => Error::FieldValue,
+            24 => Error::FieldCount,
+            27 => Error::Malformed(Malformation::of(detail)),
+            32 => Error::Argument,
+            other => Error::Other(other),
+        }
+    }
+
+    /// The code to close the QUIC connection with, where it has a fault.
+    pub fn connection_code(&self) -> Option<u64> {
+        match self {
+            Error::Closed(code) | Error::Connection(code) | Error::Fault(Fault::Connection(code)) => Some(*code),
+            _ => None,
+        }
+    }
+
+    /// Whether memory was refused: the same call may be made again.
+    pub fn is_memory(&self) -> bool {
+        matches!(self, Error::Memory | Error::Fault(Fault::Memory))
+    }
+}
+
+impl fmt::Display for Error {
+    fn fmt(&self, f: &mut fmt::Formatter<'_>) -> fmt::Result {
+        let text = match self {
+            Error::Closed(code) => return write!(f, "the connection is closed, {code:#x}"),
+            Error::Connection(code) => return write!(f, "the connection has a fault, {code:#x}"),
+            Error::GoingAway(id) => return write!(f, "the peer takes no request from stream {id} on"),
+            Error::TooLarge(size) => return write!(f, "fields of {size} bytes are larger than the peer takes"),
+            Error::Raised(id) => return write!(f, "an earlier GOAWAY had the id {id}"),
+            Error::Setting(id) => return write!(f, "the setting {id:#x} cannot be announced"),
+            Error::Malformed(why) => return write!(f, "a strict peer would call the message malformed: {why}"),
+            Error::Other(answer) => return write!(f, "the library answered {answer}"),
+            Error::Fault(fault) => return fault.fmt(f),
+            Error::NotReceiving => "the peer sends nothing on this stream",
+            Error::AfterEnd => "the stream has ended before",
+            Error::NotClient => "only a client opens requests",
+            Error::IdsUsedUp => "there are no further stream ids",
+            Error::NotOpen => "the stream is not open",
+            Error::OutOfOrder => "not at this place of the message",
+            Error::WrongSide => "a head of the other side",
+            Error::PseudoInTrailer => "a pseudo-header field in a trailer",
+            Error::Critical => "the connection needs this stream",
+            Error::Ended => "the stream has ended",
+            Error::NotRequestId => "the id is that of no request",
+            Error::Memory => "memory was refused",
+            Error::TableLimit => "the table is above its limit",
+            Error::BlockedLimit => "the count of blocked streams is above its limit",
+            Error::FieldName => "a field's name is none",
+            Error::FieldValue => "a field's value is none",
+            Error::FieldCount => "too many fields",
+            Error::Argument => "an argument is out of range",
+        };
+        f.write_str(text)
+    }
+}
+
+impl std::error::Error for Error {}
+
+/// Why nothing more is handed out of a stream.
+#[derive(Debug, Clone, Copy, PartialEq, Eq)]
+pub enum Fault {
+    /// The connection has a fault: close it with this code.
+    Connection(u64),
+    /// The message is malformed. The connection goes on.
+    Malformed(Malformation),
+    /// The peer reset the stream with this code. The own half goes on, or is ended by `reset`.
+    Reset(u64),
+    /// The stream was given up by `cancel`.
+    Canceled,
+    /// Memory was refused. Nothing is lost: pull again.
+    Memory,
+}
+
+impl Fault {
+    /// What a server or a client ends the stream with, or the connection where the fault is its own (RFC 9114, sections 4.1.1 and 4.1.2).
+    pub fn code(&self, server: bool) -> u64 {
+        match self {
+            Fault::Connection(code) => *code,
+            Fault::Malformed(Malformation::NoHead) if server => code::REQUEST_INCOMPLETE,
+            Fault::Malformed(_) => code::MESSAGE_ERROR,
+            Fault::Reset(_) | Fault::Canceled => code::REQUEST_CANCELLED,
+            Fault::Memory => code::INTERNAL_ERROR,
+        }
+    }
+}
+
+impl fmt::Display for Fault {
+    fn fmt(&self, f: &mut fmt::Formatter<'_>) -> fmt::Result {
+        match self {
+            Fault::Connection(code) => write!(f, "the connection has a fault, {code:#x}"),
+            Fault::Malformed(why) => write!(f, "the message is malformed: {why}"),
+            Fault::Reset(code) => write!(f, "the peer reset the stream, {code:#x}"),
+            Fault::Canceled => f.write_str("the stream was given up"),
+            Fault::Memory => f.write_str("memory was refused"),
+        }
+    }
+}
+
+impl std::error::Error for Fault {}
+
+impl From<Fault> for Error {
+    fn from(fault: Fault) -> Error {
+        Error::Fault(fault)
+    }
+}
+
+/// Why a message is malformed (RFC 9114, section 4.1.2): an `h3_malformation`, which says more of each. Those from `LatePseudoField` on are
+/// told where `strict` is set.
+#[derive(Debug, Clone, Copy, PartialEq, Eq)]
+#[non_exhaustive]
+pub enum Malformation {
+    BadName,
+    BadValue,
+    TooMany,
+    HeadOfWrongSide,
+    PseudoFieldInTrailer,
+    NoHead,
+    LatePseudoField,
+    WrongPseudoField,
+    RepeatedPseudoField,
+    ConnectionField,
+    BadContentLength,
+    BadProtocol,
+    BadConnect,
+    MissingPseudoField,
+    BadScheme,
+    BadAuthority,
+    BadPath,
+    BadStatus,
+    NoTrailerField,
+    /// One that this crate does not know, as of a later library.
+    Other(u64),
+}
+
+impl Malformation {
+    /// All that are known, in the order of their numbers.
+    const KNOWN: [Malformation; 19] = [
+        Malformation::BadName,
+        Malformation::BadValue,
+        Malformation::TooMany,
+        Malformation::HeadOfWrongSide,
+        Malformation::PseudoFieldInTrailer,
+        Malformation::NoHead,
+        Malformation::LatePseudoField,
+        Malformation::WrongPseudoField,
+        Malformation::RepeatedPseudoField,
+        Malformation::ConnectionField,
+        Malformation::BadContentLength,
+        Malformation::BadProtocol,
+        Malformation::BadConnect,
+        Malformation::MissingPseudoField,
+        Malformation::BadScheme,
+        Malformation::BadAuthority,
+        Malformation::BadPath,
+        Malformation::BadStatus,
+        Malformation::NoTrailerField,
+    ];
+
+    pub(crate) fn of(number: u64) -> Malformation {
+        match usize::try_from(number) {
+            Ok(at) if at < Malformation::KNOWN.len() => Malformation::KNOWN[at],
+            _ => Malformation::Other(number),
+        }
+    }
+}
+
+impl fmt::Display for Malformation {
+    fn fmt(&self, f: &mut fmt::Formatter<'_>) -> fmt::Result {
+        let text = match self {
+            Malformation::BadName => "a field's name is none",
+            Malformation::BadValue => "a field's value is none",
+            Malformation::TooMany => "too many fields",
+            Malformation::HeadOfWrongSide => "a head of the other side",
+            Malformation::PseudoFieldInTrailer => "a pseudo-header field in a trailer",
+            Malformation::NoHead => "no head",
+            Malformation::LatePseudoField => "a pseudo-header field behind a regular field",
+            Malformation::WrongPseudoField => "a pseudo-header field of the other side",
+            Malformation::RepeatedPseudoField => "a pseudo-header field comes twice",
+            Malformation::ConnectionField => "a connection-specific field",
+            Malformation::BadContentLength => "the content is not as long as content-length says, or that is none",
+            Malformation::BadProtocol => ":protocol is not allowed",
+            Malformation::BadConnect => "a CONNECT request with other pseudo-header fields than it may have",
+            Malformation::MissingPseudoField => "a pseudo-header field is missing",
+            Malformation::BadScheme => "the scheme is none",
+            Malformation::BadAuthority => "the authority is none",
+            Malformation::BadPath => "the path is none",
+            Malformation::BadStatus => "the status is none",
+            Malformation::NoTrailerField => "a field that no trailer has",
+            Malformation::Other(number) => return write!(f, "number {number}"),
+        };
+        f.write_str(text)
+    }
+}

@@ -1,0 +1,102 @@
+use crate::raw::FieldSize;
+use std::fmt;
+
+/// A name and a value.
+#[derive(Debug, Clone, Copy, PartialEq, Eq)]
+pub struct Field<'a> {
+    pub name: &'a [u8],
+    pub value: &'a [u8],
+}
+
+/// The fields of a head or trailer, in the order :method, :scheme, :authority, :path, :status, :protocol, and then the others.
+#[derive(Clone, Default, PartialEq, Eq)]
+pub struct Fields {
+    bytes: Vec<u8>,
+    /// where each name and each value ends
+    ends: Vec<(usize, usize)>,
+}
+
+impl Fields {
+    pub fn len(&self) -> usize {
+        self.ends.len()
+    }
+
+    pub fn is_empty(&self) -> bool {
+        self.ends.is_empty()
+    }
+
+    pub fn iter(&self) -> FieldsIter<'_> {
+        FieldsIter { fields: self, next: 0 }
+    }
+
+    /// The first value of a name.
+    pub fn get(&self, name: impl AsRef<[u8]>) -> Option<&[u8]> {
+        self.iter().find(|field| field.name == name.as_ref()).map(|field| field.value)
+    }
+
+    fn at(&self, index: usize) -> Option<Field<'_>> {
+        let (name, value) = *self.ends.get(index)?;
+        let start = if index == 0 { 0 } else { self.ends[index - 1].1 };
+        Some(Field { name: &self.bytes[start..name], value: &self.bytes[name..value] })
+    }
+
+    pub(crate) fn push(&mut self, name: &[u8], value: &[u8]) {
+        self.bytes.extend_from_slice(name);
+        let end = self.bytes.len();
+        self.bytes.extend_from_slice(value);
+        self.ends.push((end, self.bytes.len()));
+    }
+}
+
+impl fmt::Debug for Fields {
+    fn fmt(&self, f: &mut fmt::Formatter<'_>) -> fmt::Result {
+        let texts = self.iter().map(|field| (String::from_utf8_lossy(field.name), String::from_utf8_lossy(field.value)));
+        f.debug_map().entries(texts).finish()
+    }
+}
+
+impl<'a> IntoIterator for &'a Fields {
+    type Item = Field<'a>;
+    type IntoIter = FieldsIter<'a>;
+
+    fn into_iter(self) -> FieldsIter<'a> {
+        self.iter()
+    }
+}
+
+/// Goes over [`Fields`].
+#[derive(Debug, Clone)]
+pub struct FieldsIter<'a> {
+    fields: &'a Fields,
+    next: usize,
+}
+
+impl<'a> Iterator for FieldsIter<'a> {
+    type Item = Field<'a>;
+
+    fn next(&mut self) -> Option<Field<'a>> {
+        let field = self.fields.at(self.next)?;
+        self.next += 1;
+        Some(field)
+    }
+
+    fn size_hint(&self) -> (usize, Option<usize>) {
+        let left = self.fields.len() - self.next;
+        (left, Some(left))
+    }
+}
+
+impl ExactSizeIterator for FieldsIter<'_> {}
+
+/// A list as the library takes it: the sizes of names and values, and all their bytes. None: a name or value has 2^32 bytes or more.
+pub(crate) fn in_a_row<N: AsRef<[u8]>, V: AsRef<[u8]>>(fields: &[(N, V)]) -> Option<(Vec<FieldSize>, Vec<u8>)> {
+    let total = fields.iter().map(|(name, value)| name.as_ref().len() + value.as_ref().len()).sum();
+    let (mut sizes, mut bytes) = (Vec::with_capacity(fields.len()), Vec::with_capacity(total));
+    for (name, value) in fields {
+        let (name, value) = (name.as_ref(), value.as_ref());
+        sizes.push(FieldSize { name: u32::try_from(name.len()).ok()?, value: u32::try_from(value.len()).ok()? });
+        bytes.extend_from_slice(name);
+        bytes.extend_from_slice(value);
+    }
+    Some((sizes, bytes))
+}

@@ -1,0 +1,64 @@
+use crate::raw;
+
+/// What is to be seen of a stream, as `h3_stream_state`.
+#[derive(Debug, Default, Clone, Copy, PartialEq, Eq)]
+pub struct StreamState {
+    /// Bytes that wait to be sent.
+    pub waiting: u64,
+    /// Bytes that were delivered and are still held: grant credit for the others.
+    pub unread: u64,
+    /// Something can be sent: an own unidirectional stream, or a request stream that was opened.
+    pub has_outgoing: bool,
+    /// The own message was finished.
+    pub is_finished: bool,
+    /// Sending was cut off.
+    pub is_reset: bool,
+    /// How often the field section that is next was tried.
+    pub tries: u32,
+}
+
+/// What the peer's settings allow.
+#[derive(Debug, Clone, Copy, PartialEq, Eq)]
+pub struct PeerLimits {
+    /// The capacity of its dynamic table in bytes.
+    pub table: u64,
+    /// How many of its streams may wait.
+    pub blocked: u64,
+    /// The greatest size of a field section.
+    pub section: u64,
+}
+
+/// What is to be seen of the connection, as `h3_state`.
+#[derive(Debug, Clone, Copy, PartialEq, Eq)]
+pub struct ConnectionState {
+    /// The sizes of the dynamic tables that this side and the peer write, in bytes.
+    pub sending_table: u64,
+    pub receiving_table: u64,
+    /// How many streams wait for insertions.
+    pub waiting_heads: u64,
+    /// Bytes of names, values and bodies that were sent, and 64 for each field and each call.
+    pub sent: u64,
+    /// The id of the peer's last GOAWAY.
+    pub goaway: Option<u64>,
+    /// Once its settings came.
+    pub peer: Option<PeerLimits>,
+}
+
+/// Which version of the library this is.
+#[derive(Debug, Clone, Copy, PartialEq, Eq)]
+pub struct Version {
+    pub major: u8,
+    pub minor: u8,
+    pub patch: u8,
+    /// Whether it was built with its proofs.
+    pub is_proved: bool,
+}
+
+impl Version {
+    pub fn of_library() -> Version {
+        // SAFETY: it takes nothing.
+        let version = unsafe { raw::h3_raw_version() };
+        let [mark, major, minor, patch] = version.to_be_bytes();
+        Version { major, minor, patch, is_proved: mark & 0x80 == 0 }
+    }
+}

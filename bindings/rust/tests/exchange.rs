@@ -1,0 +1,150 @@
+//! Two endpoints in one program, with the bytes between them carried by hand: what was sent is what is handed out, once.
+
+use beanwhile_h3::{own_ids, Config, Endpoint, Error, Fields, Head, Item, Pause, PeerLimits, Pulled, StreamState, Version};
+
+/// Carries all that waits, in pieces, and each end once. Answers how many ends went over.
+fn carry(from: &mut Endpoint, to: &mut Endpoint, piece: usize) -> usize {
+    let (mut next, mut ends, mut buffer) = (0, 0, vec![0; piece]);
+    while let Some(id) = from.next_to_send(next) {
+        loop {
+            let (count, end) = from.outgoing(id, &mut buffer).unwrap();
+            if count == 0 && !end {
+                break;
+            }
+            to.deliver(id, &buffer[..count]).unwrap();
+            from.advance(id, count).unwrap();
+            if end {
+                to.deliver_end(id).unwrap();
+                assert!(from.end_taken(id));
+                ends += 1;
+                break;
+            }
+        }
+        next = id + 1;
+    }
+    ends
+}
+
+fn pair() -> (Endpoint, Endpoint) {
+    let (mut client, mut server) = (Endpoint::new(&Config::client()).unwrap(), Endpoint::new(&Config::server()).unwrap());
+    carry(&mut client, &mut server, 1000);
+    carry(&mut server, &mut client, 1000);
+    (client, server)
+}
+
+fn list(fields: &Fields) -> Vec<(Vec<u8>, Vec<u8>)> {
+    fields.iter().map(|field| (field.name.to_vec(), field.value.to_vec())).collect()
+}
+
+fn owned(fields: &[(&str, String)]) -> Vec<(Vec<u8>, Vec<u8>)> {
+    fields.iter().map(|(name, value)| (name.as_bytes().to_vec(), value.as_bytes().to_vec())).collect()
+}
+
+fn post() -> Vec<(&'static str, String)> {
+    let long = "v".repeat(3000);
+    [(":method", "POST"), (":scheme", "https"), (":authority", "localhost"), (":path", "/"), ("x-long", &long), ("x-none", "")]
+        .map(|(name, value)| (name, value.to_string()))
+        .to_vec()
+}
+
+/// The request is pulled to its end: its head, body and trailer.
+fn read(endpoint: &mut Endpoint, id: u64) -> (Head, Vec<u8>, Option<Fields>) {
+    let (mut head, mut body, mut trailer, mut is_whole) = (None, Vec::new(), None, false);
+    for item in endpoint.items(id) {
+        match item.unwrap() {
+            Item::Head(it) => head = Some(it),
+            Item::Body(bytes) => body.extend(bytes),
+            Item::Trailer(fields) => trailer = Some(fields),
+            Item::End => is_whole = true,
+            other => panic!("{other:?}"),
+        }
+    }
+    assert!(is_whole);
+    (head.unwrap(), body, trailer)
+}
+
+#[test]
+fn an_exchange_goes_over_whole() {
+    let body: Vec<u8> = (0..20_000u32).map(|i| (i * i % 251) as u8).collect();
+    for piece in [1, 7, 1000, 100_000] {
+        let (mut client, mut server) = pair();
+        let next = client.next_request_id().unwrap();
+        let id = client.open_request().unwrap();
+        assert_eq!((id, next), (0, 0));
+        client.send_fields(id, &post()).unwrap();
+        client.send_body(id, &body).unwrap();
+        client.send_trailer_fields(id, &[("x-count", "1"), ("x-count", "2")]).unwrap();
+        assert_eq!(carry(&mut client, &mut server, piece), 0);
+        client.finish(id).unwrap();
+        assert_eq!(carry(&mut client, &mut server, piece), 1);
+        assert_eq!(carry(&mut client, &mut server, piece), 0);
+
+        let (head, got, trailer) = read(&mut server, id);
+        assert_eq!(list(&head.fields), owned(&post()));
+        assert_eq!((head.status, head.fields.get(":path"), head.fields.get("x-a")), (None, Some(&b"/"[..]), None));
+        assert_eq!((head.fields.len(), head.fields.iter().len(), head.fields.is_empty()), (6, 6, false));
+        assert!(got == body);
+        assert_eq!(list(&trailer.unwrap()), owned(&[("x-count", "1".into()), ("x-count", "2".into())]));
+
+        server.send_head(id, &[(":status", "103")]).unwrap();
+        server.send_head(id, &[("x-a", "b"), (":status", "200")]).unwrap();
+        server.send_trailer(id, &[("x-a", "b")]).unwrap();
+        server.finish(id).unwrap();
+        assert_eq!(carry(&mut server, &mut client, piece), 1);
+        let items: Vec<Item> = client.items(id).map(Result::unwrap).collect();
+        let (early, head, trailer) = match &items[..] {
+            [Item::Interim(early), Item::Head(head), Item::Trailer(trailer), Item::End] => (early, head, trailer),
+            other => panic!("{other:?}"),
+        };
+        assert_eq!((early.status, head.status), (Some(103), Some(200)));
+        assert_eq!(list(&head.fields), owned(&[(":status", "200".into()), ("x-a", "b".into())]));
+        assert_eq!(list(trailer), owned(&[("x-a", "b".into())]));
+        let state = StreamState { has_outgoing: true, is_finished: true, tries: 1, ..StreamState::default() };
+        assert_eq!(client.stream(id), Ok(state));
+    }
+}
+
+#[test]
+fn an_endpoint_moves_between_threads() {
+    fn is_send<T: Send>() {}
+    is_send::<Endpoint>();
+    let (mut client, mut server) = pair();
+    let id = client.open_request().unwrap();
+    client.send_fields(id, &post()).unwrap();
+    client.finish(id).unwrap();
+    carry(&mut client, &mut server, 100);
+    let read = std::thread::spawn(move || read(&mut server, id).0.fields.len()).join().unwrap();
+    assert_eq!(read, 6);
+}
+
+#[test]
+fn items_end_at_a_pause() {
+    let (mut client, mut server) = pair();
+    let id = client.open_request().unwrap();
+    assert_eq!(client.pull(id), Ok(Pulled::Pause(Pause::Pending)));
+    assert_eq!(client.pull(3), Ok(Pulled::Pause(Pause::NoMessages)));
+    client.send_fields(id, &post()).unwrap();
+    carry(&mut client, &mut server, 100);
+    let mut items = server.items(id);
+    assert!(matches!(items.next(), Some(Ok(Item::Head(_)))));
+    assert_eq!((items.next(), items.pause()), (None, Some(Pause::Pending)));
+}
+
+#[test]
+fn states_and_settings_are_shown() {
+    let (mut client, mut server) = pair();
+    let id = client.open_request().unwrap();
+    client.send_fields(id, &post()).unwrap();
+    client.send_body(id, &[0; 5000]).unwrap();
+    assert!(client.stream(id).unwrap().waiting > 5000);
+    let state = client.connection().unwrap();
+    assert_eq!(state.peer, Some(PeerLimits { table: 4096, blocked: 16, section: 65536 }));
+    assert_eq!((state.goaway, client.peer_setting(6), client.peer_setting(0x21)), (None, Some(65536), None));
+    assert_eq!(Endpoint::new(&Config::client()).unwrap().connection().unwrap().peer, None);
+    server.goaway(4).unwrap();
+    carry(&mut server, &mut client, 100);
+    assert_eq!(client.connection().unwrap().goaway, Some(4));
+    assert_eq!(client.next_request_id(), Err(Error::GoingAway(4)));
+    assert_eq!((own_ids(false), own_ids(true)), ([2, 6, 10], [3, 7, 11]));
+    assert_eq!(Version::of_library().major, 1);
+}
