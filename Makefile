@@ -15,7 +15,7 @@ help: ## list the commands
 need-rt:
 	@bash scripts/need.sh rt
 
-run: need-rt ## run the program on examples/first.talk, or SCRIPT=file: the answers are printed (built without proof, where `make build` left none)
+run: need-rt ## run the program on examples/first.talk, or SCRIPT=file: the answers are printed (compiled without proof, once for the sources, where `make build` left none)
 	@python3 scripts/talk.py "$(SCRIPT)"
 
 draw: need-rt ## draw what examples/first.talk, or SCRIPT=file, does, as a sequence diagram (Mermaid; scripts/draw.py SCRIPT --svg FILE: a picture)
@@ -28,10 +28,10 @@ build: need-rt ## prove and build the program, and say where it lies
 lib-unproved: need-rt ## build the library for C without the proofs, in one or two minutes, for a first hour: build/c-unproved, marked as unproved
 	@bash scripts/lib-unproved.sh
 
-lib: need-rt ## prove and build the library for C, C++, Go and Rust: libh3.a, h3.h and the package files of pkg-config and CMake in build/c
+lib: need-rt ## prove and build the library for C, C++, Go and Rust: libbeanwhile_h3.a, beanwhile/h3.h and the package files of pkg-config and CMake in build/c
 	@bash scripts/lib.sh
 
-install: ## install what `make lib` left below PREFIX (/usr/local): lib/beanwhile-h3, include/beanwhile-h3, beanwhile-h3.pc; DESTDIR is honoured
+install: ## install what `make lib` left below PREFIX (/usr/local): lib/libbeanwhile_h3.a, include/beanwhile/h3.h, beanwhile-h3.pc; DESTDIR is honoured
 	@LIB="$(LIB)" DESTDIR="$(DESTDIR)" PREFIX="$(PREFIX)" bash scripts/install.sh
 
 examples: ## build the examples in C, Go and Rust over the folder that `make lib` leaves, or LIB=build/c-unproved (one alone: make -C examples/rust)
@@ -39,7 +39,7 @@ examples: ## build the examples in C, Go and Rust over the folder that `make lib
 	@bash scripts/packages.sh examples
 	@for language in c go rust; do $(MAKE) --no-print-directory -C examples/$$language LIB="$(abspath $(LIB))" || exit 1; done
 
-test-c: need-rt ## build the library, and run the C programs of tests/c over it
+test-c: need-rt ## build the library, and run the C programs of tests/c over it, and the tests of the packages for Go and Rust
 	@bash scripts/test-c.sh
 
 test: need-rt ## prove every crate from nothing, try the edits of crates/*/refused but those that a reader judged, run the tests and the programs

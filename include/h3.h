@@ -2,7 +2,7 @@
  *
  * The library is a proved core (crates/h3_session) behind C functions (crates/h3_c). It reads no socket, starts no thread, keeps no
  * clock, blocks nowhere, ends no process and prints nothing. It asks malloc and realloc for memory, and every call says where these
- * answer NULL. Link with libh3.a and libh3_shim.a (beanwhile-h3.pc names both).
+ * answer NULL. Link with libbeanwhile_h3.a and libbeanwhile_h3_shim.a (beanwhile-h3.pc names both).
  *
  * IN SHORT
  *
@@ -55,7 +55,7 @@
  * 2^56 counts as want of memory too. After H3_KEPT what was taken is read by the next delivery, or by the next h3_pull of a stream that may
  * still hand something out: not of one whose h3_pull answers H3_END or a fault of the stream again. Where no such stream is at hand, pull
  * h3_control_id, which hands out nothing. h3_finish, h3_reset, h3_advance, h3_end_taken, h3_outgoing, h3_next_waiting,
- * h3_next_to_send, the states and h3_free take no memory.
+ * h3_next_to_send, h3_next_request_id, the states and h3_free take no memory.
  *
  * HOW QUIC'S CALLBACKS MAP TO CALLS
  *
@@ -63,7 +63,7 @@
  *                            control, encoder and decoder stream: 2, 6, 10 of a client, 3, 7, 11 of a server (h3_control_id and so on).
  *                            Let the peer open at least three unidirectional streams (RFC 9114, section 6.2), and request streams
  *                            as others close.
- *   a request is to be sent  open a bidirectional stream of QUIC and call h3_open_request: both give 0, 4, 8, .. in turn
+ *   a request is to be sent  h3_open_request, and then a bidirectional stream of QUIC: both give 0, 4, 8, .. in turn (A REQUEST'S STREAM)
  *   stream data came         h3_deliver(id, bytes), in order of the stream's bytes; then pull that stream until a pause (H3_PENDING,
  *                            H3_WAITING, H3_NO_MESSAGES) or H3_END or a fault. After data on a stream of the peer's that is
  *                            unidirectional (id % 4 is 2 or 3) also pull every stream whose last pull answered H3_WAITING.
@@ -81,6 +81,14 @@
  *   the connection closes    h3_free
  *
  * Each pull asks the same way for a client and for a server. A server learns of a request by data on a new stream with id % 4 == 0.
+ *
+ * A REQUEST'S STREAM
+ *
+ * QUIC and the library count requests each by itself, so an id that one of them gave alone sets both apart for good. Where QUIC may have no room
+ * for a further stream, ask h3_open_request first. What it refuses opens nothing: open no stream of QUIC then. Where it gives an id and QUIC has
+ * no room, keep the id for the next stream that QUIC opens, and call h3_open_request no more until then. Where QUIC tells beforehand whether it
+ * has room, ask it, call h3_open_request, and open the stream: nothing is kept then. Never open the stream of QUIC first: what h3_open_request
+ * refuses behind it leaves a stream without a request. h3_next_request_id tells the id and the refusal, and opens nothing.
  *
  * HOW A CALLER GRANTS CREDIT (RFC 9000, section 4.1)
  *
@@ -109,13 +117,16 @@
  * WHAT IS CHECKED, AND WHAT YOU MUST CHECK
  *
  * Each endpoint checks names and values, the side of a head, that a trailer has no pseudo-header field, and the order of frames. Where `strict` of
- * h3_config is set (h3_config_default leaves it 0) it also checks of what it receives:
- *   each head and trailer, by all rules of RFC 9114, sections 4.2 to 4.5: h3_malformation names them.
- *   A server: content is as long as content-length says (section 4.1.2). Of DATA that is longer than what is left nothing is handed out, and no
- *     H3_END and no H3_TRAILER comes before all of it: H3_BAD_CONTENT_LENGTH. Behind the head of a CONNECT request only DATA may come (4.4).
- * You must check: as a client, that the content of a response is as long as its content-length says, and that none comes for HEAD, 204 and 304; of a
- * head that is too large all of that; what you send; and where `strict` is 0 the whole list above. What was handed out of a body stays handed out
- * where the message turns out malformed later: act on a request that must be whole behind its H3_END.
+ * h3_config is set, as h3_config_default sets it, it also checks:
+ *   each head and trailer that it receives or is to send, by all rules of RFC 9114, sections 4.2 to 4.5: h3_malformation names them. One that breaks
+ *     a rule is not sent: H3_MALFORMED.
+ *   content that comes is as long as content-length says (section 4.1.2). Of DATA that is longer than what is left nothing is handed out, and no H3_END
+ *     and no H3_TRAILER comes before all of it: H3_BAD_CONTENT_LENGTH. A client: none comes in a response to HEAD or with status 204 or 304, whatever
+ *     content-length says; it goes by what it sent on the stream before the response came.
+ *   In a tunnel only DATA comes (section 4.4): at a server behind the head of a CONNECT request, at a client behind a 2xx response to one.
+ * You must check: of a head that is too large, that content is as long as it says; that the content that you send is as long as your content-length
+ * says; and where `strict` is 0 the whole list above. What was handed out of a body stays handed out where the message turns out malformed later: act on
+ * a request that must be whole behind its H3_END.
  *
  * HOW A FAULT ENDS A STREAM OR THE CONNECTION
  *
@@ -140,6 +151,18 @@
 extern "C" {
 #endif
 
+/* The version of this header: major, minor and patch, a byte each. Within a major version calls, numbers and structs stay as they are, and what is
+ * new is added: a call, an answer, or a number at the end of h3_config. */
+#define H3_VERSION 0x010000
+#define H3_VERSION_TEXT "1.0.0"
+
+/* What h3_version adds where the library was built without its proofs (`make lib-unproved`). */
+#define H3_UNPROVED UINT32_C(0x80000000)
+
+/* The version of the library: H3_VERSION of its own header, and H3_UNPROVED where it was not proved. It has all that this header names where
+ *   (h3_version() & ~H3_UNPROVED) >= H3_VERSION */
+static inline uint32_t h3_version(void);
+
 /* An endpoint, or none. Only h3_new and the calls below read or write `at`. */
 typedef struct {
   void *at;
@@ -147,7 +170,7 @@ typedef struct {
 
 #define H3_NONE_YET {0}
 
-/* Why a call was refused. The numbers from 1 to 18 stand in the order of the core's refusals. */
+/* Why a call was refused. The numbers from 1 to 18 stand in the order of the core's refusals, but for H3_MALFORMED. */
 enum h3_answer {
   H3_OK = 0,
   H3_CLOSED = 1,             /* the connection had this fault before; detail: its code */
@@ -180,6 +203,8 @@ enum h3_answer {
   /* of what is read */
   H3_NONE = 25,              /* there is no such stream, field or setting */
   H3_ROOM = 26,              /* the buffer is too small; its front was filled, and the sizes say how much there is */
+  /* of a strict endpoint */
+  H3_MALFORMED = 27,         /* a strict peer would call the message malformed; detail: the h3_malformation */
   /* the caller's slips */
   H3_ARGUMENT = 32,          /* an argument is out of the range that the call's comment gives; nothing was done */
   H3_NO_ENDPOINT = 33        /* the h3_endpoint holds none */
@@ -215,6 +240,7 @@ static inline const char *h3_answer_text(uint32_t answer) {
     case H3_FIELD_COUNT: return "H3_FIELD_COUNT";
     case H3_NONE: return "H3_NONE";
     case H3_ROOM: return "H3_ROOM";
+    case H3_MALFORMED: return "H3_MALFORMED";
     case H3_ARGUMENT: return "H3_ARGUMENT";
     case H3_NO_ENDPOINT: return "H3_NO_ENDPOINT";
     default: return "an unknown answer";
@@ -231,35 +257,43 @@ static inline const char *h3_answer_text(uint32_t answer) {
 
 /* ---- making and freeing ---- */
 
-/* What an endpoint is and announces. A number other than 0 means yes. */
+/* What an endpoint is and announces: a row of numbers of 64 bits, of which a later version may add some at the end. Where a field says whether, a
+ * number other than 0 means yes. Begin with h3_config_default: it writes the size, and a value for every number. */
 typedef struct {
+  uint64_t size;                      /* of this struct in bytes, as the program was compiled. Leave it as h3_config_default writes it */
   uint64_t max_field_section_size;    /* the greatest field section that is taken, below 2^62 (RFC 9114, section 4.2.2) */
   uint64_t max_webtransport_sessions; /* below 2^62 */
   uint64_t table;                     /* capacity of the own decoder's dynamic table in bytes, at most 2^30 - 1; 0: none */
   uint64_t blocked;                   /* how many streams may wait for its insertions, at most 65535 */
   uint64_t grease;                    /* which reserved setting is sent, below 0x210842108421083; any random number */
-  uint32_t server;                    /* this side accepted the connection */
-  uint32_t send_grease;               /* whether a reserved setting is sent (RFC 9114, section 7.2.4.1) */
-  uint32_t webtransport;
-  uint32_t extended_connect;          /* RFC 9220 */
-  uint32_t datagram;                  /* RFC 9297 */
-  uint32_t strict;                    /* whether heads, trailers and, by a server, content are judged by all of RFC 9114, sections 4.1.2 and 4.2 to
-                                       * 4.5: see h3_malformation and WHAT IS CHECKED */
-  uint32_t count_acknowledgments;     /* whether an acknowledgment tells the own encoder of insertions (RFC 9204, section 2.1.4): many decoders
+  uint64_t server;                    /* this side accepted the connection */
+  uint64_t send_grease;               /* whether a reserved setting is sent (RFC 9114, section 7.2.4.1) */
+  uint64_t webtransport;
+  uint64_t extended_connect;          /* RFC 9220 */
+  uint64_t datagram;                  /* RFC 9297 */
+  uint64_t strict;                    /* whether heads, trailers and content are judged by all of RFC 9114, sections 4.1.2 and 4.2 to 4.5: see
+                                       * h3_malformation and WHAT IS CHECKED */
+  uint64_t count_acknowledgments;     /* whether an acknowledgment tells the own encoder of insertions (RFC 9204, section 2.1.4): many decoders
                                        * tell of most by nothing else, and without it the encoder soon inserts no more. An increment that is
                                        * 0 or past what was inserted (section 4.4.3) then closes the connection, with code 0x202 */
-  uint32_t encoder_table;             /* the most bytes that the dynamic table of the own encoder has, however many the peer announces: the
+  uint64_t encoder_table;             /* the most bytes that the dynamic table of the own encoder has, however many the peer announces: the
                                        * lesser of both is set and used (RFC 9204, section 3.2.3). 0: it uses none, and writes nothing on its
                                        * stream. What the peer asks to be kept is at most this; 2^30 - 1 and more: all that it announces */
+  uint64_t economical_table;          /* whether the own encoder uses its table where the peer lets no stream wait (`blocked` 0 at the peer): it
+                                       * inserts what it writes as a literal, and names the entry once the peer told that it came (RFC 9204,
+                                       * section 2.1.2). Without it the table stays empty there */
 } h3_config;
 
 /* A client whose limits are fit for a peer that is not trusted: it takes field sections of at most 65,536 bytes, and has a dynamic table of 4,096
- * bytes, for which 16 streams may wait. It counts acknowledgments, and the table of its own encoder has at most 4,096 bytes. All else is 0.
+ * bytes, for which 16 streams may wait. It counts acknowledgments, and the table of its own encoder has at most 4,096 bytes and is used
+ * economically. It is strict. All else is 0.
  * SECURITY.md says what each limit bounds. */
 static inline void h3_config_default(h3_config *config);
 
 /* Makes an endpoint in *endpoint, which is overwritten: what it held before is not freed. Its control stream begins with the settings.
- * Refused, in this order: H3_ARGUMENT (grease out of range), H3_TABLE_LIMIT, H3_BLOCKED_LIMIT, H3_SETTING, H3_MEMORY. On a refusal
+ * A config that is shorter than the library's, since the program was compiled with an older header, has the defaults of h3_config_default for
+ * what it does not have. Refused, in this order: H3_ARGUMENT (the size is none: not that of a whole row of numbers, or of more than this
+ * library or this header knows; grease out of range), H3_TABLE_LIMIT, H3_BLOCKED_LIMIT, H3_SETTING, H3_MEMORY. On a refusal
  * *endpoint holds none. */
 static inline uint32_t h3_new(h3_endpoint *endpoint, const h3_config *config, uint64_t *detail);
 
@@ -272,6 +306,10 @@ static inline void h3_free(h3_endpoint *endpoint);
  * H3_MEMORY. */
 static inline uint32_t h3_open_request(h3_endpoint *endpoint, uint64_t *id, uint64_t *detail);
 
+/* The id that h3_open_request gives next, which opens nothing, and takes no memory. Refused, with *id not written, as h3_open_request is, but
+ * for H3_MEMORY. */
+static inline uint32_t h3_next_request_id(h3_endpoint *endpoint, uint64_t *id, uint64_t *detail);
+
 /* How long a name and a value are, in bytes. */
 typedef struct {
   uint32_t name, value;
@@ -282,26 +320,28 @@ typedef struct {
  * :path, :status, :protocol (of a repeated one the last), then the others by name in the order of their first coming. Names are in
  * lower case. A response's head with a status from 100 to 199 is an interim one, behind which another head goes.
  * Refused, in this order: H3_ARGUMENT (id not below 2^62; len is not the sum), H3_FIELD_NAME, H3_FIELD_VALUE and H3_FIELD_COUNT (the first
- * field that is refused decides), H3_MEMORY of making the list, then H3_CLOSED, H3_NOT_OPEN, H3_OUT_OF_ORDER, H3_WRONG_SIDE, H3_TOO_LARGE, H3_MEMORY. */
+ * field that is refused decides), H3_MEMORY of making the list, then H3_CLOSED, H3_NOT_OPEN, H3_OUT_OF_ORDER, H3_WRONG_SIDE, H3_MALFORMED,
+ * H3_TOO_LARGE, H3_MEMORY. */
 static inline uint32_t h3_send_head(h3_endpoint *endpoint, uint64_t id, const h3_field_size *sizes, size_t count, const void *bytes, size_t len,
                                     uint64_t *detail);
 
-/* Sends a trailer, which ends the message's fields and bodies. Refused as a head, but behind H3_OUT_OF_ORDER: H3_PSEUDO_IN_TRAILER, H3_TOO_LARGE,
- * H3_MEMORY. */
+/* Sends a trailer, which ends the message's fields and bodies. Refused as a head, but behind H3_OUT_OF_ORDER: H3_PSEUDO_IN_TRAILER, H3_MALFORMED,
+ * H3_TOO_LARGE, H3_MEMORY. */
 static inline uint32_t h3_send_trailer(h3_endpoint *endpoint, uint64_t id, const h3_field_size *sizes, size_t count, const void *bytes, size_t len,
                                        uint64_t *detail);
 
 /* Sends a head as h3_send_head does, but as the list that it is given as: in its order, each field that it has. No map is made of it, so this
  * call is the faster one. It accepts the lists that h3_send_head accepts. A peer may refuse one whose pseudo-header fields are not in front, or
- * come twice (RFC 9114, section 4.3): their order is the caller's here.
+ * come twice (RFC 9114, section 4.3): their order is the caller's here. A strict endpoint refuses such a list.
  * Refused, in this order: H3_ARGUMENT (id not below 2^62; len is not the sum), H3_MEMORY of the copy of the list, then H3_CLOSED, H3_NOT_OPEN,
- * H3_OUT_OF_ORDER, H3_FIELD_NAME, H3_FIELD_VALUE and H3_FIELD_COUNT (the first field that is refused decides), H3_WRONG_SIDE, H3_TOO_LARGE,
- * H3_MEMORY. (A list of more than 24,576 fields takes memory to be judged: H3_MEMORY may then come before the refusals behind H3_OUT_OF_ORDER.) */
+ * H3_OUT_OF_ORDER, H3_FIELD_NAME, H3_FIELD_VALUE and H3_FIELD_COUNT (the first field that is refused decides), H3_WRONG_SIDE, H3_MALFORMED (for
+ * white space around a value H3_FIELD_VALUE), H3_TOO_LARGE, H3_MEMORY. (A list of more than 24,576 fields takes memory to be judged: H3_MEMORY may
+ * then come before the refusals behind H3_OUT_OF_ORDER.) */
 static inline uint32_t h3_send_fields(h3_endpoint *endpoint, uint64_t id, const h3_field_size *sizes, size_t count, const void *bytes, size_t len,
                                       uint64_t *detail);
 
 /* Sends a trailer as the list that it is given as. Refused as h3_send_fields, but behind the list's own refusals: H3_PSEUDO_IN_TRAILER,
- * H3_TOO_LARGE, H3_MEMORY. */
+ * H3_MALFORMED (or H3_FIELD_VALUE), H3_TOO_LARGE, H3_MEMORY. */
 static inline uint32_t h3_send_trailer_fields(h3_endpoint *endpoint, uint64_t id, const h3_field_size *sizes, size_t count, const void *bytes,
                                               size_t len, uint64_t *detail);
 
@@ -424,7 +464,7 @@ enum h3_malformation {
   H3_REPEATED_PSEUDO_FIELD = 8, /* a pseudo-header field comes twice (4.3) */
   H3_CONNECTION_FIELD = 9,      /* a connection-specific field, or a te that is not "trailers" in a request (4.2) */
   H3_BAD_CONTENT_LENGTH = 10,   /* no number, twice, or not with this status (RFC 9110, section 8.6); at a server also: not as long as what came (4.1.2) */
-  H3_BAD_PROTOCOL = 11,         /* :protocol without CONNECT, or where `extended_connect` is not set (RFC 8441, section 4; RFC 9220, section 3) */
+  H3_BAD_PROTOCOL = 11,         /* :protocol without CONNECT, or where who receives it has not announced it (RFC 8441, section 4; RFC 9220, section 3) */
   H3_BAD_CONNECT = 12,          /* CONNECT without :authority, or plain CONNECT with :scheme or :path (4.4) */
   H3_MISSING_PSEUDO_FIELD = 13, /* a request without :method, :scheme or :path, a response without :status (4.3.1, 4.3.2) */
   H3_BAD_SCHEME = 14,           /* empty, or does not begin with a letter (RFC 3986, section 3.1) */
@@ -433,6 +473,32 @@ enum h3_malformation {
   H3_BAD_STATUS = 17,           /* 101 (4.5) */
   H3_NO_TRAILER_FIELD = 18      /* content-length or host in a trailer (RFC 9110, section 6.5.1) */
 };
+
+/* The name of a malformation, for a log, and "an unknown malformation" for a number that is none. */
+static inline const char *h3_malformation_text(uint64_t malformation) {
+  switch (malformation) {
+    case H3_BAD_NAME: return "H3_BAD_NAME";
+    case H3_BAD_VALUE: return "H3_BAD_VALUE";
+    case H3_TOO_MANY: return "H3_TOO_MANY";
+    case H3_HEAD_OF_WRONG_SIDE: return "H3_HEAD_OF_WRONG_SIDE";
+    case H3_PSEUDO_FIELD_IN_TRAILER: return "H3_PSEUDO_FIELD_IN_TRAILER";
+    case H3_NO_HEAD: return "H3_NO_HEAD";
+    case H3_LATE_PSEUDO_FIELD: return "H3_LATE_PSEUDO_FIELD";
+    case H3_WRONG_PSEUDO_FIELD: return "H3_WRONG_PSEUDO_FIELD";
+    case H3_REPEATED_PSEUDO_FIELD: return "H3_REPEATED_PSEUDO_FIELD";
+    case H3_CONNECTION_FIELD: return "H3_CONNECTION_FIELD";
+    case H3_BAD_CONTENT_LENGTH: return "H3_BAD_CONTENT_LENGTH";
+    case H3_BAD_PROTOCOL: return "H3_BAD_PROTOCOL";
+    case H3_BAD_CONNECT: return "H3_BAD_CONNECT";
+    case H3_MISSING_PSEUDO_FIELD: return "H3_MISSING_PSEUDO_FIELD";
+    case H3_BAD_SCHEME: return "H3_BAD_SCHEME";
+    case H3_BAD_AUTHORITY: return "H3_BAD_AUTHORITY";
+    case H3_BAD_PATH: return "H3_BAD_PATH";
+    case H3_BAD_STATUS: return "H3_BAD_STATUS";
+    case H3_NO_TRAILER_FIELD: return "H3_NO_TRAILER_FIELD";
+    default: return "an unknown malformation";
+  }
+}
 
 typedef struct {
   uint32_t kind;   /* an h3_kind */
@@ -495,15 +561,18 @@ static inline uint64_t h3_control_id(int server) { return server ? 3 : 2; }
 static inline uint64_t h3_encoder_id(int server) { return server ? 7 : 6; }
 static inline uint64_t h3_decoder_id(int server) { return server ? 11 : 10; }
 
-/* ---- the exports of libh3.a ----
+/* ---- the exports of libbeanwhile_h3.a ----
  *
  * Programs in C call the functions above, which hand the endpoint over and back, and test pointers (POINTERS). A program in another language may
  * call these: each takes the handle by value and writes the handle for the next call through its last argument, on every answer. The handle
- * must hold an endpoint. No pointer may be NULL, also beside a length of 0: these test none. */
-void h3_raw_config_default(h3_config *config);
-uint32_t h3_raw_new(const h3_config *config, uint64_t *detail, h3_endpoint *out); /* *out is written on H3_OK alone */
+ * must hold an endpoint. No pointer may be NULL, also beside a length of 0: these test none. A configuration is its numbers and how many they are;
+ * the first is their size in bytes. h3_raw_new writes *out on H3_OK alone. */
+uint32_t h3_raw_version(void);
+void h3_raw_config_default(uint64_t *numbers, size_t count);
+uint32_t h3_raw_new(const uint64_t *numbers, size_t count, uint64_t *detail, h3_endpoint *out);
 void h3_raw_free(h3_endpoint endpoint);
 uint32_t h3_raw_open_request(h3_endpoint endpoint, uint64_t *id, uint64_t *detail, h3_endpoint *out);
+uint32_t h3_raw_next_request_id(h3_endpoint endpoint, uint64_t *id, uint64_t *detail, h3_endpoint *out);
 uint32_t h3_raw_send_head(h3_endpoint endpoint, uint64_t id, const h3_field_size *sizes, size_t count, const uint8_t *bytes, size_t len,
                           uint64_t *detail, h3_endpoint *out);
 uint32_t h3_raw_send_trailer(h3_endpoint endpoint, uint64_t id, const h3_field_size *sizes, size_t count, const uint8_t *bytes, size_t len,
@@ -538,15 +607,18 @@ uint32_t h3_raw_peer_setting(h3_endpoint endpoint, uint64_t setting, uint64_t *v
 
 static inline const uint8_t *h3_in_(const void *bytes) { return bytes ? (const uint8_t *)bytes : (const uint8_t *)""; }
 
+static inline uint32_t h3_version(void) { return h3_raw_version(); }
+
 static inline void h3_config_default(h3_config *config) {
-  if (config) h3_raw_config_default(config);
+  if (config) h3_raw_config_default((uint64_t *)config, sizeof *config / sizeof(uint64_t));
 }
 static inline uint32_t h3_new(h3_endpoint *endpoint, const h3_config *config, uint64_t *detail) {
   uint64_t none;
   if (!endpoint) return H3_ARGUMENT;
   endpoint->at = NULL;
   if (!config) return H3_ARGUMENT;
-  return h3_raw_new(config, detail ? detail : &none, endpoint);
+  size_t count = config->size > sizeof *config || config->size % sizeof(uint64_t) ? 0 : (size_t)config->size / sizeof(uint64_t);
+  return h3_raw_new((const uint64_t *)config, count, detail ? detail : &none, endpoint);
 }
 static inline void h3_free(h3_endpoint *endpoint) {
   if (!endpoint) return;
@@ -558,6 +630,12 @@ static inline uint32_t h3_open_request(h3_endpoint *endpoint, uint64_t *id, uint
   if (!endpoint || !endpoint->at) return H3_NO_ENDPOINT;
   if (!id) return H3_ARGUMENT;
   return h3_raw_open_request(*endpoint, id, detail ? detail : &none, endpoint);
+}
+static inline uint32_t h3_next_request_id(h3_endpoint *endpoint, uint64_t *id, uint64_t *detail) {
+  uint64_t none;
+  if (!endpoint || !endpoint->at) return H3_NO_ENDPOINT;
+  if (!id) return H3_ARGUMENT;
+  return h3_raw_next_request_id(*endpoint, id, detail ? detail : &none, endpoint);
 }
 static inline uint32_t h3_send_head(h3_endpoint *endpoint, uint64_t id, const h3_field_size *sizes, size_t count, const void *bytes, size_t len,
                                     uint64_t *detail) {

@@ -63,7 +63,7 @@ count=0
 python3 scripts/draw.py examples/blocked.talk examples/blocked.stdout | cmp -s - examples/blocked.mmd || missing=" examples/blocked.mmd is not what draw.py writes;"
 python3 scripts/draw.py examples/blocked.talk examples/blocked.stdout --svg "$room/svg"
 cmp -s "$room/svg" docs/blocked.svg || missing="$missing docs/blocked.svg is not what draw.py writes;"
-for script in examples/*.talk; do
+for script in examples/*.talk tests/talk/*.talk; do
   answers=${script%.talk}.stdout
   if grep -q '^line ' "$answers"; then continue; fi
   count=$((count + 1))
@@ -71,7 +71,7 @@ for script in examples/*.talk; do
     missing="$missing $script;"
 done
 if [ -z "$missing" ]; then
-  echo "ok scripts/draw.py: $count examples are drawn, and blocked as examples/blocked.mmd and docs/blocked.svg have it"
+  echo "ok scripts/draw.py: $count scripts are drawn, and blocked as examples/blocked.mmd and docs/blocked.svg have it"
 else
   echo "failed scripts/draw.py:$missing"
   bad=1

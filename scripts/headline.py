@@ -21,11 +21,12 @@ CRATES = f"{TOP}/crates"
 CONTRACT = f"{CRATES}/h3_session/src/run.rt"
 # The parts: their headings, and from which names each part goes on. The last one takes what is left.
 PARTS = (
-    ("## All that it rests on", ("HandsOutUntilMemory", "is_memory", "AreFew", "JudgesPlainly", "IsMadeSetup")),
+    ("## All that it rests on", ("HandsOutAlways", "AreFew", "JudgesPlainly", "IsMadeSetup")),
     ("## What is answered", ("RunsUntilMemory", "Run", "Happens", "empty_world")),
     ("## The endpoints that are handed back", ("RunsInWorld",)),
     ("## The same answers by two endpoints", ("RunsTo", "AnswersEach", "new_ends")),
-    ("## What each call leaves", None),
+    ("## What each call leaves", ("RunsByCalls",)),
+    ("## Where memory is refused", None),
 )
 # Behind these the values of the code: a heading, and from which types of the signature its rows come, and from those that which parts list.
 VALUES = (
@@ -38,6 +39,7 @@ PAGES = {
     "docs/HEADLINE.md": (PARTS[1][0], VALUES[0][0]),
     "docs/headline/endpoints.md": (PARTS[2][0], VALUES[1][0]),
     "docs/headline/calls.md": (PARTS[3][0], PARTS[4][0]),
+    "docs/headline/memory.md": (PARTS[5][0],),
 }
 # how many lines the first parts may have: a sitting each
 MOST = {PARTS[0][0]: 450, PARTS[1][0]: 1500}

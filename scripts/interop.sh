@@ -28,8 +28,9 @@ if ! bash scripts/packages.sh peer examples interop; then
   echo "0 passed, 1 failed"
   exit 1
 fi
-if bash scripts/lib.sh && make --no-print-directory -s -C bench out/interop_exchange; then
+if bash scripts/lib.sh && make --no-print-directory -s -C bench out/interop_exchange out/interop_strict; then
   count bench/out/interop_exchange bench/data
+  count python3 scripts/strict_messages.py --peer bench/out/interop_strict
   count env LIB="$PWD/build/c" bash scripts/interop_quic.sh
   count env LIB="$PWD/build/c" bash scripts/interop_peers.sh
 else

@@ -28,8 +28,8 @@ build make -s -C examples/c LIB="$lib" OUT="$work/refusing" CFLAGS="$SANITIZERS"
 build make -s -C examples/go LIB="$lib" OUT="$work"
 build make -s -C examples/rust LIB="$lib" OUT="$work"
 # the Rust example once more, with each allocation to be refused
-build rustc --edition 2021 -O -o "$work/two_refusing" examples/rust/two_endpoints.rs -C link-arg="$work/refuse.o" \
-  -C link-arg=-Wl,--wrap=malloc,--wrap=calloc,--wrap=realloc $(pkg-config --libs beanwhile-h3 | sed 's/-[lL][^ ]*/-C link-arg=&/g')
+build make -s -C examples/rust LIB="$lib" OUT="$work/refusing" \
+  RUSTFLAGS="-C link-arg=$work/refuse.o -C link-arg=-Wl,--wrap=malloc,--wrap=calloc,--wrap=realloc"
 build go build -o "$work/peer" scripts/interop/peer.go
 build go build -o "$work/violate" scripts/interop/violate.go
 build go build -o "$work/flood" scripts/interop/flood.go
@@ -372,10 +372,10 @@ refused_endpoints() {
   local count=0 status
   while [ "$count" -lt 600 ]; do
     : > "$work/log"
-    REFUSE_AT=$count within 20 "$work/two_refusing" 1000 > "$work/got"
+    REFUSE_AT=$count within 20 "$work/refusing/two_endpoints" 1000 > "$work/got"
     status=$?
     if [ "$status" -eq 134 ]; then grep -q "memory allocation of" "$work/log" || return 1; fi
-    if [ "$status" -eq 1 ]; then grep -qE "answer 18|Fault\(16" "$work/log" || return 1; fi
+    if [ "$status" -eq 1 ]; then grep -q "memory was refused" "$work/log" || return 1; fi
     if ! grep -q "allocation is refused" "$work/log"; then break; fi
     count=$((count + 3))
   done

@@ -8,8 +8,8 @@ bash scripts/need.sh rt
 room=$(mktemp -d)
 trap 'rm -rf "$room"' EXIT
 echo "compiling crates/h3_c and what it stands on, without their proofs: one or two minutes" >&2
-if ! bash scripts/watched.sh "$room/log" python3 scripts/unproved.py "$room/libh3.a"; then
+if ! bash scripts/watched.sh "$room/log" python3 scripts/unproved.py "$room/libbeanwhile_h3.a"; then
   echo "h3_c was not built" >&2
   exit 1
 fi
-bash scripts/library_folder.sh "$room/libh3.a" build/c-unproved unproved
+bash scripts/library_folder.sh "$room/libbeanwhile_h3.a" build/c-unproved unproved

@@ -8,7 +8,7 @@ lib=$(realpath -m "${LIB:-build/c}")
 rounds=${ROUNDS:-5}
 requests=${REQUESTS:-30000}
 bash scripts/packages.sh examples load
-[ -e "$lib/libh3.a" ] || { echo "there is no $lib/libh3.a: make lib" >&2; exit 1; }
+[ -e "$lib/libbeanwhile_h3.a" ] || { echo "there is no $lib/libbeanwhile_h3.a: make lib" >&2; exit 1; }
 
 work=$(mktemp -d)
 pids=()

@@ -22,7 +22,7 @@ while [ $# -gt 0 ]; do
       ;;
     library)
       shift
-      [ -e "$1/libh3.a" ] || missing "there is no $1/libh3.a: run 'make lib' first (or 'make lib-unproved', and give LIB=build/c-unproved)"
+      [ -e "$1/libbeanwhile_h3.a" ] || missing "there is no $1/libbeanwhile_h3.a: run 'make lib' first (or 'make lib-unproved', and give LIB=build/c-unproved)"
       ;;
     bench)
       [ -x bench/out/bench ] && [ -x bench/out/exchange ] && [ -e bench/out/sides ] || missing "bench/out is not built: run 'make bench-build' first"

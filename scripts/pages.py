@@ -194,6 +194,13 @@ def without_frame():
             yield f"{page} has no line 'Next: [..](..).' at its end"
 
 
+def without_decision():
+    """records of docs/decisions that do not begin with a sentence in bold"""
+    for page in sorted(it for it in files("docs/decisions") if it.endswith(".md")):
+        for line in re.findall(r"^- (?!\*\*).*$", read(page), re.M):
+            yield f"{page}: {line[:60]}.. does not begin with its decision in bold"
+
+
 def api():
     """where docs/C_API.md lacks a call of the header, or names what is not there"""
     header, page = read("include/h3.h"), read("docs/C_API.md")
@@ -231,6 +238,7 @@ def main():
     fine &= say(wrong, f"pages: {sum(count for count, _ in found)} snippets stand in their files", "pages, a snippet")
     fine &= say(list(miscounted()), f"{' and '.join(COUNTING)} count the edits", "pages, a count of edits")
     fine &= say(list(without_frame()), "docs: each page says what it is for, and which page comes next", "docs")
+    fine &= say(list(without_decision()), "docs/decisions: each record begins with its decision", "docs/decisions")
     fine &= say(list(api()), "docs/C_API.md has each call of include/h3.h", "docs/C_API.md")
     fine &= say(list(not_in_index()), f"{INDEX} has each file of scripts", INDEX)
     sys.exit(0 if fine else 1)

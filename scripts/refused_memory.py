@@ -3,7 +3,7 @@
 
     python3 scripts/refused_memory.py PROGRAM CASES
 
-runs the program on some scripts of examples/ again and again: at the first call for memory that is refused, the second, and so on, until a run
+runs the program on some scripts of examples and tests/talk again and again: at the first call for memory that is refused, the second, and so on, until a run
 meets no refusal; each number both for that call alone and for all from it on. Each run has to end with status 2, or with status 0 and the
 lines of the example up to one that tells of refused memory. Then it runs the program of cases (crates/h3_cases) on a head with two insertions, which
 is sent again where memory was refused: what was inserted before stands on the encoder stream, nothing on the head's own, and the second section
@@ -42,7 +42,8 @@ def is_allowed(wrote, status, met, wanted, usual):
 
 
 def check(refusing, program, name):
-    with open(f"{TOP}/examples/{name}.talk", "rb") as script, open(f"{TOP}/examples/{name}.stdout", "rb") as file:
+    folder = next(it for it in (f"{TOP}/examples", f"{TOP}/tests/talk") if os.path.exists(f"{it}/{name}.talk"))
+    with open(f"{folder}/{name}.talk", "rb") as script, open(f"{folder}/{name}.stdout", "rb") as file:
         given, wanted = script.read(), file.read().split(b"\n")[:-1]
     usual = 1 if wanted[0].startswith(b"line ") else 0
     runs, statuses = 0, set()

@@ -7,7 +7,7 @@
 
 Standard output and the status are the program's to the byte: 0, 1 where a line is refused (`line N` is written), 2 where a read or write failed or
 memory was refused. Where line N is refused standard error says N, its text, and what was expected there. The proved program is run where `make build` left
-one that is later than all sources, else it is built without its proofs, in a minute (`rt try`). What `all` is comes from a model in Python
+one that is later than all sources, else one that was compiled without its proofs (build/unproved), which takes a minute where a source has changed since. What `all` is comes from a model in Python
 (scripts/independent_talk.py), which reads fewer forms of URIs.
 
 The first line of a script is
@@ -27,9 +27,12 @@ import sys
 import tempfile
 
 import independent_talk
+import kit
 
 ROOT = os.path.dirname(os.path.dirname(os.path.realpath(__file__)))
 PROGRAM = f"{ROOT}/crates/h3_talk/out/h3_talk"
+COMPILED = f"{ROOT}/build/unproved/h3_talk"
+SECONDS = 1800  # it takes a minute or two where nothing else runs
 PLAIN = {"open": "SIDE", "show": "SIDE", "finish": "SIDE ID", "reset": "SIDE ID", "cancel": "SIDE ID", "pull": "SIDE ID", "end": "SIDE ID", "gone": "SIDE ID",
          "goaway": "SIDE NUMBER", "deliver": "SIDE ID COUNT"}
 FORMS = {**PLAIN, "head": "SIDE ID METHOD URI [name=value ..], or SIDE ID STATUS [name=value ..]", "body": "SIDE ID BYTES, with a blank behind the id",
@@ -139,34 +142,49 @@ def expanded(script):
     return "\n".join(out).encode(errors="surrogateescape")
 
 
-def is_built():
+def is_later(program):
     """Is there a program that is later than all that it is made of?"""
-    if not os.access(PROGRAM, os.X_OK):
+    if not os.access(program, os.X_OK):
         return False
-    made = os.stat(PROGRAM).st_mtime
+    made = os.stat(program).st_mtime
     parts = (os.path.join(at, it) for at, folders, names in os.walk(f"{ROOT}/crates") for it in names if f"{os.sep}out{os.sep}" not in f"{at}{os.sep}")
-    return all(os.stat(it).st_mtime <= made for it in parts if it.endswith((".rt", ".antt")))
+    return all(os.stat(it).st_mtime <= made for it in [f"{ROOT}/crates.txt", *(it for it in parts if it.endswith((".rt", ".antt")))])
+
+
+def compiled():
+    """compiles the program without its proofs, and keeps it for later runs"""
+    if shutil.which("rt") is None:
+        sys.exit(subprocess.run(["bash", f"{ROOT}/scripts/need.sh", "rt"], check=False).returncode)
+    rt = kit.load_rt()
+    print("compiling the program without its proofs: a minute or two, once for these sources", file=sys.stderr)
+    with tempfile.TemporaryDirectory(prefix="talk-") as room:
+        kit.wrapped_toolchain(rt, room, "ld.lld", f"""of=
+for it in "$@"; do
+  if [ "$of" = -o ]; then out=$it; fi
+  of=$it
+done
+$tool "$@" && cp "$out" {room}/kept && mv {room}/kept {room}/program
+exit 1
+""")
+        said = kit.tried(rt, ROOT, "h3_talk", f"{ROOT}/crates/h3_talk", room, SECONDS)
+        if not os.path.exists(f"{room}/program"):
+            sys.exit(f"{said}the program was not compiled: `rt check` in the crate that is named says more")
+        os.makedirs(os.path.dirname(COMPILED), exist_ok=True)
+        shutil.copy(f"{room}/program", f"{COMPILED}.new")
+        os.replace(f"{COMPILED}.new", COMPILED)
+    return COMPILED
 
 
 def run(script):
     """the status of the program, which has written its answers"""
-    with tempfile.TemporaryFile() as given, tempfile.TemporaryFile() as log:
-        given.write(script)
-        given.seek(0)
-        words = [PROGRAM] if is_built() else ["rt", "try"]
-        if words[0] == "rt" and shutil.which("rt") is None:
-            sys.exit(subprocess.run(["bash", f"{ROOT}/scripts/need.sh", "rt"], check=False).returncode)
-        ran = subprocess.run(words, cwd=f"{ROOT}/crates/h3_talk", stdin=given, stdout=subprocess.PIPE, stderr=log, check=False)
-        sys.stdout.buffer.write(ran.stdout)
-        sys.stdout.flush()
-        log.seek(0)
-        said = log.read()
-        if ran.returncode and not re.search(rb"^run=ended status=[12] ", said, re.M):
-            sys.stderr.buffer.write(said)
-        refused = re.fullmatch(rb"line ([0-9]+)\n", ran.stdout)
-        if ran.returncode == 1 and refused:
-            print(explain(script, int(refused[1])), file=sys.stderr)
-        return ran.returncode
+    program = next((it for it in (PROGRAM, COMPILED) if is_later(it)), None) or compiled()
+    ran = subprocess.run([program], input=script, stdout=subprocess.PIPE, check=False)
+    sys.stdout.buffer.write(ran.stdout)
+    sys.stdout.flush()
+    refused = re.fullmatch(rb"line ([0-9]+)\n", ran.stdout)
+    if ran.returncode == 1 and refused:
+        print(explain(script, int(refused[1])), file=sys.stderr)
+    return ran.returncode
 
 
 def main():

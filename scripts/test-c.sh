@@ -2,7 +2,7 @@
 # C programs over build/c (scripts/lib.sh), by the machine's C compiler alone: the calls of crates/h3_cases and hostile lists of calls through the header,
 # each allocation refused in turn, large input with none refused, two endpoints under random schedules, what is held of a stream, wrong arguments, and the program of docs/TUTORIAL.md. Once as
 # they are, and once with the sanitizers of addresses, leaks and undefined behaviour where the compiler has them (large input, memory: once). Then how programs find the
-# library (scripts/test-install.sh). One line 'ok NAME' or 'failed NAME' for each; the last is the sum. With LIB=FOLDER the library in that folder is
+# library (scripts/test-install.sh), and the packages for Go and Rust (scripts/test-bindings.sh). One line 'ok NAME' or 'failed NAME' for each; the last is the sum. With LIB=FOLDER the library in that folder is
 # taken, as that of `make lib-unproved`, and none is built.
 set -uo pipefail
 cd "$(dirname "$0")/.."
@@ -10,7 +10,7 @@ cd "$(dirname "$0")/.."
 lib=${LIB:-build/c}
 bash scripts/packages.sh c || exit 1
 if ! { [ -n "${LIB:-}" ] || bash scripts/lib.sh >&2; }; then
-  echo "failed libh3.a: it was not built"
+  echo "failed libbeanwhile_h3.a: it was not built"
   echo "0 passed, 1 failed"
   exit 1
 fi
@@ -20,7 +20,9 @@ cc=${CC:-cc}
 out=$lib/tests
 mkdir -p "$out"
 bad=0
-libs=("-I$lib" "-L$lib" -lh3 -lh3_shim)
+mark=""
+[ ! -e "$lib/UNPROVED" ] || mark=unproved # what h3_version is to say
+libs=("-I$lib/beanwhile" "-L$lib" -lbeanwhile_h3 -lbeanwhile_h3_shim)
 
 compile() { # NAME OUT FLAGS..
   local name=$1 to=$2
@@ -78,7 +80,7 @@ checks() {
     run sizes "$out/sizes"
     run schedules "$out/schedules" 0 1000
     run unread "$out/unread"
-    run arguments "$out/arguments"
+    run arguments "$out/arguments" $mark
     tutorial "$out/in_memory" "in_memory: the lines of docs/TUTORIAL.md"
   fi
   if [ "$bad" -eq 0 ] && echo 'int main(void){return 0;}' | "$cc" -x c -fsanitize=address,undefined -o "$out/probe" - 2> "$out/probe.log"; then
@@ -90,11 +92,12 @@ checks() {
     if [ "$bad" -eq 0 ]; then
       rows "$out/calls_checked" "rows with sanitizers"
       run "schedules with sanitizers" "$out/schedules_checked" 1000 100
-      run "arguments with sanitizers" "$out/arguments_checked"
+      run "arguments with sanitizers" "$out/arguments_checked" $mark
       tutorial "$out/in_memory_checked" "in_memory with sanitizers"
     fi
   fi
   bash scripts/test-install.sh "$lib" || bad=1
+  bash scripts/test-bindings.sh "$lib" || bad=1
   return "$bad"
 }
 

@@ -32,7 +32,7 @@ by_cmake() { # FOLDER that CMake looks in
   cat > "$work/cmake/CMakeLists.txt" <<END
 cmake_minimum_required(VERSION 3.10)
 project(program C)
-find_package(beanwhile-h3 0.1 CONFIG REQUIRED)
+find_package(beanwhile-h3 1.0 CONFIG REQUIRED)
 add_executable(program "$PWD/tests/c/in_memory.c")
 target_link_libraries(program PRIVATE beanwhile::h3)
 END

@@ -104,6 +104,7 @@ if [ "$failed" -eq 0 ]; then
   count python3 scripts/memory_runs.py crates/h3_talk/out/h3_talk
   count python3 scripts/failing_streams.py crates/h3_talk/out/h3_talk
   count python3 scripts/hostile_calls.py crates/h3_cases/out/h3_cases
+  count python3 scripts/strict_messages.py crates/h3_cases/out/h3_cases
 fi
 
 if [ -s "$times" ]; then

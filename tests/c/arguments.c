@@ -17,6 +17,13 @@ static int bad;
 
 static const uint64_t FAR = UINT64_C(1) << 62;
 
+/* the defaults, but that messages are not judged: the lists of most rows here are no whole messages */
+static void plain_config(h3_config *c) {
+  h3_config_default(c);
+  HOLDS(c->strict == 1);
+  c->strict = 0;
+}
+
 static void of_none(h3_endpoint *e) {
   uint64_t id = 5, detail = 6;
   size_t n = 7, m;
@@ -27,6 +34,7 @@ static void of_none(h3_endpoint *e) {
   h3_state c;
   h3_field_size f = {1, 1};
   IS(h3_open_request(e, &id, &detail), H3_NO_ENDPOINT);
+  IS(h3_next_request_id(e, &id, &detail), H3_NO_ENDPOINT);
   IS(h3_send_head(e, 0, &f, 1, "ab", 2, &detail), H3_NO_ENDPOINT);
   IS(h3_send_trailer(e, 0, &f, 1, "ab", 2, &detail), H3_NO_ENDPOINT);
   IS(h3_send_fields(e, 0, &f, 1, "ab", 2, &detail), H3_NO_ENDPOINT);
@@ -64,7 +72,7 @@ static void of_pointers(h3_endpoint *e, uint64_t id) {
   h3_field_size f = {7, 3};
   h3_config c;
   h3_endpoint none = H3_NONE_YET;
-  h3_config_default(&c);
+  plain_config(&c);
   IS(h3_new(NULL, &c, NULL), H3_ARGUMENT);
   IS(h3_new(&none, NULL, NULL), H3_ARGUMENT);
   HOLDS(!none.at);
@@ -72,6 +80,7 @@ static void of_pointers(h3_endpoint *e, uint64_t id) {
   IS(h3_pull(NULL, id, NULL), H3_NO_ENDPOINT);
   IS(h3_finish(NULL, id, NULL), H3_NO_ENDPOINT);
   IS(h3_open_request(e, NULL, NULL), H3_ARGUMENT);
+  IS(h3_next_request_id(e, NULL, NULL), H3_ARGUMENT);
   IS(h3_send_head(e, id, NULL, 1, ":methodGET", 10, NULL), H3_ARGUMENT);
   IS(h3_send_head(e, id, &f, 1, NULL, 10, NULL), H3_ARGUMENT);
   IS(h3_send_trailer(e, id, NULL, 1, ":methodGET", 10, NULL), H3_ARGUMENT);
@@ -99,14 +108,16 @@ static void of_pointers(h3_endpoint *e, uint64_t id) {
   HOLDS(n == 0 && m == 8);
   HOLDS(!strcmp(h3_answer_text(H3_OK), "H3_OK") && !strcmp(h3_answer_text(H3_NO_ENDPOINT), "H3_NO_ENDPOINT"));
   HOLDS(!strcmp(h3_kind_text(H3_INTERIM), "H3_INTERIM") && !strcmp(h3_kind_text(H3_FAULT_MEMORY), "H3_FAULT_MEMORY"));
+  HOLDS(!strcmp(h3_malformation_text(H3_BAD_NAME), "H3_BAD_NAME") && !strcmp(h3_malformation_text(H3_NO_TRAILER_FIELD), "H3_NO_TRAILER_FIELD"));
   HOLDS(!strcmp(h3_answer_text(99), "an unknown answer") && !strcmp(h3_kind_text(0), "an unknown kind"));
+  HOLDS(!strcmp(h3_malformation_text(H3_NO_TRAILER_FIELD + 1), "an unknown malformation"));
 }
 
 static void of_new(void) {
   h3_endpoint e = H3_NONE_YET;
   h3_config c;
   uint64_t detail = 9;
-  h3_config_default(&c);
+  plain_config(&c);
   c.grease = UINT64_C(0x210842108421083);
   IS(h3_new(&e, &c, &detail), H3_ARGUMENT);
   HOLDS(!e.at && detail == 0);
@@ -132,6 +143,109 @@ static void of_new(void) {
   c.max_webtransport_sessions = 0;
   IS(h3_new(&e, &c, &detail), H3_OK);
   HOLDS(detail == 0);
+  h3_free(&e);
+}
+
+/* what an endpoint announces: the bytes of its control stream */
+static size_t announces(const h3_config *config, uint8_t *bytes, size_t room) {
+  h3_endpoint e = H3_NONE_YET;
+  size_t n = 0;
+  IS(h3_new(&e, config, NULL), H3_OK);
+  IS(h3_outgoing(&e, h3_control_id(0), bytes, room, &n, NULL), H3_OK);
+  h3_free(&e);
+  return n;
+}
+
+/* a configuration by its size: a shorter one has the defaults of what it lacks, and a size that is none is refused */
+static void of_sizes(void) {
+  enum { ALL = sizeof(h3_config) / sizeof(uint64_t) };
+  const uint64_t none[] = {0, 1, 7, sizeof(h3_config) - 1, sizeof(h3_config) + 1, sizeof(h3_config) + 8, UINT64_MAX};
+  h3_endpoint e = H3_NONE_YET;
+  h3_config c;
+  uint64_t detail, more[ALL + 2];
+  uint8_t one[64], other[64];
+  h3_config_default(&c);
+  HOLDS(c.size == sizeof c);
+  for (size_t i = 0; i < sizeof none / sizeof *none; i++) {
+    c.size = none[i];
+    e.at = &c;
+    detail = 9;
+    IS(h3_new(&e, &c, &detail), H3_ARGUMENT);
+    HOLDS(!e.at && detail == 0);
+  }
+  /* as of a program whose header knew the first numbers alone, at the end of its memory */
+  for (size_t count = 1; count <= ALL; count++) {
+    uint64_t *few = malloc(count * sizeof *few);
+    if (!few) exit(1);
+    h3_raw_config_default(few, count);
+    HOLDS(few[0] == count * sizeof *few);
+    h3_config_default(&c);
+    for (size_t i = 1; i < count && i <= 4; i++) few[i] = ((uint64_t *)&c)[i] = i == 2 ? 1 : 3;
+    size_t n = announces((const h3_config *)few, one, sizeof one);
+    HOLDS(n > 8 && n == announces(&c, other, sizeof other) && !memcmp(one, other, n));
+    free(few);
+  }
+  /* a row that is longer than the library knows: its own numbers are written, and it is refused, as a size is that is not the row's */
+  memset(more, 0xee, sizeof more);
+  h3_raw_config_default(more, ALL + 1);
+  h3_config_default(&c);
+  HOLDS(more[0] == 8 * (ALL + 1) && !memcmp(more + 1, (uint64_t *)&c + 1, 8 * (ALL - 1)));
+  HOLDS(more[ALL] == UINT64_C(0xeeeeeeeeeeeeeeee) && more[ALL + 1] == more[ALL]);
+  e.at = NULL;
+  IS(h3_raw_new(more, ALL + 1, &detail, &e), H3_ARGUMENT);
+  IS(h3_raw_new(more, ALL, &detail, &e), H3_ARGUMENT);
+  IS(h3_raw_new(more, 0, &detail, &e), H3_ARGUMENT);
+  HOLDS(!e.at);
+}
+
+/* the numbers behind those that are announced have their defaults too: a program that knows of no `encoder_table` has one of 4,096 bytes */
+static void of_shorter_tables(void) {
+  enum { KNOWN = offsetof(h3_config, encoder_table) / sizeof(uint64_t) };
+  uint64_t few[KNOWN];
+  h3_endpoint e = H3_NONE_YET;
+  uint8_t bytes[8];
+  size_t n = 0;
+  h3_raw_config_default(few, KNOWN);
+  IS(h3_new(&e, (const h3_config *)few, NULL), H3_OK);
+  IS(h3_deliver(&e, 3, "\0\4\5\1\x50\0\7\20", 8, NULL), H3_OK);
+  IS(h3_outgoing(&e, h3_encoder_id(0), bytes, sizeof bytes, &n, NULL), H3_OK);
+  HOLDS(n == 4 && !memcmp(bytes, "\2\x3f\xe1\x1f", n));
+  h3_free(&e);
+}
+
+/* the next request's id is told before it is given, and nothing is opened */
+static void of_next_ids(void) {
+  h3_endpoint e = H3_NONE_YET;
+  h3_config c;
+  uint64_t id = 5, detail = 9;
+  h3_stream_state s;
+  plain_config(&c);
+  IS(h3_new(&e, &c, NULL), H3_OK);
+  for (uint64_t next = 0; next < 40; next += 4) {
+    IS(h3_next_request_id(&e, &id, &detail), H3_OK);
+    HOLDS(id == next && detail == 0);
+    IS(h3_next_request_id(&e, &id, NULL), H3_OK);
+    HOLDS(id == next);
+    IS(h3_finish(&e, next, NULL), H3_NOT_OPEN);
+    IS(h3_stream(&e, next, &s), H3_OK);
+    HOLDS(!s.has_outgoing);
+    IS(h3_open_request(&e, &id, NULL), H3_OK);
+    HOLDS(id == next);
+  }
+  /* GOAWAY of the peer with the id 8, and then a frame that a control stream does not have (RFC 9114, sections 5.2 and 7.2.1) */
+  IS(h3_deliver(&e, 3, "\0\4\0\7\1\x8", 6, NULL), H3_OK);
+  id = 5;
+  IS(h3_next_request_id(&e, &id, &detail), H3_GOING_AWAY);
+  HOLDS(id == 5 && detail == 8);
+  IS(h3_open_request(&e, &id, &detail), H3_GOING_AWAY);
+  IS(h3_deliver(&e, 3, "\0\0", 2, NULL), H3_CONNECTION);
+  IS(h3_next_request_id(&e, &id, &detail), H3_CLOSED);
+  HOLDS(id == 5 && detail == 0x105);
+  h3_free(&e);
+  c.server = 1;
+  IS(h3_new(&e, &c, NULL), H3_OK);
+  IS(h3_next_request_id(&e, &id, &detail), H3_NOT_CLIENT);
+  HOLDS(id == 5 && detail == 0);
   h3_free(&e);
 }
 
@@ -206,7 +320,7 @@ static void of_lists(void) {
   h3_config c;
   uint64_t id;
   h3_field_size get = {7, 3}, status = {7, 3}, upper = {3, 1}, twice[2] = {{7, 3}, {7, 4}}, behind[2] = {{13, 5}, {7, 3}};
-  h3_config_default(&c);
+  plain_config(&c);
   IS(h3_new(&client, &c, NULL), H3_OK);
   c.server = 1;
   IS(h3_new(&server, &c, NULL), H3_OK);
@@ -244,6 +358,36 @@ static void of_lists(void) {
   h3_free(&server);
 }
 
+/* a strict endpoint sends no list that a strict peer would call malformed */
+static void of_strict_lists(void) {
+  h3_endpoint client = H3_NONE_YET;
+  h3_config c;
+  uint64_t id, rule = 99;
+  h3_field_size get = {7, 3}, request[5] = {{7, 3}, {7, 5}, {10, 1}, {5, 1}, {5, 1}}, behind[2] = {{3, 1}, {7, 3}}, host = {4, 1}, spaced = {3, 2};
+  const char *twice = ":methodGET:schemehttps:authoritya:path/:path/";
+  h3_config_default(&c);
+  c.strict = 1;
+  IS(h3_new(&client, &c, NULL), H3_OK);
+  IS(h3_open_request(&client, &id, NULL), H3_OK);
+  IS(h3_send_fields(&client, id, &get, 1, ":methodGET", 10, &rule), H3_MALFORMED);
+  HOLDS(rule == H3_MISSING_PSEUDO_FIELD);
+  IS(h3_send_head(&client, id, &get, 1, ":methodGET", 10, &rule), H3_MALFORMED);
+  HOLDS(rule == H3_MISSING_PSEUDO_FIELD);
+  IS(h3_send_fields(&client, id, behind, 2, "x-a1:methodGET", 14, &rule), H3_MALFORMED);
+  HOLDS(rule == H3_LATE_PSEUDO_FIELD);
+  IS(h3_send_fields(&client, id, request, 5, twice, 45, &rule), H3_MALFORMED);
+  HOLDS(rule == H3_REPEATED_PSEUDO_FIELD);
+  of_bytes(&client, id, "", 0);
+  /* of a repeated one h3_send_head sends the last */
+  IS(h3_send_head(&client, id, request, 5, twice, 45, NULL), H3_OK);
+  IS(h3_send_trailer_fields(&client, id, &host, 1, "hosta", 5, &rule), H3_MALFORMED);
+  HOLDS(rule == H3_NO_TRAILER_FIELD);
+  IS(h3_send_trailer_fields(&client, id, &spaced, 1, "x-a b", 5, NULL), H3_FIELD_VALUE);
+  IS(h3_send_trailer(&client, id, &spaced, 1, "x-a b", 5, &rule), H3_MALFORMED);
+  HOLDS(rule == H3_BAD_VALUE);
+  h3_free(&client);
+}
+
 /* bytes that are lent go out as they lie, and may go once all was taken, or the stream was reset, or the endpoint freed */
 static void of_lent(void) {
   h3_endpoint client = H3_NONE_YET;
@@ -251,7 +395,7 @@ static void of_lent(void) {
   uint64_t id;
   h3_field_size get = {7, 3};
   uint8_t *body[3];
-  h3_config_default(&c);
+  plain_config(&c);
   IS(h3_new(&client, &c, NULL), H3_OK);
   for (int i = 0; i < 3; i++) {
     IS(h3_open_request(&client, &id, NULL), H3_OK);
@@ -306,7 +450,7 @@ static void of_default(void) {
   uint8_t b[64];
   size_t n = 0;
   memset(&c, 0xee, sizeof c);
-  h3_config_default(&c);
+  plain_config(&c);
   HOLDS(c.max_field_section_size == 65536 && c.table == 4096 && c.blocked == 16);
   HOLDS(c.max_webtransport_sessions == 0 && c.grease == 0 && c.server == 0 && c.send_grease == 0 && c.webtransport == 0);
   HOLDS(c.extended_connect == 0 && c.datagram == 0);
@@ -324,7 +468,7 @@ static void of_items(void) {
   uint8_t b[64], c[64];
   /* HEADERS with :method GET, :scheme https, :authority "a", :path / (RFC 9204, appendix A and section 4.5.4), then DATA "hi" */
   static const uint8_t request[] = {1, 7, 0, 0, 0xd1, 0xd7, 0x50, 1, 'a', 0, 2, 'h', 'i'};
-  h3_config_default(&config);
+  plain_config(&config);
   config.server = 1;
   IS(h3_new(&e, &config, NULL), H3_OK);
   IS(h3_item_field(&e, 0, b, 64, &n, c, 64, &m), H3_NONE);
@@ -407,7 +551,7 @@ static void of_ends(void) {
   h3_stream_state s;
   uint64_t id, found;
   h3_field_size f = {7, 3};
-  h3_config_default(&c);
+  plain_config(&c);
   IS(h3_new(&e, &c, NULL), H3_OK);
   for (id = 2; id <= 10; id += 4) {
     IS(h3_stream(&e, id, &s), H3_OK);
@@ -466,7 +610,7 @@ static void of_waiting(void) {
   h3_stream_state s;
   uint64_t id, detail;
   h3_field_size f = {7, 3};
-  h3_config_default(&c);
+  plain_config(&c);
   IS(h3_new(&e, &c, NULL), H3_OK);
   of_sweep(&e, 12, 3);
   for (unsigned i = 0; i < STREAMS; i++) IS(h3_open_request(&e, &id, NULL), H3_OK);
@@ -517,7 +661,7 @@ static void of_increments(void) {
     h3_endpoint e = H3_NONE_YET;
     h3_config c;
     uint64_t detail = 0;
-    h3_config_default(&c);
+    plain_config(&c);
     HOLDS(c.count_acknowledgments == 1);
     c.count_acknowledgments = counts;
     IS(h3_new(&e, &c, NULL), H3_OK);
@@ -541,8 +685,8 @@ static void of_encoder_tables(void) {
     uint8_t bytes[8];
     size_t n = 0;
     uint32_t fin;
-    h3_config_default(&c);
-    HOLDS(c.encoder_table == 4096);
+    plain_config(&c);
+    HOLDS(c.encoder_table == 4096 && c.economical_table == 1);
     c.encoder_table = of[i].most;
     IS(h3_new(&e, &c, NULL), H3_OK);
     IS(h3_deliver(&e, 3, "\0\4\5\1\x50\0\7\20", 8, NULL), H3_OK);
@@ -552,18 +696,25 @@ static void of_encoder_tables(void) {
   }
 }
 
-int main(void) {
+/* with a word: the library is to say that it was built without proofs */
+int main(int argc, char **argv) {
   h3_endpoint e = H3_NONE_YET;
   h3_config c;
   uint64_t id;
+  (void)argv;
+  HOLDS(h3_version() == (argc > 1 ? H3_VERSION | H3_UNPROVED : H3_VERSION));
   of_none(&e);
   of_new();
-  h3_config_default(&c);
+  of_sizes();
+  of_shorter_tables();
+  of_next_ids();
+  plain_config(&c);
   IS(h3_new(&e, &c, NULL), H3_OK);
   of_ids(&e);
   IS(h3_open_request(&e, &id, NULL), H3_OK);
   of_fields(&e, id);
   of_lists();
+  of_strict_lists();
   of_lent();
   of_counts(&e, id);
   of_pointers(&e, id);

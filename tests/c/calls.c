@@ -39,6 +39,8 @@ static void answer(uint32_t n, uint64_t detail) {
     printf("refused %s %llu\n", refusals[n], (unsigned long long)detail);
   else if (n <= H3_SETTING)
     printf("refused %s\n", refusals[n]);
+  else if (n == H3_MALFORMED)
+    printf("refused Malformed %s\n", malformations[detail]);
   else if (n >= H3_FIELD_NAME && n <= H3_FIELD_COUNT)
     puts("no such call");
   else
@@ -168,7 +170,9 @@ static void begin(char **words, size_t count) {
   uint64_t detail;
   h3_config_default(&c);
   c.count_acknowledgments = 0; /* as Rust's defaults, which the rows go by */
+  c.strict = 0;
   c.encoder_table = UINT32_MAX;
+  c.economical_table = 0;
   c.server = words[1][0] == 's';
   c.max_field_section_size = strtoull(words[2], NULL, 10);
   c.table = strtoull(words[3], NULL, 10);
@@ -178,6 +182,7 @@ static void begin(char **words, size_t count) {
     c.extended_connect |= !strcmp(words[i], "connect");
     c.count_acknowledgments |= !strcmp(words[i], "counted");
     if (!strcmp(words[i], "small")) c.encoder_table = 40;
+    c.economical_table |= !strcmp(words[i], "economical");
   }
   h3_endpoint made = H3_NONE_YET;
   uint32_t n = h3_new(&made, &c, &detail);

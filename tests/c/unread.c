@@ -36,6 +36,7 @@ static void make(void) {
   config.server = 1;
   config.table = 220;
   config.blocked = 2;
+  config.strict = 0; /* the head of these rows has no :path */
   HOLDS(h3_new(&server, &config, NULL) == H3_OK);
 }
 

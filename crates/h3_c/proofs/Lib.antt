@@ -2,4 +2,5 @@ pub mod Cuts
 pub mod HandleValues
 pub mod Heads
 pub mod Making
+pub mod NextIds
 pub mod Values

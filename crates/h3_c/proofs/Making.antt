@@ -1,5 +1,5 @@
 -- What is made of a configuration.
-use Rattle.std.proofs.Common.{◌≡◌, Option, Some, Result, Ok, Err, refl, ap, ◌∙◌}
+use Rattle.std.proofs.Common.{◌≡◌, ◌≤◌, ◌<◌, Option, Some, None, Result, Ok, Err, refl, ap, subst, ◌∙◌}
 use Rattle.h3_proto.specs.declared.stream.Side.{Side}
 use Rattle.h3_connection.specs.SendingContracts.{Creates}
 use Rattle.h3_connection.specs.State.{EndpointState}
@@ -9,8 +9,8 @@ use Rattle.h3_connection.specs.declared.setup.NewError.{NewError}
 use Rattle.h3_connection.specs.declared.setup.NewError.TheVariants.{OutOfMemory}
 use Rattle.h3_c.specs.declared.config.GivenConfig.{GivenConfig}
 use Rattle.h3_c.specs.declared.numbers.Told.{Told}
-use Rattle.h3_c.specs.Configs.{Makes, Unmakes, announced_of, side_of}
-use Rattle.h3_c.specs.Numbers.{memory, new_told, ok}
+use Rattle.h3_c.specs.Configs.{Makes, MakesGiven, Unmakes, announced_of, side_of}
+use Rattle.h3_c.specs.Numbers.{argument, memory, new_told, ok}
 use Rattle.h3_c.specs.Seen.{Seen}
 
 -- want of memory comes last
@@ -30,3 +30,12 @@ made given v before after n is there last h =
 
 pub unmade : (given : GivenConfig) (n : Told) (before after : Option Seen) → Unmakes given n → after ≡ before → Makes given n before after
 unmade given n before after u same = record { answer = Err u.answer; is = u.is; done = u.refused; made = same }
+
+-- what a caller gave is a configuration, or none
+pub given_some : (config : Option GivenConfig) (given : GivenConfig) (n : Told) (before after : Option Seen) → Some given ≡ config
+    → (0x210842108421083 ≤ given.grease → (n ≡ argument) × (after ≡ before)) → (given.grease < 0x210842108421083 → Makes given n before after)
+    → MakesGiven config n before after
+given_some config given n before after is far near = subst (λ c. MakesGiven c n before after) is (far, near)
+
+pub given_none : (config : Option GivenConfig) (n : Told) (before after : Option Seen) → None ≡ config → n ≡ argument → after ≡ before → MakesGiven config n before after
+given_none config n before after is refused same = subst (λ c. MakesGiven c n before after) is (refused, same)

@@ -1,5 +1,5 @@
 -- What an endpoint is made of.
-use Rattle.std.specs.Prelude.{◌≡◌, ℕ, Bool, not, ◌==◌, if◌then◌else◌, Option, Some, Result, Ok, Err}
+use Rattle.std.specs.Prelude.{◌≡◌, ◌≤◌, ◌<◌, ◌*◌, ◌&&◌, ◌==◌, ℕ, Bool, nat_le, not, if◌then◌else◌, List, [], ◌∷◌, length, slice_get, Option, Some, None, unwrap_or, Result, Ok, Err}
 use Rattle.h3_proto.specs.Config.{announced}
 use Rattle.h3_proto.specs.declared.config.Config.{Config}
 use Rattle.h3_proto.specs.declared.stream.Side.{Side}
@@ -13,11 +13,11 @@ use Rattle.h3_connection.specs.declared.setup.Limits.{Limits}
 use Rattle.h3_connection.specs.declared.setup.NewError.{NewError}
 use Rattle.h3_c.specs.declared.config.GivenConfig.{GivenConfig}
 use Rattle.h3_c.specs.declared.numbers.Told.{Told}
-use Rattle.h3_c.specs.Numbers.{ok, new_told}
+use Rattle.h3_c.specs.Numbers.{argument, ok, new_told}
 use Rattle.h3_c.specs.Seen.{Seen}
 
 -- `h3_config_default`: a client, whose numbers bound what a stranger can make it hold: a field section of 64 KiB, and a table of 4,096 bytes for
--- which 16 streams may wait. The own encoder's table has as much at most
+-- which 16 streams may wait. The own encoder's table has as much at most. Messages are judged
 abbrev pub default_config : GivenConfig
 default_config =
     record {
@@ -31,10 +31,46 @@ default_config =
       webtransport = 0;
       extended_connect = 0;
       datagram = 0;
-      strict = 0;
+      strict = 1;
       count_acknowledgments = 1;
       encoder_table = 4096;
+      economical_table = 1;
     }
+
+-- the numbers of `h3_config`: its size, and the others in its order
+abbrev pub numbers_of : ℕ → GivenConfig → List ℕ
+numbers_of size c =
+    size ∷ c.max_field_section_size ∷ c.max_webtransport_sessions ∷ c.table ∷ c.blocked ∷ c.grease ∷ c.server ∷ c.send_grease ∷ c.webtransport ∷ c.extended_connect ∷ c.datagram ∷ c.strict ∷ c.count_acknowledgments ∷ c.encoder_table ∷ c.economical_table ∷ []
+
+-- one of the numbers that a caller gave, or what it is where the caller has fewer
+abbrev pub number_at : List ℕ → ℕ → ℕ → ℕ
+number_at numbers at default = unwrap_or (slice_get numbers at) default
+
+-- A caller that was built when `h3_config` had fewer numbers has the defaults of the others.
+abbrev pub config_in : List ℕ → GivenConfig
+config_in numbers =
+    record {
+      max_field_section_size = number_at numbers 1 default_config.max_field_section_size;
+      max_webtransport_sessions = number_at numbers 2 default_config.max_webtransport_sessions;
+      table = number_at numbers 3 default_config.table;
+      blocked = number_at numbers 4 default_config.blocked;
+      grease = number_at numbers 5 default_config.grease;
+      server = number_at numbers 6 default_config.server;
+      send_grease = number_at numbers 7 default_config.send_grease;
+      webtransport = number_at numbers 8 default_config.webtransport;
+      extended_connect = number_at numbers 9 default_config.extended_connect;
+      datagram = number_at numbers 10 default_config.datagram;
+      strict = number_at numbers 11 default_config.strict;
+      count_acknowledgments = number_at numbers 12 default_config.count_acknowledgments;
+      encoder_table = number_at numbers 13 default_config.encoder_table;
+      economical_table = number_at numbers 14 default_config.economical_table;
+    }
+
+-- what a caller asks for, whose first number is the size of all in bytes: of none but as many as are known here
+abbrev pub config_given : List ℕ → Option GivenConfig
+config_given [] = None
+config_given (size ∷ others) =
+    if (size == 8 * length (size ∷ others)) && nat_le (length (size ∷ others)) 15 then Some (config_in (size ∷ others)) else None
 
 -- a number other than 0 means yes
 abbrev pub is_on : ℕ → Bool
@@ -54,7 +90,7 @@ config_of given =
         enable_datagram = is_on given.datagram;
         max_webtransport_sessions = given.max_webtransport_sessions;
       };
-      choices = record { strict_messages = is_on given.strict; acknowledgments_counted = is_on given.count_acknowledgments; encoder_table = given.encoder_table };
+      choices = record { strict_messages = is_on given.strict; acknowledgments_counted = is_on given.count_acknowledgments; encoder_table = given.encoder_table; economical_table = is_on given.economical_table };
     }
 
 abbrev pub limits_of : GivenConfig → Limits
@@ -84,3 +120,9 @@ pub record Makes (given : GivenConfig) (n : Told) (before after : Option Seen) :
   pub is : n ≡ made_told answer
   pub done : Creates (side_of given) (announced_of given) answer
   pub made : IsMade answer before after
+
+-- What `h3_new` does with what it was given: a size that is none, and a number for `grease` out of its range, are refused.
+abbrev pub MakesGiven : Option GivenConfig → Told → Option Seen → Option Seen → Type 0
+MakesGiven None n before after = (n ≡ argument) × (after ≡ before)
+MakesGiven (Some given) n before after =
+    (0x210842108421083 ≤ given.grease → (n ≡ argument) × (after ≡ before)) × (given.grease < 0x210842108421083 → Makes given n before after)

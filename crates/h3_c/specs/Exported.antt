@@ -1,6 +1,6 @@
 -- What the exports promise: the contract of the call that each makes, of the endpoint that the handle owned and the one that the handle
 -- for the next call owns, with the numbers that C gets.
-use Rattle.std.specs.Prelude.{◌≡◌, ◌≢◌, ◌⊎◌, ◌<◌, ◌≤◌, ◌^◌, ◌++◌, ◌==◌, ◌&&◌, ℕ, nat_le, if◌then◌else◌, Bool, List, length, take, drop, min, slice_get, Option, Some, None, Result}
+use Rattle.std.specs.Prelude.{◌≡◌, ◌≢◌, ◌⊎◌, ◌<◌, ◌≤◌, ◌^◌, ◌++◌, ◌==◌, ◌&&◌, ℕ, nat_le, if◌then◌else◌, Bool, List, length, take, drop, min, slice_get, Option, Some, None, Result, Ok, Err}
 use Rattle.h3_field.specs.Field.{Field}
 use Rattle.h3_header.specs.Head.{Head}
 use Rattle.h3_header.specs.HeadRead.{HeadRead, IsHead, IsNone}
@@ -13,11 +13,12 @@ use Rattle.h3_connection.specs.State.{StandsFor}
 use Rattle.h3_connection.specs.declared.event.Refusal.{Refusal}
 use Rattle.h3_outgoing.specs.Copied.{put}
 use Rattle.h3_session.specs.Copied.{CopiesTo}
+use Rattle.h3_session.specs.NextRequest.{next_request}
 use Rattle.h3_session.specs.declared.endpoint.lists.FieldsError.{FieldsError}
 use Rattle.h3_c.specs.declared.items.PulledItem.{PulledItem}
 use Rattle.h3_c.specs.declared.numbers.Told.{Told}
 use Rattle.h3_c.specs.Items.{bytes_of, fields_of, shown}
-use Rattle.h3_c.specs.Numbers.{ok, none, room, argument, memory, call_told, head_told, list_told}
+use Rattle.h3_c.specs.Numbers.{ok, none, room, argument, memory, call_told, head_told, list_told, refusal_told}
 use Rattle.h3_c.specs.Seen.{Seen}
 use Rattle.h3_c.specs.Showing.{bit}
 
@@ -89,6 +90,14 @@ pub record OpensRequest (n : Told) (v w : Seen) (before after : ℕ) : Type 0 wh
   pub calls : Calls call_told n v w (λ call. Opens v.endpoint w.endpoint call)
   pub id_is : n ≡ ok → after ≡ v.endpoint.next_id
   pub unwritten : n ≢ ok → after ≡ before
+
+-- `h3_next_request_id`: the id that `h3_open_request` gives next, or the refusal that it answers, and no id is written
+abbrev pub GivesId : Result ℕ Refusal → Told → ℕ → ℕ → Type 0
+GivesId (Ok id) n before after = (n ≡ ok) × (after ≡ id)
+GivesId (Err refusal) n before after = (n ≡ refusal_told refusal) × (after ≡ before)
+
+abbrev pub ShowsNextId : Seen → Told → ℕ → ℕ → Type 0
+ShowsNextId v n before after = (e : EndpointHistory) → StandsFor v.endpoint e → GivesId (next_request e) n before after
 
 -- `H3_ROOM` where a buffer is too small
 abbrev pub room_told : Bool → Told

@@ -13,7 +13,12 @@ use Rattle.h3_connection.specs.declared.setup.NewError.{NewError}
 use Rattle.h3_connection.specs.declared.setup.NewError.TheVariants as new_error
 use Rattle.h3_session.specs.declared.endpoint.lists.FieldsError.{FieldsError}
 use Rattle.h3_session.specs.declared.endpoint.lists.FieldsError.TheVariants as fields_error
+use Rattle.h3_c.specs.Items.{malformation_number}
 use Rattle.h3_c.specs.declared.numbers.Told.{Told}
+
+-- `H3_VERSION`: 1.0.0. A library that was proved says no more; one that was not says `H3_UNPROVED` too.
+abbrev pub version : ℕ
+version = 0x010000
 
 -- a number, with another one beside it
 abbrev pub number : ℕ → ℕ → Told
@@ -23,7 +28,7 @@ number n detail = record { number = n; detail = detail }
 abbrev pub ok : Told
 ok = number 0 0
 
--- the refusals, in the order of the core's
+-- the refusals, in the order of the core's but for that of a list that breaks a rule of strict messages
 abbrev pub refusal_told : Refusal → Told
 refusal_told (refusal.Closed code) = number 1 code
 refusal_told (refusal.Connection code) = number 2 code
@@ -37,6 +42,7 @@ refusal_told refusal.NotOpen = number 9 0
 refusal_told refusal.OutOfOrder = number 10 0
 refusal_told refusal.WrongSide = number 11 0
 refusal_told refusal.PseudoInTrailer = number 12 0
+refusal_told (refusal.Malformed why) = number 27 (malformation_number why)
 refusal_told (refusal.TooLarge size) = number 13 size
 refusal_told refusal.Critical = number 14 0
 refusal_told refusal.Ended = number 15 0
@@ -95,11 +101,12 @@ head_told Name = number 22 0
 head_told Value = number 23 0
 head_told TooMany = number 24 0
 
--- Why a list that is to be sent is malformed: as `head_told`. The rules of strict messages, which no call asks of a list, would be told of a value.
+-- why a list that is to be sent is malformed: as `head_told`, or by the rule of strict messages that it breaks
 abbrev pub malformed_told : Malformation → Told
 malformed_told malformation.Name = number 22 0
+malformed_told malformation.Value = number 23 0
 malformed_told malformation.TooMany = number 24 0
-malformed_told _ = number 23 0
+malformed_told why = number 27 (malformation_number why)
 
 -- what a call tells that sends a list
 abbrev pub list_told : {X : Type 0} → Result X FieldsError → Told

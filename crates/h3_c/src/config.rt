@@ -1,7 +1,7 @@
 //! What an endpoint is made of: `h3_config` of the header.
-ghost use Rattle.std.specs.Prelude.{◌≡◌, ◌≤◌, ◌<◌};
+ghost use Rattle.std.specs.Prelude.{◌≡◌, ◌≤◌, ◌<◌, slice_get, unwrap_or};
 ghost use Rattle.h3_connection.specs.SendingContracts.{Creates};
-ghost use Rattle.h3_c.specs.Configs.{default_config, side_of, config_of, limits_of, announced_of};
+ghost use Rattle.h3_c.specs.Configs.{default_config, side_of, config_of, config_given, limits_of, announced_of, numbers_of};
 
 use h3_connection::setup::{Limits, NewError};
 use h3_proto::config::Config;
@@ -9,8 +9,10 @@ use h3_proto::stream::Side;
 use h3_session::endpoint::Endpoint;
 use std::alloc::Global;
 
-/// A number other than 0 means yes.
-#[repr(C)]
+/// How many numbers `h3_config` has: its size in bytes, and those of `GivenConfig`.
+const NUMBERS: usize = 15;
+
+/// The numbers of `h3_config` behind its size, in its order. One other than 0 means yes.
 #[derive(Copy, Clone)]
 pub struct GivenConfig {
     pub max_field_section_size: u64,
@@ -18,14 +20,15 @@ pub struct GivenConfig {
     pub table: u64,
     pub blocked: u64,
     pub grease: u64,
-    pub server: u32,
-    pub send_grease: u32,
-    pub webtransport: u32,
-    pub extended_connect: u32,
-    pub datagram: u32,
-    pub strict: u32,
-    pub count_acknowledgments: u32,
-    pub encoder_table: u32,
+    pub server: u64,
+    pub send_grease: u64,
+    pub webtransport: u64,
+    pub extended_connect: u64,
+    pub datagram: u64,
+    pub strict: u64,
+    pub count_acknowledgments: u64,
+    pub encoder_table: u64,
+    pub economical_table: u64,
 }
 
 impl Default for GivenConfig {
@@ -43,10 +46,73 @@ impl Default for GivenConfig {
             webtransport: 0,
             extended_connect: 0,
             datagram: 0,
-            strict: 0,
+            strict: 1,
             count_acknowledgments: 1,
             encoder_table: 4096,
+            economical_table: 1,
         }
+    }
+}
+
+impl GivenConfig {
+    /// What these numbers ask for: a size first, as `h3_config` has it. A caller that was built when there were fewer has the defaults of those it does
+    /// not know. None: the size is not that of the numbers, or there are more than are known here.
+    pub(crate) fn of(numbers: &[u64]) -> Option<GivenConfig>
+        ensures { result ≡ config_given numbers.now }
+    {
+        let size = *numbers.first()?;
+        if numbers.len() > NUMBERS || size != 8 * numbers.len() as u64 {
+            return None;
+        }
+        let default = GivenConfig::default();
+        Some(GivenConfig {
+            max_field_section_size: number_or(numbers, 1, default.max_field_section_size),
+            max_webtransport_sessions: number_or(numbers, 2, default.max_webtransport_sessions),
+            table: number_or(numbers, 3, default.table),
+            blocked: number_or(numbers, 4, default.blocked),
+            grease: number_or(numbers, 5, default.grease),
+            server: number_or(numbers, 6, default.server),
+            send_grease: number_or(numbers, 7, default.send_grease),
+            webtransport: number_or(numbers, 8, default.webtransport),
+            extended_connect: number_or(numbers, 9, default.extended_connect),
+            datagram: number_or(numbers, 10, default.datagram),
+            strict: number_or(numbers, 11, default.strict),
+            count_acknowledgments: number_or(numbers, 12, default.count_acknowledgments),
+            encoder_table: number_or(numbers, 13, default.encoder_table),
+            economical_table: number_or(numbers, 14, default.economical_table),
+        })
+    }
+
+    /// All numbers, behind a size.
+    pub(crate) fn numbers(&self, size: u64) -> [u64; NUMBERS]
+        ensures { result ≡ numbers_of size self.now }
+    {
+        [
+            size,
+            self.max_field_section_size,
+            self.max_webtransport_sessions,
+            self.table,
+            self.blocked,
+            self.grease,
+            self.server,
+            self.send_grease,
+            self.webtransport,
+            self.extended_connect,
+            self.datagram,
+            self.strict,
+            self.count_acknowledgments,
+            self.encoder_table,
+            self.economical_table,
+        ]
+    }
+}
+
+fn number_or(numbers: &[u64], at: usize, default: u64) -> u64
+    ensures { result ≡ unwrap_or (slice_get numbers.now at) default }
+{
+    match numbers.get(at) {
+        Some(number) => *number,
+        None => default,
     }
 }
 
@@ -72,7 +138,8 @@ fn config_of(given: &GivenConfig) -> Config
         .with_max_webtransport_sessions(given.max_webtransport_sessions)
         .with_strict_messages(given.strict != 0)
         .with_acknowledgments_counted(given.count_acknowledgments != 0)
-        .with_encoder_table(u64::from(given.encoder_table))
+        .with_encoder_table(given.encoder_table)
+        .with_economical_table(given.economical_table != 0)
 }
 
 /// The endpoint that is asked for.

@@ -1,4 +1,4 @@
-//! What C calls (`include/h3.h`). Each call but the first takes a handle that an earlier one wrote, and writes the handle for the next.
+//! What C calls (`include/h3.h`). Each call on an endpoint takes a handle that an earlier one wrote, and writes the handle for the next.
 
 mod ending;
 mod heads;
@@ -8,3 +8,4 @@ mod outgoing;
 mod receiving;
 mod sending;
 mod showing;
+mod version;

@@ -65,7 +65,8 @@ fn bytes_shown(kind: u32, bytes: &Bytes) -> PulledItem
     }
 }
 
-fn malformation_number(why: Malformation) -> u64
+/// The number of `enum h3_malformation`.
+pub(crate) fn malformation_number(why: Malformation) -> u64
     ensures { result ≡ malformation_number why }
 {
     match why {

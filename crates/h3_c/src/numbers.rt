@@ -3,6 +3,7 @@ ghost use Rattle.std.specs.Prelude.{◌≡◌};
 ghost use Rattle.h3_c.specs.Giving.{error_told};
 ghost use Rattle.h3_c.specs.Numbers.{refusal_told, call_told, body_told, delivery_told, list_told, malformed_told, setting_of, new_told};
 
+use crate::items::malformation_number;
 use bytes::Bytes;
 use h3_connection::event::{DeliverError, Malformation, Refusal};
 use h3_connection::setup::NewError;
@@ -76,6 +77,7 @@ pub(crate) fn refused(refusal: Refusal) -> Told
         Refusal::OutOfOrder => plain(10),
         Refusal::WrongSide => plain(11),
         Refusal::PseudoInTrailer => plain(12),
+        Refusal::Malformed(why) => with(27, malformation_number(why)),
         Refusal::TooLarge(size) => with(13, size),
         Refusal::Critical => plain(14),
         Refusal::Ended => plain(15),
@@ -116,14 +118,15 @@ pub(crate) fn listed(call: &Result<(), FieldsError>) -> Told
     }
 }
 
+// What refuses a list by its own fields has the numbers of a list that is handed in, and a rule of strict messages its number beside.
 fn malformed(why: Malformation) -> Told
     ensures { result ≡ malformed_told why }
 {
     match why {
         Malformation::Name => plain(22),
+        Malformation::Value => plain(23),
         Malformation::TooMany => plain(24),
-        Malformation::Value
-        | Malformation::WrongSide
+        Malformation::WrongSide
         | Malformation::PseudoInTrailer
         | Malformation::NoHead
         | Malformation::PseudoOrder
@@ -138,7 +141,7 @@ fn malformed(why: Malformation) -> Told
         | Malformation::Authority
         | Malformation::Path
         | Malformation::Status
-        | Malformation::TrailerField => plain(23),
+        | Malformation::TrailerField => with(27, malformation_number(why)),
     }
 }
 

@@ -79,6 +79,7 @@ fn config(told: &mut Told, section: u64, choices: &[&str]) -> Config {
             "connect" => config.with_extended_connect(true),
             "counted" => config.with_acknowledgments_counted(true),
             "small" => config.with_encoder_table(40),
+            "economical" => config.with_economical_table(true),
             _ => {
                 told.unreadable();
                 config

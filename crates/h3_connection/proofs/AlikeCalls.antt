@@ -1,7 +1,9 @@
 -- A call is answered alike by endpoints that differ in cuts alone.
 use Rattle.std.proofs.Common.{◌≡◌, ℕ, ◌+◌, Bool, true, false, if◌then◌else◌, List, [], ◌∷◌, ◌++◌, length, refl, ap, sym, ◌∙◌, subst, Option, Some, None}
 use Rattle.std.specs.Prelude.{◌||◌, ◌==◌, ◌≢◌, not, is_some, unwrap_or}
-use Rattle.h3_header.specs.Head.{head_fields}
+use Rattle.h3_header.specs.Head.{Head, head_fields}
+use Rattle.h3_messages.specs.Content.{awaited_by}
+use Rattle.h3_messages.specs.declared.content.Content.{Content}
 use Rattle.h3_field.specs.Instruction.{DecoderInstruction}
 use Rattle.h3_connection.specs.declared.event.Refusal.{Refusal}
 use Rattle.h3_connection.specs.declared.event.Refusal.TheVariants as refusal
@@ -14,13 +16,13 @@ use Rattle.h3_connection.specs.CallLists.Result.{Opened, Done, Refused, Waits, T
 use Rattle.h3_connection.specs.Control.{Found}
 use Rattle.h3_connection.specs.Delivering.{incoming_at, taken, closed_by, delivery_refusal, bytes_at, end_at, reset_at, give_up, deliver}
 use Rattle.h3_connection.specs.Endpoint.{EndpointHistory, Kind, Own, kind_of, own_waiting, bytes_waiting, is_critical_of}
-use Rattle.h3_connection.specs.Incoming.{Incoming, nothing_came}
+use Rattle.h3_connection.specs.Incoming.{Incoming, nothing_came, awaiting}
 use Rattle.h3_connection.specs.OwnIds.{control_id, encoder_id, decoder_id}
 use Rattle.h3_connection.specs.Outgoing.{Outgoing as Out, is_end_next, part_bytes_waiting}
 use Rattle.h3_connection.specs.Outgoing.OwnPart.{OwnTrailer}
 use Rattle.h3_connection.specs.PullCuts.{DifferInCuts}
 use Rattle.h3_connection.specs.Sections.{encoded_section}
-use Rattle.h3_connection.specs.Sending.{does, first_of, closed_or, open_refusal, head_refusal, body_refusal, trailer_refusal, finish_refusal, reset_refusal, goaway_refusal, own_advanced, advance_at, cancel_refusal, cancel, sent_bytes, counted, encoded, appended, head_part, fields_cost, with_outgoing, outgoing_at}
+use Rattle.h3_connection.specs.Sending.{does, first_of, closed_or, open_refusal, head_refusal, body_refusal, trailer_refusal, finish_refusal, reset_refusal, goaway_refusal, own_advanced, advance_at, cancel_refusal, cancel, sent_bytes, counted, encoded, appended, head_part, fields_cost, with_outgoing, outgoing_at, asked, awaiting_at, remembers}
 use Rattle.h3_connection.specs.Shown.{peer_limits, table_sizes}
 use Rattle.h3_connection.specs.StreamSets.{Streams, stream_at}
 use Rattle.h3_connection.specs.StreamSetLaws.{other_id}
@@ -105,6 +107,30 @@ module _ (e : EndpointHistory) (s : Streams Incoming) (t : Streams Unidirectiona
     unidirectional = subst (λ l. EachStream SessionsDifferInCuts l t) (sym c) b.unidirectional;
     replies = b.replies ∙ sym (ap joined_increments d);
   }
+
+  -- a head, where it is remembered what the request asks
+  awaits_alike : (id : ℕ) (expected : Content) (x y : Option Incoming) → OfBoth DifferInCuts x y → EachStream DifferInCuts (awaiting_at e.incoming id expected x) (awaiting_at s id expected y)
+  awaits_alike id expected None None h = b.incoming
+  awaits_alike id expected None (Some j) h = absurd h
+  awaits_alike id expected (Some i) None h = absurd h
+  awaits_alike id expected (Some i) (Some j) h =
+      set_both DifferInCuts e.incoming s id (awaiting i expected) (awaiting j expected) b.incoming
+      (record { bytes = h.bytes; same = ap (λ x. awaiting x expected) h.same; first = h.first; second = h.second })
+
+  asks_alike : (id : ℕ) (expected : Content) (remembered : Bool)
+      → EachStream DifferInCuts (if remembered then awaiting_at e.incoming id expected (stream_at e.incoming id) else e.incoming) (if remembered then awaiting_at s id expected (stream_at s id) else s)
+  asks_alike id expected true = awaits_alike id expected (stream_at e.incoming id) (stream_at s id) (requests_here e s t r id b)
+  asks_alike id expected false = b.incoming
+
+  sends_head : (id : ℕ) (head : Head) → AlikeCalled (λ one two. one ≡ two) (called e (SendHead id head)) (called two (SendHead id head))
+  sends_head id head =
+      let content = awaited_by (head_fields head) in
+      let remembered = remembers e.side e.announced in
+      let plain = counted (appended (encoded e id (head_fields head)) id (head_part head (encoded_section e.encoder id (head_fields head)))) (fields_cost (head_fields head)) in
+      let new : EndpointHistory = asked plain id (head_fields head) in
+      let others : Streams Incoming = if remembered then awaiting_at s id content (stream_at s id) else s in
+      of_done Done _ _ (does_alike (head_refusal e id head) e two new (with_streams new others t r) here
+      (beside_alike new others t r (record { incoming = asks_alike id content remembered; unidirectional = b.unidirectional; replies = b.replies })))
 
   sends_body : (id : ℕ) (bytes : List ℕ) → AlikeCalled (λ one two. one ≡ two) (called e (SendBody id bytes)) (called two (SendBody id bytes))
   sends_body id [] = sends Done (body_refusal e id) (counted (sent_bytes e id []) 0) (as_is _ refl refl refl)
@@ -194,7 +220,7 @@ module _ (e : EndpointHistory) (s : Streams Incoming) (t : Streams Unidirectiona
 
   pub called_alike : (c : Call) → piece_of (called e c).0 ≡ None → ((id : ℕ) → piece_of (called e (PullStream id)).0 ≡ None → AreAlike (PullStream id)) → AreAlike c
   called_alike OpenRequest none pulled = opens_next
-  called_alike (SendHead id head) none pulled = sends Done (head_refusal e id head) _ (as_is (counted (appended (encoded e id (head_fields head)) id (head_part head (encoded_section e.encoder id (head_fields head)))) (fields_cost (head_fields head))) refl refl refl)
+  called_alike (SendHead id head) none pulled = sends_head id head
   called_alike (SendBody id bytes) none pulled = sends_body id bytes
   called_alike (SendTrailer id head) none pulled = sends Done (trailer_refusal e id head) _ (as_is (counted (appended (encoded e id (head_fields head)) id (OwnTrailer (encoded_section e.encoder id (head_fields head)))) (fields_cost (head_fields head))) refl refl refl)
   called_alike (Finish id) none pulled = sends Done (finish_refusal e id) _ (as_is (with_outgoing e id (record (outgoing_at e id) { is_finished = true })) refl refl refl)

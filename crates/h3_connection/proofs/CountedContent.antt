@@ -1,6 +1,6 @@
 -- Content is handed out as long as its head says.
 use Rattle.std.proofs.Common.{arith, ◌≡◌, ℕ, ◌+◌, ◌-◌, ◌≤◌, Bool, true, false, List, [], ◌∷◌, length, take, drop, refl, sym, ◌∙◌, ap, subst}
-use Rattle.std.specs.Prelude.{Option, Some, None, is_some, if◌then◌else◌, ◌==◌, nat_lt, nat_le, not, ◌&&◌}
+use Rattle.std.specs.Prelude.{Option, Some, None, is_some, codes, if◌then◌else◌, ◌==◌, nat_lt, nat_le, not, ◌&&◌}
 use Rattle.std.specs.List.{concat}
 use Rattle.std.proofs.lemmas.Grind.{common_steps}
 use Rattle.std.proofs.lemmas.List.{length-take}
@@ -8,6 +8,7 @@ use Rattle.h3_field.specs.Field.{Field}
 use Rattle.h3_field.specs.Instruction.{DecoderInstruction}
 use Rattle.h3_qpack.specs.DecoderState.{DecoderState}
 use Rattle.h3_qpack.specs.DecodedSection.{DecodedSection, Fields, Missing, BadSection, decode_section}
+use Rattle.h3_qpack.specs.Sizes.{last_value}
 use Rattle.h3_header.specs.Head.{Head, has_pseudo}
 use Rattle.h3_header.specs.HeadRead.{HeadRead, IsHead, IsNone, head_of}
 use Rattle.h3_messages.specs.Content.{left_behind, is_exceeded, may_end, takes_trailer}
@@ -24,8 +25,8 @@ use Rattle.h3_connection.specs.Announcing.{section_of}
 use Rattle.h3_connection.specs.CountedContent.{counted_with, HandsOut, Begins, Comes, Ends, Pulls, IsWholeAt, CountsContent}
 use Rattle.h3_connection.specs.Incoming.{Incoming, is_body}
 use Rattle.h3_connection.specs.Skipping.{skipped}
-use Rattle.h3_connection.specs.StrictMessages.{broken_rule, content_behind, content_at, if_whole}
-use Rattle.h3_connection.specs.Pulling.{Pulled, just, connection_fault, malformed, unless_broken, whole_trailer, head_or_trailer, next_place, judged, with_content, read_section, decoded, at_section, new_section, at_end, at_frame, framed, next_frame, in_message, next_item, pull_stream, in_payload, at_payload, body_of, past_section, begun_section, begun_payload, left_with, told_size}
+use Rattle.h3_connection.specs.StrictMessages.{broken_rule, content_behind, content_behind_large, content_at, if_whole, large_content_at}
+use Rattle.h3_connection.specs.Pulling.{Pulled, just, connection_fault, malformed, unless_broken, whole_trailer, head_or_trailer, next_place, judged, with_content, past_large, read_section, decoded, at_section, new_section, at_end, at_frame, framed, next_frame, in_message, next_item, pull_stream, in_payload, at_payload, body_of, past_section, begun_section, begun_payload, left_with, told_size}
 use Rattle.h3_connection.specs.declared.setup.Announced.{Announced}
 use Rattle.h3_connection.specs.declared.event.Malformation.{Malformation}
 use Rattle.h3_connection.specs.declared.event.Malformation.TheVariants as malformation
@@ -202,6 +203,22 @@ module _ (all n : ℕ) where
         by_choice true = by_place place at
         by_choice false = refl
 
+    -- nor one that is too large
+    large_stays : (s : Side) (place : Place) (content : Content) (status : Option (List ℕ)) → is_behind_head place ≡ true → large_content_at s own place content status ≡ content
+    large_stays s place content status at = by_choice own.choices.strict_messages
+      where
+        by_place : (s : Side) (place : Place) → is_behind_head place ≡ true → content_behind_large s place content status ≡ content
+        by_place Client InBody at = refl
+        by_place Server InBody at = refl
+        by_place Client AfterTrailer at = refl
+        by_place Server AfterTrailer at = refl
+        by_place s BeforeHead at = never at
+        by_place s InSession at = never at
+
+        by_choice : (b : Bool) → (if b then content_behind_large s place content status else content) ≡ content
+        by_choice true = by_place s place at
+        by_choice false = refl
+
     next_behind : (s : Side) (place : Place) (fields : List Field) → is_behind_head place ≡ true → is_behind_head (next_place s place fields) ≡ true
     next_behind Client InBody fields at = refl
     next_behind Server InBody fields at = refl
@@ -222,7 +239,12 @@ module _ (all n : ℕ) where
         either (nat_lt (section_of own) (told_size fields)) _ _
         (record {
           whole = tt;
-          after = (next_behind side i.place fields g.place, λ over. absurd (differ i.is_over g.not_over over), λ there. closed, are_all n i.fault i.content i.body_left g.more g.no_fault g.content g.sum);
+          after = (
+            next_behind side i.place fields g.place,
+            λ over. absurd (differ i.is_over g.not_over over),
+            λ there. closed,
+            are_all n i.fault (past_large side own i fields).content i.body_left g.more g.no_fault (large_stays side i.place i.content (last_value (codes ":status") fields) g.place ∙ g.content) g.sum,
+          );
         })
         (judged_fine (with_content side own i fields) replies (if_whole i.content (broken_rule side own i.place fields)) (head_of fields) closed
         (record { no_fault = g.no_fault; not_over = g.not_over; place = g.place; more = g.more; content = stays i.place i.content fields g.place ∙ g.content; sum = g.sum })

@@ -1,6 +1,6 @@
 -- Once the end of a stream was handed out, every later pull of it answers the end.
 use Rattle.std.proofs.Common.{arith, ◌≡◌, ◌≤◌, ℕ, ◌+◌, Bool, true, false, List, [], ◌∷◌, ◌++◌, length, refl, sym, ◌∙◌, ap, subst}
-use Rattle.std.specs.Prelude.{Option, Some, None, if◌then◌else◌, ◌==◌, nat_lt, not}
+use Rattle.std.specs.Prelude.{Option, Some, None, if◌then◌else◌, ◌==◌, nat_lt, not, ◌&&◌, ◌||◌, is_some}
 use Rattle.std.proofs.lemmas.Grind.{common_steps}
 use Rattle.std.proofs.lemmas.Bool.{le-ltb}
 use Rattle.h3_proto.specs.declared.stream.Side.{Side}
@@ -14,7 +14,7 @@ use Rattle.h3_connection.specs.declared.event.Refusal.TheVariants as refusal
 use Rattle.h3_connection.specs.declared.event.StreamFault.TheVariants as stream_fault
 use Rattle.h3_connection.specs.Bounds.{IsBounded}
 use Rattle.h3_connection.specs.HandedOut.{IsOver, IsOverSession, RequestIsOver, SessionIsOver, EndsSoundly}
-use Rattle.h3_connection.specs.Incoming.{Incoming, nothing_came}
+use Rattle.h3_connection.specs.Incoming.{Incoming, nothing_came, awaiting, awaits_head, is_before_head}
 use Rattle.h3_connection.specs.Unidirectional.{Unidirectional, pull_unidirectional, if_over, role_after}
 use Rattle.h3_connection.specs.Outgoing.{Outgoing as Out, is_end_next}
 use Rattle.h3_connection.specs.Endpoint.{EndpointHistory, Kind, kind_of, heads_waiting, replied}
@@ -24,7 +24,7 @@ use Rattle.h3_connection.specs.StreamSets.{stream_at, set_stream}
 use Rattle.h3_connection.specs.StreamSetLaws.{set-same}
 use Rattle.h3_connection.specs.Pulling.{Pulled, pull_stream, just, is_client}
 use Rattle.h3_connection.specs.Delivering.{delivery_refusal, refusal_at, request_refusal, opened_at, opened, incoming_at, unidirectional_at, with_incoming, taken, bytes_at, end_at, reset_at, give_up, given_up_once, kept, with_end}
-use Rattle.h3_connection.specs.Sending.{does, open_refusal, closed_or, pull, pull_at, pull_unless, pull_request, pull_peer, pulled, within_limit, if_too_many, after_answer, advance_at, pulled_unidirectional, sent_bytes, counted, cancel_refusal, open_request, send_head, head_refusal, encoded, appended, head_part, fields_cost, body_refusal, send_trailer, trailer_refusal, finish, finish_refusal, reset, reset_refusal, with_outgoing, outgoing_at, goaway, goaway_refusal}
+use Rattle.h3_connection.specs.Sending.{does, open_refusal, closed_or, pull, pull_at, pull_unless, pull_request, pull_peer, pulled, within_limit, if_too_many, after_answer, advance_at, pulled_unidirectional, sent_bytes, counted, cancel_refusal, open_request, send_head, head_refusal, encoded, appended, head_part, fields_cost, body_refusal, send_trailer, trailer_refusal, finish, finish_refusal, reset, reset_refusal, with_outgoing, outgoing_at, goaway, goaway_refusal, asked, awaiting_at, remembers}
 use Rattle.h3_connection.specs.Sections.{encoded_section}
 use Rattle.h3_connection.specs.Outgoing.OwnPart.{OwnTrailer}
 use Rattle.h3_header.specs.Head.{Head, head_fields}
@@ -40,6 +40,8 @@ use Rattle.h3_connection.proofs.PullEnds.{pull_ends}
 use Rattle.h3_connection.proofs.Bounded.{call_on}
 use Rattle.h3_connection.proofs.ReadingStays.{bytes_stay, end_stays, reset_stays}
 use Rattle.h3_connection.proofs.Isolated.{keeps_rest}
+use Rattle.h3_messages.specs.Content.{awaited_by}
+use Rattle.h3_messages.specs.declared.content.Content.{Content}
 
 -- what a pull of a stream that is over does
 pub over_pulled : (side : _) (own : _) (id : ℕ) (r : _) (i : Incoming) → IsOver i → pull_stream side own id r i ≡ just (answer.Item item.End) i
@@ -239,10 +241,35 @@ end_left e q id (Some o) = by_test (is_end_next o)
     by_test false = record { incoming = refl; next_id = omega arith }
 end_left e q id None = record { incoming = refl; next_id = omega arith }
 
-head_left : (e : EndpointHistory) (q id : ℕ) (head : Head) → Leaves e (done Done (send_head e q head)).1 id
-head_left e q id head =
+-- a stream that is over awaits no head
+no_head : (before : Bool) → (before && false) ≡ false
+no_head true = refl
+no_head false = refl
+
+over_awaits : (i : Incoming) (content : Content) → i.is_over ≡ true → awaiting i content ≡ i
+over_awaits i content over =
+    let none : awaits_head i ≡ false = ap (λ b. is_before_head i.place && not (b || is_some i.fault)) over ∙ no_head (is_before_head i.place) in
+    ap (λ b. let j : Incoming = record i { content = if b then content else i.content } in j) none
+
+asked_left : (e : EndpointHistory) (q id : ℕ) (expected : Content) (remembered : Bool) → RequestIsOver e id
+    → stream_at (if remembered then awaiting_at e.incoming q expected (stream_at e.incoming q) else e.incoming) id ≡ stream_at e.incoming id
+asked_left e q id expected false h = refl
+asked_left e q id expected true h = by_eq q id (λ x. stream_at (awaiting_at e.incoming q expected (stream_at e.incoming q)) id ≡ stream_at e.incoming id) here (elsewhere (stream_at e.incoming q))
+  where
+    here : q ≡ id → stream_at (awaiting_at e.incoming q expected (stream_at e.incoming q)) id ≡ stream_at e.incoming id
+    here same =
+        ap (λ p. stream_at (awaiting_at e.incoming p expected (stream_at e.incoming p)) id) same ∙ ap (λ at. stream_at (awaiting_at e.incoming id expected at) id) h.here
+        ∙ at_same e.incoming id (awaiting h.stream expected) ∙ ap Some (over_awaits h.stream expected h.is_over.over) ∙ sym h.here
+
+    elsewhere : (at : Option Incoming) → (q == id) ≡ false → stream_at (awaiting_at e.incoming q expected at) id ≡ stream_at e.incoming id
+    elsewhere None ne = refl
+    elsewhere (Some i) ne = at_other e.incoming q id (awaiting i expected) ne
+
+head_left : (e : EndpointHistory) (q id : ℕ) (head : Head) → RequestIsOver e id → Leaves e (done Done (send_head e q head)).1 id
+head_left e q id head h =
     let f = counted (appended (encoded e q (head_fields head)) q (head_part head (encoded_section e.encoder q (head_fields head)))) (fields_cost (head_fields head)) in
-    does_leave (head_refusal e q head) e f Done id (leaves_same e f id refl refl)
+    does_leave (head_refusal e q head) e (asked f q (head_fields head)) Done id
+    (record { incoming = asked_left e q id (awaited_by (head_fields head)) (remembers e.side e.announced) h; next_id = omega arith })
 
 trailer_left : (e : EndpointHistory) (q id : ℕ) (head : Head) → Leaves e (done Done (send_trailer e q head)).1 id
 trailer_left e q id head =
@@ -266,7 +293,7 @@ goaway_left e n id =
 
 call_leaves : (e : EndpointHistory) (c : Call) (id : ℕ) → IsBounded e → RequestIsOver e id → e.closed ≡ None → (called e c).1.closed ≡ None → Leaves e (called e c).1 id
 call_leaves e OpenRequest id b h o p = open_left e id h
-call_leaves e (SendHead q head) id b h o p = head_left e q id head
+call_leaves e (SendHead q head) id b h o p = head_left e q id head h
 call_leaves e (SendBody q bytes) id b h o p = does_leave (body_refusal e q) e (counted (sent_bytes e q bytes) (length bytes)) Done id (body_left e q id bytes)
 call_leaves e (SendTrailer q head) id b h o p = trailer_left e q id head
 call_leaves e (Finish q) id b h o p = finish_left e q id

@@ -1,6 +1,10 @@
 -- Each call is answered by what a request stream sees, or changes nothing of that.
 use Rattle.std.proofs.Common.{◌≡◌, ℕ, ◌+◌, Bool, true, false, ◌||◌, List, [], ◌∷◌, length, refl, sym, ◌∙◌, ap, subst}
-use Rattle.std.specs.Prelude.{Option, Some, None, if◌then◌else◌, ◌==◌, nat_lt, is_some, unwrap_or, not}
+use Rattle.std.specs.Prelude.{Option, Some, None, if◌then◌else◌, ◌==◌, ◌&&◌, nat_lt, is_some, is_none, unwrap_or, not}
+use Rattle.h3_header.specs.Head.{Head, head_fields}
+use Rattle.h3_messages.specs.Content.{awaited_by}
+use Rattle.h3_messages.specs.declared.content.Content.{Content}
+use Rattle.h3_connection.specs.Sections.{encoded_section}
 use Rattle.h3_proto.specs.declared.stream.Side.{Side}
 use Rattle.h3_proto.specs.declared.stream.Side.TheVariants.{Client, Server}
 use Rattle.h3_connection.specs.declared.event.Refusal.{Refusal}
@@ -9,8 +13,8 @@ use Rattle.h3_connection.specs.declared.event.Pull.{Pull}
 use Rattle.h3_connection.specs.declared.event.Pull.TheVariants as answer
 use Rattle.h3_connection.specs.declared.event.Fault.TheVariants as fault
 use Rattle.h3_connection.specs.declared.event.StreamFault.TheVariants as stream_fault
-use Rattle.h3_connection.specs.StreamSets.{stream_at, set_stream}
-use Rattle.h3_connection.specs.Incoming.{Incoming, nothing_came}
+use Rattle.h3_connection.specs.StreamSets.{Streams, stream_at, set_stream}
+use Rattle.h3_connection.specs.Incoming.{Incoming, nothing_came, awaiting}
 use Rattle.h3_connection.specs.Pulling.{pull_stream}
 use Rattle.h3_connection.specs.Pulling.{Pulled as PulledStream}
 use Rattle.h3_connection.specs.Unidirectional.{Unidirectional, pull_unidirectional}
@@ -19,13 +23,13 @@ use Rattle.h3_connection.specs.Endpoint.{EndpointHistory, Kind, kind_of, new_end
 use Rattle.h3_connection.specs.Endpoint.Kind.{Request, ServerOpened, OwnUnidirectional, PeerUnidirectional}
 use Rattle.h3_connection.specs.Control.{Found}
 use Rattle.h3_connection.specs.Delivering.{opened_at, unidirectional_at, incoming_at, opened, with_incoming, taken, refusal_at, server_opened_refusal, bytes_at, end_at, reset_at, kept, with_end, give_up, given_up_once, request_refusal}
-use Rattle.h3_connection.specs.Sending.{does, first_of, open_refusal, advance_at, pull_at, pull_unless, pull_request, pull_peer, pulled, within_limit, if_too_many, after_answer, cancel_refusal, closed_or, sent_bytes, counted}
+use Rattle.h3_connection.specs.Sending.{does, first_of, open_refusal, advance_at, pull_at, pull_unless, pull_request, pull_peer, pulled, within_limit, if_too_many, after_answer, cancel_refusal, closed_or, sent_bytes, counted, remembers, awaiting_at, head_refusal, appended, encoded, head_part, fields_cost}
 use Rattle.h3_connection.specs.CallLists.{Call, Result, called, endpoint_after, done, was_pulled}
 use Rattle.h3_connection.specs.EndsWaiting.{end_taken_at, end_taken_if}
 use Rattle.h3_connection.specs.CallLists.Call.{OpenRequest, SendHead, SendBody, SendTrailer, Finish, Reset, Goaway, Advance, TakeEnd, Outgoing, Deliver, DeliverEnd, DeliverReset, PullStream, Cancel, Show}
 use Rattle.h3_connection.specs.CallLists.Result.{Done, Opened}
 use Rattle.h3_connection.specs.CallLists.Result.{Pulled as WasPulled}
-use Rattle.h3_connection.specs.Isolation.{Before, GoesOn, view, answers_seen, fold_seen, sight_after, first_sight, Sight, IsSight, AreEncoders, StepIsSeen, Seen, sees, seen, with_seen, seen_incoming, unless_refused, seen_pull, seen_encoder_bytes, seen_encoder_closing}
+use Rattle.h3_connection.specs.Isolation.{Before, GoesOn, view, answers_seen, fold_seen, sight_after, first_sight, Sight, IsSight, AreEncoders, StepIsSeen, Seen, sees, seen, with_seen, with_awaited, seen_incoming, unless_refused, seen_pull, seen_encoder_bytes, seen_encoder_closing}
 use Rattle.h3_connection.proofs.Quiet.{Quiet, still, shut}
 use Rattle.h3_connection.proofs.Seen.{at_same, at_other, eq_refl, sight_here, sight_same, unseen, unseen_quiet, quiet_does, Arrived, arrives_here, arrives_other, OpensAt, opens_at, opened_other}
 use Rattle.h3_connection.specs.declared.setup.Announced.{Announced}
@@ -335,11 +339,52 @@ quiet_end e id (Some o) = by_test (is_end_next o)
     by_test false = shut e _ refl refl refl refl refl refl refl
 quiet_end e id None = shut e _ refl refl refl refl refl refl refl
 
+-- A head that is sent, where it is remembered what the request asks
+awaits_other : (streams : Streams Incoming) (q id : ℕ) (expected : Content) (at : Option Incoming) → (q == id) ≡ false → stream_at (awaiting_at streams q expected at) id ≡ stream_at streams id
+awaits_other streams q id expected None ne = refl
+awaits_other streams q id expected (Some i) ne = at_other streams q id (awaiting i expected) ne
+
+awaits_here : (T : ℕ → Bool) (id : ℕ) (e f : EndpointHistory) (s : Sight) (expected : Content) (at : Option Incoming) → IsSight T id e s → stream_at e.incoming id ≡ at
+    → f.incoming ≡ awaiting_at e.incoming id expected at → f.decoding ≡ e.decoding → f.unidirectional ≡ e.unidirectional → IsSight T id f (with_awaited s expected at)
+awaits_here T id e f s expected None h is a b c = sight_same T id e f s h (ap (λ x. stream_at x id) a) b c
+awaits_here T id e f s expected (Some i) h is a b c = sight_here T id e f s (Some (awaiting i expected)) h (ap (λ x. stream_at x id) a ∙ at_same e.incoming id (awaiting i expected)) b c
+
+head_step : (T : ℕ → Bool) (id : ℕ) (e : EndpointHistory) (s : Sight) (q : ℕ) (head : Head) → Before T id e s → StepIsSeen T id e (called e (SendHead q head)).1 s (SendHead q head) (called e (SendHead q head)).0
+head_step T id e s q head b = by_choice (remembers e.side e.announced) refl
+  where
+    expected : Content
+    expected = awaited_by (head_fields head)
+
+    plain : EndpointHistory
+    plain = counted (appended (encoded e q (head_fields head)) q (head_part head (encoded_section e.encoder q (head_fields head)))) (fields_cost (head_fields head))
+
+    told : EndpointHistory
+    told = record plain { incoming = awaiting_at e.incoming q expected (stream_at e.incoming q) }
+
+    here : (q == id) ≡ true → q ≡ id → IsSight T id told (with_awaited s expected s.incoming)
+    here is same =
+        subst (λ at. IsSight T id told (with_awaited s expected at)) b.sight.incoming
+        (awaits_here T id e told s expected (stream_at e.incoming id) b.sight refl (ap (λ x. awaiting_at e.incoming x expected (stream_at e.incoming x)) same) refl refl)
+
+    by_refusal : (r : Option Refusal) → head_refusal e q head ≡ r → remembers e.side e.announced ≡ true
+        → StepIsSeen T id e (done Done (does r e told)).1 s (SendHead q head) (done Done (does r e told)).0
+    by_refusal (Some r) refused told_so = unseen T id e e s (SendHead q head) _ (rw (told_so, refused) refl) b.sight
+    by_refusal None accepted told_so = by_eq q id (λ x. (q == id) ≡ x → StepIsSeen T id e told s (SendHead q head) Done)
+        (λ same is. seen_here T id e told s (SendHead q head) Done (refl, here is same) (rw (told_so, accepted, is) refl))
+        (λ ne is. unseen T id e told s (SendHead q head) Done (rw (told_so, accepted, ne) refl)
+        (sight_same T id e told s b.sight (awaits_other e.incoming q id expected (stream_at e.incoming q) ne) refl refl)) refl
+
+    by_choice : (x : Bool) → remembers e.side e.announced ≡ x
+        → let f : EndpointHistory = record plain { incoming = if x then awaiting_at e.incoming q expected (stream_at e.incoming q) else e.incoming } in
+        StepIsSeen T id e (done Done (does (head_refusal e q head) e f)).1 s (SendHead q head) (done Done (does (head_refusal e q head) e f)).0
+    by_choice false silent = unseen_quiet T id e _ s _ _ (rw silent refl) b.sight (quiet_does _ e plain (shut e plain refl refl refl refl refl refl refl))
+    by_choice true told_so = by_refusal (head_refusal e q head) refl told_so
+
 -- One call of any kind.
 pub each_step : (T : ℕ → Bool) (id : ℕ) (e : EndpointHistory) (s : Sight) (c : Call) → Before T id e s
     → (called e c).1.closed ≡ None → AreEncoders T (called e c).1 → StepIsSeen T id e (called e c).1 s c (called e c).0
 each_step T id e s OpenRequest b p a = open_step T id e s b
-each_step T id e s (SendHead q head) b p a = unseen_quiet T id e _ s _ _ refl b.sight (quiet_does _ e _ (shut e _ refl refl refl refl refl refl refl))
+each_step T id e s (SendHead q head) b p a = head_step T id e s q head b
 each_step T id e s (SendBody q bytes) b p a = unseen_quiet T id e _ s _ _ refl b.sight (quiet_does _ e _ (quiet_body e q bytes))
 each_step T id e s (SendTrailer q head) b p a = unseen_quiet T id e _ s _ _ refl b.sight (quiet_does _ e _ (shut e _ refl refl refl refl refl refl refl))
 each_step T id e s (Finish q) b p a = unseen_quiet T id e _ s _ _ refl b.sight (quiet_does _ e _ (shut e _ refl refl refl refl refl refl refl))

@@ -39,3 +39,5 @@ pub mod EndOverLists
 pub mod WellFormed
 pub mod CountedContent
 pub mod HeadContent
+pub mod NoContent
+pub mod WellSent

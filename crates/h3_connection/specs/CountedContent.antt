@@ -2,6 +2,7 @@
 use Rattle.std.specs.Prelude.{◌≡◌, ℕ, ◌+◌, ◌≤◌, true, false, List, length, None}
 use Rattle.h3_field.specs.Field.{Field}
 use Rattle.h3_header.specs.HeadRead.{IsHead, head_of}
+use Rattle.h3_messages.specs.declared.content.Content.{Content}
 use Rattle.h3_messages.specs.declared.content.Content.TheVariants.{Exactly}
 use Rattle.h3_proto.specs.declared.stream.Side.{Side}
 use Rattle.h3_qpack.specs.DecoderState.{DecoderState}
@@ -46,12 +47,12 @@ abbrev pub CountsContent : Type 0
 CountsContent =
     (side : Side) (own : Announced) (id all n : ℕ) (r : DecoderState) (i : Incoming) → HandsOut side own id all n i → (n ≤ all) × IsWholeAt all n (pull_stream side own id r i).answer
 
--- Behind a head stands the content that its list says.
-abbrev pub HasItsContent : Side → Pull → Incoming → Type 0
-HasItsContent side (pull.Item (item.Head h)) i = (fields : List Field) × (head_of fields ≡ IsHead h) × (i.content ≡ content_of_head side fields) × (i.place ≡ InBody)
-HasItsContent side _ i = Unit {0}
+-- Behind a head stands the content that its list says: of a response, by what its request asked.
+abbrev pub HasItsContent : Side → Content → Pull → Incoming → Type 0
+HasItsContent side awaited (pull.Item (item.Head h)) i = (fields : List Field) × (head_of fields ≡ IsHead h) × (i.content ≡ content_of_head side awaited fields) × (i.place ≡ InBody)
+HasItsContent side awaited _ i = Unit {0}
 
 abbrev pub HeadsHaveTheirContent : Type 0
 HeadsHaveTheirContent =
     (side : Side) (own : Announced) (id : ℕ) (r : DecoderState) (i : Incoming) → own.choices.strict_messages ≡ true
-    → HasItsContent side (pull_stream side own id r i).answer (pull_stream side own id r i).incoming
+    → HasItsContent side i.content (pull_stream side own id r i).answer (pull_stream side own id r i).incoming

@@ -52,9 +52,10 @@ pub record EndpointHistory : Type 0 where
   -- what it was handed to send: the bytes of names, values and bodies, and 64 for each field and each call
   pub sent : ℕ
 
--- what an encoder goes by before anything. Whether acknowledgments count, and the most that its table may have, is chosen once
+-- what an encoder goes by before anything. Whether acknowledgments count, the most that its table may have, and whether it is economical
+-- with it, is chosen once
 abbrev pub first_encoder : Announced → EncoderHistory
-first_encoder announced = record no_table { most_capacity = announced.choices.encoder_table; counts_acknowledgments = announced.choices.acknowledgments_counted }
+first_encoder announced = record no_table { most_capacity = announced.choices.encoder_table; counts_acknowledgments = announced.choices.acknowledgments_counted; economical = announced.choices.economical_table }
 
 abbrev pub new_endpoint : Side → Announced → EndpointHistory
 new_endpoint side announced =

@@ -1,5 +1,5 @@
 -- One request stream at its receiver.
-use Rattle.std.specs.Prelude.{◌≡◌, ℕ, Bool, true, false, List, [], Option, Some, None}
+use Rattle.std.specs.Prelude.{◌≡◌, ℕ, Bool, true, false, not, ◌&&◌, ◌||◌, List, [], if◌then◌else◌, Option, Some, None, is_some}
 use Rattle.h3_messages.specs.declared.content.Content.{Content}
 use Rattle.h3_messages.specs.declared.content.Content.TheVariants.{Unsaid}
 use Rattle.h3_connection.specs.declared.event.StreamFault.{StreamFault}
@@ -14,7 +14,8 @@ pub record Incoming : Type 0 where
   pub section : Option (List ℕ)
   -- how much of a begun payload of DATA is still to come out
   pub body_left : ℕ
-  -- how much content is left behind that, where the endpoint asks for strict messages: as long as nothing says it, any
+  -- how much content is left behind that, where the endpoint asks for strict messages: as long as nothing says it, any. In front of the
+  -- head of a response it is what the request said of it
   pub content : Content
   pub place : Place
   -- the required insert count that the section waited for, or 0
@@ -56,3 +57,15 @@ pub record Passes (old new : Incoming) : Type 0 where
 abbrev pub is_body : Place → Bool
 is_body InBody = true
 is_body _ = false
+
+-- its final head is still to come
+abbrev pub is_before_head : Place → Bool
+is_before_head BeforeHead = true
+is_before_head _ = false
+
+abbrev pub awaits_head : Incoming → Bool
+awaits_head i = is_before_head i.place && not (i.is_over || is_some i.fault)
+
+-- this content is awaited of it, until its head comes
+abbrev pub awaiting : Incoming → Content → Incoming
+awaiting i content = record i { content = if awaits_head i then content else i.content }

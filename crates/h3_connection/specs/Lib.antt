@@ -2,6 +2,7 @@ pub mod Hearing
 pub mod DecodedSection
 pub mod Announcing
 pub mod StrictMessages
+pub mod StrictSending
 pub mod Codes
 pub mod MalformationCodes
 pub mod FaultTexts
@@ -26,6 +27,7 @@ pub mod Endpoint
 pub mod Control
 pub mod Delivering
 pub mod CountedContent
+pub mod NoContent
 pub mod UnknownFrames
 pub mod DeliveryCuts
 pub mod PullCuts
@@ -52,3 +54,5 @@ pub mod CallCuts
 pub mod UnknownStreams
 pub mod Shown
 pub mod StandsLaws
+pub mod StrictSends
+pub mod StrictSendingLaws

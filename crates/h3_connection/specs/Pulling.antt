@@ -23,8 +23,9 @@ use Rattle.h3_connection.specs.Incoming.{Incoming, given_up, is_body}
 use Rattle.h3_connection.specs.declared.place.Place.{Place}
 use Rattle.h3_connection.specs.declared.place.Place.TheVariants.{BeforeHead, InBody, AfterTrailer, InSession}
 use Rattle.h3_connection.specs.Skipping.{skipped}
-use Rattle.h3_connection.specs.StrictMessages.{broken_rule, content_at, if_whole}
-use Rattle.h3_messages.specs.Content.{left_behind, is_exceeded, may_end, takes_trailer}
+use Rattle.h3_connection.specs.StrictMessages.{broken_rule, content_at, large_content_at, if_whole}
+pub use Rattle.h3_messages.specs.Content.{is_digit}
+use Rattle.h3_messages.specs.Content.{is_interim_status, left_behind, is_exceeded, may_end, takes_trailer}
 use Rattle.h3_connection.specs.declared.setup.Announced.{Announced}
 use Rattle.h3_connection.specs.declared.event.Item.TheVariants as item
 use Rattle.h3_connection.specs.declared.event.Pull.{Pull}
@@ -79,13 +80,9 @@ abbrev pub is_client : Side → Bool
 is_client Client = true
 is_client Server = false
 
--- three digits, of which the first is 1
-abbrev pub is_digit : ℕ → Bool
-is_digit b = nat_le 48 b && nat_le b 57
-
 abbrev pub is_interim_text : Option (List ℕ) → Bool
 is_interim_text None = false
-is_interim_text (Some text) = (length text == 3) && list_all is_digit text && (slice_index text 0 == 49)
+is_interim_text (Some text) = is_interim_status text
 
 -- the place behind a section that is too large: a client counts an interim head as such, by its last status
 abbrev pub next_place : Side → Place → List Field → Place
@@ -141,6 +138,11 @@ begun_payload i size = record i { body_left = size; content = left_behind i.cont
 abbrev pub with_content : Side → Announced → Incoming → List Field → Incoming
 with_content side own i fields = record i { content = content_at side own i.place i.content fields }
 
+-- one of these fields was, which is too large
+abbrev pub past_large : Side → Announced → Incoming → List Field → Incoming
+past_large side own i fields =
+    record i { place = next_place side i.place fields; content = large_content_at side own i.place i.content (last_value (codes ":status") fields) }
+
 -- these bytes are left
 abbrev pub left_with : Incoming → List ℕ → Incoming
 left_with i bytes = record i { unread = ending (length bytes) i.unread }
@@ -171,7 +173,7 @@ module _ (side : Side) (own : Announced) (id : ℕ) (r : DecoderState) where
   abbrev pub read_section : Incoming → List DecoderInstruction → List Field → Pulled
   read_section i replies fields =
       if nat_lt (section_of own) (told_size fields)
-      then record { answer = pull.Item (item.TooLarge (told_size fields)); incoming = record i { place = next_place side i.place fields }; replies = replies }
+      then record { answer = pull.Item (item.TooLarge (told_size fields)); incoming = past_large side own i fields; replies = replies }
       else judged side id (with_content side own i fields) replies (if_whole i.content (broken_rule side own i.place fields)) (head_of fields)
 
   -- A section was tried. One that is bad, or that misses entries a second time, is a fault of the connection, and no more tried.

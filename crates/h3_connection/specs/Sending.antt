@@ -17,8 +17,12 @@ use Rattle.h3_connection.specs.declared.event.Fault.{Fault}
 use Rattle.h3_connection.specs.declared.event.Fault.TheVariants as fault
 use Rattle.h3_connection.specs.declared.event.StreamFault.TheVariants as stream_fault
 use Rattle.h3_connection.specs.Codes.{decompression_failed}
-use Rattle.h3_connection.specs.StreamSets.{stream_at, set_stream}
-use Rattle.h3_connection.specs.Incoming.{Incoming}
+use Rattle.h3_connection.specs.StreamSets.{Streams, stream_at, set_stream}
+use Rattle.h3_connection.specs.StrictSending.{broken_head, broken_trailer, unless_malformed}
+use Rattle.h3_connection.specs.Incoming.{Incoming, awaiting}
+use Rattle.h3_messages.specs.Content.{awaited_by}
+use Rattle.h3_messages.specs.declared.content.Content.{Content}
+use Rattle.h3_connection.specs.declared.setup.Announced.{Announced}
 use Rattle.h3_connection.specs.Pulling.{Pulled, pull_stream}
 use Rattle.h3_connection.specs.Unidirectional.{Unidirectional, pull_unidirectional}
 use Rattle.h3_connection.specs.Outgoing.{Outgoing, OwnPart, nothing_sent, takes_head, takes_body, takes_end, is_sent_off}
@@ -73,7 +77,8 @@ head_refusal e id head = unless_closed e (first_of (
     (not (is_open e id), refusal.NotOpen) ∷
     (not (takes_head (outgoing_at e id)), refusal.OutOfOrder) ∷
     (not (is_for (other e.side) head), refusal.WrongSide) ∷
-    (is_too_large e.peer.settings (head_fields head), refusal.TooLarge (section_size (head_fields head))) ∷ []))
+    unless_malformed (broken_head e.side e.announced e.peer.settings (head_fields head)) (
+    (is_too_large e.peer.settings (head_fields head), refusal.TooLarge (section_size (head_fields head))) ∷ [])))
 
 abbrev pub body_refusal : EndpointHistory → ℕ → Option Refusal
 body_refusal e id = unless_closed e (first_of (
@@ -85,7 +90,8 @@ trailer_refusal e id head = unless_closed e (first_of (
     (not (is_open e id), refusal.NotOpen) ∷
     (not (takes_body (outgoing_at e id)), refusal.OutOfOrder) ∷
     (has_pseudo head, refusal.PseudoInTrailer) ∷
-    (is_too_large e.peer.settings (head_fields head), refusal.TooLarge (section_size (head_fields head))) ∷ []))
+    unless_malformed (broken_trailer e.announced (head_fields head)) (
+    (is_too_large e.peer.settings (head_fields head), refusal.TooLarge (section_size (head_fields head))) ∷ [])))
 
 abbrev pub finish_refusal : EndpointHistory → ℕ → Option Refusal
 finish_refusal e id = unless_closed e (first_of (
@@ -119,9 +125,22 @@ encoded e id fields =
 abbrev pub head_part : Head → List ℕ → OwnPart
 head_part head section = if is_interim head.status then OwnInterim section else OwnHead section
 
+-- A client that asks for strict messages remembers of a request what its response may have as content (RFC 9110, sections 9.3.2 and 9.3.6)
+abbrev pub remembers : Side → Announced → Bool
+remembers side own = own.choices.strict_messages && is_client side
+
+abbrev pub awaiting_at : Streams Incoming → ℕ → Content → Option Incoming → Streams Incoming
+awaiting_at streams id expected None = streams
+awaiting_at streams id expected (Some i) = set_stream streams id (awaiting i expected)
+
+abbrev pub asked : EndpointHistory → ℕ → List Field → EndpointHistory
+asked e id fields =
+    record e { incoming = if remembers e.side e.announced then awaiting_at e.incoming id (awaited_by fields) (stream_at e.incoming id) else e.incoming }
+
 abbrev pub send_head : EndpointHistory → ℕ → Head → Option Refusal × EndpointHistory
-send_head e id head = does (head_refusal e id head) e (
+send_head e id head = does (head_refusal e id head) e (asked (
     counted (appended (encoded e id (head_fields head)) id (head_part head (encoded_section e.encoder id (head_fields head)))) (fields_cost (head_fields head)))
+    id (head_fields head))
 
 abbrev pub sent_bytes : EndpointHistory → ℕ → List ℕ → EndpointHistory
 sent_bytes e id [] = e

@@ -37,9 +37,10 @@ pub record Opens (old new : EndpointState) (result : Result ℕ Refusal) : Type 
   pub opens : DoesOrRefuses open_request old new (call_refused result)
   pub id : (opened : ℕ) → result ≡ Ok opened → opened ≡ old.next_id
 
--- Want of memory comes last. The size of a section alone is judged by a list that has to be made, so it may be told of one that is too large.
+-- Want of memory comes last. What is judged of a section by a list that has to be made stands behind it: the rules of strict messages, and its size.
 abbrev pub MayLackMemory : Option Refusal → Type 0
 MayLackMemory None = Unit {0}
+MayLackMemory (Some (refusal.Malformed why)) = Unit {0}
 MayLackMemory (Some (refusal.TooLarge size)) = Unit {0}
 MayLackMemory (Some r) = ⊥
 
@@ -54,7 +55,7 @@ pub record SendsSection (act : EndpointHistory → Option Refusal × EndpointHis
   pub done : (e : EndpointHistory) → StandsFor old e → refused ≢ Some refusal.OutOfMemory → (refused ≡ (act e).0) × StandsFor new (act e).1
   pub same : refused ≢ None → refused ≢ Some refusal.OutOfMemory → IsSame old new
   pub memory : (e : EndpointHistory) → StandsFor old e → refused ≡ Some refusal.OutOfMemory → MayLackMemory (act e).0 × CutsOff e id fields new
-  -- of a section that is too large nothing was inserted
+  -- of a section that is malformed or too large nothing was inserted
   pub too_large : (e : EndpointHistory) → StandsFor old e → refused ≡ Some refusal.OutOfMemory → (act e).0 ≢ None → IsSame old new
 
 -- `send_head` and `send_trailer`

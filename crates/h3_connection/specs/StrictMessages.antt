@@ -1,8 +1,8 @@
 -- Which rule of well-formed messages a field list breaks at an endpoint that asks for them (RFC 9114, sections 4.1.2 and 4.2 to 4.5), and how much
 -- content follows it. One that does not asks for none, and for any content.
-use Rattle.std.specs.Prelude.{Bool, List, if◌then◌else◌, option_map, Option, Some, None}
+use Rattle.std.specs.Prelude.{ℕ, Bool, List, [], if◌then◌else◌, option_map, unwrap_or, Option, Some, None}
 use Rattle.h3_field.specs.Field.{Field}
-use Rattle.h3_messages.specs.Content.{content_of_request, may_end}
+use Rattle.h3_messages.specs.Content.{content_of_request, content_behind_response, content_behind_status, may_end}
 use Rattle.h3_messages.specs.declared.content.Content.{Content}
 use Rattle.h3_messages.specs.declared.content.Content.TheVariants.{Unsaid}
 use Rattle.h3_messages.specs.Messages.{violation_of_request, violation_of_response, violation_of_trailer}
@@ -47,18 +47,26 @@ abbrev pub broken_rule : Side → Announced → Place → List Field → Option 
 broken_rule side own place fields =
     if own.choices.strict_messages then option_map malformation_by (violation_at side own place fields) else None
 
--- What content a server expects behind the head of a request. That of a response is not judged
-abbrev pub content_of_head : Side → List Field → Content
-content_of_head Client fields = Unsaid
-content_of_head Server fields = content_of_request fields
+-- What content is expected behind the head of a request, and behind that of a response, where this was awaited in front of it
+abbrev pub content_of_head : Side → Content → List Field → Content
+content_of_head Client awaited fields = content_behind_response awaited fields
+content_of_head Server awaited fields = content_of_request fields
 
 -- a trailer says nothing of it
 abbrev pub content_behind : Side → Place → Content → List Field → Content
-content_behind side BeforeHead _ fields = content_of_head side fields
-content_behind side _ expected fields = expected
+content_behind side BeforeHead content fields = content_of_head side content fields
+content_behind side _ content fields = content
 
 abbrev pub content_at : Side → Announced → Place → Content → List Field → Content
 content_at side own place content fields = if own.choices.strict_messages then content_behind side place content fields else content
+
+-- Of a section that is too large only the last status is known: that of a response tells whether content may follow
+abbrev pub content_behind_large : Side → Place → Content → Option (List ℕ) → Content
+content_behind_large Client BeforeHead content status = content_behind_status content (unwrap_or status []) []
+content_behind_large side place content status = content
+
+abbrev pub large_content_at : Side → Announced → Place → Content → Option (List ℕ) → Content
+large_content_at side own place content status = if own.choices.strict_messages then content_behind_large side place content status else content
 
 -- A trailer comes behind all content that the head says (RFC 9114, section 4.1.2). In front of a head no content is expected
 abbrev pub if_whole : Content → Option Malformation → Option Malformation

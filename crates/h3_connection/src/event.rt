@@ -2,9 +2,11 @@
 ghost use Rattle.std.specs.Prelude.{◌≡◌};
 ghost use Rattle.h3_connection.specs.MalformationCodes.{malformation_code};
 ghost use Rattle.h3_connection.specs.FaultTexts.{malformation_name};
+ghost use Rattle.h3_connection.specs.StrictMessages.{malformation_by};
 
 use bytes::Bytes;
 use h3_header::Header;
+use h3_messages::Violation;
 use h3_proto::error::Code;
 use h3_proto::stream::{Side, StreamId};
 use h3_proto::webtransport::SessionId;
@@ -37,6 +39,8 @@ pub enum Refusal {
     WrongSide,
     /// A trailer has no pseudo-header field.
     PseudoInTrailer,
+    /// The endpoint asks for strict messages, and the list of fields breaks this rule: a strict peer would call it malformed.
+    Malformed(Malformation),
     /// The field section has this size, and the peer takes less.
     TooLarge(u64),
     /// The stream is one that the connection needs.
@@ -55,12 +59,17 @@ pub enum Refusal {
 /// told where the setup asks for strict messages: the rules of `h3_messages::Violation`, behind those six.
 #[derive(Clone, Copy, Debug, PartialEq, Eq)]
 pub enum Malformation {
+    /// A field's name is empty, not in lower case, or unknown with a `:` (RFC 9114, sections 4.2 and 4.3).
     Name,
     /// A value has a character that may not stand there. Where messages are strict also: white space stands around it.
     Value,
+    /// There are more different names than a `HeaderMap` holds (24,576).
     TooMany,
+    /// It is a head of the other kind: without `:method` in a request, without `:status` in a response.
     WrongSide,
+    /// A trailer has a pseudo-header field (RFC 9114, section 4.3).
     PseudoInTrailer,
+    /// The stream ended before the final head (RFC 9114, section 4.1).
     NoHead,
     /// A pseudo-header field stands behind a regular field (RFC 9114, section 4.3).
     PseudoOrder,
@@ -123,6 +132,28 @@ impl Malformation {
         }
     }
 
+    /// That of a list that breaks this rule.
+    pub fn by(violation: Violation) -> Malformation
+        ensures { result ≡ malformation_by violation }
+    {
+        match violation {
+            Violation::PseudoOrder => Malformation::PseudoOrder,
+            Violation::RepeatedPseudo => Malformation::RepeatedPseudo,
+            Violation::WrongPseudo => Malformation::WrongPseudo,
+            Violation::MissingPseudo => Malformation::MissingPseudo,
+            Violation::ConnectionField => Malformation::ConnectionField,
+            Violation::Protocol => Malformation::Protocol,
+            Violation::Connect => Malformation::Connect,
+            Violation::Scheme => Malformation::Scheme,
+            Violation::Authority => Malformation::Authority,
+            Violation::Path => Malformation::Path,
+            Violation::Status => Malformation::Status,
+            Violation::ContentLength => Malformation::ContentLength,
+            Violation::TrailerField => Malformation::TrailerField,
+            Violation::Value => Malformation::Value,
+        }
+    }
+
     /// The name of its variant.
     pub fn name(self) -> &'static str
         ensures { result.now ≡ malformation_name self }
@@ -156,12 +187,17 @@ impl Malformation {
 pub enum Item {
     /// A head with a status from 100 to 199, which is not the last one.
     Interim(Header),
+    /// The head of a request, or the final head of a response.
     Head(Header),
+    /// The next piece of the content, as the pieces came that were delivered.
     Body(Bytes),
+    /// The trailer, behind which nothing but the end comes.
     Trailer(Header),
     /// In the place of a head or trailer whose size is above the own section size: that size.
     TooLarge(u64),
+    /// The stream is one of this WebTransport session, and no message.
     Session(SessionId),
+    /// The next piece of such a stream, as it came.
     Raw(Bytes),
     /// The stream has ended, and all of it was handed out.
     End,
@@ -170,15 +206,20 @@ pub enum Item {
 /// Why a stream gives no more.
 #[derive(Clone, Copy, Debug, PartialEq, Eq)]
 pub enum StreamFault {
+    /// Its message is malformed (RFC 9114, section 4.1.2).
     Malformed(Malformation),
+    /// Its sender cut it off, with this code of an application.
     Reset(u64),
+    /// This side gave it up.
     Canceled,
 }
 
 /// Why there is nothing to hand out.
 #[derive(Clone, Copy, Debug, PartialEq, Eq)]
 pub enum Fault {
+    /// The fault of the connection, by the code to close it with.
     Connection(Code),
+    /// The stream gives no more; others go on.
     Stream(StreamFault),
     /// Memory was refused. Nothing is lost.
     Memory,
@@ -208,11 +249,13 @@ impl fmt::Display for Fault {
 /// The answer of a pull.
 #[derive(Debug, Drop)]
 pub enum Pull {
+    /// The next item.
     Item(Item),
     /// The next item isn't there yet.
     Pending,
     /// The next head or trailer needs so many insertions.
     Waiting(usize),
+    /// There is none, for this fault.
     Fault(Fault),
     /// The stream has no messages for this side.
     NoMessages,
@@ -221,6 +264,7 @@ pub enum Pull {
 /// Why a delivery is not taken, or not read.
 #[derive(Debug, Drop)]
 pub enum DeliverError {
+    /// It is refused, and nothing was delivered.
     Refused(Refusal),
     /// Nothing was delivered. The bytes come back.
     OutOfMemory(Bytes),
@@ -231,14 +275,19 @@ pub enum DeliverError {
 /// What the peer's settings allow (RFC 9204, section 5; RFC 9114, section 7.2.4.1), with their defaults.
 #[derive(Clone, Copy, Debug, PartialEq, Eq)]
 pub struct PeerLimits {
+    /// The capacity that its decoder's dynamic table may have, in bytes: 0.
     pub capacity: u64,
+    /// How many streams may wait at its decoder: 0.
     pub blocked: u64,
+    /// The greatest field section that it takes, in bytes (RFC 9114, section 4.2.2): no limit, as 2^62 - 1.
     pub section: u64,
 }
 
 /// The sizes of both dynamic tables (RFC 9204, section 3.2.1).
 #[derive(Clone, Copy, Debug, PartialEq, Eq)]
 pub struct TableSizes {
+    /// That of the own encoder's table, in bytes.
     pub sending: usize,
+    /// That of the own decoder's table, in bytes.
     pub receiving: usize,
 }

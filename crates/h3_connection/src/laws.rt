@@ -224,8 +224,27 @@ ghost use Rattle.h3_connection.specs.CountedContent.{CountsContent, HeadsHaveThe
 
 /// Of a message whose head says how long its content is, no more is handed out than that, however it comes and is pulled; and its end, and a
 /// trailer, are handed out behind exactly as much (RFC 9114, section 4.1.2). Behind a head that a strict endpoint hands out stands the content that
-/// its field list says: for a server that of a request.
+/// its field list says: for a server that of a request, and for a client that of a response to what was asked.
 pub fn content_is_as_long_as_was_said()
     ensures counts { CountsContent }
     ensures heads { HeadsHaveTheirContent }
+{}
+
+ghost use Rattle.h3_connection.specs.NoContent.{HandsOutNoContent, RemembersHead};
+
+/// A response to HEAD has no content, whatever its `content-length` says (RFC 9110, section 9.3.2; RFC 9114, section 4.1.2). Where a strict client
+/// sends a request of HEAD, its receiver awaits none; and of one that awaits none no byte is handed out, however it comes and is pulled.
+pub fn a_response_to_head_has_no_content()
+    ensures asked { RemembersHead }
+    ensures none { HandsOutNoContent }
+{}
+
+ghost use Rattle.h3_connection.specs.StrictSends.{SendsWellFormedHeads, SendsWellFormedTrailers};
+
+/// What an endpoint that asks for strict messages sends, a peer that asks for them takes: a head and a trailer that go out break no rule of
+/// well-formed messages (RFC 9114, sections 4.1.2 and 4.2 to 4.5) as the peer judges their lists, whatever it announced, so long as it announced
+/// extended CONNECT where the settings that came of it say so.
+pub fn strict_endpoints_send_no_broken_list()
+    ensures heads { SendsWellFormedHeads }
+    ensures trailers { SendsWellFormedTrailers }
 {}

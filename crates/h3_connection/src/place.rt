@@ -5,7 +5,9 @@
 pub enum Place {
     /// No head, or interim ones alone.
     BeforeHead,
+    /// Behind the final head: content and a trailer may come.
     InBody,
+    /// Behind the trailer.
     AfterTrailer,
     /// It is no message, and all bytes are handed out as they are.
     InSession,
@@ -16,6 +18,8 @@ pub enum Place {
 pub enum SendPlace {
     /// No head, or interim ones alone.
     NothingSent,
+    /// The final head was sent.
     HeadSent,
+    /// The trailer was sent.
     TrailerSent,
 }

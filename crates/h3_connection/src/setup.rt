@@ -10,7 +10,9 @@ use h3_proto::frame::{SettingId, Settings, SettingsError};
 /// The limits of an endpoint's decoder: the capacity of its table in bytes, and how many streams may wait.
 #[derive(Clone, Copy, Debug, PartialEq, Eq)]
 pub struct Limits {
+    /// The capacity of its dynamic table in bytes, at most 2^30 - 1.
     pub table: u64,
+    /// How many streams may wait for insertions, at most 65,535.
     pub blocked: u64,
 }
 
@@ -21,7 +23,9 @@ pub enum NewError {
     TableLimit,
     /// More than 65535 streams may wait.
     BlockedLimit,
+    /// A setting cannot be announced.
     Settings(SettingsError),
+    /// Memory was refused.
     OutOfMemory,
 }
 
@@ -29,8 +33,11 @@ pub enum NewError {
 /// for itself, which announces nothing.
 #[derive(Drop)]
 pub struct Announced {
+    /// What its SETTINGS frame has.
     pub settings: Settings,
+    /// The limits of its decoder, which are among the settings.
     pub limits: Limits,
+    /// What it chooses for itself, which the peer is not told.
     pub choices: Choices,
 }
 

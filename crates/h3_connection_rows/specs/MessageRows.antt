@@ -1,5 +1,5 @@
 -- Worked rows of messages: heads, bodies, sessions, resets and cancellations.
-use Rattle.std.specs.Prelude.{List, [], ◌∷◌, codes, None}
+use Rattle.std.specs.Prelude.{ℕ, List, [], ◌∷◌, codes, None}
 use Rattle.h3_proto.specs.declared.stream.Side.TheVariants.{Client, Server}
 use Rattle.h3_connection.specs.declared.event.Item.TheVariants as item
 use Rattle.h3_connection.specs.declared.event.Pull.TheVariants as pulls
@@ -679,6 +679,102 @@ content_counted_answers =
     Pulled (pulls.Fault (fault.Stream (stream_fault.Malformed malformation.ContentLength))) ∷
     Done ∷
     Pulled (pulls.Item (item.Head (head (field (codes ":method") (codes "CONNECT") ∷ field (codes ":authority") (codes "a") ∷ [])))) ∷
+    Pulled (pulls.Item (item.Body (hex (codes "6869")))) ∷
+    Pulled (pulls.Fault (fault.Connection 0x105)) ∷
+    []
+
+-- A strict client counts the content of a response (RFC 9114, 4.1.2): as much as was said, and less; none behind HEAD, whatever is said (RFC 9110,
+-- 9.3.2), also behind an interim response (15.2); none with 304 (6.4.1); and behind CONNECT a tunnel's (RFC 9114, 4.4).
+abbrev pub response_content_counted_endpoint : EndpointHistory
+response_content_counted_endpoint = new_endpoint Client (strict 1000)
+
+abbrev pub head_with : ℕ → List ℕ → Call
+head_with id method = SendHead id (head (field (codes ":method") method ∷ field (codes ":scheme") (codes "https") ∷ field (codes ":authority") (codes "a") ∷ field (codes ":path") (codes "/") ∷ []))
+
+abbrev pub response_content_counted : List Call
+response_content_counted =
+    OpenRequest ∷
+    head_with 0 (codes "GET") ∷
+    Deliver 0 (hex (codes "01060000d954013200026869")) ∷
+    DeliverEnd 0 ∷
+    PullStream 0 ∷
+    PullStream 0 ∷
+    PullStream 0 ∷
+    OpenRequest ∷
+    head_with 4 (codes "GET") ∷
+    Deliver 4 (hex (codes "01060000d954013500026869")) ∷
+    DeliverEnd 4 ∷
+    PullStream 4 ∷
+    PullStream 4 ∷
+    PullStream 4 ∷
+    OpenRequest ∷
+    head_with 8 (codes "HEAD") ∷
+    Deliver 8 (hex (codes "01030000d801060000d9540135")) ∷
+    DeliverEnd 8 ∷
+    PullStream 8 ∷
+    PullStream 8 ∷
+    PullStream 8 ∷
+    OpenRequest ∷
+    head_with 12 (codes "HEAD") ∷
+    Deliver 12 (hex (codes "01060000d954013200026869")) ∷
+    PullStream 12 ∷
+    PullStream 12 ∷
+    OpenRequest ∷
+    head_with 16 (codes "GET") ∷
+    Deliver 16 (hex (codes "01060000da54013200026869")) ∷
+    PullStream 16 ∷
+    PullStream 16 ∷
+    OpenRequest ∷
+    SendHead 20 (head (field (codes ":method") (codes "CONNECT") ∷ field (codes ":authority") (codes "a") ∷ [])) ∷
+    Deliver 20 (hex (codes "01060000d95401350002686901060000217801310000")) ∷
+    PullStream 20 ∷
+    PullStream 20 ∷
+    PullStream 20 ∷
+    []
+
+abbrev pub ok_with : List ℕ → Result
+ok_with size = Pulled (pulls.Item (item.Head (head (field (codes ":status") (codes "200") ∷ field (codes "content-length") size ∷ []))))
+
+abbrev pub too_much_or_little : Result
+too_much_or_little = Pulled (pulls.Fault (fault.Stream (stream_fault.Malformed malformation.ContentLength)))
+
+abbrev pub response_content_counted_answers : List Result
+response_content_counted_answers =
+    Opened 0 ∷
+    Done ∷
+    Done ∷
+    Done ∷
+    ok_with (codes "2") ∷
+    Pulled (pulls.Item (item.Body (hex (codes "6869")))) ∷
+    Pulled (pulls.Item item.End) ∷
+    Opened 4 ∷
+    Done ∷
+    Done ∷
+    Done ∷
+    ok_with (codes "5") ∷
+    Pulled (pulls.Item (item.Body (hex (codes "6869")))) ∷
+    too_much_or_little ∷
+    Opened 8 ∷
+    Done ∷
+    Done ∷
+    Done ∷
+    Pulled (pulls.Item (item.Interim (head (field (codes ":status") (codes "103") ∷ [])))) ∷
+    ok_with (codes "5") ∷
+    Pulled (pulls.Item item.End) ∷
+    Opened 12 ∷
+    Done ∷
+    Done ∷
+    ok_with (codes "2") ∷
+    too_much_or_little ∷
+    Opened 16 ∷
+    Done ∷
+    Done ∷
+    Pulled (pulls.Item (item.Head (head (field (codes ":status") (codes "304") ∷ field (codes "content-length") (codes "2") ∷ [])))) ∷
+    too_much_or_little ∷
+    Opened 20 ∷
+    Done ∷
+    Done ∷
+    ok_with (codes "5") ∷
     Pulled (pulls.Item (item.Body (hex (codes "6869")))) ∷
     Pulled (pulls.Fault (fault.Connection 0x105)) ∷
     []

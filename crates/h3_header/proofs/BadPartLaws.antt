@@ -1,5 +1,5 @@
 -- The first field of which anything is malformed by itself refuses its list.
-use Rattle.std.proofs.Common.{◌≡◌, ℕ, zero, suc, ◌+◌, ◌<◌, ◌≤◌, ◌^◌, nat_le, nat_lt, Bool, true, false, not, ◌&&◌, ◌||◌, bytes_eq, List, [], ◌∷◌, ◌++◌, length, take, get_or, Option, Some, None, refl, ap, sym, subst, ◌∙◌, arith, if◌then◌else◌, length-append, take_all}
+use Rattle.std.proofs.Common.{◌≡◌, ℕ, zero, suc, ◌+◌, ◌<◌, ◌≤◌, ◌^◌, nat_le, nat_lt, Bool, true, false, not, ◌&&◌, ◌||◌, bytes_eq, List, [], ◌∷◌, ◌++◌, length, take, get_or, Some, None, refl, ap, sym, subst, ◌∙◌, arith, if◌then◌else◌, length-append, take_all}
 use Rattle.std.specs.Prelude.{All}
 use Rattle.std.proofs.lemmas.Bool.{lt-leb, ltb-true, ltb-false}
 use Rattle.std.proofs.lemmas.List.Sums.{sum_by-cons}
@@ -8,8 +8,8 @@ use Rattle.http_header.specs.HeaderMap.{Entry, Entries, append, value_count}
 use Rattle.h3_field.specs.Field.{Field}
 use Rattle.h3_header.specs.BadPart.{bad_part, bad_part_at, refusal_of, AreGood, IsHeadUnlessMany}
 use Rattle.h3_header.specs.Head.{Head, trailer_head}
-use Rattle.h3_header.specs.HeadRead.{HeadRead, HeadRefusal, IsHead, IsNone, Name, Value, TooMany, is_name_at, is_value_at, is_full_at, refusal_at, unless_refused, read_from, head_of}
-use Rattle.h3_header.specs.HeadTests.{contains_key, is_full_of_values, refuses_append}
+use Rattle.h3_header.specs.HeadRead.{IsHead, IsNone, Name, Value, TooMany, is_name_at, is_value_at, is_full_at, refusal_at, unless_refused, read_from, head_of}
+use Rattle.h3_header.specs.HeadTests.{contains_key, is_full_of_values}
 use Rattle.h3_header.specs.Reads.{kind_of, with_kind, with_field}
 use Rattle.h3_header.specs.declared.headers.judge.BadPart.{BadPart}
 use Rattle.h3_header.specs.declared.headers.judge.BadPart.TheVariants as part

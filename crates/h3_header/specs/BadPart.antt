@@ -1,5 +1,5 @@
 -- What is malformed of a field by itself, whatever stands before it in its list.
-use Rattle.std.specs.Prelude.{◌≡◌, ℕ, ◌<◌, not, List, length, take, All, if◌then◌else◌, Option, Some, None}
+use Rattle.std.specs.Prelude.{◌≡◌, ◌<◌, not, List, length, take, All, if◌then◌else◌, Option, Some, None}
 use Rattle.h3_field.specs.Field.{Field}
 use Rattle.h3_header.specs.HeadRead.{HeadRefusal, IsNone, Name, Value, head_of, is_name_at, is_value_at}
 use Rattle.h3_header.specs.Reads.{kind_of}

@@ -1,5 +1,5 @@
 -- What makes the head of a request, and what is taken out of one.
-use Rattle.std.specs.Prelude.{◌≡◌, ◌⊎◌, ℕ, List, codes, bytes_eq, Option, Some, None, IfSome, IsSome, option_map, unwrap_or, if◌then◌else◌}
+use Rattle.std.specs.Prelude.{◌≡◌, ◌⊎◌, ℕ, Bool, true, false, List, codes, bytes_eq, Option, Some, None, IfSome, IsSome, option_map, unwrap_or, if◌then◌else◌}
 use Rattle.std.specs.Option.{option_or}
 use Rattle.http_header.specs.FieldValue.{FieldValue}
 use Rattle.http_header.specs.HeaderMap.{Entries, get}
@@ -8,6 +8,7 @@ use Rattle.http_uri.specs.Uri.{uri_scheme, uri_authority, uri_data, has_path, Pa
 use Rattle.http_uri.specs.declared.uri.Uri.{Uri as Target}
 use Rattle.http_uri.specs.declared.uri.Parts.{Parts}
 use Rattle.h3_header.specs.Head.{Head}
+use Rattle.h3_header.specs.RequestPath.{rooted, is_rooted}
 use Rattle.h3_header.specs.declared.headers.error.HeaderError.{HeaderError}
 use Rattle.h3_header.specs.declared.headers.error.HeaderError.TheVariants.{InvalidHeaderName, InvalidHeaderValue, InvalidRequest, MissingMethod, MissingStatus, MissingAuthority, ContradictedAuthority, TooManyFields, OutOfMemory}
 
@@ -29,7 +30,7 @@ request_head method u m protocol =
       method = Some method;
       scheme = Some (unwrap_or (uri_scheme u) (codes "https"));
       authority = uri_authority u;
-      path = Some (if has_path u then uri_data u else codes "/");
+      path = Some (if has_path u then rooted method (uri_data u) else codes "/");
       status = None;
       protocol = if bytes_eq method (codes "CONNECT") then protocol else None;
       regular = m;
@@ -52,9 +53,17 @@ request_parts h =
 abbrev pub CanBeUri : Head → Type 0
 CanBeUri h = AreOfUri (request_parts h)
 
--- why a head gives no request, in the order of judging. Memory is asked for only where `host` stands for the authority. Not
--- enforced are the rules of CONNECT (RFC 9114, section 4.4), that `:protocol` comes with it alone, what a second `host` says, and
--- that other methods have `:scheme` and `:path` (section 4.3.1) where both are missing
+-- its URI takes memory: `host` stands for the authority, or `/` is ahead of a query
+abbrev pub is_path_rooted : Option (List ℕ) → Bool
+is_path_rooted None = false
+is_path_rooted (Some path) = is_rooted path
+
+abbrev pub NeedsMemory : Head → Type 0
+NeedsMemory h = (h.authority ≡ None) ⊎ (is_path_rooted h.path ≡ true)
+
+-- why a head gives no request, in the order of judging. Not enforced are the rules of CONNECT (RFC 9114, section 4.4), that
+-- `:protocol` comes with it alone, what a second `host` says, and that other methods have `:scheme` and `:path` (section 4.3.1)
+-- where both are missing
 abbrev pub RefusesRequest : Head → HeaderError → Type 0
 RefusesRequest h MissingAuthority = authority_refusal h.authority (host_of h.regular) ≡ Some MissingAuthority
 RefusesRequest h ContradictedAuthority = authority_refusal h.authority (host_of h.regular) ≡ Some ContradictedAuthority
@@ -62,7 +71,7 @@ RefusesRequest h MissingMethod = (authority_refusal h.authority (host_of h.regul
 RefusesRequest h InvalidRequest =
     (authority_refusal h.authority (host_of h.regular) ≡ None) × IsSome h.method × ¬ (CanBeUri h)
 RefusesRequest h OutOfMemory =
-    (authority_refusal h.authority (host_of h.regular) ≡ None) × IsSome h.method × (h.authority ≡ None)
+    (authority_refusal h.authority (host_of h.regular) ≡ None) × IsSome h.method × NeedsMemory h
 RefusesRequest h (InvalidHeaderName _) = ⊥
 RefusesRequest h (InvalidHeaderValue _) = ⊥
 RefusesRequest h MissingStatus = ⊥

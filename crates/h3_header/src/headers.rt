@@ -20,7 +20,7 @@ pub use iter::HeaderIter;
 use iter::RegularIter;
 pub use judge::{BadPart, first_bad_part};
 pub use kind::FieldKind;
-use pseudo::Pseudo;
+use pseudo::{Pseudo, RequestParts};
 use std::alloc::{AllocError, Global};
 use std::marker::Model;
 
@@ -29,6 +29,7 @@ mod error;
 mod iter;
 mod judge;
 mod kind;
+mod path;
 mod pseudo;
 mod read;
 mod store;
@@ -55,8 +56,9 @@ impl Model for Header {
 
 impl Header {
     /// The header of a request (RFC 9114, 4.3.1). The authority of the URI and the field `host`
-    /// have to be the same bytes, and one of them is needed. A missing scheme is https, a missing
-    /// path is `/`, and the protocol counts for CONNECT alone (RFC 8441, 4).
+    /// have to be the same bytes, and one of them is needed. A missing scheme is https. A missing path is
+    /// `/`, ahead of a query too, which keeps its own form for OPTIONS alone. The protocol counts for
+    /// CONNECT alone (RFC 8441, 4).
     pub fn request(
         method: Method,
         uri: Uri,
@@ -107,7 +109,8 @@ impl Header {
     ///
     /// Refused are, in this order: neither `:authority` nor `host` (`MissingAuthority`), both with
     /// other bytes (`ContradictedAuthority`), no `:method` (`MissingMethod`), and parts that make
-    /// no URI (`InvalidRequest`). The first `host` stands for a missing `:authority`.
+    /// no URI (`InvalidRequest`). The first `host` stands for a missing `:authority`. That takes memory, and so does a query that was
+    /// given without a path.
     pub fn into_request_parts(
         self,
         alloc: Global,
@@ -121,7 +124,18 @@ impl Header {
             return Err(e);
         }
         let Header { pseudo, fields } = self;
-        let (method, parts, protocol) = pseudo.into_request();
+        let made = match pseudo.into_request(alloc) {
+            Ok(made) => made,
+            Err(e) => {
+                drop(fields);
+                return Err(e);
+            }
+        };
+        let RequestParts {
+            method,
+            parts,
+            protocol,
+        } = made;
         let Some(method) = method else { unreachable!() };
         match uri_of(alloc, parts, &fields) {
             Ok(uri) => Ok((method, uri, protocol, fields)),

@@ -1,9 +1,3 @@
 mod Accepted
-mod Contents
 mod Cuts
-mod Handing
-mod KeepsParts
-mod Moved
-mod PulledAndSent
-mod Settled
 mod Tables

@@ -26,9 +26,9 @@ by_test false own other = other refl
 -- A delivery is on a stream of the writer's own, or on a request stream.
 pub every_event : (laws : Laws) (setup : Setup) → IsMadeSetup setup → JudgesPlainly setup → (w : World) (ends : Ends) (e : Event) → IsSendable e → Stands setup w ends → StandsOn setup w ends e
 every_event laws setup made plain w ends (event.OpenRequest side) sendable h = opened_on laws setup w ends side sendable h
-every_event laws setup made plain w ends (event.Head side id head) sendable h = head_on laws setup w ends side id head sendable h
+every_event laws setup made plain w ends (event.Head side id head) sendable h = head_on laws setup w ends side id head (plain side) sendable h
 every_event laws setup made plain w ends (event.Body side id bytes) sendable h = body_on laws setup w ends side id bytes sendable h
-every_event laws setup made plain w ends (event.Trailer side id trailer) sendable h = trailer_on laws setup w ends side id trailer sendable h
+every_event laws setup made plain w ends (event.Trailer side id trailer) sendable h = trailer_on laws setup w ends side id trailer (plain side) sendable h
 every_event laws setup made plain w ends (event.Finish side id) sendable h = finish_on laws setup w ends side id sendable h
 every_event laws setup made plain w ends (event.Reset side id) sendable h = reset_on laws setup w ends side id sendable h
 every_event laws setup made plain w ends (event.Cancel side id) sendable h = cancel_on laws setup w ends side id sendable h

@@ -7,6 +7,7 @@ use Rattle.h3_field.specs.Field.{Field, section_size}
 use Rattle.h3_header.specs.Head.{Head as Fields, head_fields, has_pseudo}
 use Rattle.h3_header.specs.Reads.{head_of_fields}
 use Rattle.h3_header.specs.ReadsBack.{as_read}
+use Rattle.h3_messages.specs.Messages.{violation_of_trailer}
 use Rattle.h3_proto.specs.declared.stream.Side.{Side}
 use Rattle.h3_proto.specs.declared.stream.Side.TheVariants.{Client, Server}
 use Rattle.h3_qpack.specs.EncoderHistory.{EncoderHistory}
@@ -18,22 +19,27 @@ use Rattle.h3_connection.specs.Outgoing.OwnPart.{OwnInterim, OwnHead, OwnTrailer
 use Rattle.h3_connection.specs.OwnIds.{other, encoder_id}
 use Rattle.h3_connection.specs.Pulling.{is_client, is_for, is_interim}
 use Rattle.h3_connection.specs.Sections.{encoded_section, instructions_for}
-use Rattle.h3_connection.specs.Sending.{first_of, is_too_large, outgoing_at, appended as part_appended, counted, encoded, head_part, fields_cost}
+use Rattle.h3_connection.specs.Sending.{first_of, is_too_large, outgoing_at, appended as part_appended, counted, encoded, head_part, fields_cost, asked, awaiting_at, does}
 use Rattle.h3_connection.specs.Sending as sender
 use Rattle.h3_connection.specs.StreamSets.{stream_at, set_stream}
+use Rattle.h3_connection.specs.StrictMessages.{malformation_by}
+use Rattle.h3_connection.specs.StrictSending.{broken_head, broken_trailer, unless_malformed, violation_of_own_head}
+use Rattle.h3_connection.specs.declared.event.Malformation.{Malformation}
+use Rattle.h3_connection.specs.declared.setup.Announced.{Announced}
 use Rattle.h3_connection.specs.declared.event.Refusal.TheVariants as refusal
 use Rattle.h3_world.specs.declared.setup.Setup.{Setup}
 use Rattle.h3_world.specs.declared.event.Event.TheVariants as event
 use Rattle.h3_world.specs.declared.event.Answer.TheVariants as answer
 use Rattle.h3_world.specs.Came.{settings_known}
 use Rattle.h3_world.specs.Ends.{Ends, end_at, answered}
+use Rattle.h3_world.specs.Ends as ends_of
 use Rattle.h3_world.specs.Flow.{Flow, Section, Part, own_part}
 use Rattle.h3_world.specs.Flow.Part.{Interim, Head, Trailer}
 use Rattle.h3_world.specs.Machine.{served}
 use Rattle.h3_world.specs.Order.{outgoing_of, is_end}
 use Rattle.h3_world.specs.Refusals.{head_refusal, trailer_refusal}
 use Rattle.h3_world.specs.Sending.{appended, having_encoded, section_sent, sent_section, sent_head, sent_trailer}
-use Rattle.h3_world.specs.Setup.{announced_at}
+use Rattle.h3_world.specs.Setup.{IsPlain, announced_at}
 use Rattle.h3_world.specs.Streams.{flow, is_open}
 use Rattle.h3_world.specs.World.{World, Party, party, with_party}
 use Rattle.h3_headline.specs.ComingLaws.{sound_flow}
@@ -46,6 +52,7 @@ use Rattle.h3_headline.specs.SettingsLaws.{too_large_with_meaning}
 use Rattle.h3_headline.specs.Standing.{StandsAt, IsWritable, IsReadable, Stands, are_settings_there, with_meaning}
 use Rattle.h3_headline.specs.WritesMoreLaws.{encoder_stream_more}
 use Rattle.h3_headline.specs.WritingLaws.{Hears, hears, party_writes, party_count, sound_party}
+use Rattle.h3_messages.specs.Content.{awaited_by}
 
 -- A section that may be sent: its fields are read as its head, and the instructions for it can be written.
 pub record IsWritableHead (w : World) (side : Side) (id : ℕ) (head : Fields) : Type 0 where
@@ -128,6 +135,15 @@ too_large_agrees setup w side e fields h = ap (λ o. is_too_large o fields) h.co
     by_there true = too_large_with_meaning (announced_at setup (other side)).settings fields
     by_there false = refl
 
+-- an endpoint that asks for no strict messages refuses no list by their rules
+no_broken_head : (setup : Setup) (w : World) (side : Side) (e : EndpointHistory) (fields : List Field) → IsPlain (announced_at setup side) → StandsAt setup w side e → broken_head e.side e.announced e.peer.settings fields ≡ None
+no_broken_head setup w side e fields plain h =
+    ap (λ b. let rule : Option Malformation = if b then option_map malformation_by (violation_of_own_head e.side e.peer.settings fields) else None in rule) (ap (λ (a : Announced). a.choices.strict_messages) h.announced ∙ plain)
+
+no_broken_trailer : (setup : Setup) (w : World) (side : Side) (e : EndpointHistory) (fields : List Field) → IsPlain (announced_at setup side) → StandsAt setup w side e → broken_trailer e.announced fields ≡ None
+no_broken_trailer setup w side e fields plain h =
+    ap (λ b. let rule : Option Malformation = if b then option_map malformation_by (violation_of_trailer fields) else None in rule) (ap (λ (a : Announced). a.choices.strict_messages) h.announced ∙ plain)
+
 -- a head with a status from 100 to 199 is no request
 only_client : (reader : Side) (head : Fields) → is_for reader head ≡ true → is_interim head.status ≡ true → is_client reader ≡ true
 only_client Client head fits interim = refl
@@ -149,18 +165,27 @@ turned : (b : Bool) → not b ≡ false → b ≡ true
 turned true e = refl
 turned false e = cc
 
+-- an end that judges plainly remembers nothing of a request
+unasked : (setup : Setup) (w : World) (side : Side) (e f : EndpointHistory) (id : ℕ) (fields : List Field) → IsPlain (announced_at setup side) → StandsAt setup w side e → f.announced ≡ e.announced → asked f id fields ≡ f
+unasked setup w side e f id fields plain h same =
+    let is : f.announced.choices.strict_messages ≡ false = ap (λ (a : Announced). a.choices.strict_messages) (same ∙ h.announced) ∙ plain in
+    ap (λ b. let g : EndpointHistory = record f { incoming = if b && is_client f.side then awaiting_at f.incoming id (awaited_by fields) (stream_at f.incoming id) else f.incoming } in g) is
+
 -- **A head.**
-pub head_served : (setup : Setup) (w : World) (ends : Ends) (side : Side) (id : ℕ) (head : Fields) → Stands setup w ends → IsWritableHead w side id head
+pub head_served : (setup : Setup) (w : World) (ends : Ends) (side : Side) (id : ℕ) (head : Fields) → IsPlain (announced_at setup side) → Stands setup w ends → IsWritableHead w side id head
     → Serves setup (answered ends (event.Head side id head)) (served setup w (event.Head side id head))
-head_served setup w ends side id head h writable =
+head_served setup w ends side id head plain h writable =
     let e = end_at ends side in
     let b = both_of setup w side ends h in
     let fields = head_fields head in
     let size = refusal.TooLarge (section_size fields) in
     let to = outgoing_of (flow w side id) in
-    call_agrees setup w (sent_head w side id head) ends side answer.Done answer.Done (sender.head_refusal e id head) (head_refusal setup w side id head)
-    (counted (part_appended (encoded e id fields) id (head_part head (encoded_section e.encoder id fields))) (fields_cost fields)) h
-    (refusal_agrees setup w side id e (λ o. (not (takes_head o), refusal.OutOfOrder) ∷ (not (is_for (other e.side) head), refusal.WrongSide) ∷ (is_too_large e.peer.settings fields, size) ∷ []) b.here
+    let new = counted (part_appended (encoded e id fields) id (head_part head (encoded_section e.encoder id fields))) (fields_cost fields) in
+    subst (λ n. Serves setup (ends_of.done ends side answer.Done (does (sender.head_refusal e id head) e n)) (served setup w (event.Head side id head))) (sym (unasked setup w side e new id fields plain b.here refl))
+    (call_agrees setup w (sent_head w side id head) ends side answer.Done answer.Done (sender.head_refusal e id head) (head_refusal setup w side id head) new h
+    (refusal_agrees setup w side id e (λ o. (not (takes_head o), refusal.OutOfOrder) ∷ (not (is_for (other e.side) head), refusal.WrongSide) ∷ unless_malformed (broken_head e.side e.announced e.peer.settings fields) ((is_too_large e.peer.settings fields, size) ∷ [])) b.here
+    ∙ ap (λ m. first_of ((not (is_open w side id), refusal.NotOpen) ∷ (not (takes_head to), refusal.OutOfOrder) ∷ (not (is_for (other e.side) head), refusal.WrongSide) ∷ unless_malformed m ((is_too_large e.peer.settings fields, size) ∷ [])))
+    (no_broken_head setup w side e fields plain b.here)
     ∙ ap (λ s. first_of ((not (is_open w side id), refusal.NotOpen) ∷ (not (takes_head to), refusal.OutOfOrder) ∷ (not (is_for (other s) head), refusal.WrongSide) ∷ (is_too_large e.peer.settings fields, size) ∷ [])) b.here.side_is
     ∙ ap (λ t. first_of ((not (is_open w side id), refusal.NotOpen) ∷ (not (takes_head to), refusal.OutOfOrder) ∷ (not (is_for (other side) head), refusal.WrongSide) ∷ (t, size) ∷ [])) (too_large_agrees setup w side e fields b.here))
     (λ goes.
@@ -168,7 +193,7 @@ head_served setup w ends side id head h writable =
     let o = not_refused_open (is_open w side id) ((not (takes_head to), refusal.OutOfOrder) ∷ (not (is_for (other side) head), refusal.WrongSide) ∷ last) goes in
     let t = not_refused (not (takes_head to)) refusal.OutOfOrder ((not (is_for (other side) head), refusal.WrongSide) ∷ last) o.1 in
     let s = not_refused (not (is_for (other side) head)) refusal.WrongSide last t.1 in
-    by_interim (is_interim head.status) refl o.0 (open_parts to.is_finished to.is_reset (is_unsent to.parts) t.0).0 (turned (is_for (other side) head) s.0))
+    by_interim (is_interim head.status) refl o.0 (open_parts to.is_finished to.is_reset (is_unsent to.parts) t.0).0 (turned (is_for (other side) head) s.0)))
   where
     by_interim : (i : Bool) → is_interim head.status ≡ i → is_open w side id ≡ true → (outgoing_of (flow w side id)).is_finished ≡ false → is_for (other side) head ≡ true
         → Does setup (sent_section (if i then Interim else Head) w side id (head_fields head)) ends side answer.Done answer.Done
@@ -197,9 +222,9 @@ pseudo_read head = ap (λ b. is_some head.method || is_some head.scheme || is_so
     some_path (Some x) = refl
 
 -- **A trailer.**
-pub trailer_served : (setup : Setup) (w : World) (ends : Ends) (side : Side) (id : ℕ) (head : Fields) → Stands setup w ends → IsWritableHead w side id head
+pub trailer_served : (setup : Setup) (w : World) (ends : Ends) (side : Side) (id : ℕ) (head : Fields) → IsPlain (announced_at setup side) → Stands setup w ends → IsWritableHead w side id head
     → Serves setup (answered ends (event.Trailer side id head)) (served setup w (event.Trailer side id head))
-trailer_served setup w ends side id head h writable =
+trailer_served setup w ends side id head plain h writable =
     let e = end_at ends side in
     let b = both_of setup w side ends h in
     let fields = head_fields head in
@@ -207,7 +232,9 @@ trailer_served setup w ends side id head h writable =
     let to = outgoing_of (flow w side id) in
     call_agrees setup w (sent_trailer w side id head) ends side answer.Done answer.Done (sender.trailer_refusal e id head) (trailer_refusal setup w side id head)
     (counted (part_appended (encoded e id fields) id (OwnTrailer (encoded_section e.encoder id fields))) (fields_cost fields)) h
-    (refusal_agrees setup w side id e (λ o. (not (takes_body o), refusal.OutOfOrder) ∷ (has_pseudo head, refusal.PseudoInTrailer) ∷ (is_too_large e.peer.settings fields, size) ∷ []) b.here
+    (refusal_agrees setup w side id e (λ o. (not (takes_body o), refusal.OutOfOrder) ∷ (has_pseudo head, refusal.PseudoInTrailer) ∷ unless_malformed (broken_trailer e.announced fields) ((is_too_large e.peer.settings fields, size) ∷ [])) b.here
+    ∙ ap (λ m. first_of ((not (is_open w side id), refusal.NotOpen) ∷ (not (takes_body to), refusal.OutOfOrder) ∷ (has_pseudo head, refusal.PseudoInTrailer) ∷ unless_malformed m ((is_too_large e.peer.settings fields, size) ∷ [])))
+    (no_broken_trailer setup w side e fields plain b.here)
     ∙ ap (λ t. first_of ((not (is_open w side id), refusal.NotOpen) ∷ (not (takes_body to), refusal.OutOfOrder) ∷ (has_pseudo head, refusal.PseudoInTrailer) ∷ (t, size) ∷ [])) (too_large_agrees setup w side e fields b.here))
     (λ goes.
     let last = (is_too_large (settings_known setup w side) fields, size) ∷ [] in

@@ -6,6 +6,7 @@ pub mod CancelLaws
 pub mod CitedLaws
 pub mod ComesLaws
 pub mod ComingLaws
+pub mod ContentLaws
 pub mod ControlLaws
 pub mod ControlStreamLaws
 pub mod DecoderStreamLaws
@@ -17,12 +18,15 @@ pub mod EventLaws
 pub mod FewLaws
 pub mod FlowLaws
 pub mod FrontLaws
+pub mod HandingLaws
 pub mod HeadLaws
 pub mod InOrder
 pub mod JoiningLaws
+pub mod KeepsPartsLaws
 pub mod LearningLaws
 pub mod ListeningLaws
 pub mod Messages
+pub mod MovedLaws
 pub mod MovesLaws
 pub mod OpeningLaws
 pub mod OwnDeliveredLaws
@@ -36,6 +40,7 @@ pub mod PartLaws
 pub mod PeerPullLaws
 pub mod PullEventLaws
 pub mod PullLaws
+pub mod PulledAndSentLaws
 pub mod PulledBodyLaws
 pub mod PulledFlowLaws
 pub mod PulledLaws
@@ -54,6 +59,7 @@ pub mod SentLaws
 pub mod SentPartLaws
 pub mod SessionDecoderLaws
 pub mod SettingsLaws
+pub mod SettledLaws
 pub mod SettledPullLaws
 pub mod ShowLaws
 pub mod ShowingLaws

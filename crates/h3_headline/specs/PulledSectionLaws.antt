@@ -2,13 +2,13 @@
 use Rattle.std.proofs.Common.{◌≡◌, ℕ, ◌+◌, ◌-◌, ◌≤◌, ◌<◌, ◌^◌, Bool, true, false, List, ◌++◌, take, drop, refl, sym, ap, ◌∙◌, subst, arith, nat_lt, if◌then◌else◌, Some, None, append_assoc}
 use Rattle.std.specs.List.{AllByRecursion, concat, flat_map}
 use Rattle.std.proofs.lemmas.Bool.{lt-ltb, le-ltb, le-leb}
-use Rattle.std.specs.Prelude.{not, ◌&&◌, ◌==◌, nat_le, slice_get, Option, option_map}
+use Rattle.std.specs.Prelude.{codes, not, ◌&&◌, ◌==◌, nat_le, slice_get, Option, option_map}
 use Rattle.std.proofs.lemmas.Grind.{common_steps}
 use Rattle.h3_field.specs.Field.{Field, section_size}
 use Rattle.h3_field.specs.Instruction.{DecoderInstruction}
 use Rattle.h3_qpack.specs.DecodedSection.{DecodedSection, Fields, Missing, decode_section}
 use Rattle.h3_qpack.specs.DecoderState.{DecoderState}
-use Rattle.h3_qpack.specs.Sizes.{told_size}
+use Rattle.h3_qpack.specs.Sizes.{last_value, told_size}
 use Rattle.h3_header.specs.Head.{has_pseudo}
 use Rattle.h3_header.specs.Head as header
 use Rattle.h3_header.specs.HeadRead.{IsHead, head_of}
@@ -20,8 +20,8 @@ use Rattle.h3_proto.specs.declared.stream.Side.TheVariants.{Client, Server}
 use Rattle.h3_connection.specs.Announcing.{section_of}
 use Rattle.h3_messages.specs.declared.content.Content.TheVariants.{Unsaid}
 use Rattle.h3_connection.specs.Incoming.{Incoming}
-use Rattle.h3_connection.specs.StrictMessages.{broken_rule, content_behind, if_whole, malformation_by, violation_at}
-use Rattle.h3_connection.specs.Pulling.{Pulled, just, is_client, is_interim, next_place, judged, with_content, read_section, decoded, at_section, acknowledgment, past_section, tried, connection_fault, malformed, head_or_trailer}
+use Rattle.h3_connection.specs.StrictMessages.{broken_rule, content_behind, if_whole, malformation_by, violation_at, content_behind_large}
+use Rattle.h3_connection.specs.Pulling.{Pulled, just, is_client, is_interim, next_place, judged, with_content, read_section, decoded, at_section, acknowledgment, past_section, tried, connection_fault, malformed, head_or_trailer, past_large}
 use Rattle.h3_connection.specs.Codes.{decompression_failed}
 use Rattle.h3_connection.specs.declared.event.Malformation.{Malformation}
 use Rattle.h3_connection.specs.declared.event.Malformation.TheVariants as malformation
@@ -158,16 +158,25 @@ module _ (lists : ListsAreTheirValue) (side : Side) (announced : Announced) (pla
       answer_at : Item → Place → Pulled
       answer_at i place = record { answer = pull.Item i; incoming = record x { place = place }; replies = replies }
 
+      too_large : Incoming → Pulled
+      too_large y = record { answer = pull.Item (item.TooLarge (told_size s.fields)); incoming = y; replies = replies }
+
+      status : Option (List ℕ)
+      status = last_value (codes ":status") s.fields
+
+      large_is : too_large (past_large side announced x s.fields) ≡ answer_at (item.TooLarge (told_size s.fields)) (next_place side x.place s.fields)
+      large_is = ap (λ b. too_large (record x { place = next_place side x.place s.fields; content = if b then content_behind_large side x.place x.content status else x.content })) plain
+
       by_size : (b : Bool) → nat_lt (section_of announced) (told_size s.fields) ≡ b → IsReadAs side announced id r kind part s x replies
       by_size true e = record {
         item_is = item.TooLarge (told_size s.fields);
-        reads = ap (λ b. if b then answer_at (item.TooLarge (told_size s.fields)) (next_place side x.place s.fields) else judged side id (with_content side announced x s.fields) replies (if_whole x.content (broken_rule side announced x.place s.fields)) (head_of s.fields)) e
-            ∙ ap (answer_at (item.TooLarge (told_size s.fields))) place;
+        reads = ap (λ b. if b then too_large (past_large side announced x s.fields) else judged side id (with_content side announced x s.fields) replies (if_whole x.content (broken_rule side announced x.place s.fields)) (head_of s.fields)) e
+            ∙ large_is ∙ ap (answer_at (item.TooLarge (told_size s.fields))) place;
         of_fields = large (told_size s.fields) (told_is s.fields small) (omega (arith, above _ _ e, told_is s.fields small));
       }
       by_size false e = record {
         item_is = kind (head_of_fields s.fields);
-        reads = ap (λ b. if b then answer_at (item.TooLarge (told_size s.fields)) (next_place side x.place s.fields) else judged side id (with_content side announced x s.fields) replies (if_whole x.content (broken_rule side announced x.place s.fields)) (head_of s.fields)) e
+        reads = ap (λ b. if b then too_large (past_large side announced x s.fields) else judged side id (with_content side announced x s.fields) replies (if_whole x.content (broken_rule side announced x.place s.fields)) (head_of s.fields)) e
             ∙ judged_is x replies s.fields unsaid back ∙ head;
         of_fields = whole (omega (arith, at_most _ _ e, told_is s.fields small));
       }

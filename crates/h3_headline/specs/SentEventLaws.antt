@@ -7,6 +7,7 @@ use Rattle.h3_world.specs.declared.setup.Setup.{Setup}
 use Rattle.h3_world.specs.declared.event.Event.TheVariants as event
 use Rattle.h3_world.specs.Ends.{Ends}
 use Rattle.h3_world.specs.Sendable.{IsSendable, IsSendableHead}
+use Rattle.h3_world.specs.Setup.{IsPlain, announced_at}
 use Rattle.h3_world.specs.Sound.{IsSoundWorld}
 use Rattle.h3_world.specs.World.{World, party}
 use Rattle.h3_headline.specs.CancelLaws.{cancel_served}
@@ -20,6 +21,7 @@ use Rattle.h3_headline.specs.SentLaws.{finish_served, body_served, reset_served}
 use Rattle.h3_headline.specs.ShowingLaws.{show_served}
 use Rattle.h3_headline.specs.Standing.{Stands}
 use Rattle.h3_headline.specs.WritingLaws.{sound_party, goaway_served}
+use Rattle.h3_world.specs.Setup.{JudgesPlainly}
 
 -- numbers of entries stay below 2^62
 few_inserted : (laws : StreamLaws) (setup : Setup) (w : World) (side : Side) → IsSoundWorld setup w → length (party w side).encoder.inserted < 2 ^ 62
@@ -37,15 +39,15 @@ writable_head laws setup w side id head sound sendable =
 pub opened_on : (laws : Laws) (setup : Setup) (w : World) (ends : Ends) (side : Side) → IsSendable (event.OpenRequest side) → Stands setup w ends → StandsOn setup w ends (event.OpenRequest side)
 opened_on laws setup w ends side sendable h = served_stands laws.worlds setup w ends (event.OpenRequest side) sendable h (open_served setup w ends side h)
 
-pub head_on : (laws : Laws) (setup : Setup) (w : World) (ends : Ends) (side : Side) (id : ℕ) (head : Fields) → IsSendable (event.Head side id head) → Stands setup w ends
+pub head_on : (laws : Laws) (setup : Setup) (w : World) (ends : Ends) (side : Side) (id : ℕ) (head : Fields) → IsPlain (announced_at setup side) → IsSendable (event.Head side id head) → Stands setup w ends
     → StandsOn setup w ends (event.Head side id head)
-head_on laws setup w ends side id head sendable h =
-    served_stands laws.worlds setup w ends (event.Head side id head) sendable h (head_served setup w ends side id head h (writable_head laws setup w side id head h.sound sendable))
+head_on laws setup w ends side id head plain sendable h =
+    served_stands laws.worlds setup w ends (event.Head side id head) sendable h (head_served setup w ends side id head plain h (writable_head laws setup w side id head h.sound sendable))
 
-pub trailer_on : (laws : Laws) (setup : Setup) (w : World) (ends : Ends) (side : Side) (id : ℕ) (trailer : Fields) → IsSendable (event.Trailer side id trailer) → Stands setup w ends
+pub trailer_on : (laws : Laws) (setup : Setup) (w : World) (ends : Ends) (side : Side) (id : ℕ) (trailer : Fields) → IsPlain (announced_at setup side) → IsSendable (event.Trailer side id trailer) → Stands setup w ends
     → StandsOn setup w ends (event.Trailer side id trailer)
-trailer_on laws setup w ends side id trailer sendable h =
-    served_stands laws.worlds setup w ends (event.Trailer side id trailer) sendable h (trailer_served setup w ends side id trailer h (writable_head laws setup w side id trailer h.sound sendable))
+trailer_on laws setup w ends side id trailer plain sendable h =
+    served_stands laws.worlds setup w ends (event.Trailer side id trailer) sendable h (trailer_served setup w ends side id trailer plain h (writable_head laws setup w side id trailer h.sound sendable))
 
 pub body_on : (laws : Laws) (setup : Setup) (w : World) (ends : Ends) (side : Side) (id : ℕ) (bytes : List ℕ) → IsSendable (event.Body side id bytes) → Stands setup w ends
     → StandsOn setup w ends (event.Body side id bytes)

@@ -19,11 +19,11 @@ use Rattle.h3_connection.specs.declared.place.Place.{Place}
 use Rattle.h3_connection.specs.declared.setup.Announced.{Announced}
 use Rattle.h3_connection.specs.Announcing.{section_of}
 use Rattle.h3_messages.specs.declared.content.Content.{Content}
-use Rattle.h3_connection.specs.StrictMessages.{broken_rule, if_whole}
+use Rattle.h3_connection.specs.StrictMessages.{broken_rule, if_whole, large_content_at}
 use Rattle.h3_qpack.specs.DecodedSection.{DecodedSection, decode_section}
 use Rattle.h3_connection.specs.Incoming.{Incoming}
 use Rattle.h3_incoming.specs.Gives.{Gives}
-use Rattle.h3_qpack.specs.Sizes.{told_size, IsWithin}
+use Rattle.h3_qpack.specs.Sizes.{last_value, told_size, IsWithin}
 use Rattle.h3_qpack.specs.declared.within.DecodedWithin.{DecodedWithin}
 use Rattle.h3_qpack.specs.declared.within.DecodedWithin.TheVariants as within
 use Rattle.h3_field.specs.declared.decoder.Decoded.{Decoded}
@@ -73,13 +73,19 @@ judged_behind id i content replies (judge.Malformed why) = refl
 
 module _ (side : Side) (own : Announced) (id : ℕ) (r : DecoderState) where
   -- a section that is too large
-  pub read_large : (i : Incoming) (replies : List DecoderInstruction) (fields : List Field) (place behind : Place) (size : ℕ) → section_of own < told_size fields
-      → size ≡ told_size fields → i.place ≡ place → behind ≡ next_place side place fields
-      → read_section side own id r i replies fields ≡ record { answer = pull.Item (item.TooLarge size); incoming = record i { place = behind }; replies = replies }
-  read_large i replies fields place behind size large is at next =
-      ap (λ b. if b then record { answer = pull.Item (item.TooLarge (told_size fields)); incoming = record i { place = next_place side i.place fields }; replies = replies } else judged side id (with_content side own i fields) replies (if_whole i.content (broken_rule side own i.place fields)) (head_of fields)) (lt-ltb (section_of own) (told_size fields) large)
-      ∙ ap (λ n. let p : Pulled = record { answer = pull.Item (item.TooLarge n); incoming = record i { place = next_place side i.place fields }; replies = replies } in p) (sym is)
-      ∙ ap (λ q. let p : Pulled = record { answer = pull.Item (item.TooLarge size); incoming = record i { place = q }; replies = replies } in p) (ap (λ q. next_place side q fields) at ∙ sym next)
+  abbrev large_as : ℕ → Incoming → Place → Content → List DecoderInstruction → Pulled
+  large_as size i place content replies = record { answer = pull.Item (item.TooLarge size); incoming = record i { place = place; content = content }; replies = replies }
+
+  pub read_large : (i : Incoming) (replies : List DecoderInstruction) (fields : List Field) (place behind : Place) (content expected : Content) (size : ℕ) → section_of own < told_size fields
+      → size ≡ told_size fields → i.place ≡ place → i.content ≡ content → behind ≡ next_place side place fields → expected ≡ large_content_at side own place content (last_value (codes ":status") fields)
+      → read_section side own id r i replies fields ≡ large_as size i behind expected replies
+  read_large i replies fields place behind content expected size large is at left next says =
+      let status = last_value (codes ":status") fields in
+      ap (λ b. if b then large_as (told_size fields) i (next_place side i.place fields) (large_content_at side own i.place i.content status) replies else judged side id (with_content side own i fields) replies (if_whole i.content (broken_rule side own i.place fields)) (head_of fields)) (lt-ltb (section_of own) (told_size fields) large)
+      ∙ ap (λ n. large_as n i (next_place side i.place fields) (large_content_at side own i.place i.content status) replies) (sym is)
+      ∙ ap (λ q. large_as size i (next_place side q fields) (large_content_at side own q i.content status) replies) at
+      ∙ ap (λ c. large_as size i (next_place side place fields) (large_content_at side own place c status) replies) left
+      ∙ ap (λ q. large_as size i q (large_content_at side own place content status) replies) (sym next) ∙ ap (λ c. large_as size i behind c replies) (sym says)
 
   -- one that is not, and that is no head
   pub read_none : (i : Incoming) (replies : List DecoderInstruction) (fields : List Field) (why : HeadRefusal) → told_size fields ≤ section_of own → head_of fields ≡ IsNone why

@@ -13,12 +13,12 @@ ghost use Rattle.h3_connection.specs.Pulling.{read_section, whole_head, whole_tr
 ghost use Rattle.h3_field.specs.Field.{Field};
 ghost use Rattle.h3_incoming.specs.Judging.{Tells, judged_as};
 
-use crate::strict::{broken_rule, content_at, if_whole};
+use crate::strict::{broken_rule, content_at, if_whole, large_content_at};
 use h3_connection::event::{Item, Malformation};
 use h3_connection::place::Place;
 use h3_connection::setup::Announced;
 use h3_header::{BadPart, Header, HeaderError, first_bad_part};
-use h3_messages::Content;
+use h3_messages::{Content, is_interim_status};
 use h3_proto::stream::Side;
 use h3_qpack::{DecodedWithin, HeaderField, LargeSection};
 use std::alloc::{AllocError, Global};
@@ -57,18 +57,25 @@ pub(crate) fn judge(
         DecodedWithin::Fields(decoded) => {
             judge_fields(alloc, side, announced, place, content, decoded.fields)
         }
-        DecodedWithin::TooLarge(large) => Ok(judge_large(side, place, content, large)),
+        DecodedWithin::TooLarge(large) => Ok(judge_large(side, announced, place, content, large)),
     }
 }
 
-// A section that is too large. Nothing is known of its content.
-fn judge_large(side: Side, place: Place, content: Content, large: LargeSection) -> Judged
-    ensures { (own : Announced) (id : ℕ) (r : DecoderState) (i : Incoming) (replies : List DecoderInstruction) (dyn_ref : Bool) (fields : List Field)
-        → section_of own < told_size fields → IsLarge (codes ":status") dyn_ref fields large → i.place ≡ place → i.content ≡ content
-        → read_section side own id r i replies fields ≡ judged_as id i replies result }
+// A section that is too large.
+fn judge_large(
+    side: Side,
+    announced: &Announced,
+    place: Place,
+    content: Content,
+    large: LargeSection,
+) -> Judged
+    ensures { (id : ℕ) (r : DecoderState) (i : Incoming) (replies : List DecoderInstruction) (dyn_ref : Bool) (fields : List Field)
+        → section_of announced.now < told_size fields → IsLarge (codes ":status") dyn_ref fields large → i.place ≡ place → i.content ≡ content
+        → read_section side announced.now id r i replies fields ≡ judged_as id i replies result }
 {
+    let expected = large_content_at(side, announced, place, content, &large.last_value);
     let behind = place_behind(side, place, large.last_value);
-    Judged::HandsOut(Item::TooLarge(large.mem_size), behind, content)
+    Judged::HandsOut(Item::TooLarge(large.mem_size), behind, expected)
 }
 
 // A section that is not. Want of memory is told only of a list of which a front is good, and whose next field may ask for memory; and of no
@@ -243,14 +250,7 @@ fn counts_as_interim(status: Option<Vec<u8>>) -> bool
     ensures { result ≡ is_interim_text (option_map (λ v. v.items) status) }
 {
     match status {
-        Some(text) => is_interim_text(text.as_slice()),
+        Some(text) => is_interim_status(text.as_slice()),
         None => false,
     }
-}
-
-// Three digits, of which the first is 1.
-fn is_interim_text(text: &[u8]) -> bool
-    ensures { result ≡ is_interim_text (Some text.now) }
-{
-    text.len() == 3 && text.iter().all(|byte| byte.is_ascii_digit()) && text[0] == b'1'
 }

@@ -2,7 +2,7 @@
 ghost use Rattle.std.specs.Prelude.{◌≡◌, ◌+◌, ◌<◌, ◌≤◌, ◌^◌, ◌++◌, length, true, IfErr, OnOk, OnErr};
 ghost use Rattle.std.specs.List.{concat};
 ghost use Rattle.h3_connection.specs.declared.event.StreamFault.TheVariants.{Reset, Canceled};
-ghost use Rattle.h3_connection.specs.Incoming.{nothing_came, given_up};
+ghost use Rattle.h3_connection.specs.Incoming.{nothing_came, given_up, awaits_head, awaiting};
 ghost use Rattle.h3_connection.specs.Delivering.{kept, with_end, given_up_once, cancellation};
 ghost use Rattle.h3_incoming.specs.Replying.{encodings};
 
@@ -32,7 +32,7 @@ pub struct IncomingStream {
     section: Option<Bytes>,
     // how much of a begun payload of DATA is still to come out
     body_left: usize,
-    // how much content is left behind that
+    // how much content is left behind that; in front of a response's head what its request said of it
     content: Content,
     place: Place,
     // the required insert count that the section waited for, or 0
@@ -161,6 +161,25 @@ impl IncomingStream {
             self.give_up(alloc, StreamFault::Canceled);
         }
         Ok(())
+    }
+
+    /// This content is awaited of it, until its head comes. A stream of which that came, or nothing more comes, stays as it is.
+    pub fn await_content(&mut self, content: Content)
+        ensures { self.new ≡ awaiting self.old content }
+    {
+        if self.awaits_head() {
+            self.content = content;
+        }
+    }
+
+    // Whether its head is still to come.
+    fn awaits_head(&self) -> bool
+        ensures { result ≡ awaits_head self.now }
+    {
+        let Place::BeforeHead = self.place else {
+            return false;
+        };
+        !(self.is_over || self.fault.is_some())
     }
 
     // What is there is thrown away, and nothing more of it is read.

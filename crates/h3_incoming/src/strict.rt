@@ -1,7 +1,7 @@
 //! Which rule of well-formed messages a field list breaks, and how much content follows it, where the endpoint asks for them (RFC 9114, sections
 //! 4.1.2 and 4.2 to 4.5).
-ghost use Rattle.std.specs.Prelude.{◌≡◌};
-ghost use Rattle.h3_connection.specs.StrictMessages.{broken_rule, malformation_by, violation_at, content_of_head, content_behind, content_at, if_whole};
+ghost use Rattle.std.specs.Prelude.{◌≡◌, option_map};
+ghost use Rattle.h3_connection.specs.StrictMessages.{broken_rule, violation_at, content_of_head, content_behind, content_behind_large, content_at, large_content_at, if_whole};
 
 use h3_connection::event::Malformation;
 use h3_connection::place::Place;
@@ -23,7 +23,7 @@ pub(crate) fn broken_rule(
         return None;
     }
     match violation_at(side, announced, place, fields) {
-        Some(violation) => Some(malformation_by(violation)),
+        Some(violation) => Some(Malformation::by(violation)),
         None => None,
     }
 }
@@ -68,18 +68,56 @@ fn content_behind(side: Side, place: Place, content: Content, fields: &[HeaderFi
     ensures { result ≡ content_behind side place content fields.now }
 {
     match place {
-        Place::BeforeHead => content_of_head(side, fields),
+        Place::BeforeHead => content_of_head(side, content, fields),
         Place::InBody | Place::AfterTrailer | Place::InSession => content,
     }
 }
 
-// That of a request; that of a response is not judged.
-fn content_of_head(side: Side, fields: &[HeaderField]) -> Content
-    ensures { result ≡ content_of_head side fields.now }
+// That of a request; and that of a response, in front of which this was awaited.
+fn content_of_head(side: Side, awaited: Content, fields: &[HeaderField]) -> Content
+    ensures { result ≡ content_of_head side awaited fields.now }
 {
     match side {
-        Side::Client => Content::Unsaid,
+        Side::Client => awaited.behind_response(fields),
         Side::Server => Content::of_request(fields),
+    }
+}
+
+/// The content behind a section that is too large, of which only the last status is known. That of a response tells whether content may
+/// follow.
+pub(crate) fn large_content_at(
+    side: Side,
+    announced: &Announced,
+    place: Place,
+    content: Content,
+    status: &Option<Vec<u8>>,
+) -> Content
+    ensures { result ≡ large_content_at side announced.now place content (option_map (λ v. v.items) status.now) }
+{
+    let asks = announced.choices.strict_messages;
+    if asks {
+        return content_behind_large(side, place, content, status);
+    }
+    content
+}
+
+fn content_behind_large(
+    side: Side,
+    place: Place,
+    content: Content,
+    status: &Option<Vec<u8>>,
+) -> Content
+    ensures { result ≡ content_behind_large side place content (option_map (λ v. v.items) status.now) }
+{
+    if let Side::Server = side {
+        return content;
+    }
+    let Place::BeforeHead = place else {
+        return content;
+    };
+    match status {
+        Some(text) => content.behind_status(text.as_slice()),
+        None => content.behind_status(b""),
     }
 }
 
@@ -91,25 +129,4 @@ pub(crate) fn if_whole(content: Content, broken: Option<Malformation>) -> Option
         return broken;
     }
     Some(Malformation::ContentLength)
-}
-
-fn malformation_by(violation: Violation) -> Malformation
-    ensures { result ≡ malformation_by violation }
-{
-    match violation {
-        Violation::PseudoOrder => Malformation::PseudoOrder,
-        Violation::RepeatedPseudo => Malformation::RepeatedPseudo,
-        Violation::WrongPseudo => Malformation::WrongPseudo,
-        Violation::MissingPseudo => Malformation::MissingPseudo,
-        Violation::ConnectionField => Malformation::ConnectionField,
-        Violation::Protocol => Malformation::Protocol,
-        Violation::Connect => Malformation::Connect,
-        Violation::Scheme => Malformation::Scheme,
-        Violation::Authority => Malformation::Authority,
-        Violation::Path => Malformation::Path,
-        Violation::Status => Malformation::Status,
-        Violation::ContentLength => Malformation::ContentLength,
-        Violation::TrailerField => Malformation::TrailerField,
-        Violation::Value => Malformation::Value,
-    }
 }

@@ -1,5 +1,6 @@
 -- How much content a message has (RFC 9114, section 4.1.2; RFC 9110, sections 6.4.1, 8.6 and 9.3.6), and what comes of it.
-use Rattle.std.specs.Prelude.{ℕ, ◌-◌, Bool, true, false, ◌||◌, List, codes, bytes_eq, slice_index, nat_le, ◌==◌, if◌then◌else◌}
+use Rattle.std.specs.Prelude.{ℕ, ◌-◌, Bool, true, false, ◌&&◌, ◌||◌, List, length, codes, bytes_eq, slice_index, nat_le, ◌==◌, if◌then◌else◌}
+use Rattle.std.specs.List.{list_all}
 use Rattle.h3_field.specs.Field.{Field}
 use Rattle.h3_messages.specs.Messages.{value_of, number_of, is_length, is_connect}
 use Rattle.h3_messages.specs.declared.content.Asked.{Asked}
@@ -36,6 +37,35 @@ content_expected Other status size = content_of_status status size
 
 abbrev pub content_of_response : Asked → List Field → Content
 content_of_response asked fields = content_expected asked (value_of (codes ":status") fields) (value_of (codes "content-length") fields)
+
+-- What a client awaits in front of a response's head, by what its request asked. It is all that the client remembers of that
+abbrev pub awaited : Asked → Content
+awaited Head = NoContent
+awaited Connect = Tunnel
+awaited Other = Unsaid
+
+abbrev pub asked_for : Content → Asked
+asked_for NoContent = Head
+asked_for Tunnel = Connect
+asked_for _ = Other
+
+-- by the list of the request
+abbrev pub awaited_by : List Field → Content
+awaited_by fields = awaited (asked_by (value_of (codes ":method") fields))
+
+-- the status of an interim response: three digits, of which the first is 1 (15.2)
+abbrev pub is_digit : ℕ → Bool
+is_digit b = nat_le 48 b && nat_le b 57
+
+abbrev pub is_interim_status : List ℕ → Bool
+is_interim_status text = (length text == 3) && list_all is_digit text && (slice_index text 0 == 49)
+
+-- What is expected behind the head of a response, where this was awaited in front of it: an interim one leaves that
+abbrev pub content_behind_status : Content → List ℕ → List ℕ → Content
+content_behind_status content status size = if is_interim_status status then content else content_expected (asked_for content) status size
+
+abbrev pub content_behind_response : Content → List Field → Content
+content_behind_response content fields = content_behind_status content (value_of (codes ":status") fields) (value_of (codes "content-length") fields)
 
 -- What is left of it behind DATA of so many bytes: the sum of their lengths does not pass content-length (4.1.2)
 abbrev pub left_behind : Content → ℕ → Content

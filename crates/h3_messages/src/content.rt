@@ -1,6 +1,6 @@
 //! How much content a message has, and what comes of it (RFC 9114, 4.1.2; RFC 9110, 6.4.1, 8.6 and 9.3.6).
-ghost use Rattle.std.specs.Prelude.{◌≡◌};
-ghost use Rattle.h3_messages.specs.Content.{asked_by, said, content_of_request, is_without_content, content_of_status, content_expected, content_of_response, left_behind, is_exceeded, may_end, takes_trailer};
+ghost use Rattle.std.specs.Prelude.{◌≡◌, []};
+ghost use Rattle.h3_messages.specs.Content.{asked_by, asked_for, awaited, awaited_by, said, content_of_request, is_interim_status, is_without_content, content_of_status, content_expected, content_of_response, content_behind_status, content_behind_response, left_behind, is_exceeded, may_end, takes_trailer};
 
 use crate::fields::value_of;
 use crate::request::is_connect;
@@ -49,6 +49,45 @@ impl Asked {
 }
 
 impl Content {
+    /// What a client awaits in front of the head of the response to a request of these fields. It is all that the client's stream
+    /// remembers of that: `NoContent` behind HEAD, `Tunnel` behind CONNECT, and else `Unsaid`.
+    pub fn awaited_by(fields: &[HeaderField]) -> Content
+        ensures { result ≡ awaited_by fields.now }
+    {
+        match Asked::by(value_of(b":method", fields)) {
+            Asked::Head => Content::NoContent,
+            Asked::Connect => Content::Tunnel,
+            Asked::Other => Content::Unsaid,
+        }
+    }
+
+    // What the request asked behind which this is awaited.
+    fn asked(self) -> Asked
+        ensures { result ≡ asked_for self }
+    {
+        match self {
+            Content::NoContent => Asked::Head,
+            Content::Tunnel => Asked::Connect,
+            Content::Unsaid | Content::Exactly(_) | Content::Exceeded => Asked::Other,
+        }
+    }
+
+    /// The content behind the head of a response, in front of which this was awaited. An interim one leaves it as it is.
+    pub fn behind_response(self, fields: &[HeaderField]) -> Content
+        ensures { result ≡ content_behind_response self fields.now }
+    {
+        let status = value_of(b":status", fields);
+        let size = value_of(b"content-length", fields);
+        behind_status(self, status, size)
+    }
+
+    /// The same of one of which only the status is known.
+    pub fn behind_status(self, status: &[u8]) -> Content
+        ensures { result ≡ content_behind_status self status.now [] }
+    {
+        behind_status(self, status, b"")
+    }
+
     /// The content behind the head of a request: a tunnel's for CONNECT, else as much as `content-length` says.
     pub fn of_request(fields: &[HeaderField]) -> Content
         ensures { result ≡ content_of_request fields.now }
@@ -121,6 +160,23 @@ impl Content {
             Content::Unsaid | Content::Exactly(_) | Content::NoContent | Content::Exceeded => true,
         }
     }
+}
+
+/// Whether a status is one of an interim response: three digits, of which the first is 1 (RFC 9110, 15.2).
+pub fn is_interim_status(status: &[u8]) -> bool
+    ensures { result ≡ is_interim_status status.now }
+{
+    status.len() == 3 && status.iter().all(|byte| byte.is_ascii_digit()) && status[0] == b'1'
+}
+
+// What is expected behind a head of this status and this `content-length`, where this was awaited.
+fn behind_status(content: Content, status: &[u8], size: &[u8]) -> Content
+    ensures { result ≡ content_behind_status content status.now size.now }
+{
+    if is_interim_status(status) {
+        return content;
+    }
+    content_expected(content.asked(), status, size)
 }
 
 // What this `content-length` says, where it is a length.

@@ -14,7 +14,7 @@ mod response;
 mod text;
 pub mod violation;
 
-pub use content::{Asked, Content};
+pub use content::{Asked, Content, is_interim_status};
 pub use request::request_violation;
 pub use response::{response_violation, trailer_violation};
 pub use violation::Violation;

@@ -20,7 +20,7 @@ default_settings = record {
 
 -- what an end chooses that chooses nothing
 abbrev pub no_choices : Choices
-no_choices = record { strict_messages = false; acknowledgments_counted = false; encoder_table = 2 ^ 30 - 1 }
+no_choices = record { strict_messages = false; acknowledgments_counted = false; encoder_table = 2 ^ 30 - 1; economical_table = false }
 
 -- the setting is there with a value other than 0
 abbrev pub is_enabled : ℕ → List (ℕ × ℕ) → Bool

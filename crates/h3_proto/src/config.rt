@@ -87,6 +87,8 @@ pub struct Choices {
     pub acknowledgments_counted: bool,
     /// The most bytes that the table of the own encoder has, however many its peer announces (RFC 9204, section 3.2.3).
     pub encoder_table: u64,
+    /// The own encoder inserts for later sections what it may not name yet, where its peer lets no section wait.
+    pub economical_table: bool,
 }
 
 impl Default for Choices {
@@ -97,6 +99,7 @@ impl Default for Choices {
             strict_messages: false,
             acknowledgments_counted: false,
             encoder_table: MAX_TABLE_CAPACITY,
+            economical_table: false,
         }
     }
 }
@@ -208,6 +211,16 @@ impl Config {
         self
     }
 
+    /// Whether the own encoder is economical with its table. Where the peer lets no section wait (RFC 9204, section 2.1.2), it inserts a
+    /// field that it writes as a literal, and names the entry once the insertion is known to be received; else it never inserts there.
+    /// Off by default.
+    pub fn with_economical_table(mut self, economical: bool) -> Self
+        ensures { result ≡ record self { choices = record self.choices { economical_table = economical } } }
+    {
+        self.choices.economical_table = economical;
+        self
+    }
+
     /// What the end chooses for itself.
     pub fn choices(&self) -> Choices
         ensures { result ≡ self.now.choices }
@@ -222,25 +235,36 @@ impl Config {
         requires { grease < 0x210842108421083 }
         ensures { result ≡ announced self grease }
     {
-        let mut settings = frame::Settings::default();
-        if self.send_grease {
-            settings.insert(SettingId::grease(grease), 0)?;
-        }
-        let own = self.settings;
-        settings.insert(SettingId::MAX_HEADER_LIST_SIZE, own.max_field_section_size)?;
-        settings.insert(
-            SettingId::ENABLE_CONNECT_PROTOCOL,
-            u64::from(own.enable_extended_connect),
-        )?;
-        settings.insert(
-            SettingId::ENABLE_WEBTRANSPORT,
-            u64::from(own.enable_webtransport),
-        )?;
-        settings.insert(SettingId::H3_DATAGRAM, u64::from(own.enable_datagram))?;
-        settings.insert(
-            SettingId::WEBTRANSPORT_MAX_SESSIONS,
-            own.max_webtransport_sessions,
-        )?;
-        Ok(settings)
+        settings_to_send(self.send_grease, self.settings, grease)
     }
+}
+
+/// The settings that an end sends which announces these, behind the reserved one where it greases.
+fn settings_to_send(
+    send_grease: bool,
+    own: Settings,
+    grease: u64,
+) -> Result<frame::Settings, SettingsError>
+    requires { grease < 0x210842108421083 }
+    ensures { result ≡ announced (record { send_grease = send_grease; settings = own; choices = no_choices }) grease }
+{
+    let mut settings = frame::Settings::default();
+    if send_grease {
+        settings.insert(SettingId::grease(grease), 0)?;
+    }
+    settings.insert(SettingId::MAX_HEADER_LIST_SIZE, own.max_field_section_size)?;
+    settings.insert(
+        SettingId::ENABLE_CONNECT_PROTOCOL,
+        u64::from(own.enable_extended_connect),
+    )?;
+    settings.insert(
+        SettingId::ENABLE_WEBTRANSPORT,
+        u64::from(own.enable_webtransport),
+    )?;
+    settings.insert(SettingId::H3_DATAGRAM, u64::from(own.enable_datagram))?;
+    settings.insert(
+        SettingId::WEBTRANSPORT_MAX_SESSIONS,
+        own.max_webtransport_sessions,
+    )?;
+    Ok(settings)
 }

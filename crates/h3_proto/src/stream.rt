@@ -218,6 +218,7 @@ impl StreamType {
     /// The most bytes that the encoding of a type has.
     pub const MAX_ENCODED_SIZE: usize = VarInt::MAX_SIZE;
 
+    /// The type of this number.
     pub fn from_value(value: u64) -> Self
         requires { value < 2 ^ 62 }
         ensures { result ≡ value }
@@ -225,6 +226,7 @@ impl StreamType {
         StreamType(value)
     }
 
+    /// Its number, below 2^62.
     pub fn value(&self) -> u64
         ensures value { result ≡ self.now }
         ensures bound { result < 2 ^ 62 }

@@ -26,12 +26,14 @@ impl Model for SessionId {
 }
 
 impl SessionId {
+    /// The session of the CONNECT stream of this id.
     pub fn from_varint(id: VarInt) -> SessionId
         ensures { result ≡ id }
     {
         SessionId(id.into_inner())
     }
 
+    /// Its number, below 2^62.
     pub fn into_inner(self) -> u64
         ensures value { result ≡ self }
         ensures bound { result < 2 ^ 62 }

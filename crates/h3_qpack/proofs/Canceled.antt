@@ -1,7 +1,7 @@
 -- A section on a stream whose cancellation was read: it is written as static lines, and nothing else changes.
-use Rattle.std.proofs.Common.{Less, Equal, Greater, ◌≡◌, ℕ, ◌+◌, ◌-◌, ◌<◌, Bool, true, false, ◌||◌, List, [], ◌∷◌, ◌++◌, length, map, filter, fold, refl, sym, ◌∙◌, ap, arith, nat_lt, nat_le, cond, append_assoc, append-nil, flat_map, if◌then◌else◌, Option, Some, None, option_map, unwrap_or}
+use Rattle.std.proofs.Common.{Less, Equal, Greater, ◌⊎◌, inl, inr, ◌≡◌, ℕ, ◌+◌, ◌-◌, ◌^◌, ◌<◌, ◌≤◌, Bool, true, false, ◌&&◌, ◌||◌, max, List, [], ◌∷◌, ◌++◌, length, map, filter, fold, refl, sym, ◌∙◌, ap, arith, nat_lt, nat_le, cond, append_assoc, append-nil, flat_map, if◌then◌else◌, Option, Some, None, option_map, unwrap_or}
 use Rattle.std.specs.Prelude.{◌==◌}
-use Rattle.std.specs.List.{AllByRecursion, list_any}
+use Rattle.std.specs.List.{AllByRecursion, list_all, list_any}
 use Rattle.std.specs.Ordering.{nat_cmp, match_ordering}
 use Rattle.std.specs.BTreeMap.{is_at}
 use Rattle.std.specs.BTreeSet.{insert_key}
@@ -17,9 +17,9 @@ use Rattle.h3_field.specs.Instruction.{encoder_bytes}
 use Rattle.h3_field.specs.Prefix.{prefix_bytes}
 use Rattle.h3_field.specs.Section.{literal_line, line_or_literal, static_line, static_lines, section_bytes}
 use Rattle.h3_table.specs.Table.{table, evictions}
-use Rattle.h3_qpack.specs.EncoderHistory.{EncoderHistory, blocks_out, was_canceled, writing_on}
+use Rattle.h3_qpack.specs.EncoderHistory.{EncoderHistory, blocks_out, referenced_entries, was_canceled, writing_on}
 use Rattle.h3_qpack.specs.EncoderState.{EncoderState, encoder_state}
-use Rattle.h3_qpack.specs.SectionEncoding.{Draft, add_line, add_literal, add_field, found, found_name, entry_name_line, is_insertable, draft_of, required_insert_count, encoded_section, instructions_for, sent_section}
+use Rattle.h3_qpack.specs.SectionEncoding.{Draft, add_line, add_literal, add_ahead, write_field, add_field, found, found_name, entry_name_line, evictions_by, finds_room, is_insertable, is_new, evicts_none, is_insertable_ahead, draft_of, required_insert_count, encoded_section, instructions_for, sent_section}
 use Rattle.h3_qpack.specs.Drafting.{IsSent, IsCutOff}
 use Rattle.h3_qpack.proofs.Newest.{newest_from-none}
 
@@ -50,9 +50,10 @@ pub id_found : (stream : ℕ) (ids : List ℕ) → list_any (is_at (nat_cmp stre
 id_found stream [] = refl
 id_found stream (id ∷ ids) = grind (arith, common_steps, id_found stream ids)
 
--- No section may be blocked, and no entry is there.
+-- No section may be blocked, no entry is there, and none is inserted for later sections: the encoder is not economical, or none fits.
 pub record NamesNone (s : EncoderHistory) : Type 0 where
   pub limit : s.limit ≡ 0
+  pub unsaved : (s.economical ≡ false) ⊎ (s.capacity ≡ 0)
   pub evicted : evictions s.capacity s.inserted ≡ length s.inserted
 
 -- a draft of such an encoder
@@ -67,6 +68,31 @@ not_above n most h = grind (arith, common_steps, h)
 
 not_insertable : (s : EncoderHistory) (lines : List FieldLine) (f : Field) → NamesNone s → is_insertable s (with_lines s lines) f ≡ false
 not_insertable s lines f h = grind (arith, common_steps, h.limit, not_below (blocks_out s))
+
+too_large : (size capacity : ℕ) → capacity ≡ 0 → 32 ≤ size → nat_le size capacity ≡ false
+too_large size capacity none some = grind (arith, common_steps, none, some)
+
+-- nothing fits
+no_room : (s : EncoderHistory) (d : Draft) (f : Field) → s.capacity ≡ 0 → finds_room s d f ≡ false
+no_room s d f none =
+    second (nat_lt (length d.inserted + 1) (2 ^ 62)) (nat_le (field_size f) s.capacity)
+    (nat_le (evictions_by s d f) (max s.known_received (evictions s.capacity d.inserted)))
+    (list_all (λ number. nat_lt (evictions_by s d f) number) (referenced_entries s ++ d.references))
+    (too_large (field_size f) s.capacity none (omega arith))
+  where
+    second : (a b c d : Bool) → b ≡ false → (a && b && c && d) ≡ false
+    second a true c d h = absurd (cc)
+    second false false c d h = refl
+    second true false c d h = refl
+
+pub not_ahead : (s : EncoderHistory) (d : Draft) (f : Field) → (s.economical ≡ false) ⊎ (s.capacity ≡ 0) → is_insertable_ahead s d f ≡ false
+not_ahead s d f (inl plain) = rw plain refl
+not_ahead s d f (inr none) = last (s.economical && (s.limit == 0) && is_new s d f && evicts_none s d f) (finds_room s d f) (no_room s d f none)
+  where
+    last : (a b : Bool) → b ≡ false → (a && b) ≡ false
+    last a true h = absurd (cc)
+    last true false h = refl
+    last false false h = refl
 
 none_found : (s : EncoderHistory) (lines : List FieldLine) (f : Field) → NamesNone s → found s (with_lines s lines) f ≡ None
 none_found s lines f h =
@@ -96,11 +122,16 @@ line_added s lines f None None false inserted literal e d l = l
 line_added s lines f o (Some i) b inserted literal e d l = absurd (grind (arith, common_steps, e))
 line_added s lines f o None true inserted literal e d l = absurd (grind (arith, common_steps, d))
 
-field_added : (s : EncoderHistory) (lines : List FieldLine) (f : Field) → NamesNone s → add_field s (with_lines s lines) f ≡ with_lines s (lines ++ static_line f ∷ [])
-field_added s lines f h =
+line_of_field : (s : EncoderHistory) (lines : List FieldLine) (f : Field) → NamesNone s → write_field s (with_lines s lines) f ≡ with_lines s (lines ++ static_line f ∷ [])
+line_of_field s lines f h =
     line_added s lines f (static_field f) (found s (with_lines s lines) f) (is_insertable s (with_lines s lines) f) _ (add_literal s (with_lines s lines) f)
     (none_found s lines f h) (not_insertable s lines f h)
     (literal_added s lines f (static_name f.name) (found_name s (with_lines s lines) f) (no_name s lines f h))
+
+field_added : (s : EncoderHistory) (lines : List FieldLine) (f : Field) → NamesNone s → add_field s (with_lines s lines) f ≡ with_lines s (lines ++ static_line f ∷ [])
+field_added s lines f h =
+    let d = write_field s (with_lines s lines) f in
+    ap (λ b. if b then add_ahead s d f else d) (not_ahead s d f h.unsaved) ∙ line_of_field s lines f h
 
 fields_added : (s : EncoderHistory) (lines : List FieldLine) (fields : List Field) → NamesNone s
     → fold (add_field s) (with_lines s lines) fields ≡ with_lines s (lines ++ map static_line fields)
@@ -141,7 +172,7 @@ minus_none : (n : ℕ) → n - 0 ≡ n
 minus_none n = omega arith
 
 pub names_none : (s : EncoderHistory) → NamesNone (without_table s)
-names_none s = record { limit = refl; evicted = ap (λ fs. length s.inserted - length fs) (nothing_fits s.inserted) ∙ minus_none (length s.inserted) }
+names_none s = record { limit = refl; unsaved = inr refl; evicted = ap (λ fs. length s.inserted - length fs) (nothing_fits s.inserted) ∙ minus_none (length s.inserted) }
 
 pub on_canceled : (s : EncoderHistory) (stream : ℕ) → was_canceled s stream ≡ true → writing_on s stream ≡ without_table s
 on_canceled s stream e = rw e refl
@@ -217,23 +248,26 @@ nothing_written s stream fields t start same =
       instructions_are = sym (append-nil start);
     }
 
--- An encoder of limit 0 that has inserted nothing names none.
-early_names_none : (s : EncoderHistory) → s.limit ≡ 0 → s.inserted ≡ [] → NamesNone s
-early_names_none s none empty = record { limit = none; evicted = ap (λ fs. evictions s.capacity fs) empty ∙ ap (λ fs. length fs) (sym empty) }
+-- An encoder that inserts nothing for later sections, and has inserted nothing, names none.
+abbrev pub InsertsNothing : EncoderHistory → Type 0
+InsertsNothing s = (s.limit ≡ 0) × ((s.economical ≡ false) ⊎ (s.capacity ≡ 0))
 
-on_none : (s : EncoderHistory) (stream : ℕ) → s.limit ≡ 0 → s.inserted ≡ [] → NamesNone (writing_on s stream)
+early_names_none : (s : EncoderHistory) → InsertsNothing s → s.inserted ≡ [] → NamesNone s
+early_names_none s none empty = record { limit = none.0; unsaved = none.1; evicted = ap (λ fs. evictions s.capacity fs) empty ∙ ap (λ fs. length fs) (sym empty) }
+
+on_none : (s : EncoderHistory) (stream : ℕ) → InsertsNothing s → s.inserted ≡ [] → NamesNone (writing_on s stream)
 on_none s stream none empty = by_test (was_canceled s stream)
   where
     by_test : (b : Bool) → NamesNone (if b then without_table s else s)
     by_test true = names_none s
     by_test false = early_names_none s none empty
 
-pub early_bytes : (s : EncoderHistory) (stream : ℕ) (fields : List Field) → s.limit ≡ 0 → s.inserted ≡ [] → encoded_section (writing_on s stream) fields ≡ section_bytes fields
+pub early_bytes : (s : EncoderHistory) (stream : ℕ) (fields : List Field) → InsertsNothing s → s.inserted ≡ [] → encoded_section (writing_on s stream) fields ≡ section_bytes fields
 early_bytes s stream fields none empty = section_is_static (writing_on s stream) fields (on_none s stream none empty)
 
-pub early_inserts : (s : EncoderHistory) (stream : ℕ) (fields : List Field) → s.limit ≡ 0 → s.inserted ≡ [] → instructions_for (writing_on s stream) fields ≡ []
+pub early_inserts : (s : EncoderHistory) (stream : ℕ) (fields : List Field) → InsertsNothing s → s.inserted ≡ [] → instructions_for (writing_on s stream) fields ≡ []
 early_inserts s stream fields none empty = ap (λ (d : Draft). d.instructions) (draft_is_static (writing_on s stream) fields (on_none s stream none empty))
 
-pub early_still : (s : EncoderHistory) (stream : ℕ) (fields : List Field) → s.limit ≡ 0 → s.inserted ≡ [] → (sent_section s stream fields).inserted ≡ []
+pub early_still : (s : EncoderHistory) (stream : ℕ) (fields : List Field) → InsertsNothing s → s.inserted ≡ [] → (sent_section s stream fields).inserted ≡ []
 early_still s stream fields none empty =
     ap (λ (d : Draft). d.inserted) (draft_is_static (writing_on s stream) fields (on_none s stream none empty)) ∙ on_inserted s stream ∙ empty

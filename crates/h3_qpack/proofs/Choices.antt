@@ -4,10 +4,10 @@ use Rattle.std.specs.List.{AllByRecursion, list_all, flat_map}
 use Rattle.std.proofs.lemmas.Grind.{common_steps}
 use Rattle.std.proofs.lemmas.Bool.{and_parts}
 use Rattle.h3_field.specs.Field.{Field, field_eq, field_size}
-use Rattle.h3_table.specs.Table.{table, evictions}
+use Rattle.h3_table.specs.Table.{table, evictions, newest}
 use Rattle.h3_table.specs.TableState.{evicted, newest_in, with_entry}
 use Rattle.h3_qpack.specs.EncoderHistory.{EncoderHistory, UnacknowledgedSection, blocks_out, referenced_entries}
-use Rattle.h3_qpack.specs.SectionEncoding.{Draft, is_usable, found, found_name, remaining, evictions_by, is_insertable}
+use Rattle.h3_qpack.specs.SectionEncoding.{Draft, is_usable, found, found_name, remaining, evictions_by, finds_room}
 use Rattle.h3_table.specs.Tracking.{is_free_to}
 use Rattle.h3_table.specs.declared.tracking.TrackedSection.{TrackedSection}
 use Rattle.h3_table.specs.InOrder.{in_order}
@@ -105,6 +105,18 @@ remaining_held s d f test = search_held s.capacity d.inserted test (evictions_by
     same true b = refl
     same false b = refl
 
+-- an entry of the table that equals the field
+pub present_held : (s : EncoderHistory) (d : Draft) (f : Field)
+    → newest_in (table_state_of s.capacity d.inserted) (λ e. field_eq e f) (evictions s.capacity d.inserted) (length d.inserted)
+    ≡ newest (λ number entry. field_eq entry f && nat_lt (evictions s.capacity d.inserted) number) d.inserted
+present_held s d f = search_held s.capacity d.inserted (λ e. field_eq e f) (evictions s.capacity d.inserted) (length d.inserted) _
+    (λ n e le. rw (lt_false _ n le, and_false (field_eq e f)) refl)
+    (λ n e low high. rw (lt_true _ n low, le_true n (length d.inserted) high) (same (field_eq e f)))
+  where
+    same : (a : Bool) → a ≡ (a && true)
+    same true = refl
+    same false = refl
+
 -- what the section so far names at least, and no entry has a number as great where it names none
 abbrev pub oldest_of : List ℕ → ℕ
 oldest_of ns = fold min (2 ^ 64 - 1) ns
@@ -159,10 +171,10 @@ drafted_free n ns small = front (lt_true n (2 ^ 64 - 1) small) ∙ least_all n (
     front : nat_lt n (2 ^ 64 - 1) ≡ true → list_all (λ k. nat_lt n k) ns ≡ list_all (λ k. nat_lt n k) ((2 ^ 64 - 1) ∷ ns)
     front e = sym (ap (λ b. b && list_all (λ k. nat_lt n k) ns) e)
 
--- A field is inserted exactly where what is kept allows it.
-pub insertable_held : (s : EncoderHistory) (d : Draft) (f : Field) (t : EncoderState) → t.table ≡ table_state_of s.capacity d.inserted → t.known_received ≡ s.known_received → t.tracked ≡ in_order (λ u. u.stream) (map tracked_section s.tracked)
-    → NameEntries s → length d.inserted < 2 ^ 62 → nat_lt (blocks_out s) s.limit ≡ true → MayInsertInto t f (oldest_of d.references) → is_insertable s d f ≡ true
-insertable_held s d f t table known tracked named small waits h =
+-- There is room for a field exactly where what is kept allows it.
+pub room_held : (s : EncoderHistory) (d : Draft) (f : Field) (t : EncoderState) → t.table ≡ table_state_of s.capacity d.inserted → t.known_received ≡ s.known_received → t.tracked ≡ in_order (λ u. u.stream) (map tracked_section s.tracked)
+    → NameEntries s → length d.inserted < 2 ^ 62 → MayInsertInto t f (oldest_of d.references) → finds_room s d f ≡ true
+room_held s d f t table known tracked named small h =
     let fits : field_size f ≤ s.capacity = omega (arith, h.fits, ap (λ k. k.capacity) table) in
     let after : evicted (with_entry t.table f) ≡ evictions_by s d f = ap (λ k. evicted (with_entry k f)) table ∙ ap evicted (with_entry-held s.capacity d.inserted f fits) in
     let before : evicted t.table ≡ evictions s.capacity d.inserted = ap evicted table in
@@ -173,7 +185,7 @@ insertable_held s d f t table known tracked named small waits h =
     tracked_free (evictions_by s d f) s.tracked named ∙ ap (is_free_to (evictions_by s d f)) (sym tracked) ∙ ap (λ n. is_free_to n t.tracked) (sym after) ∙ h.free in
     let own : list_all (λ k. nat_lt (evictions_by s d f) k) d.references ≡ true =
     drafted_free (evictions_by s d f) d.references (omega (arith, small, length-append d.inserted (f ∷ []))) ∙ lt_true (evictions_by s d f) (oldest_of d.references) (omega (arith, h.own, after)) in
-    rw (few, waits, room, received, list_all-append (evictions_by s d f) (referenced_entries s) d.references, free, own) refl
+    rw (few, room, received, list_all-append (evictions_by s d f) (referenced_entries s) d.references, free, own) refl
 
 is_le : (a b : ℕ) → nat_le a b ≡ true → a ≤ b
 is_le a b h = grind (arith, common_steps)
@@ -181,28 +193,20 @@ is_le a b h = grind (arith, common_steps)
 is_lt : (a b : ℕ) → nat_lt a b ≡ true → a < b
 is_lt a b h = grind (arith, common_steps)
 
-pub record Insertable (s : EncoderHistory) (t : EncoderState) (f : Field) (oldest : ℕ) : Type 0 where
-  pub waits : nat_lt (blocks_out s) s.limit ≡ true
-  pub may : MayInsertInto t f oldest
-
-pub held_insertable : (s : EncoderHistory) (d : Draft) (f : Field) (t : EncoderState) → t.table ≡ table_state_of s.capacity d.inserted → t.known_received ≡ s.known_received → t.tracked ≡ in_order (λ u. u.stream) (map tracked_section s.tracked)
-    → NameEntries s → length d.inserted < 2 ^ 62 → is_insertable s d f ≡ true → Insertable s t f (oldest_of d.references)
-held_insertable s d f t table known tracked named small h =
+pub held_room : (s : EncoderHistory) (d : Draft) (f : Field) (t : EncoderState) → t.table ≡ table_state_of s.capacity d.inserted → t.known_received ≡ s.known_received → t.tracked ≡ in_order (λ u. u.stream) (map tracked_section s.tracked)
+    → NameEntries s → length d.inserted < 2 ^ 62 → finds_room s d f ≡ true → MayInsertInto t f (oldest_of d.references)
+held_room s d f t table known tracked named small h =
     let a = and_parts _ (list_all (λ number. nat_lt (evictions_by s d f) number) (referenced_entries s ++ d.references)) h in
     let b = and_parts _ (nat_le (evictions_by s d f) (max s.known_received (evictions s.capacity d.inserted))) a.0 in
-    let c = and_parts (nat_lt (length d.inserted + 1) (2 ^ 62) && nat_lt (blocks_out s) s.limit) (nat_le (field_size f) s.capacity) b.0 in
-    let room = and_parts (nat_lt (length d.inserted + 1) (2 ^ 62)) (nat_lt (blocks_out s) s.limit) c.0 in
+    let c = and_parts (nat_lt (length d.inserted + 1) (2 ^ 62)) (nat_le (field_size f) s.capacity) b.0 in
     let named_all = and_parts _ _ (sym (list_all-append (evictions_by s d f) (referenced_entries s) d.references) ∙ a.1) in
     let fits = is_le (field_size f) s.capacity c.1 in
     let after : evicted (with_entry t.table f) ≡ evictions_by s d f = ap (λ k. evicted (with_entry k f)) table ∙ ap evicted (with_entry-held s.capacity d.inserted f fits) in
     let before : evicted t.table ≡ evictions s.capacity d.inserted = ap evicted table in
     record {
-      waits = room.1;
-      may = record {
-        few = omega (arith, is_lt _ _ room.0, ap (λ k. k.inserted) table);
-        fits = omega (arith, fits, ap (λ k. k.capacity) table);
-        known = omega (arith, is_le _ _ b.1, after, before, known);
-        free = ap (λ n. is_free_to n t.tracked) after ∙ ap (is_free_to (evictions_by s d f)) tracked ∙ sym (tracked_free (evictions_by s d f) s.tracked named) ∙ named_all.0;
-        own = omega (arith, after, is_lt (evictions_by s d f) (oldest_of d.references) (sym (drafted_free (evictions_by s d f) d.references (omega (arith, small, length-append d.inserted (f ∷ [])))) ∙ named_all.1));
-      };
+      few = omega (arith, is_lt _ _ c.0, ap (λ k. k.inserted) table);
+      fits = omega (arith, fits, ap (λ k. k.capacity) table);
+      known = omega (arith, is_le _ _ b.1, after, before, known);
+      free = ap (λ n. is_free_to n t.tracked) after ∙ ap (is_free_to (evictions_by s d f)) tracked ∙ sym (tracked_free (evictions_by s d f) s.tracked named) ∙ named_all.0;
+      own = omega (arith, after, is_lt (evictions_by s d f) (oldest_of d.references) (sym (drafted_free (evictions_by s d f) d.references (omega (arith, small, length-append d.inserted (f ∷ [])))) ∙ named_all.1));
     }

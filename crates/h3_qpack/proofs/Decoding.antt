@@ -14,11 +14,11 @@ use Rattle.h3_qpack.proofs.Counts.{few_entries}
 use Rattle.h3_table.specs.Table.{table, evictions}
 use Rattle.h3_qpack.specs.EncoderHistory.{EncoderHistory, UnacknowledgedSection}
 use Rattle.h3_qpack.specs.NamedFields.{insertion_at, StandFor, entry_number}
-use Rattle.h3_qpack.specs.SectionEncoding.{Draft, found, found_name, is_insertable, add_line, add_literal, add_inserted, add_field, draft_of, required_insert_count}
+use Rattle.h3_qpack.specs.SectionEncoding.{Draft, found, found_name, is_insertable, add_line, add_literal, add_inserted, add_ahead, write_field, add_field, draft_of, required_insert_count}
 use Rattle.h3_qpack.specs.Session.{Session, UndecodedSection, oldest, without_oldest, count_of, references_of, undecoded_references, tracked_references, acknowledgments, is_canceled, IsWrittenOver, IsSound, DecodesTo}
 use Rattle.h3_table.specs.TableLaws.{evictions-append}
 use Rattle.h3_qpack.proofs.Newest.{chosen, newest_from-passes}
-use Rattle.h3_qpack.proofs.Drafts.{either_way, All-first}
+use Rattle.h3_qpack.proofs.Drafts.{either_way, with_field, All-first}
 use Rattle.h3_table.specs.ReleasingLaws.{All-join}
 use Rattle.h3_qpack.proofs.NamedFieldsOf.{section_stands, StandFor-append, lines_alike}
 use Rattle.h3_qpack.proofs.Sessions.{taken_names}
@@ -107,13 +107,24 @@ literal_both s d f h =
     record { longer = h.longer; counted = named_counted s d _ number (name_back (length s.inserted) number f.value _ refl above) above (omega (arith, p.below)) h.counted }) (λ none.
     record { longer = h.longer; counted = plain_counted s d _ refl h.counted }))
 
-field_both : (s : EncoderHistory) (d : Draft) (f : Field) → Both s d → Both s (add_field s d f)
-field_both s d f h =
+ahead_both : (s : EncoderHistory) (d : Draft) (f : Field) → Both s d → Both s (add_ahead s d f)
+ahead_both s d f h =
+    let more : length d.inserted ≤ length (d.inserted ++ f ∷ []) = omega (arith, length-append d.inserted (f ∷ [])) in
+    record {
+      longer = omega (arith, h.longer, more);
+      counted = record { lines = h.counted.lines; positive = h.counted.positive; made = All-at-most d.references _ _ more h.counted.made };
+    }
+
+line_of_field_both : (s : EncoderHistory) (d : Draft) (f : Field) → Both s d → Both s (write_field s d f)
+line_of_field_both s d f h =
     chosen (Both s) (static_field f) _ _ (λ index e. record { longer = h.longer; counted = plain_counted s d _ refl h.counted }) (λ none.
     chosen (Both s) (found s d f) _ _ (λ number e. let k = found_back s d f number e in record { longer = h.longer; counted = named_counted s d _ number k.0 k.1 k.2 h.counted }) (λ none.
     either_way (Both s) (is_insertable s d f) _ _
     (λ e. record { longer = omega (arith, h.longer, length-append d.inserted (f ∷ [])); counted = inserted_counted s d f h.longer h.counted })
     (literal_both s d f h)))
+
+field_both : (s : EncoderHistory) (d : Draft) (f : Field) → Both s d → Both s (add_field s d f)
+field_both s d f h = with_field (Both s) s d f (line_of_field_both s d f h) (λ e test k. ahead_both s e f k)
 
 fields_both : (s : EncoderHistory) (d : Draft) (fields : List Field) → Both s d → Both s (fold (add_field s) d fields)
 fields_both s d [] h = h

@@ -12,7 +12,7 @@ use Rattle.h3_qpack.specs.EncoderHistory.{EncoderHistory, UnacknowledgedSection}
 use Rattle.h3_table.specs.declared.tracking.TrackedSection.{TrackedSection}
 use Rattle.h3_table.specs.InOrderLaws.{All_in_order}
 use Rattle.h3_qpack.specs.EncoderState.{EncoderState, encoder_state, tracked_section, least}
-use Rattle.h3_qpack.specs.SectionEncoding.{Draft, add_line, add_inserted, add_field, entry_name_line, evictions_by, insertion}
+use Rattle.h3_qpack.specs.SectionEncoding.{Draft, add_line, add_inserted, write_field, entry_name_line, evictions_by, insertion}
 use Rattle.h3_qpack.specs.Drafting.{IsDraftState, IsDrafted, IsSmall, IsChosen, IsPossible, line_for, section_after, encoder_state_with, instructions_after, naming, oldest_of}
 use Rattle.h3_qpack.specs.declared.section.Section.{Section}
 use Rattle.h3_qpack.specs.declared.section.Choice.{Choice}
@@ -103,7 +103,7 @@ chosen_drafted s d t section f (choice.EntryName number) lines start instruction
 chosen_drafted s d t section f choice.Literal lines start instruction_bytes h p = plain_drafted s d t section lines start instruction_bytes (line.Literal f.name f.value) h
 
 -- what sections that are tracked name is there
-names_kept : (s : EncoderHistory) (d : Draft) (t : EncoderState) (section : Section) → IsDraftState s d t section → AllByRecursion (λ u. 0 < u.oldest) t.tracked → NameEntries s
+pub names_kept : (s : EncoderHistory) (d : Draft) (t : EncoderState) (section : Section) → IsDraftState s d t section → AllByRecursion (λ u. 0 < u.oldest) t.tracked → NameEntries s
 names_kept s d t section k h =
     each s.tracked (All_in_order (λ u. 0 < u.oldest) (λ (u : TrackedSection). u.stream) (map tracked_section s.tracked) (subst (AllByRecursion (λ u. 0 < u.oldest)) (ap (λ (u : EncoderState). u.tracked) k.stores) h))
   where
@@ -111,10 +111,10 @@ names_kept s d t section k h =
     each [] h = tt
     each (u ∷ us) h = (h.0, each us h.1)
 
--- A field was written as it was chosen.
+-- The line of a field was written as it was chosen.
 pub field_drafted : (s : EncoderHistory) (d : Draft) (t : EncoderState) (section : Section) (f : Field) (c : Choice) (lines start instruction_bytes : List ℕ) → IsDrafted s d t section lines start instruction_bytes
     → IsSmall t → IsChosen t section f c → IsPossible t section f c
-    → IsDrafted s (add_field s d f) (encoder_state_with t f c) (section_after t section c) (lines ++ line_bytes (line_for t section f c)) start (instruction_bytes ++ flat_map encoder_bytes (instructions_after t f c))
+    → IsDrafted s (write_field s d f) (encoder_state_with t f c) (section_after t section c) (lines ++ line_bytes (line_for t section f c)) start (instruction_bytes ++ flat_map encoder_bytes (instructions_after t f c))
 field_drafted s d t section f c lines start instruction_bytes h small rule p =
     let few : length d.inserted < 2 ^ 62 = subst (λ n. n < 2 ^ 62) (ap (λ (u : EncoderState). u.table.inserted) h.state.stores) small.few in
     subst (λ e. IsDrafted s e (encoder_state_with t f c) (section_after t section c) (lines ++ line_bytes (line_for t section f c)) start (instruction_bytes ++ flat_map encoder_bytes (instructions_after t f c)))

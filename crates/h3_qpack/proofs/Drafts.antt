@@ -1,5 +1,5 @@
 -- What holds of a section under way.
-use Rattle.std.proofs.Common.{◌^◌, ◌≡◌, ℕ, ◌+◌, ◌<◌, ◌≤◌, Bool, true, false, ◌&&◌, ◌||◌, List, [], ◌∷◌, ◌++◌, length, refl, sym, ◌∙◌, ap, arith, length-append, append_assoc, append-nil, max, Some, nat_le, nat_lt, bytes_eq, if◌then◌else◌, fold}
+use Rattle.std.proofs.Common.{◌^◌, ◌≡◌, ℕ, ◌+◌, ◌<◌, ◌≤◌, Bool, true, false, ◌&&◌, ◌||◌, ◌==◌, List, [], ◌∷◌, ◌++◌, length, refl, sym, ◌∙◌, ap, arith, length-append, append_assoc, append-nil, max, Some, nat_le, nat_lt, bytes_eq, if◌then◌else◌, fold}
 use Rattle.std.specs.List.{AllByRecursion, list_all}
 use Rattle.std.proofs.lemmas.Grind.{common_steps}
 use Rattle.std.proofs.lemmas.Bool.{and_parts}
@@ -7,7 +7,7 @@ use Rattle.h3_field.specs.Field.{Field, field_eq, field_size}
 use Rattle.h3_field.specs.Line.{FieldLine}
 use Rattle.h3_table.specs.Table.{evictions}
 use Rattle.h3_qpack.specs.EncoderHistory.{EncoderHistory, blocks_out, referenced_entries}
-use Rattle.h3_qpack.specs.SectionEncoding.{Draft, is_usable, found, evictions_by, is_insertable, found_name, add_line, add_literal, add_inserted, add_field, draft_of}
+use Rattle.h3_qpack.specs.SectionEncoding.{Draft, is_usable, found, evictions_by, finds_room, is_insertable, is_new, evicts_none, is_insertable_ahead, found_name, add_line, add_literal, add_inserted, add_ahead, write_field, add_field, draft_of}
 use Rattle.h3_field.specs.StaticTable.{static_field, static_name}
 use Rattle.h3_table.specs.ReleasingLaws.{All-join}
 use Rattle.h3_table.specs.TableLaws.{length-table}
@@ -56,10 +56,9 @@ still_there : (capacity : ℕ) (fs : List Field) (f : Field) → field_size f �
 still_there capacity [] f h = grind (arith, common_steps)
 still_there capacity (g ∷ fs) f h = grind (arith, common_steps, still_there capacity fs f h, length-append fs (f ∷ []), length-table capacity (fs ++ f ∷ []))
 
--- what the test of an insertion says
+-- what the test of room says
 pub record MayInsert (s : EncoderHistory) (d : Draft) (f : Field) : Type 0 where
   pub few : length d.inserted + 1 < 2 ^ 62
-  pub room_for_section : nat_lt (blocks_out s) s.limit ≡ true
   pub fits : field_size f ≤ s.capacity
   pub known_received : evictions_by s d f ≤ max s.known_received (evictions s.capacity d.inserted)
   pub present : AllByRecursion (λ number. evictions_by s d f < number) (referenced_entries s)
@@ -71,21 +70,30 @@ le_true a b e = grind (arith, common_steps)
 lt_true : (a b : ℕ) → nat_lt a b ≡ true → a < b
 lt_true a b e = grind (arith, common_steps)
 
-pub may_insert : (s : EncoderHistory) (d : Draft) (f : Field) → is_insertable s d f ≡ true → MayInsert s d f
-may_insert s d f h =
+pub room_found : (s : EncoderHistory) (d : Draft) (f : Field) → finds_room s d f ≡ true → MayInsert s d f
+room_found s d f h =
     let a = and_parts _ (list_all (λ number. nat_lt (evictions_by s d f) number) (referenced_entries s ++ d.references)) h in
     let b = and_parts _ (nat_le (evictions_by s d f) (max s.known_received (evictions s.capacity d.inserted))) a.0 in
-    let c = and_parts (nat_lt (length d.inserted + 1) (2 ^ 62) && nat_lt (blocks_out s) s.limit) (nat_le (field_size f) s.capacity) b.0 in
-    let room = and_parts (nat_lt (length d.inserted + 1) (2 ^ 62)) (nat_lt (blocks_out s) s.limit) c.0 in
+    let c = and_parts (nat_lt (length d.inserted + 1) (2 ^ 62)) (nat_le (field_size f) s.capacity) b.0 in
     let all = All-tested (evictions_by s d f) (referenced_entries s ++ d.references) a.1 in
     record {
-      few = lt_true _ _ room.0;
-      room_for_section = room.1;
+      few = lt_true _ _ c.0;
       fits = le_true _ _ c.1;
       known_received = le_true _ _ b.1;
       present = All-first (λ number. evictions_by s d f < number) (referenced_entries s) d.references all;
       own = All-second (λ number. evictions_by s d f < number) (referenced_entries s) d.references all;
     }
+
+-- One more section may be blocked, and there is room.
+pub may_insert : (s : EncoderHistory) (d : Draft) (f : Field) → is_insertable s d f ≡ true → MayInsert s d f
+may_insert s d f h = room_found s d f (and_parts (nat_lt (blocks_out s) s.limit) (finds_room s d f) h).1
+
+pub may_block : (s : EncoderHistory) (d : Draft) (f : Field) → is_insertable s d f ≡ true → nat_lt (blocks_out s) s.limit ≡ true
+may_block s d f h = (and_parts (nat_lt (blocks_out s) s.limit) (finds_room s d f) h).0
+
+-- There is room for what is inserted for later sections.
+pub may_insert_ahead : (s : EncoderHistory) (d : Draft) (f : Field) → is_insertable_ahead s d f ≡ true → MayInsert s d f
+may_insert_ahead s d f h = room_found s d f (and_parts (s.economical && (s.limit == 0) && is_new s d f && evicts_none s d f) (finds_room s d f) h).1
 
 -- an entry that is named stays named where nothing that is named is evicted
 kept_names : (s : EncoderHistory) (fs gs : List Field) (names : List ℕ) → AllByRecursion (IsNamed s fs) names → AllByRecursion (λ number. evictions s.capacity (fs ++ gs) < number) names → AllByRecursion (IsNamed s (fs ++ gs)) names
@@ -100,8 +108,8 @@ room_usable s number h = rw h (or_true (nat_le number s.known_received))
     or_true true = refl
     or_true false = refl
 
-inserted_is_draft : (s : EncoderHistory) (d : Draft) (f : Field) → IsDraft s d → MayInsert s d f → IsDraft s (add_inserted s d f)
-inserted_is_draft s d f h m =
+inserted_is_draft : (s : EncoderHistory) (d : Draft) (f : Field) → IsDraft s d → MayInsert s d f → nat_lt (blocks_out s) s.limit ≡ true → IsDraft s (add_inserted s d f)
+inserted_is_draft s d f h m waits =
     record {
       more = h.more ++ f ∷ [];
       begins = ap (λ fs. fs ++ f ∷ []) h.begins ∙ append_assoc s.inserted h.more (f ∷ []);
@@ -109,10 +117,21 @@ inserted_is_draft s d f h m =
         record {
           there = still_there s.capacity d.inserted f m.fits;
           made = omega (arith, length-append d.inserted (f ∷ []));
-          usable = room_usable s (length d.inserted + 1) m.room_for_section;
+          usable = room_usable s (length d.inserted + 1) waits;
         },
         tt,
       );
+      present = m.present;
+      evictions_known = omega (arith, m.known_received, h.evictions_known);
+      small = λ k. omega (arith, m.few, length-append d.inserted (f ∷ []));
+    }
+
+ahead_is_draft : (s : EncoderHistory) (d : Draft) (f : Field) → IsDraft s d → MayInsert s d f → IsDraft s (add_ahead s d f)
+ahead_is_draft s d f h m =
+    record {
+      more = h.more ++ f ∷ [];
+      begins = ap (λ fs. fs ++ f ∷ []) h.begins ∙ append_assoc s.inserted h.more (f ∷ []);
+      references = kept_names s d.inserted (f ∷ []) d.references h.references m.own;
       present = m.present;
       evictions_known = omega (arith, m.known_received, h.evictions_known);
       small = λ k. omega (arith, m.few, length-append d.inserted (f ∷ []));
@@ -150,11 +169,18 @@ pub either_way : {X : Type 0} (P : X → Type 0) (b : Bool) (x y : X) → (b ≡
 either_way P true x y p q = p refl
 either_way P false x y p q = q
 
-field_is_draft : (s : EncoderHistory) (d : Draft) (f : Field) → IsDraft s d → IsDraft s (add_field s d f)
-field_is_draft s d f h =
+line_of_field_is_draft : (s : EncoderHistory) (d : Draft) (f : Field) → IsDraft s d → IsDraft s (write_field s d f)
+line_of_field_is_draft s d f h =
     chosen (IsDraft s) (static_field f) _ _ (λ index e. line_is_draft s d _ [] h tt) (λ none.
     chosen (IsDraft s) (found s d f) _ _ (λ number e. line_is_draft s d _ (number ∷ []) h (found_is_named s d f number e, tt)) (λ none.
-    either_way (IsDraft s) (is_insertable s d f) _ _ (λ e. inserted_is_draft s d f h (may_insert s d f e)) (literal_is_draft s d f h)))
+    either_way (IsDraft s) (is_insertable s d f) _ _ (λ e. inserted_is_draft s d f h (may_insert s d f e) (may_block s d f e)) (literal_is_draft s d f h)))
+
+-- what holds of a draft holds of it with a field, where it goes through a line and an insertion for later sections
+pub with_field : (P : Draft → Type 0) (s : EncoderHistory) (d : Draft) (f : Field) → P (write_field s d f) → ((e : Draft) → is_insertable_ahead s e f ≡ true → P e → P (add_ahead s e f)) → P (add_field s d f)
+with_field P s d f h ahead = either_way P (is_insertable_ahead s (write_field s d f) f) _ _ (λ e. ahead (write_field s d f) e h) h
+
+field_is_draft : (s : EncoderHistory) (d : Draft) (f : Field) → IsDraft s d → IsDraft s (add_field s d f)
+field_is_draft s d f h = with_field (IsDraft s) s d f (line_of_field_is_draft s d f h) (λ d e k. ahead_is_draft s d f k (may_insert_ahead s d f e))
 
 fields_are_draft : (s : EncoderHistory) (d : Draft) (fields : List Field) → IsDraft s d → IsDraft s (fold (add_field s) d fields)
 fields_are_draft s d [] h = h

@@ -14,10 +14,10 @@ use Rattle.h3_table.specs.TableState.{TableState, entry_at}
 use Rattle.h3_qpack.specs.TableHistory.{table_state, table_of}
 use Rattle.h3_qpack.specs.NamedFields.{insertion_at, StandFor, entry_number}
 use Rattle.h3_qpack.specs.Meaning.{field_at, HaveFields}
-use Rattle.h3_qpack.specs.SectionEncoding.{Draft, found, found_name, is_insertable, add_line, add_literal, add_inserted, add_field, draft_of}
+use Rattle.h3_qpack.specs.SectionEncoding.{Draft, found, found_name, is_insertable, add_line, add_literal, add_inserted, write_field, add_field, draft_of}
 use Rattle.h3_qpack.specs.Encodings.{IsWrittenLine}
 use Rattle.h3_qpack.proofs.Newest.{chosen, newest_from-passes}
-use Rattle.h3_qpack.proofs.Drafts.{either_way}
+use Rattle.h3_qpack.proofs.Drafts.{either_way, with_field}
 use Rattle.h3_table.specs.ReleasingLaws.{All-join}
 use Rattle.std.proofs.lemmas.List.{length-take-le}
 use Rattle.std.specs.Prelude.{◌==◌}
@@ -84,11 +84,15 @@ literal_named P s d f h =
     entry_named P s d _ number (name_back (length s.inserted) number f.value _ refl (omega (arith, p.above))) h) (λ none.
     plain_named P s d _ refl h))
 
-field_named : (P : ℕ → Type 0) (s : EncoderHistory) (d : Draft) (f : Field) → Naming P s d → Naming P s (add_field s d f)
-field_named P s d f h =
+line_of_field_named : (P : ℕ → Type 0) (s : EncoderHistory) (d : Draft) (f : Field) → Naming P s d → Naming P s (write_field s d f)
+line_of_field_named P s d f h =
     chosen (Naming P s) (static_field f) _ _ (λ index e. plain_named P s d _ refl h) (λ none.
     chosen (Naming P s) (found s d f) _ _ (λ number e. entry_named P s d _ number (found_back s d f number e).0 h) (λ none.
     either_way (Naming P s) (is_insertable s d f) _ _ (λ e. inserted_named P s d f h) (literal_named P s d f h)))
+
+field_named : (P : ℕ → Type 0) (s : EncoderHistory) (d : Draft) (f : Field) → Naming P s d → Naming P s (add_field s d f)
+field_named P s d f h =
+    with_field (Naming P s) s d f (line_of_field_named P s d f h) (λ e test k. record { longer = omega (arith, k.longer, length-append e.inserted (f ∷ [])); each = k.each })
 
 fields_named : (P : ℕ → Type 0) (s : EncoderHistory) (d : Draft) (fields : List Field) → Naming P s d → Naming P s (fold (add_field s) d fields)
 fields_named P s d [] h = h

@@ -1,34 +1,26 @@
 -- A field section field by field: what stays as it is written, and what a loop over its fields keeps.
-use Rattle.std.proofs.Common.{◌≡◌, ℕ, ◌+◌, ◌<◌, ◌≤◌, List, [], ◌∷◌, ◌++◌, length, take, drop, get_or, sym, ◌∙◌, ap, subst, arith, length-append, flat_map, Result, Ok, Err}
+use Rattle.std.proofs.Common.{◌≡◌, ℕ, ◌+◌, ◌<◌, ◌≤◌, List, [], ◌∷◌, ◌++◌, length, take, drop, get_or, sym, ◌∙◌, ap, subst, arith, length-append, Result, Ok, Err}
 use Rattle.std.specs.List.{AllByRecursion}
 use Rattle.std.specs.Result.{OnOk, OnErr}
 use Rattle.std.proofs.lemmas.List.{take_more, take_all, take-append-drop}
 use Rattle.std.proofs.lemmas.List.Sums.{fold_push, sum_by-append, sum_by-cons}
 use Rattle.h3_field.specs.Field.{Field, field_size, section_size}
 use Rattle.h3_field.specs.ReadBack.{IsFieldOfBytes}
-use Rattle.h3_field.specs.Line.{line_bytes}
-use Rattle.h3_field.specs.Instruction.{encoder_bytes}
 use Rattle.h3_table.specs.TableState.{TableState, evicted}
 use Rattle.h3_qpack.specs.EncoderHistory.{EncoderHistory}
 use Rattle.h3_qpack.specs.EncoderState.{EncoderState}
 use Rattle.h3_qpack.specs.SectionEncoding.{Draft, add_field, draft_of}
-use Rattle.h3_qpack.specs.Drafting.{IsDrafted, IsOver, IsSmall, IsChosen, IsPossible, IsCutOff, line_for, section_after, encoder_state_with, instructions_after, naming}
+use Rattle.h3_qpack.specs.Drafting.{IsDrafted, IsOver, IsPossible, IsCutOff, section_after, encoder_state_with, naming}
 use Rattle.h3_qpack.specs.declared.section.Section.{Section}
 use Rattle.h3_qpack.specs.declared.section.Choice.{Choice}
 use Rattle.h3_qpack.specs.declared.section.Choice.TheVariants as choice
 use Rattle.h3_table.specs.EvictionLaws.{evicted_with_entry}
 use Rattle.h3_table.specs.ReleasingLaws.{All-join}
-use Rattle.h3_qpack.proofs.Drafted.{field_drafted}
 
 -- what follows from two facts of an accepted call
 pub on_both : {T E P Q R : Type 0} (r : Result T E) → (P → Q → R) → OnOk r P → OnOk r Q → OnOk r R
 on_both (Ok x) f p q = f p q
 on_both (Err e) f p q = p
-
--- the same of four
-pub on_four : {T E P Q R S U : Type 0} (r : Result T E) → (P → Q → R → S → U) → OnOk r P → OnOk r Q → OnOk r R → OnOk r S → OnOk r U
-on_four (Ok x) f p q a b = f p q a b
-on_four (Err e) f p q a b = p
 
 -- what is appended or left grows
 pub grown : {T E : Type 0} (P : Type 0) (r : Result T E) (old new more : List ℕ) → OnOk r (new ≡ old ++ more) → OnErr r (P × (new ≡ old)) → length old ≤ length new
@@ -58,12 +50,6 @@ chosen_over t section f choice.Literal o p = o
 pub over_after : (t : EncoderState) (section : Section) (f : Field) (c : Choice) (new : EncoderState) (next : Section) → IsOver t.table section → IsPossible t section f c
     → new ≡ encoder_state_with t f c → next ≡ section_after t section c → IsOver new.table next
 over_after t section f c new next o p table named = rw (table, named) (chosen_over t section f c o p)
-
-pub drafted_after : (s : EncoderHistory) (d : Draft) (start : List ℕ) (t : EncoderState) (section : Section) (f : Field) (c : Choice) (new : EncoderState) (next : Section) (lines more instruction_bytes later : List ℕ)
-    → IsDrafted s d t section lines start instruction_bytes → IsSmall t → IsChosen t section f c → IsPossible t section f c
-    → new ≡ encoder_state_with t f c → next ≡ section_after t section c → more ≡ lines ++ line_bytes (line_for t section f c) → later ≡ instruction_bytes ++ flat_map encoder_bytes (instructions_after t f c)
-    → IsDrafted s (add_field s d f) new next more start later
-drafted_after s d start t section f c new next lines more instruction_bytes later h small rule p a b e g = rw (a, b, e, g) (field_drafted s d t section f c lines start instruction_bytes h small rule p)
 
 -- What a loop over the fields keeps.
 pub record InFields (t : EncoderState) (section : Section) (lines instruction_bytes : List ℕ) (new : EncoderState) (next : Section) (more later : List ℕ) (fields : List Field) (index : ℕ) : Type 0 where

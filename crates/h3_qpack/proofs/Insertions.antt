@@ -12,11 +12,11 @@ use Rattle.h3_field.specs.StaticTable.{static_table, static_field, static_name}
 use Rattle.h3_field.specs.Instruction.{EncoderInstruction}
 use Rattle.h3_table.specs.Table.{evictions}
 use Rattle.h3_qpack.specs.EncoderHistory.{EncoderHistory}
-use Rattle.h3_qpack.specs.SectionEncoding.{Draft, found, evictions_by, is_insertable, remaining, insertion, add_line, add_literal, add_field, draft_of, found_name, instructions_for}
+use Rattle.h3_qpack.specs.SectionEncoding.{Draft, found, evictions_by, is_insertable, remaining, insertion, add_line, add_literal, write_field, add_field, draft_of, found_name, instructions_for}
 use Rattle.h3_qpack.specs.TableHistory.{TableHistory, entry_still_at, field_inserted, table_after_insertion, table_after, table_after_all, table_of, IsReadAs}
 use Rattle.h3_table.specs.TableLaws.{evictions-append}
 use Rattle.h3_qpack.proofs.Newest.{chosen, newest_from-passes}
-use Rattle.h3_qpack.proofs.Drafts.{may_insert, either_way}
+use Rattle.h3_qpack.proofs.Drafts.{MayInsert, may_insert, may_insert_ahead, either_way, with_field}
 use Rattle.h3_qpack.proofs.NamedFieldsOf.{insertion_found, name_at}
 
 -- an entry that remains after the insertion is there, and stands at its index
@@ -62,10 +62,9 @@ fits_longer capacity inserted f few fits =
     rw (room, evicted) refl
 
 -- The decoder inserts what the encoder inserted.
-pub insertion_read : (greatest : ℕ) (s : EncoderHistory) (d : Draft) (f : Field) → is_insertable s d f ≡ true
+pub insertion_read : (greatest : ℕ) (s : EncoderHistory) (d : Draft) (f : Field) → MayInsert s d f
     → table_after greatest (table_of s.capacity d.inserted) (insertion s d f) ≡ Some (table_of s.capacity (d.inserted ++ f ∷ []))
-insertion_read greatest s d f h =
-    let m = may_insert s d f h in
+insertion_read greatest s d f m =
     inserts greatest (table_of s.capacity d.inserted) s d f
     ∙ ap (table_after_insertion (table_of s.capacity d.inserted)) (insertion_names s d f)
     ∙ fits_longer s.capacity d.inserted f m.few m.fits
@@ -127,16 +126,27 @@ literal_read_as greatest s before d f h =
     let P : Draft → Type 0 = λ e. IsReadAs greatest s.capacity (before ++ e.instructions) e.inserted in
     chosen P (static_name f.name) _ _ (λ index e. h) (λ none. chosen P (found_name s d f) _ _ (λ number e. h) (λ none. h))
 
-field_read_as : (greatest : ℕ) (s : EncoderHistory) (before : List EncoderInstruction) (d : Draft) (f : Field)
-    → IsReadAs greatest s.capacity (before ++ d.instructions) d.inserted → IsReadAs greatest s.capacity (before ++ (add_field s d f).instructions) (add_field s d f).inserted
-field_read_as greatest s before d f h =
+inserted_read_as : (greatest : ℕ) (s : EncoderHistory) (before : List EncoderInstruction) (d : Draft) (f : Field) → MayInsert s d f
+    → IsReadAs greatest s.capacity (before ++ d.instructions) d.inserted → IsReadAs greatest s.capacity (before ++ (d.instructions ++ insertion s d f ∷ [])) (d.inserted ++ f ∷ [])
+inserted_read_as greatest s before d f m h =
+    subst (λ is. IsReadAs greatest s.capacity is (d.inserted ++ f ∷ [])) (append_assoc before d.instructions (insertion s d f ∷ []))
+    (one_read greatest s.capacity (before ++ d.instructions) d.inserted (insertion s d f) f (insertion_read greatest s d f m) h)
+
+line_of_field_read_as : (greatest : ℕ) (s : EncoderHistory) (before : List EncoderInstruction) (d : Draft) (f : Field)
+    → IsReadAs greatest s.capacity (before ++ d.instructions) d.inserted → IsReadAs greatest s.capacity (before ++ (write_field s d f).instructions) (write_field s d f).inserted
+line_of_field_read_as greatest s before d f h =
     let P : Draft → Type 0 = λ e. IsReadAs greatest s.capacity (before ++ e.instructions) e.inserted in
     chosen P (static_field f) _ _ (λ index e. h) (λ none.
     chosen P (found s d f) _ _ (λ number e. h) (λ none.
     either_way P (is_insertable s d f) _ _
-    (λ e. subst (λ is. IsReadAs greatest s.capacity is (d.inserted ++ f ∷ [])) (append_assoc before d.instructions (insertion s d f ∷ []))
-    (one_read greatest s.capacity (before ++ d.instructions) d.inserted (insertion s d f) f (insertion_read greatest s d f e) h))
+    (λ e. inserted_read_as greatest s before d f (may_insert s d f e) h)
     (literal_read_as greatest s before d f h)))
+
+field_read_as : (greatest : ℕ) (s : EncoderHistory) (before : List EncoderInstruction) (d : Draft) (f : Field)
+    → IsReadAs greatest s.capacity (before ++ d.instructions) d.inserted → IsReadAs greatest s.capacity (before ++ (add_field s d f).instructions) (add_field s d f).inserted
+field_read_as greatest s before d f h =
+    with_field (λ e. IsReadAs greatest s.capacity (before ++ e.instructions) e.inserted) s d f (line_of_field_read_as greatest s before d f h)
+    (λ e test k. inserted_read_as greatest s before e f (may_insert_ahead s e f test) k)
 
 fields_read_as : (greatest : ℕ) (s : EncoderHistory) (before : List EncoderInstruction) (d : Draft) (fields : List Field)
     → IsReadAs greatest s.capacity (before ++ d.instructions) d.inserted → IsReadAs greatest s.capacity (before ++ (fold (add_field s) d fields).instructions) (fold (add_field s) d fields).inserted

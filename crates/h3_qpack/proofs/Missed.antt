@@ -7,7 +7,7 @@ use Rattle.h3_table.specs.TableState.{TableState, in_range, evicted, newest_in}
 use Rattle.h3_qpack.proofs.Newest.{newest_from-none}
 
 -- two tests that agree on what a third, which finds nothing, fails
-same_beside_none : (none test other : ℕ → Field → Bool) (first : ℕ) (fs : List Field) → newest_from none first fs ≡ None
+pub same_beside_none : (none test other : ℕ → Field → Bool) (first : ℕ) (fs : List Field) → newest_from none first fs ≡ None
     → ((n : ℕ) (e : Field) → first ≤ n → none n e ≡ false → test n e ≡ other n e) → newest_from test first fs ≡ newest_from other first fs
 same_beside_none none test other first [] h same = refl
 same_beside_none none test other first (f ∷ fs) h same =

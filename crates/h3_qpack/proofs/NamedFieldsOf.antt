@@ -14,10 +14,10 @@ use Rattle.h3_field.specs.Line.FieldLine.{StaticField, RelativeField, PostBaseFi
 use Rattle.h3_field.specs.StaticTable.{static_table, static_field, static_name}
 use Rattle.h3_table.specs.Table.{newest}
 use Rattle.h3_qpack.specs.EncoderHistory.{EncoderHistory}
-use Rattle.h3_qpack.specs.SectionEncoding.{Draft, is_usable, found, found_name, is_insertable, add_line, add_literal, add_inserted, add_field, draft_of, entry_name_line}
+use Rattle.h3_qpack.specs.SectionEncoding.{Draft, is_usable, found, found_name, is_insertable, add_line, add_literal, add_inserted, add_ahead, write_field, add_field, draft_of, entry_name_line}
 use Rattle.h3_qpack.specs.NamedFields.{entry_number, line_field_by, AreOf, insertion_at, named_field, StandFor}
 use Rattle.h3_qpack.proofs.Newest.{chosen, newest_from-passes}
-use Rattle.h3_qpack.proofs.Drafts.{either_way}
+use Rattle.h3_qpack.proofs.Drafts.{either_way, with_field}
 
 slice_get-append : {X : Type 0} (xs ys : List X) (i : ℕ) (x : X) → slice_get xs i ≡ Some x → slice_get (xs ++ ys) i ≡ Some x
 slice_get-append [] ys i x h = cc
@@ -118,6 +118,13 @@ inserted_written s d fields f h =
           (ap (insertion_at (d.inserted ++ f ∷ [])) at ∙ last_insertion d.inserted f);
     }
 
+ahead_written : (s : EncoderHistory) (d : Draft) (fields : List Field) (f : Field) → IsWritten s d fields → IsWritten s (add_ahead s d f) fields
+ahead_written s d fields f h =
+    record {
+      longer = omega (arith, h.longer, length-append d.inserted (f ∷ []));
+      lines = StandFor-append d.inserted (f ∷ []) (length s.inserted) d.lines fields h.lines;
+    }
+
 found_line : (s : EncoderHistory) (d : Draft) (f : Field) (number : ℕ) → found s d f ≡ Some number
     → named_field d.inserted (length s.inserted) (RelativeField (length s.inserted - number)) ≡ Some f
 found_line s d f number h =
@@ -157,13 +164,16 @@ literal_written s d fields f h =
     chosen P (found_name s d f) _ _ (λ number e. line_written s d _ (number ∷ []) fields f h (found_name_line s d f number e)) (λ none.
     line_written s d _ [] fields f h refl))
 
-field_written : (s : EncoderHistory) (d : Draft) (fields : List Field) (f : Field) → IsWritten s d fields → IsWritten s (add_field s d f) (fields ++ f ∷ [])
+line_of_field_written : (s : EncoderHistory) (d : Draft) (fields : List Field) (f : Field) → IsWritten s d fields → IsWritten s (write_field s d f) (fields ++ f ∷ [])
 unfolding static_table static_field
-field_written s d fields f h =
+line_of_field_written s d fields f h =
     let P : Draft → Type 0 = λ e. IsWritten s e (fields ++ f ∷ []) in
     chosen P (static_field f) _ _ (λ index e. line_written s d _ [] fields f h (equal_at static_table f index e)) (λ none.
     chosen P (found s d f) _ _ (λ number e. line_written s d _ (number ∷ []) fields f h (found_line s d f number e)) (λ none.
     either_way P (is_insertable s d f) _ _ (λ e. inserted_written s d fields f h) (literal_written s d fields f h)))
+
+field_written : (s : EncoderHistory) (d : Draft) (fields : List Field) (f : Field) → IsWritten s d fields → IsWritten s (add_field s d f) (fields ++ f ∷ [])
+field_written s d fields f h = with_field (λ e. IsWritten s e (fields ++ f ∷ [])) s d f (line_of_field_written s d fields f h) (λ e test k. ahead_written s e (fields ++ f ∷ []) f k)
 
 all_written : (s : EncoderHistory) (d : Draft) (before fields : List Field) → IsWritten s d before → IsWritten s (fold (add_field s) d fields) (before ++ fields)
 all_written s d before [] h = rw append-nil h

@@ -11,8 +11,8 @@ use Rattle.h3_table.specs.Table.{evictions}
 use Rattle.h3_qpack.specs.EncoderHistory.{EncoderHistory, referenced_entries, encoder_after, writing_on, was_canceled}
 use Rattle.h3_qpack.specs.SectionEncoding.{encoded_section, instructions_for}
 use Rattle.h3_qpack.specs.Session.{Session, IsSound}
-use Rattle.h3_qpack.specs.Schedule.{SessionEvent, SessionStep, SessionRun, beginning, with_table}
-use Rattle.h3_qpack.specs.Schedule.SessionEvent.{UseTable, Encode, CutOff, InsertionsRead, Decode, Cancel, DecoderInstructionRead}
+use Rattle.h3_qpack.specs.Schedule.{SessionEvent, SessionStep, SessionRun, beginning, with_table, economizing}
+use Rattle.h3_qpack.specs.Schedule.SessionEvent.{UseTable, Economize, Encode, CutOff, InsertionsRead, Decode, Cancel, DecoderInstructionRead}
 use Rattle.h3_qpack.proofs.Sessions.{section_written, insertions_kept, insertions_read, section_decoded, stream_abandoned, reply_read, nothing_told}
 
 nothing_evicted : (capacity : ℕ) (inserted : List Field) → inserted ≡ [] → evictions capacity inserted ≡ 0
@@ -51,8 +51,29 @@ table_used s announced limit none zero_limit h =
       small = h.small;
     }
 
+-- whether an encoder is economical plays no part in what is sound
+now_economical : (s : Session) (economical : Bool) → IsSound s → IsSound (economizing s economical)
+now_economical s economical h =
+    record {
+      received = h.received;
+      accounted = h.accounted;
+      evictions_known = h.evictions_known;
+      references_present = h.references_present;
+      tracked = h.tracked;
+      acknowledged = h.acknowledged;
+      told = h.told;
+      written = h.written;
+      cancels = h.cancels;
+      untracked = h.untracked;
+      within_limit = h.within_limit;
+      read = h.read;
+      within_announced = h.within_announced;
+      small = h.small;
+    }
+
 pub step_is_sound : (s : Session) (event : SessionEvent) (new : Session) → IsSound s → SessionStep s event new → IsSound new
 step_is_sound s (UseTable announced limit) new h e = subst IsSound (sym e.2) (table_used s announced limit e.0 e.1 h)
+step_is_sound s (Economize economical) new h e = subst IsSound (sym e) (now_economical s economical h)
 step_is_sound s (Encode stream fields) new h e = subst IsSound (sym e) (section_written s stream fields h)
 step_is_sound s (CutOff stream fields) new h e = subst IsSound (sym e) (insertions_kept s stream fields h)
 step_is_sound s (InsertionsRead count) new h e = subst IsSound (sym e.2) (insertions_read s count e.0 e.1 h)

@@ -10,10 +10,10 @@ use Rattle.h3_field.specs.StaticTable.{static_field, static_name}
 use Rattle.h3_field.specs.StringLiteral.{string_literal}
 use Rattle.h3_qpack.specs.EncoderHistory.{EncoderHistory, writing_on}
 use Rattle.h3_qpack.specs.Encodings.{IsWrittenInstruction}
-use Rattle.h3_qpack.specs.SectionEncoding.{Draft, add_field, add_literal, draft_of, found, found_name, insertion, instructions_for, is_insertable, remaining}
+use Rattle.h3_qpack.specs.SectionEncoding.{Draft, add_field, add_literal, draft_of, found, found_name, insertion, instructions_for, is_insertable, remaining, write_field}
 use Rattle.h3_qpack.specs.ShortLaws.{prefixed_short, string_short}
 use Rattle.h3_qpack.proofs.Canceled.{on_inserted}
-use Rattle.h3_qpack.proofs.Drafts.{either_way}
+use Rattle.h3_qpack.proofs.Drafts.{either_way, with_field}
 use Rattle.h3_table.specs.ReleasingLaws.{All-join}
 use Rattle.h3_qpack.proofs.Newest.{chosen}
 use Rattle.h3_qpack.proofs.Writable.{draft_small, instructions_fit}
@@ -39,11 +39,14 @@ HasShort d = AllByRecursion IsShort d.instructions
 literal_short : (s : EncoderHistory) (d : Draft) (f : Field) → HasShort d → HasShort (add_literal s d f)
 literal_short s d f h = chosen HasShort (static_name f.name) _ _ (λ index e. h) (λ none. chosen HasShort (found_name s d f) _ _ (λ number e. h) (λ none. h))
 
-field_short : (s : EncoderHistory) (d : Draft) (f : Field) → field_size f < 2 ^ 56 → HasShort d → HasShort (add_field s d f)
-field_short s d f small h =
+line_of_field_short : (s : EncoderHistory) (d : Draft) (f : Field) → field_size f < 2 ^ 56 → HasShort d → HasShort (write_field s d f)
+line_of_field_short s d f small h =
     chosen HasShort (static_field f) _ _ (λ index e. h) (λ none.
     chosen HasShort (found s d f) _ _ (λ number e. h) (λ none.
     either_way HasShort (is_insertable s d f) _ _ (λ e. All-join IsShort d.instructions _ h (insertion_short s d f small, tt)) (literal_short s d f h)))
+
+field_short : (s : EncoderHistory) (d : Draft) (f : Field) → field_size f < 2 ^ 56 → HasShort d → HasShort (add_field s d f)
+field_short s d f small h = with_field HasShort s d f (line_of_field_short s d f small h) (λ e test k. All-join IsShort e.instructions _ k (insertion_short s e f small, tt))
 
 fields_short : (s : EncoderHistory) (d : Draft) (fields : List Field) → section_size fields < 2 ^ 56 → HasShort d → HasShort (fold (add_field s) d fields)
 fields_short s d [] small h = h

@@ -13,10 +13,10 @@ use Rattle.h3_field.specs.Instruction.{EncoderInstruction, encoder_bytes}
 use Rattle.h3_field.specs.InstructionAnswer.{IsSendable}
 use Rattle.h3_field.specs.StaticTableLaws.{table_length}
 use Rattle.h3_qpack.specs.EncoderHistory.{EncoderHistory}
-use Rattle.h3_qpack.specs.SectionEncoding.{Draft, found, found_name, is_insertable, remaining, insertion, add_line, add_inserted, add_literal, add_field, draft_of, entry_name_line}
+use Rattle.h3_qpack.specs.SectionEncoding.{Draft, found, found_name, is_insertable, remaining, insertion, add_line, add_inserted, add_ahead, add_literal, write_field, add_field, draft_of, entry_name_line}
 use Rattle.h3_qpack.specs.Encodings.{IsWrittenLine, IsWrittenInstruction}
 use Rattle.h3_qpack.proofs.Newest.{chosen, newest_from-passes}
-use Rattle.h3_qpack.proofs.Drafts.{either_way, may_insert}
+use Rattle.h3_qpack.proofs.Drafts.{MayInsert, either_way, may_insert, may_insert_ahead, with_field}
 use Rattle.h3_table.specs.ReleasingLaws.{All-join}
 
 abbrev pub IsSmallLine : FieldLine → Type 0
@@ -69,9 +69,8 @@ insertion_small s d f h k =
     chosen IsSmallInstruction (remaining s d f (λ entry. bytes_eq entry.name f.name)) _ _ (λ number e. ((omega (arith, h.few), omega (arith, k.size)), k.bytes.1)) (λ none.
     ((omega (arith, k.size), omega (arith, k.size)), k.bytes))))
 
-inserted_small : (s : EncoderHistory) (d : Draft) (f : Field) → IsSmallDraft s d → IsSmallField f → is_insertable s d f ≡ true → IsSmallDraft s (add_inserted s d f)
-inserted_small s d f h k may =
-    let m = may_insert s d f may in
+inserted_small : (s : EncoderHistory) (d : Draft) (f : Field) → IsSmallDraft s d → IsSmallField f → MayInsert s d f → IsSmallDraft s (add_inserted s d f)
+inserted_small s d f h k m =
     record {
       few = omega (arith, m.few, length-append d.inserted (f ∷ []));
       base = h.base;
@@ -79,11 +78,23 @@ inserted_small s d f h k may =
       instructions = All-join IsSmallInstruction d.instructions _ h.instructions (insertion_small s d f h k, tt);
     }
 
-field_small : (s : EncoderHistory) (d : Draft) (f : Field) → IsSmallDraft s d → IsSmallField f → IsSmallDraft s (add_field s d f)
-field_small s d f h k =
+ahead_small : (s : EncoderHistory) (d : Draft) (f : Field) → IsSmallDraft s d → IsSmallField f → MayInsert s d f → IsSmallDraft s (add_ahead s d f)
+ahead_small s d f h k m =
+    record {
+      few = omega (arith, m.few, length-append d.inserted (f ∷ []));
+      base = h.base;
+      lines = h.lines;
+      instructions = All-join IsSmallInstruction d.instructions _ h.instructions (insertion_small s d f h k, tt);
+    }
+
+line_of_field_small : (s : EncoderHistory) (d : Draft) (f : Field) → IsSmallDraft s d → IsSmallField f → IsSmallDraft s (write_field s d f)
+line_of_field_small s d f h k =
     chosen (IsSmallDraft s) (static_field f) _ _ (λ index e. more_lines s d _ [] h (field_below f index e, tt)) (λ none.
     chosen (IsSmallDraft s) (found s d f) _ _ (λ number e. more_lines s d _ (number ∷ []) h (omega (arith, h.base), tt)) (λ none.
-    either_way (IsSmallDraft s) (is_insertable s d f) _ _ (λ e. inserted_small s d f h k e) (literal_small s d f h k)))
+    either_way (IsSmallDraft s) (is_insertable s d f) _ _ (λ e. inserted_small s d f h k (may_insert s d f e)) (literal_small s d f h k)))
+
+field_small : (s : EncoderHistory) (d : Draft) (f : Field) → IsSmallDraft s d → IsSmallField f → IsSmallDraft s (add_field s d f)
+field_small s d f h k = with_field (IsSmallDraft s) s d f (line_of_field_small s d f h k) (λ e test small. ahead_small s e f small k (may_insert_ahead s e f test))
 
 fields_small : (s : EncoderHistory) (d : Draft) (fields : List Field) → IsSmallDraft s d → AllByRecursion IsFieldOfBytes fields → section_size fields < 2 ^ 62 → IsSmallDraft s (fold (add_field s) d fields)
 fields_small s d [] h bytes size = h

@@ -1,5 +1,5 @@
 -- A field section under way, as an encoder keeps it: how each field is written, by what is kept (RFC 9204, section 2.1).
-use Rattle.std.specs.Prelude.{◌≡◌, ◌<◌, ◌≤◌, ℕ, ◌+◌, ◌-◌, ◌^◌, true, List, [], ◌∷◌, ◌++◌, length, min, max, fold, take, flat_map, nat_lt, if◌then◌else◌, Option, Some, None, option_map, unwrap_or}
+use Rattle.std.specs.Prelude.{◌≡◌, ◌<◌, ◌≤◌, ℕ, ◌+◌, ◌-◌, ◌^◌, Bool, true, false, List, [], ◌∷◌, ◌++◌, length, min, max, fold, take, flat_map, nat_lt, if◌then◌else◌, Option, Some, None, option_map, unwrap_or}
 use Rattle.std.specs.List.{AllByRecursion}
 use Rattle.h3_field.specs.Field.{Field, section_size}
 use Rattle.h3_field.specs.ReadBack.{IsFieldOfBytes}
@@ -67,6 +67,15 @@ pub record IsLiteral (t : EncoderState) (section : Section) (f : Field) : Type 0
   pub nowhere : IsNowhere t section f
   pub no_room : section.may_block ≡ true → MayInsertInto t f section.oldest → ⊥
 
+-- An economical encoder whose sections may never be blocked inserts the field, which no entry equals and for which none has to go, for
+-- later sections.
+pub record MayInsertAhead (t : EncoderState) (f : Field) (oldest : ℕ) : Type 0 where
+  pub economical : t.economical ≡ true
+  pub no_limit : t.limit ≡ 0
+  pub no_entry : newest_in t.table (matches what.Field f) (evicted t.table) t.table.inserted ≡ None
+  pub evicts_none : evicted (with_entry t.table f) ≤ evicted t.table
+  pub may : MayInsertInto t f oldest
+
 -- The field is to be written like this.
 abbrev pub IsChosen : EncoderState → Section → Field → Choice → Type 0
 IsChosen t section f (choice.Static index) = static_field f ≡ Some index
@@ -84,6 +93,15 @@ IsPossible t section f (choice.Insertion after) = MayInsertInto t f section.olde
 IsPossible t section f (choice.StaticName index) = index < 99
 IsPossible t section f (choice.EntryName number) = (evicted t.table < number) × (number ≤ t.table.inserted)
 IsPossible t section f choice.Literal = Unit {0}
+
+-- a line that is a literal
+abbrev pub is_literal : Choice → Bool
+is_literal (choice.Static index) = false
+is_literal (choice.Entry number) = false
+is_literal (choice.Insertion after) = false
+is_literal (choice.StaticName index) = true
+is_literal (choice.EntryName number) = true
+is_literal choice.Literal = true
 
 -- the line for it
 abbrev pub line_for : EncoderState → Section → Field → Choice → FieldLine
@@ -120,6 +138,12 @@ encoder_state_with t f other = t
 abbrev pub instructions_after : EncoderState → Field → Choice → List EncoderInstruction
 instructions_after t f (choice.Insertion after) = insertion_for t.table after f ∷ []
 instructions_after t f other = []
+
+-- The field was inserted for later sections where it may be, and these are the instructions then; else nothing changed.
+pub record IsPutAhead (t : EncoderState) (section : Section) (f : Field) (new : EncoderState) (instructions after : List ℕ) : Type 0 where
+  pub inserted : MayInsertAhead t f section.oldest →
+      (new ≡ record t { table = with_entry t.table f }) × (after ≡ instructions ++ encoder_bytes (insertion_for t.table (evicted (with_entry t.table f)) f))
+  pub same : (MayInsertAhead t f section.oldest → ⊥) → (new ≡ t) × (after ≡ instructions)
 
 -- What is kept is that of a history with the draft's insertions, and the section names what the draft names.
 pub record IsDraftState (s : EncoderHistory) (d : Draft) (t : EncoderState) (section : Section) : Type 0 where

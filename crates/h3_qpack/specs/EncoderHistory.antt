@@ -1,5 +1,5 @@
 -- What an encoder goes by: the insertions that it made, and what it read of the decoder.
-use Rattle.std.specs.Prelude.{ℕ, ◌+◌, ◌-◌, ◌^◌, min, max, Bool, false, not, ◌&&◌, ◌||◌, List, [], ◌∷◌, length, fold, filter, flat_map, count_by, nat_lt, if◌then◌else◌, ◌==◌}
+use Rattle.std.specs.Prelude.{◌≡◌, ℕ, ◌+◌, ◌-◌, ◌^◌, min, max, Bool, false, not, ◌&&◌, ◌||◌, List, [], ◌∷◌, length, fold, filter, flat_map, count_by, nat_lt, if◌then◌else◌, ◌==◌}
 use Rattle.std.specs.List.{list_any}
 use Rattle.std.specs.Ordering.{nat_cmp}
 use Rattle.std.specs.BTreeSet.{insert_key}
@@ -30,14 +30,20 @@ pub record EncoderHistory : Type 0 where
   pub canceled : List ℕ
   -- an acknowledgment tells of the insertions that its section needs (RFC 9204, section 2.1.4); else increments alone tell of any
   pub counts_acknowledgments : Bool
+  -- it inserts for later sections what the present one may not name
+  pub economical : Bool
 
 -- an encoder that may not use a table yet, and then as large a one as is announced: a greater capacity than this is not used
 abbrev pub no_table : EncoderHistory
-no_table = record { most_capacity = 2 ^ 30 - 1; announced = 0; capacity = 0; limit = 0; inserted = []; known_received = 0; required_insert_counts = []; tracked = []; canceled = []; counts_acknowledgments = false }
+no_table = record { most_capacity = 2 ^ 30 - 1; announced = 0; capacity = 0; limit = 0; inserted = []; known_received = 0; required_insert_counts = []; tracked = []; canceled = []; counts_acknowledgments = false; economical = false }
 
 -- The decoder announced this: the encoder sets the lesser of the capacity and the most that its table may have (RFC 9204, section 3.2.3).
 abbrev pub using_table : EncoderHistory → ℕ → ℕ → EncoderHistory
 using_table s announced limit = record s { announced = announced; capacity = min s.most_capacity announced; limit = limit }
+
+-- It has no table: nothing fits, and no section may be blocked.
+abbrev pub HasNoTable : EncoderHistory → Type 0
+HasNoTable s = (s.limit ≡ 0) × (s.capacity ≡ 0)
 
 -- how many sections may still be blocked for insertions. The limit is one on streams (RFC 9204, section 2.1.2); two sections of one
 -- stream count twice here

@@ -28,6 +28,7 @@ pub record EncoderState : Type 0 where
   -- the streams of which a cancellation was read
   pub canceled : List ℕ
   pub counts_acknowledgments : Bool
+  pub economical : Bool
 
 -- the least of some numbers
 abbrev pub least : List ℕ → ℕ
@@ -49,6 +50,7 @@ encoder_state s =
       tracked = in_order (λ t. t.stream) (map tracked_section s.tracked);
       canceled = s.canceled;
       counts_acknowledgments = s.counts_acknowledgments;
+      economical = s.economical;
     }
 
 -- So many insertions are known to be received.

@@ -9,6 +9,8 @@ use Rattle.h3_qpack.specs.Session.{Session, UndecodedSection, encoded, inserted,
 pub data SessionEvent : Type 0 where
   -- the peer's limits come, before anything was inserted
   UseTable : (announced limit : ℕ) → SessionEvent
+  -- from now on the encoder is economical with its table, or is not
+  Economize : (economical : Bool) → SessionEvent
   Encode : (stream : ℕ) (fields : List Field) → SessionEvent
   -- a section of the stream is withdrawn, or was cut off behind these fields: what was inserted for it stays
   CutOff : (stream : ℕ) (fields : List Field) → SessionEvent
@@ -21,6 +23,9 @@ pub data SessionEvent : Type 0 where
 abbrev pub with_table : Session → ℕ → ℕ → Session
 with_table s announced limit = record s { encoder = using_table s.encoder announced limit }
 
+abbrev pub economizing : Session → Bool → Session
+economizing s economical = record s { encoder = record s.encoder { economical = economical } }
+
 abbrev pub without_section : Session → ℕ → List Field → Session
 without_section s stream fields =
     record s {
@@ -30,6 +35,7 @@ without_section s stream fields =
 
 abbrev pub SessionStep : Session → SessionEvent → Session → Type 0
 SessionStep s (UseTable announced limit) new = (s.encoder.inserted ≡ []) × (s.encoder.limit ≡ 0) × (new ≡ with_table s announced limit)
+SessionStep s (Economize economical) new = new ≡ economizing s economical
 SessionStep s (Encode stream fields) new = new ≡ encoded s stream fields
 SessionStep s (CutOff stream fields) new = new ≡ without_section s stream fields
 SessionStep s (InsertionsRead count) new = (0 < count) × (s.received + count ≤ length s.encoder.inserted) × (new ≡ inserted s count)

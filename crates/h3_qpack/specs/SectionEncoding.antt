@@ -1,5 +1,5 @@
 -- How a field section is written: field by field, over the plain list of insertions.
-use Rattle.std.specs.Prelude.{ℕ, ◌+◌, ◌-◌, ◌^◌, Bool, ◌&&◌, ◌||◌, List, [], ◌∷◌, ◌++◌, length, fold, flat_map, max, nat_le, nat_lt, bytes_eq, Option, option_map, unwrap_or, if◌then◌else◌, ◌==◌}
+use Rattle.std.specs.Prelude.{ℕ, ◌+◌, ◌-◌, ◌^◌, Bool, ◌&&◌, ◌||◌, List, [], ◌∷◌, ◌++◌, length, fold, flat_map, max, nat_le, nat_lt, bytes_eq, Option, option_map, unwrap_or, is_none, if◌then◌else◌, ◌==◌}
 use Rattle.std.specs.List.{list_all}
 use Rattle.h3_field.specs.Field.{Field, field_eq, field_size}
 use Rattle.h3_field.specs.StaticTable.{static_field, static_name}
@@ -33,14 +33,32 @@ found s draft f = newest
 abbrev pub evictions_by : EncoderHistory → Draft → Field → ℕ
 evictions_by s draft f = evictions s.capacity (draft.inserted ++ f ∷ [])
 
--- There is room, and each entry to be evicted is known to be received and named by no section that counts. Numbers of entries
--- stay below 2 ^ 62.
-abbrev pub is_insertable : EncoderHistory → Draft → Field → Bool
-is_insertable s draft f =
+-- It fits, and each entry to be evicted is known to be received and named by no section that counts. Numbers of entries stay below
+-- 2 ^ 62.
+abbrev pub finds_room : EncoderHistory → Draft → Field → Bool
+finds_room s draft f =
     nat_lt (length draft.inserted + 1) (2 ^ 62)
-    && nat_lt (blocks_out s) s.limit && nat_le (field_size f) s.capacity
+    && nat_le (field_size f) s.capacity
     && nat_le (evictions_by s draft f) (max s.known_received (evictions s.capacity draft.inserted))
     && list_all (λ number. nat_lt (evictions_by s draft f) number) (referenced_entries s ++ draft.references)
+
+-- There is room, and one more section may be blocked.
+abbrev pub is_insertable : EncoderHistory → Draft → Field → Bool
+is_insertable s draft f = nat_lt (blocks_out s) s.limit && finds_room s draft f
+
+-- No entry equals the field: no static one, and none of the table.
+abbrev pub is_new : EncoderHistory → Draft → Field → Bool
+is_new s draft f = is_none (static_field f)
+    && is_none (newest (λ number entry. field_eq entry f && nat_lt (evictions s.capacity draft.inserted) number) draft.inserted)
+
+-- No entry has to go for it.
+abbrev pub evicts_none : EncoderHistory → Draft → Field → Bool
+evicts_none s draft f = nat_le (evictions_by s draft f) (evictions s.capacity draft.inserted)
+
+-- An economical encoder whose sections may never be blocked inserts the field ahead of its use, while no entry has to go: a later section
+-- may name the entry once it is known to be received (RFC 9204, section 2.1.2).
+abbrev pub is_insertable_ahead : EncoderHistory → Draft → Field → Bool
+is_insertable_ahead s draft f = s.economical && (s.limit == 0) && is_new s draft f && evicts_none s draft f && finds_room s draft f
 
 -- the newest entry that remains after the insertion and passes
 abbrev pub remaining : EncoderHistory → Draft → Field → (Field → Bool) → Option ℕ
@@ -85,12 +103,24 @@ add_inserted s draft f =
       references = draft.references ++ (length draft.inserted + 1) ∷ [];
     }
 
--- a static entry, else an older entry, else a new entry, else a literal
-abbrev pub add_field : EncoderHistory → Draft → Field → Draft
-add_field s draft f =
+-- its line: a static entry, else an older entry, else a new entry, else a literal
+abbrev pub write_field : EncoderHistory → Draft → Field → Draft
+write_field s draft f =
     unwrap_or (option_map (λ index. add_line draft (StaticField index) []) (static_field f)) (
     unwrap_or (option_map (λ number. add_line draft (RelativeField (length s.inserted - number)) (number ∷ [])) (found s draft f))
     (if is_insertable s draft f then add_inserted s draft f else add_literal s draft f))
+
+-- the field goes into the table, and no line names the new entry
+abbrev pub add_ahead : EncoderHistory → Draft → Field → Draft
+add_ahead s draft f = record draft { inserted = draft.inserted ++ f ∷ []; instructions = draft.instructions ++ insertion s draft f ∷ [] }
+
+-- what is inserted behind the line
+abbrev pub insert_ahead : EncoderHistory → Draft → Field → Draft
+insert_ahead s draft f = if is_insertable_ahead s draft f then add_ahead s draft f else draft
+
+-- its line, and what is inserted for later sections
+abbrev pub add_field : EncoderHistory → Draft → Field → Draft
+add_field s draft f = insert_ahead s (write_field s draft f) f
 
 -- all fields of a section
 abbrev pub draft_of : EncoderHistory → List Field → Draft

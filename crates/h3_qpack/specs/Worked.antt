@@ -1,5 +1,5 @@
 -- The worked values that the definitions are tried at.
-use Rattle.std.specs.Prelude.{ℕ, Bool, List, [], ◌∷◌, codes}
+use Rattle.std.specs.Prelude.{ℕ, Bool, true, List, [], ◌∷◌, codes}
 use Rattle.h3_field.specs.Field.{Field}
 use Rattle.h3_field.specs.Instruction.DecoderInstruction.{Acknowledge, CancelStream, Increment}
 use Rattle.h3_qpack.specs.EncoderHistory.{EncoderHistory, no_table, using_table, encoder_after}
@@ -69,6 +69,13 @@ one_acknowledged counts = encoder_after (one_waits counts) (Acknowledge 0)
 -- Two sections of one stream, each with an insertion of its own, where acknowledgments count or do not.
 abbrev pub two_on_a_stream : Bool → EncoderHistory
 two_on_a_stream counts = sent_section (sent_section (record (fresh 100 10) { counts_acknowledgments = counts }) 0 (with_header x_a)) 0 (with_header x_b)
+
+-- No section may be blocked, and the encoder is economical with a table of this capacity; a response has one more field.
+abbrev pub no_waiting : ℕ → EncoderHistory
+no_waiting capacity = record (fresh capacity 0) { economical = true }
+
+abbrev pub inserted_ahead : ℕ → EncoderHistory
+inserted_ahead capacity = sent_section (no_waiting capacity) 0 (with_header x_a)
 
 -- Its table has at most so much, and its decoder announced a capacity.
 abbrev pub capped : ℕ → ℕ → EncoderHistory

@@ -8,7 +8,7 @@ ghost use Rattle.h3_table.specs.Index.{IsIndexed, HasRoom};
 ghost use Rattle.h3_table.specs.Tracking.{is_of, is_free_to};
 ghost use Rattle.h3_field.specs.Instruction.DecoderInstruction.{Acknowledge, CancelStream};
 ghost use Rattle.h3_qpack.specs.EncoderState.{EncoderState, MayInsertInto, MayHaveCapacity, IsCapacityRefusal, raised, refuses_increment, encoder_state_sent, encoder_state_after, encoder_state_withdrawn};
-ghost use Rattle.h3_qpack.specs.Drafting.{begun, IsSmall};
+ghost use Rattle.h3_qpack.specs.Drafting.{begun, IsSmall, MayInsertAhead};
 ghost use Rattle.h3_field.specs.declared.dynamic.Error.TheVariants.{MaxBlockedStreamsTooLarge};
 
 use crate::encoder_view::DynamicTableEncoder;
@@ -46,6 +46,8 @@ pub struct DynamicTable {
     blocking: BlockingCounts,
     // an acknowledgment tells of the insertions that its section needs
     counts_acknowledgments: bool,
+    // it inserts for later sections what the present one may not name
+    economical: bool,
     alloc: Global,
 }
 
@@ -74,7 +76,7 @@ fn reserve(names: &mut Index, fields: &mut Index) -> Result<(), AllocError>
 impl DynamicTable {
     /// A table of capacity 0, whose sections may not be blocked. It may have any capacity up to 2^30 - 1.
     pub fn new(alloc: Global) -> DynamicTable
-        ensures { result ≡ record { table = no_entries; most_capacity = 2 ^ 30 - 1; announced = 0; limit = 0; known_received = 0; blocking_counts = []; tracked = []; canceled = []; counts_acknowledgments = false } }
+        ensures { result ≡ record { table = no_entries; most_capacity = 2 ^ 30 - 1; announced = 0; limit = 0; known_received = 0; blocking_counts = []; tracked = []; canceled = []; counts_acknowledgments = false; economical = false } }
     {
         DynamicTable {
             entries: Entries::new(alloc),
@@ -87,6 +89,7 @@ impl DynamicTable {
             limit: 0,
             blocking: BlockingCounts::new(alloc),
             counts_acknowledgments: false,
+            economical: false,
             alloc,
         }
     }
@@ -312,6 +315,27 @@ impl DynamicTable {
         Some(after)
     }
 
+    /// The same for a field that is inserted for later sections alone: the encoder is economical, its sections may never be blocked, no
+    /// entry of the table equals the field, and none has to go.
+    pub(crate) fn room_ahead(&self, field: &HeaderField, oldest: usize) -> Option<usize>
+        ensures some { IfSome result (λ n. MayInsertAhead self.now field.now oldest × (n ≡ evicted (with_entry self.now.table field.now)) × (evicted self.now.table ≤ n)) }
+        ensures none { IfNone result (MayInsertAhead self.now field.now oldest → ⊥) }
+    {
+        if !self.economical || self.limit != 0 {
+            return None;
+        }
+        let evicted = self.entries.evicted();
+        let inserted = self.entries.inserted();
+        if let Some(_number) = self.newest(Match::Field, field, evicted, inserted) {
+            return None;
+        }
+        let after = self.room_for(field, oldest)?;
+        if after > evicted {
+            return None;
+        }
+        Some(after)
+    }
+
     /// The sum of increments grows, and stops at the greatest number. Sections whose insertions are known to be received
     /// wait no more.
     pub fn update_largest_received(&mut self, increment: usize)
@@ -379,6 +403,13 @@ impl DynamicTable {
         ensures { self.new ≡ record self.old { counts_acknowledgments = counted } }
     {
         self.counts_acknowledgments = counted;
+    }
+
+    /// From now on the encoder inserts for later sections, where no section may be blocked, or does not.
+    pub(crate) fn economize(&mut self, economical: bool)
+        ensures { self.new ≡ record self.old { economical = economical } }
+    {
+        self.economical = economical;
     }
 
     /// Whether an increment is 0 or past what was inserted, where acknowledgments count.

@@ -71,6 +71,15 @@ impl Encoder {
         self.table.count_acknowledgments(counted);
     }
 
+    /// From now on the encoder is economical with its table, or is not. Where the decoder lets no section wait (a limit of 0), an
+    /// economical encoder inserts a field that it writes as a literal, and names its entry once the insertion is known to be received
+    /// (RFC 9204, section 2.1.2); one that is not never inserts there. Off at first.
+    pub fn economize(&mut self, economical: bool)
+        ensures { (s : EncoderHistory) → self.old ≡ encoder_state s → self.new ≡ encoder_state (record s { economical = economical }) }
+    {
+        self.table.economize(economical);
+    }
+
     /// From now on `use_table` and `allow_table` give the table at most this capacity, whatever the decoder announces. 2^30 - 1 at
     /// first, which is as much as a table has.
     pub fn limit_table(&mut self, most: usize)

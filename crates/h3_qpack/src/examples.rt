@@ -11,7 +11,7 @@ ghost use Rattle.h3_field.specs.Instruction.EncoderInstruction.{SetCapacity, Ins
 ghost use Rattle.h3_qpack.specs.EncoderHistory.{is_refused, encoder_after_front, withdrawn};
 ghost use Rattle.h3_table.specs.Table.{table};
 ghost use Rattle.h3_qpack.specs.DecoderState.{announcing, decoder_after, decoder_after_all};
-ghost use Rattle.h3_qpack.specs.Worked.{three, fresh, sample, host_text, path_text, with_header, x_a, x_b, x_a_of, older_known, three_canceled, canceled_first, one_waits, one_acknowledged, two_on_a_stream, capped, twice_inserted};
+ghost use Rattle.h3_qpack.specs.Worked.{three, fresh, sample, host_text, path_text, with_header, x_a, x_b, x_a_of, older_known, three_canceled, canceled_first, one_waits, one_acknowledged, two_on_a_stream, no_waiting, inserted_ahead, capped, twice_inserted};
 
 /// Three requests for the same page: the first inserts two fields, the second names them, and the third may not.
 #[tactic(auto, unfolding(h3_field::specs::StaticTable::static_table, h3_field::specs::StaticTable::static_field, h3_field::specs::StaticTable::static_name, h3_huffman::specs::Huffman::huffman, h3_huffman::specs::Huffman::octets, h3_huffman::specs::Huffman::code_word, h3_huffman::specs::Huffman::bits))]
@@ -112,4 +112,17 @@ pub fn capped_tables()
     ensures announced { encoded_section (twice_inserted (capped 40 4096)) (with_header x_a) ≡ 4 ∷ 128 ∷ 217 ∷ 16 ∷ [] }
     ensures whole { encoded_section (twice_inserted (capped 4096 40)) (with_header x_a) ≡ 2 ∷ 128 ∷ 217 ∷ 16 ∷ [] }
     ensures none { instructions_for (capped 0 4096) (with_header x_a) ≡ [] }
+{}
+
+/// No section may wait. An economical encoder writes a literal and inserts the field behind it, once; it names the entry when it is known
+/// to be received. Where an entry would have to go for it nothing is inserted, and one that is not economical never inserts there.
+#[tactic(auto, unfolding(h3_field::specs::StaticTable::static_table, h3_field::specs::StaticTable::static_field, h3_field::specs::StaticTable::static_name, h3_huffman::specs::Huffman::huffman, h3_huffman::specs::Huffman::octets, h3_huffman::specs::Huffman::code_word, h3_huffman::specs::Huffman::bits))]
+pub fn economical_tables()
+    ensures first { encoded_section (no_waiting 64) (with_header x_a) ≡ 0 ∷ 0 ∷ 217 ∷ 43 ∷ 242 ∷ 176 ∷ 255 ∷ 129 ∷ 15 ∷ [] }
+    ensures inserts { flat_map encoder_bytes (instructions_for (no_waiting 64) (with_header x_a)) ≡ 99 ∷ 242 ∷ 176 ∷ 255 ∷ 129 ∷ 15 ∷ [] }
+    ensures unknown { encoded_section (inserted_ahead 64) (with_header x_a) ≡ 0 ∷ 0 ∷ 217 ∷ 43 ∷ 242 ∷ 176 ∷ 255 ∷ 129 ∷ 15 ∷ [] }
+    ensures once { instructions_for (inserted_ahead 64) (with_header x_a) ≡ [] }
+    ensures known { encoded_section (encoder_after (inserted_ahead 64) (Increment 1)) (with_header x_a) ≡ 2 ∷ 0 ∷ 217 ∷ 128 ∷ [] }
+    ensures full { instructions_for (encoder_after (inserted_ahead 64) (Increment 1)) (with_header x_b) ≡ [] }
+    ensures other { instructions_for (fresh 64 0) (with_header x_a) ≡ [] }
 {}

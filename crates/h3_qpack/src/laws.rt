@@ -25,7 +25,7 @@ ghost use Rattle.h3_qpack.specs.Encodings.{decoder_of, HasInsertions, IsDecoderA
 ghost use Rattle.h3_field.specs.Prefix.{most_entries, IsRequiredCount};
 ghost use Rattle.h3_qpack.specs.Session.{Session, UndecodedSection, oldest, is_canceled, count_of, tracked_references, IsSound, DecodesTo};
 ghost use Rattle.h3_qpack.specs.Schedule.{SessionEvent, SessionRun, beginning};
-ghost use Rattle.h3_qpack.specs.EncoderHistory.{EncoderHistory, blocks_out, encoder_after, encoder_after_all, was_canceled, withdrawn, writing_on};
+ghost use Rattle.h3_qpack.specs.EncoderHistory.{EncoderHistory, HasNoTable, blocks_out, encoder_after, encoder_after_all, was_canceled, withdrawn, writing_on};
 ghost use Rattle.h3_qpack.specs.EncoderState.{encoder_state};
 ghost use Rattle.h3_qpack.specs.Exchange.{ExchangeHistory, Exchange, start, opening};
 ghost use Rattle.h3_qpack.specs.Expected.{Expected};
@@ -46,12 +46,20 @@ pub fn canceled_streams_use_no_table()
     ensures same { (s : EncoderHistory) (stream : ℕ) (fields : List Field) → was_canceled s stream ≡ true → encoder_state (sent_section s stream fields) ≡ encoder_state s }
 {}
 
-/// An encoder of limit 0 that has inserted nothing names no entry and inserts nothing, whatever its capacity: so a table may come
-/// into use later.
+/// An encoder without a table that has inserted nothing names no entry and inserts nothing, whether it is economical or not: so a table
+/// may come into use later.
 pub fn encoders_without_insertions_use_no_table()
-    ensures bytes { (s : EncoderHistory) (stream : ℕ) (fields : List Field) → s.limit ≡ 0 → s.inserted ≡ [] → encoded_section (writing_on s stream) fields ≡ section_bytes fields }
-    ensures inserts { (s : EncoderHistory) (stream : ℕ) (fields : List Field) → s.limit ≡ 0 → s.inserted ≡ [] → instructions_for (writing_on s stream) fields ≡ [] }
-    ensures still { (s : EncoderHistory) (stream : ℕ) (fields : List Field) → s.limit ≡ 0 → s.inserted ≡ [] → (sent_section s stream fields).inserted ≡ [] }
+    ensures bytes { (s : EncoderHistory) (stream : ℕ) (fields : List Field) → HasNoTable s → s.inserted ≡ [] → encoded_section (writing_on s stream) fields ≡ section_bytes fields }
+    ensures inserts { (s : EncoderHistory) (stream : ℕ) (fields : List Field) → HasNoTable s → s.inserted ≡ [] → instructions_for (writing_on s stream) fields ≡ [] }
+    ensures still { (s : EncoderHistory) (stream : ℕ) (fields : List Field) → HasNoTable s → s.inserted ≡ [] → (sent_section s stream fields).inserted ≡ [] }
+{}
+
+/// An encoder that is not economical and has inserted nothing names no entry and inserts nothing where no section may be blocked, whatever
+/// its capacity (RFC 9204, section 2.1.2).
+pub fn plain_encoders_of_limit_zero_use_no_table()
+    ensures bytes { (s : EncoderHistory) (stream : ℕ) (fields : List Field) → s.limit ≡ 0 → s.economical ≡ false → s.inserted ≡ [] → encoded_section (writing_on s stream) fields ≡ section_bytes fields }
+    ensures inserts { (s : EncoderHistory) (stream : ℕ) (fields : List Field) → s.limit ≡ 0 → s.economical ≡ false → s.inserted ≡ [] → instructions_for (writing_on s stream) fields ≡ [] }
+    ensures still { (s : EncoderHistory) (stream : ℕ) (fields : List Field) → s.limit ≡ 0 → s.economical ≡ false → s.inserted ≡ [] → (sent_section s stream fields).inserted ≡ [] }
 {}
 
 /// Every cancellation that was read is kept, and nothing else is.
@@ -68,8 +76,8 @@ pub fn canceled_streams_are_not_tracked()
         tracked_references stream s.encoder.tracked ≡ [] }
 {}
 
-/// Over every schedule, whether acknowledgments count or not, and however small the encoder's table is to be, what is under way fits
-/// what both ends have.
+/// Over every schedule, whether acknowledgments count or not, however small the encoder's table is to be, and whenever it becomes
+/// economical, what is under way fits what both ends have.
 pub fn every_session_is_sound()
     ensures { (counts : Bool) (most announced limit : ℕ) (events : List SessionEvent) (s : Session) → SessionRun (beginning counts most announced limit) events s → IsSound s }
 {}

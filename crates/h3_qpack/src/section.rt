@@ -1,7 +1,7 @@
 //! A field section under way, and the choice of how each field is written (RFC 9204, section 2.1).
 ghost use Rattle.std.specs.Prelude.{◌≡◌, ◌+◌, ◌<◌, ◌≤◌};
 ghost use Rattle.h3_qpack.specs.EncoderState.{EncoderState};
-ghost use Rattle.h3_qpack.specs.Drafting.{begun, naming, most_usable, IsOver, IsNowhere, IsLiteral, IsChosen, IsPossible};
+ghost use Rattle.h3_qpack.specs.Drafting.{begun, naming, most_usable, IsOver, IsNowhere, IsLiteral, IsChosen, IsPossible, is_literal};
 ghost use Rattle.h3_qpack.specs.Missed.{IsMissedFor};
 
 use crate::dynamic::DynamicTable;
@@ -26,13 +26,29 @@ pub(crate) enum Choice {
     Literal,
 }
 
+impl Choice {
+    /// Whether the line is a literal.
+    pub(crate) fn is_literal(self) -> bool
+        ensures { result ≡ is_literal self }
+    {
+        matches!(
+            self,
+            Choice::StaticName(_) | Choice::EntryName(_) | Choice::Literal
+        )
+    }
+}
+
 /// A section under way: how many insertions there were before it, whether it may be blocked at the decoder, and the oldest and
 /// the newest entry that its lines name so far. Where they name none, these are the greatest number and 0.
 #[derive(Clone, Copy)]
 pub(crate) struct Section {
+    /// How many insertions there were before it.
     pub base: usize,
+    /// Whether it may be blocked at the decoder.
     pub may_block: bool,
+    /// The oldest entry that it names.
     pub oldest: usize,
+    /// The newest entry that it names.
     pub newest: usize,
 }
 

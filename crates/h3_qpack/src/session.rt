@@ -47,14 +47,18 @@ pub enum SessionAnswer {
     NoBlock,
     /// The stream is given up.
     Canceled,
+    /// The step is refused.
     Refused(Error),
 }
 
 /// The bytes of one direction, and how many of them came and were read.
 #[derive(Drop)]
 pub(crate) struct ByteStream {
+    /// All that was written.
     pub bytes: Vec<u8>,
+    /// How many of them were delivered.
     pub arrived: usize,
+    /// How many of them were read.
     pub read: usize,
 }
 

@@ -15,7 +15,7 @@ ghost use Rattle.h3_qpack.specs.EncoderState.{MayInsertInto};
 ghost use Rattle.h3_qpack.specs.EncoderHistory.{EncoderHistory};
 ghost use Rattle.h3_qpack.specs.SectionEncoding.{Draft, add_field, draft_of, entry_name_line};
 ghost use Rattle.h3_qpack.specs.Missed.{IsMissed, IsMissedFor};
-ghost use Rattle.h3_qpack.specs.Drafting.{naming, IsOver, IsPossible, line_for, section_after, encoder_state_with, instructions_after, insertion_for, IsDrafted, IsCutOff};
+ghost use Rattle.h3_qpack.specs.Drafting.{naming, IsOver, IsPossible, line_for, section_after, encoder_state_with, instructions_after, insertion_for, IsDrafted, IsCutOff, IsPutAhead};
 
 use crate::dynamic::DynamicTable;
 use crate::section::{Choice, Section};
@@ -66,6 +66,34 @@ fn put_insertion(
     Ok(())
 }
 
+/// Inserts a field that may be, and appends the instruction for it. No entry up to the base equals the field. A refusal changes nothing.
+fn put_entry(
+    table: &mut DynamicTable,
+    base: usize,
+    field: &HeaderField,
+    after: usize,
+    encoder_buf: &mut Vec<u8>,
+) -> Result<(), EncoderError>
+    requires may { (oldest : ℕ) × MayInsertInto table.old field.now oldest }
+    requires after { after ≡ evicted (with_entry table.old.table field.now) }
+    requires from { evicted table.old.table ≤ after }
+    requires missed { IsMissed table.old.table base field.now }
+    requires size { field_size field.now < 2 ^ 62 }
+    ensures memory { IsOkUnless result OutOfMemory }
+    ensures ok { OnOk result (table.new ≡ record table.old { table = with_entry table.old.table field.now }) }
+    ensures instructions { OnOk result (encoder_buf.new.items ≡ encoder_buf.old.items ++ encoder_bytes (insertion_for table.old.table after field.now)) }
+    ensures err { OnErr result ((table.new ≡ table.old) × (encoder_buf.new.items ≡ encoder_buf.old.items)) }
+{
+    let static_index = StaticTable::find_name(field.name());
+    let start = encoder_buf.len();
+    put_insertion(table, base, field, static_index, after, encoder_buf)?;
+    if table.insert(field, after).is_err() {
+        encoder_buf.truncate(start);
+        return Err(EncoderError::OutOfMemory);
+    }
+    Ok(())
+}
+
 /// Inserts a field that may be, and appends the instruction for it and the line that is the new entry. A refusal inserts
 /// nothing, and may leave the line.
 fn put_inserted(
@@ -88,15 +116,8 @@ fn put_inserted(
     ensures instructions { OnOk result (encoder_buf.new.items ≡ encoder_buf.old.items ++ encoder_bytes (insertion_for table.old.table after field.now)) }
     ensures err { OnErr result ((table.new ≡ table.old) × (encoder_buf.new.items ≡ encoder_buf.old.items)) }
 {
-    let static_index = StaticTable::find_name(field.name());
     IndexedWithPostBase(table.inserted() - base).encode(lines)?;
-    let start = encoder_buf.len();
-    put_insertion(table, base, field, static_index, after, encoder_buf)?;
-    if table.insert(field, after).is_err() {
-        encoder_buf.truncate(start);
-        return Err(EncoderError::OutOfMemory);
-    }
-    Ok(())
+    put_entry(table, base, field, after, encoder_buf)
 }
 
 /// Appends the line of a literal value with the name of a dynamic entry.
@@ -163,6 +184,29 @@ fn put_chosen(
     Ok(())
 }
 
+/// Inserts a field for later sections, where an economical encoder may, and appends the instruction for it: no line names the entry.
+/// A refusal changes nothing.
+fn put_ahead(
+    table: &mut DynamicTable,
+    section: &Section,
+    field: &HeaderField,
+    encoder_buf: &mut Vec<u8>,
+) -> Result<(), EncoderError>
+    requires over { IsOver table.old.table section.now }
+    requires size { field_size field.now < 2 ^ 62 }
+    ensures memory { IsOkUnless result OutOfMemory }
+    ensures over { OnOk result (IsOver table.new.table section.now) }
+    ensures grows { length encoder_buf.old.items ≤ length encoder_buf.new.items }
+    ensures ok { OnOk result (IsPutAhead table.old section.now field.now table.new encoder_buf.old.items encoder_buf.new.items) }
+    ensures err { OnErr result ((table.new ≡ table.old) × (encoder_buf.new.items ≡ encoder_buf.old.items)) }
+{
+    let Some(after) = table.room_ahead(field, section.oldest) else {
+        return Ok(());
+    };
+    let inserted = table.inserted();
+    put_entry(table, inserted, field, after, encoder_buf)
+}
+
 /// Writes a field: its line, and the instruction where it is inserted. A refusal inserts nothing, and may leave a line.
 fn put_field(
     table: &mut DynamicTable,
@@ -182,7 +226,11 @@ fn put_field(
 {
     table.is_small();
     let choice = section.choose(table, field);
-    put_chosen(table, section, field, choice, lines, encoder_buf)
+    put_chosen(table, section, field, choice, lines, encoder_buf)?;
+    if !choice.is_literal() {
+        return Ok(());
+    }
+    put_ahead(table, section, field, encoder_buf)
 }
 
 /// Writes the fields of a section, one behind the other. A refusal leaves whole instructions, those of the insertions made.

@@ -1,13 +1,16 @@
 -- What came on a stream that is there, by a call that may be refused memory.
-use Rattle.std.proofs.Common.{◌≡◌, ℕ, sym, ap, subst}
-use Rattle.std.specs.Prelude.{Result, Ok, Err, Option, Some, IfSome, OnOk, is_some, unwrap_or}
+use Rattle.std.proofs.Common.{◌≡◌, ℕ, Bool, true, false, if◌then◌else◌, refl, sym, ap, subst, ◌∙◌}
+use Rattle.std.specs.Prelude.{◌&&◌, ◌||◌, not, Result, Ok, Err, Option, Some, None, IfSome, OnOk, is_some, unwrap_or}
+use Rattle.h3_messages.specs.declared.content.Content.{Content}
 use Rattle.h3_connection.specs.Calls.{Sets, fresh_request}
-use Rattle.h3_connection.specs.Incoming.{Incoming}
+use Rattle.h3_connection.specs.Incoming.{Incoming, awaiting, awaits_head, is_before_head}
 use Rattle.h3_connection.specs.State.{RequestState, kept_at}
 use Rattle.h3_connection.specs.StreamSets.{Streams}
 use Rattle.h3_requests.specs.Changing.{Receives}
 use Rattle.h3_requests.specs.Lending.{Writes}
+use Rattle.h3_requests.specs.Over.{IsOver}
 use Rattle.h3_requests.proofs.Counts.{kept_there}
+use Rattle.h3_requests.proofs.Ways.{over_settled}
 
 abbrev receives : (Incoming → Incoming) → RequestState → RequestState
 receives change r = record r { incoming = change r.incoming }
@@ -25,6 +28,13 @@ received_there (Ok x) model old new id before after change same writes there is 
     subst (λ l. IfSome (kept_at l id) (λ r. Sets l new id (receives change r))) same
     (subst (λ o. IfSome o (λ r. Sets old new id (receives change r))) (sym (kept_there old new id before after writes there)) (set_so old new id before after change writes there is))
 
+-- the same by a call that is refused nothing,
+pub changed_there : {under_way : Option RequestState} (model old new : Streams RequestState) (id : ℕ) (before after : RequestState) (change : Incoming → Incoming) → old ≡ model
+    → Writes old new under_way id after → under_way ≡ Some before → after ≡ receives change before → IfSome (kept_at model id) (λ r. Sets model new id (receives change r))
+changed_there model old new id before after change same writes there is =
+    subst (λ l. IfSome (kept_at l id) (λ r. Sets l new id (receives change r))) same
+    (subst (λ o. IfSome o (λ r. Sets old new id (receives change r))) (sym (kept_there old new id before after writes there)) (set_so old new id before after change writes there is))
+
 -- and in the words of a stream that may have to be opened
 pub received : {A E : Type 0} {under_way : Option RequestState} (result : Result A E) (model : Streams RequestState) (old new : Streams RequestState) (id : ℕ) (before after : RequestState) (change : Incoming → Incoming) → old ≡ model
     → Writes old new under_way id after → under_way ≡ Some before → OnOk result (after ≡ receives change before) → OnOk result (Receives model new id change)
@@ -33,3 +43,19 @@ received (Ok x) model old new id before after change same writes there is =
     subst (λ l. Receives l new id change) same
     (subst (λ o. Sets old new id (receives change (unwrap_or o fresh_request))) (sym (kept_there old new id before after writes there))
     (set_so old new id before after change writes there is))
+
+-- A stream that is over awaits no head, so nothing changes.
+and_none : (b : Bool) → (b && false) ≡ false
+and_none true = refl
+and_none false = refl
+
+over_awaits : (r : RequestState) (expected : Content) → IsOver r → receives (λ i. awaiting i expected) r ≡ r
+over_awaits r expected h =
+    let none : awaits_head r.incoming ≡ false = ap (λ b. is_before_head r.incoming.place && not b) (over_settled r h) ∙ and_none (is_before_head r.incoming.place) in
+    ap (λ b. let q : RequestState = record r { incoming = record r.incoming { content = if b then expected else r.incoming.content } } in q) none
+
+pub awaits_over : (old new : Streams RequestState) (id : ℕ) (expected : Content) (there : Option RequestState) → kept_at old id ≡ there → IfSome there IsOver → new ≡ old
+    → IfSome there (λ r. Sets old new id (receives (λ i. awaiting i expected) r))
+awaits_over old new id expected None was over same = tt
+awaits_over old new id expected (Some r) was over same =
+    subst (λ s. Sets old s id (receives (λ i. awaiting i expected) r)) (sym same) (record { here = was ∙ ap Some (sym (over_awaits r expected over)); others = λ q ne. refl })

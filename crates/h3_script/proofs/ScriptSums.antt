@@ -14,6 +14,7 @@ use Rattle.h3_field.specs.Field.{Field}
 use Rattle.h3_proto.specs.declared.stream.Side.{Side}
 use Rattle.h3_proto.specs.declared.stream.Side.TheVariants.{Client, Server}
 use Rattle.h3_header.specs.Head.{Head, head_fields, to_field, regular_fields, pseudo_fields, response_head, trailer_head}
+use Rattle.h3_header.specs.RequestPath.{behind, rooted, takes_slash}
 use Rattle.h3_header.specs.Request.{request_head}
 use Rattle.h3_script.specs.Pieces.{cut}
 use Rattle.h3_script.specs.HeadText.{AddsFields, IsHeadText, IsTrailerText, HeadBy, is_status}
@@ -134,8 +135,15 @@ parts_few text (Some s) (Some a) kept h =
     let normal : length s ≡ length (normal_scheme h.name) = ap length h.normal in
     record { few = omega (arith, simp length-append at (ap length h.spelled), normal, scheme_few h.name, tail_few h.tail kept h.is_tail) }
 
-path_few : (kept : List ℕ) (b : Bool) → length (or_slash (if b then kept else codes "/")) ≤ length kept + 1
-path_few kept b = either_bytes (length (if b then kept else codes "/") == 0) (codes "/") (if b then kept else codes "/") (length kept + 1) (omega arith) (either_bytes b kept (codes "/") (length kept + 1) (omega arith) (omega arith))
+behind_few : (flag : Bool) (kept : List ℕ) → length (behind flag kept) ≤ length kept + 1
+behind_few true kept = omega arith
+behind_few false kept = omega arith
+
+path_few : (method kept : List ℕ) (b : Bool) → length (or_slash (if b then rooted method kept else codes "/")) ≤ length kept + 1
+path_few method kept b =
+    let path = if b then rooted method kept else codes "/" in
+    let few = either_bytes b (rooted method kept) (codes "/") (length kept + 1) (behind_few (takes_slash method kept) kept) (omega arith) in
+    either_bytes (length path == 0) (codes "/") path (length kept + 1) (omega arith) few
 
 no_protocol : (b : Bool) → ◌≡◌ {A = Option (List ℕ)} (if b then None else None) None
 no_protocol true = refl
@@ -169,11 +177,11 @@ request_sum : (method uri : List ℕ) (target : Target) (m : Entries FieldValue)
 request_sum method uri target m h =
     let parts = parts_few uri (uri_scheme target) (uri_authority target) (uri_data target) h.1 in
     let scheme = unwrap_or (uri_scheme target) (codes "https") in
-    let path = if has_path target then uri_data target else codes "/" in
+    let path = if has_path target then rooted method (uri_data target) else codes "/" in
     omega (
       arith,
       parts.few,
-      path_few (uri_data target) (has_path target),
+      path_few method (uri_data target) (has_path target),
       pseudo_sum method scheme path (uri_authority target) (if bytes_eq method (codes "CONNECT") then None else None) m (no_protocol (bytes_eq method (codes "CONNECT"))),
     )
 

@@ -9,6 +9,7 @@ use Rattle.http_uri.proofs.Theorems.{Spells_unique}
 use Rattle.std.proofs.lemmas.Slice.Eq.{bytes_eq-Decides}
 use Rattle.h3_header.specs.Head.{Head, response_head, trailer_head}
 use Rattle.h3_header.specs.Request.{request_head}
+use Rattle.h3_header.specs.RequestPath.{rooted}
 use Rattle.h3_proto.specs.declared.stream.Side.{Side}
 use Rattle.h3_script.specs.Words.{words_of, number_of, id_of, side_of}
 use Rattle.h3_script.specs.HeadText.{IsResponse, IsRequest, HeadBy, is_status, IsHeadText, IsTrailerText}
@@ -43,7 +44,7 @@ head_from method m scheme authority kept =
       method = Some method;
       scheme = Some (unwrap_or scheme (codes "https"));
       authority = authority;
-      path = Some (if not (length kept == 0) || is_some scheme then kept else codes "/");
+      path = Some (if not (length kept == 0) || is_some scheme then rooted method kept else codes "/");
       status = None;
       protocol = if bytes_eq method (codes "CONNECT") then None else None;
       regular = m;

@@ -9,7 +9,7 @@ use Rattle.h3_connection.specs.declared.event.Pull.{Pull}
 use Rattle.h3_connection.specs.declared.event.Pull.TheVariants as pull
 use Rattle.h3_connection.specs.declared.event.Item.{Item}
 use Rattle.h3_connection.specs.declared.event.Item.TheVariants as item
-use Rattle.h3_connection.specs.FaultTexts.{fault_text}
+use Rattle.h3_connection.specs.FaultTexts.{fault_text, malformation_name}
 use Rattle.h3_connection.specs.declared.event.Refusal.{Refusal}
 use Rattle.h3_connection.specs.declared.event.Refusal.TheVariants as refusal
 use Rattle.h3_connection.specs.declared.event.PeerLimits.{PeerLimits}
@@ -19,7 +19,7 @@ use Rattle.h3_script.specs.declared.text.Behind.TheVariants as behind
 use Rattle.h3_world.specs.declared.event.Answer.{Answer}
 use Rattle.h3_world.specs.declared.event.Answer.TheVariants as answer
 
--- the name of a refusal, with the code, the id or the size that it carries
+-- the name of a refusal, with the code, the id, the size or the rule that it carries
 abbrev pub refusal_text : Refusal → List ℕ
 refusal_text (refusal.Closed code) = codes "Closed " ++ code_text code
 refusal_text (refusal.Connection code) = codes "Connection " ++ code_text code
@@ -33,6 +33,7 @@ refusal_text refusal.NotOpen = codes "NotOpen"
 refusal_text refusal.OutOfOrder = codes "OutOfOrder"
 refusal_text refusal.WrongSide = codes "WrongSide"
 refusal_text refusal.PseudoInTrailer = codes "PseudoInTrailer"
+refusal_text (refusal.Malformed why) = codes "Malformed " ++ malformation_name why
 refusal_text (refusal.TooLarge size) = codes "TooLarge " ++ decimal size
 refusal_text refusal.Critical = codes "Critical"
 refusal_text refusal.Ended = codes "Ended"
@@ -45,6 +46,7 @@ abbrev pub with_behind : List ℕ → Behind → List ℕ
 with_behind name behind.Nothing = name
 with_behind name (behind.Code code) = name ++ (codes " " ++ code_text code)
 with_behind name (behind.Number number) = name ++ (codes " " ++ decimal number)
+with_behind name (behind.Rule why) = name ++ (codes " " ++ malformation_name why)
 
 -- bytes as text, with U+FFFD for what is no character
 abbrev pub lossy : List ℕ → List ℕ

@@ -13,13 +13,16 @@ use std::alloc::{AllocError, AllocFailed};
 pub enum ScriptError {
     /// The line of this number, counted from 1, is refused.
     Line(u64),
+    /// Memory was refused.
     OutOfMemory,
 }
 
 /// Why a line was not read.
 #[derive(Clone, Copy)]
 pub enum LineError {
+    /// It is no line of a script.
     NoSuchLine,
+    /// Memory was refused.
     OutOfMemory,
 }
 

@@ -12,7 +12,9 @@ use std::alloc::Global;
 /// A script that was read.
 #[derive(Drop)]
 pub struct Script {
+    /// What both sides announce.
     pub setup: Setup,
+    /// What happens, in order.
     pub events: Vec<Event>,
 }
 

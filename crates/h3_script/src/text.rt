@@ -21,9 +21,10 @@ enum Behind {
     Nothing,
     Code(Code),
     Number(u64),
+    Rule(Malformation),
 }
 
-/// A refusal as text: its name, and the code, the id or the size that it carries.
+/// A refusal as text: its name, and the code, the id, the size or the rule that it carries.
 #[derive(Clone, Copy)]
 pub struct RefusalText(pub Refusal);
 
@@ -39,6 +40,10 @@ impl fmt::Display for RefusalText {
             Behind::Nothing => write!(f, "{name}"),
             Behind::Code(code) => write!(f, "{name} {code}"),
             Behind::Number(number) => write!(f, "{name} {number}"),
+            Behind::Rule(why) => {
+                let rule = why.name();
+                write!(f, "{name} {rule}")
+            }
         }
     }
 }
@@ -60,6 +65,7 @@ fn refusal_parts(refusal: Refusal) -> (&'static str, Behind)
         Refusal::OutOfOrder => ("OutOfOrder", Behind::Nothing),
         Refusal::WrongSide => ("WrongSide", Behind::Nothing),
         Refusal::PseudoInTrailer => ("PseudoInTrailer", Behind::Nothing),
+        Refusal::Malformed(why) => ("Malformed", Behind::Rule(why)),
         Refusal::TooLarge(size) => ("TooLarge", Behind::Number(size)),
         Refusal::Critical => ("Critical", Behind::Nothing),
         Refusal::Ended => ("Ended", Behind::Nothing),

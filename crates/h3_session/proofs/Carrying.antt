@@ -18,7 +18,7 @@ use Rattle.h3_connection.specs.declared.event.Refusal.{Refusal}
 use Rattle.h3_world.specs.Headline.{is_memory}
 use Rattle.h3_world.specs.declared.event.Answer.{Answer}
 use Rattle.h3_world.specs.declared.event.Answer.TheVariants as answer
-use Rattle.h3_session.specs.Acting.{Offers}
+use Rattle.h3_session.specs.Acting.{HasBytes, HasEnd, HasReset, Offers}
 use Rattle.h3_session.specs.Running.{Carried, Carries, answer_of, told_answer, told, is_stored, bytes_taken, bytes_go, end_goes, reset_goes}
 use Rattle.h3_world.specs.Delivering.{reset_code}
 
@@ -155,3 +155,13 @@ goes_over writer writer_after reader reader_after id count waits has bytes given
     let over : Handed writer_after reader_after given (bytes_taken w r id count (arrives r (BytesCame id (take count (bytes_waiting w id))))) =
     subst (λ l. Handed writer_after reader_after given (bytes_taken w r id count (arrives r (BytesCame id l)))) (front w hw) x in
     rw (has_is, all) over
+
+-- what goes over is there
+pub bytes_are_there : (writer : EndpointState) (id count waits : ℕ) (has : Bool) → ShowsOutgoing writer id has → has ≡ true → ShowsWaiting writer id waits → count ≤ waits → (w : EndpointHistory) → StandsFor writer w → HasBytes id count w
+bytes_are_there writer id count waits has shows_has there shows_waiting enough w hw = (sym (shows_has w hw) ∙ there, subst (λ n. count ≤ n) (shows_waiting w hw) enough)
+
+pub end_is_there : (writer : EndpointState) (id count : ℕ) (finished : Bool) → ShowsFinished writer id finished → finished ≡ true → ShowsWaiting writer id count → count ≡ 0 → (w : EndpointHistory) → StandsFor writer w → HasEnd id w
+end_is_there writer id count finished shows_finished ended shows_waiting none w hw = (sym (shows_finished w hw) ∙ ended, sym (shows_waiting w hw) ∙ none)
+
+pub reset_is_there : (writer : EndpointState) (id : ℕ) (was : Bool) → ShowsReset writer id was → was ≡ true → (w : EndpointHistory) → StandsFor writer w → HasReset id w
+reset_is_there writer id was shows_reset reset w hw = sym (shows_reset w hw) ∙ reset

@@ -5,16 +5,20 @@ use Rattle.h3_connection.specs.State.{EndpointState}
 use Rattle.h3_world.specs.declared.event.Answer.{Answer}
 use Rattle.h3_world.specs.declared.event.Event.{Event}
 use Rattle.h3_world.specs.declared.setup.Setup.{Setup}
-use Rattle.h3_world.specs.Ends.{new_ends, ends_after, answers_of_ends}
+use Rattle.h3_world.specs.Ends.{Ends, new_ends, ends_after, answers_of_ends}
 use Rattle.h3_world.specs.Few.{AreFew}
 use Rattle.h3_world.specs.Headline.{Happens}
 use Rattle.h3_world.specs.Run.{Run}
 use Rattle.h3_world.specs.Sendable.{IsSendable}
 use Rattle.h3_world.specs.World.{World, empty_world}
 use Rattle.h3_headline.specs.Standing.{Stands}
-use Rattle.h3_session.specs.Headlines.{RunsInWorld, RunsUntilMemory}
+use Rattle.h3_memory.specs.Refused.{EndsRun}
+use Rattle.h3_memory.specs.Theorem.{RunsWithMemory}
+use Rattle.h3_session.specs.Acting.{RunsByCalls}
+use Rattle.h3_session.specs.Headlines.{RunsInKeepingWorld, RunsInWorld, RunsUntilMemory}
 use Rattle.h3_session.specs.Running.{AnswersEach, RunsTo}
 use Rattle.h3_session.specs.Typed.{IsTyped}
+use Rattle.h3_session.proofs.MemorySteps.{calls_run}
 use Rattle.h3_session.proofs.Sendables.{few_are_sendable}
 
 -- what is cited of two endpoints, over some events
@@ -47,3 +51,11 @@ runs_until_memory setup events answers law typed h few = λ n not_memory.
     let front = take n events in
     let on = law front (front_of_all IsSendable n events (few_are_sendable events typed few)) in
     (on.0, subst (λ given. Run (Happens setup) (empty_world setup) front given on.0) (sym (h.until_memory n not_memory)) on.1)
+
+-- So are all, memory refused or not, of a world in which memory may be refused.
+pub runs_in_keeping_world : (setup : Setup) (events : List Event) (answers : List Answer) (client server : EndpointState)
+    → ((ends : Ends) → AllByRecursion IsSendable events → EndsRun (new_ends setup) events answers ends → RunsWithMemory setup events answers ends) → AllByRecursion IsTyped events
+    → RunsByCalls (new_ends setup) events answers client server → AreFew events → RunsInKeepingWorld setup events answers client server
+runs_in_keeping_world setup events answers client server law typed calls few =
+    let run = calls_run (new_ends setup) events answers client server calls in
+    record { ends = run.0; runs = law run.0 (few_are_sendable events typed few) run.1; client_stands = run.2; server_stands = run.3 }

@@ -1,13 +1,13 @@
 -- An encoder of capacity 0 inserts nothing: before the peer's settings came no field goes into a table.
 use Rattle.std.proofs.Common.{arith, ◌≡◌, ◌≤◌, ℕ, ◌+◌, ◌-◌, Bool, true, false, nat_lt, nat_le, if◌then◌else◌, List, [], ◌∷◌, ◌++◌, length, fold, Option, Some, None, refl, ap, ◌∙◌}
-use Rattle.std.specs.Prelude.{◌&&◌, ◌^◌, max, option_map, unwrap_or}
+use Rattle.std.specs.Prelude.{◌&&◌, ◌^◌, ◌==◌, max, option_map, unwrap_or}
 use Rattle.std.specs.List.{list_all}
 use Rattle.std.proofs.lemmas.Grind.{common_steps}
 use Rattle.h3_field.specs.Field.{Field, field_size}
 use Rattle.h3_field.specs.Line.FieldLine.{StaticField, RelativeField, StaticName, Literal}
 use Rattle.h3_field.specs.StaticTable.{static_field, static_name}
 use Rattle.h3_qpack.specs.EncoderHistory.{EncoderHistory, blocks_out, referenced_entries, was_canceled, writing_on}
-use Rattle.h3_qpack.specs.SectionEncoding.{Draft, draft_of, add_field, add_line, add_inserted, add_literal, entry_name_line, evictions_by, found, found_name, is_insertable}
+use Rattle.h3_qpack.specs.SectionEncoding.{Draft, draft_of, add_ahead, add_field, add_line, add_inserted, add_literal, entry_name_line, evictions_by, evicts_none, finds_room, found, found_name, is_insertable, is_insertable_ahead, is_new, write_field}
 use Rattle.h3_table.specs.Table.{evictions}
 
 -- a choice whose ways all keep what was inserted
@@ -23,24 +23,38 @@ literal_kept s d f =
 too_small : (size capacity : ℕ) → capacity ≡ 0 → 32 ≤ size → nat_le size capacity ≡ false
 too_small size capacity none some = grind (arith, common_steps, none, some)
 
-third : (a b c d e : Bool) → c ≡ false → (a && b && c && d && e) ≡ false
-third a b true d e h = absurd (cc)
-third false b false d e h = refl
-third true false false d e h = refl
-third true true false d e h = refl
+second : (a b c d : Bool) → b ≡ false → (a && b && c && d) ≡ false
+second a true c d h = absurd (cc)
+second false false c d h = refl
+second true false c d h = refl
 
-not_insertable : (s : EncoderHistory) (d : Draft) (f : Field) → s.capacity ≡ 0 → is_insertable s d f ≡ false
-not_insertable s d f h =
-    third (nat_lt (length d.inserted + 1) (2 ^ 62)) (nat_lt (blocks_out s) s.limit) (nat_le (field_size f) s.capacity)
+last : (a b : Bool) → b ≡ false → (a && b) ≡ false
+last a true h = absurd (cc)
+last true false h = refl
+last false false h = refl
+
+no_room : (s : EncoderHistory) (d : Draft) (f : Field) → s.capacity ≡ 0 → finds_room s d f ≡ false
+no_room s d f h =
+    second (nat_lt (length d.inserted + 1) (2 ^ 62)) (nat_le (field_size f) s.capacity)
     (nat_le (evictions_by s d f) (max s.known_received (evictions s.capacity d.inserted)))
     (list_all (λ number. nat_lt (evictions_by s d f) number) (referenced_entries s ++ d.references))
     (too_small (field_size f) s.capacity h (omega arith))
 
-field_kept : (s : EncoderHistory) (d : Draft) (f : Field) → s.capacity ≡ 0 → (add_field s d f).inserted ≡ d.inserted
-field_kept s d f h =
+not_insertable : (s : EncoderHistory) (d : Draft) (f : Field) → s.capacity ≡ 0 → is_insertable s d f ≡ false
+not_insertable s d f h = last (nat_lt (blocks_out s) s.limit) (finds_room s d f) (no_room s d f h)
+
+not_ahead : (s : EncoderHistory) (d : Draft) (f : Field) → s.capacity ≡ 0 → is_insertable_ahead s d f ≡ false
+not_ahead s d f h = last (s.economical && (s.limit == 0) && is_new s d f && evicts_none s d f) (finds_room s d f) (no_room s d f h)
+
+line_kept : (s : EncoderHistory) (d : Draft) (f : Field) → s.capacity ≡ 0 → (write_field s d f).inserted ≡ d.inserted
+line_kept s d f h =
     either d.inserted (static_field f) (λ index. add_line d (StaticField index) []) _ (λ n. refl)
     (either d.inserted (found s d f) (λ number. add_line d (RelativeField (length s.inserted - number)) (number ∷ [])) (if is_insertable s d f then add_inserted s d f else add_literal s d f) (λ n. refl)
     (ap (λ b. (if b then add_inserted s d f else add_literal s d f).inserted) (not_insertable s d f h) ∙ literal_kept s d f))
+
+field_kept : (s : EncoderHistory) (d : Draft) (f : Field) → s.capacity ≡ 0 → (add_field s d f).inserted ≡ d.inserted
+field_kept s d f h =
+    let e = write_field s d f in ap (λ b. (if b then add_ahead s e f else e).inserted) (not_ahead s e f h) ∙ line_kept s d f h
 
 fields_kept : (s : EncoderHistory) (d : Draft) (fields : List Field) → s.capacity ≡ 0 → (fold (add_field s) d fields).inserted ≡ d.inserted
 fields_kept s d [] h = refl

@@ -7,11 +7,13 @@ pub mod Parts
 pub mod SendingBodies
 pub mod Taking
 pub mod Next
+pub mod NextRequest
 pub mod Endings
 pub mod Held
 pub mod Inserting
 pub mod SendingSections
 pub mod SendingHeads
+pub mod Remembering
 pub mod Outlines
 pub mod JudgedLists
 pub mod Lists
@@ -40,3 +42,10 @@ pub mod Sendables
 pub mod Headlines
 pub mod Messages
 pub mod LentFrames
+pub mod WellSentLists
+pub mod MemoryTells
+pub mod MemoryUnchanged
+pub mod MemorySends
+pub mod MemoryPulls
+pub mod MemoryDeliveries
+pub mod MemorySteps

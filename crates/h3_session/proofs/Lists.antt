@@ -5,6 +5,7 @@ use Rattle.h3_field.specs.Field.{Field, section_size}
 use Rattle.h3_header.specs.Head.{Head, has_pseudo}
 use Rattle.h3_header.specs.HeadRead.{HeadRead, IsHead, IsNone, head_of}
 use Rattle.h3_outgoing.specs.Sent as sent
+use Rattle.h3_proto.specs.declared.stream.Side.{Side}
 use Rattle.h3_connection.specs.Answers.{call_refused}
 use Rattle.h3_connection.specs.Endpoint.{EndpointHistory}
 use Rattle.h3_connection.specs.OwnIds.{other}
@@ -13,6 +14,8 @@ use Rattle.h3_connection.specs.Outgoing.{takes_head, takes_body}
 use Rattle.h3_connection.specs.Sending.{does, closed_or, first_of, is_open, is_too_large, outgoing_at, body_refusal}
 use Rattle.h3_connection.specs.SendingContracts.{MayLackMemory, SendsSection}
 use Rattle.h3_connection.specs.State.{EndpointState, RequestState, StandsFor, kept_at}
+use Rattle.h3_connection.specs.StrictSending.{broken_head, broken_trailer, unless_malformed}
+use Rattle.h3_connection.specs.declared.event.Malformation.{Malformation}
 use Rattle.h3_connection.specs.declared.event.Refusal.{Refusal}
 use Rattle.h3_connection.specs.declared.event.Refusal.TheVariants as refusal
 use Rattle.h3_connection.specs.declared.place.SendPlace.{SendPlace}
@@ -20,7 +23,7 @@ use Rattle.h3_connection.specs.declared.place.SendPlace.TheVariants.{NothingSent
 use Rattle.h3_requests.specs.Refused.{refused_if, head_refused_at, body_refused_at}
 use Rattle.h3_session.specs.JudgedLists.{head_list_error, trailer_list_error, IsHeadAt, IsTrailer}
 use Rattle.h3_session.specs.Refused.{side_refused, pseudo_refused}
-use Rattle.h3_session.specs.SendingLists.{SendsList, SendsFieldList, SendsTrailerList, SendsListedHead, SendsListedTrailer, MayLackSize, MayLackMap, as_error, error_after, list_told, malformed, no_memory, place_refusal, send_fields, send_trailer_fields, send_read_head, send_read_trailer, send_listed_head, send_listed_trailer, listed_head_refusal, listed_trailer_refusal, after_head, after_trailer}
+use Rattle.h3_session.specs.SendingLists.{SendsList, SendsFieldList, SendsTrailerList, SendsListedHead, SendsListedTrailer, IsReadable, MayLackSize, MayLackMap, as_error, error_after, error_of, list_told, malformed, no_memory, place_refusal, send_fields, send_trailer_fields, send_read_head, send_read_trailer, send_listed_head, send_listed_trailer, listed_head_refusal, listed_trailer_refusal, after_head, after_trailer}
 use Rattle.h3_session.specs.declared.endpoint.lists.FieldsError.{FieldsError}
 use Rattle.h3_session.specs.declared.endpoint.lists.FieldsError.TheVariants as error
 use Rattle.h3_session.proofs.SendingCalls.{same_itself}
@@ -28,47 +31,47 @@ use Rattle.h3_session.proofs.SendingRefusals.{place_refusal_is, body_refusal_is}
 use Rattle.h3_session.proofs.SendingSections.{not_begun}
 
 -- The call with a header of these fields, as one with the list.
-memory_back : (o : Option Refusal) → option_map error.Refused o ≡ Some no_memory → o ≡ Some refusal.OutOfMemory
+only_memory : (r : Refusal) → error_of r ≡ no_memory → r ≡ refusal.OutOfMemory
+only_memory refusal.OutOfMemory is = refl
+only_memory _ is = cc
+
+memory_back : (o : Option Refusal) → option_map error_of o ≡ Some no_memory → o ≡ Some refusal.OutOfMemory
 memory_back None is = absurd (cc)
-memory_back (Some r) is = let same : r ≡ refusal.OutOfMemory = cc in ap Some same
+memory_back (Some r) is = let same : error_of r ≡ no_memory = cc in ap Some (only_memory r same)
 
-may_size : (o : Option Refusal) → MayLackMemory o → MayLackSize (option_map error.Refused o)
+may_size : (o : Option Refusal) → MayLackMemory o → MayLackSize (option_map error_of o)
 may_size None m = tt
-may_size (Some r) m = m
+may_size (Some (refusal.Malformed why)) m = tt
+may_size (Some _) m = m
 
-may_map : (o : Option Refusal) → MayLackMemory o → MayLackMap (option_map error.Refused o)
+may_map : (o : Option Refusal) → MayLackMemory o → MayLackMap (option_map error_of o)
 may_map None m = tt
 may_map (Some refusal.WrongSide) m = tt
 may_map (Some refusal.PseudoInTrailer) m = tt
-may_map (Some (refusal.TooLarge size)) m = tt
-may_map (Some (refusal.Closed code)) m = m
-may_map (Some (refusal.Connection code)) m = m
-may_map (Some refusal.NotReceiving) m = m
-may_map (Some refusal.AfterEnd) m = m
-may_map (Some refusal.Kept) m = m
-may_map (Some refusal.NotClient) m = m
-may_map (Some (refusal.GoingAway id)) m = m
-may_map (Some refusal.IdsUsedUp) m = m
-may_map (Some refusal.NotOpen) m = m
-may_map (Some refusal.OutOfOrder) m = m
-may_map (Some refusal.Critical) m = m
-may_map (Some refusal.Ended) m = m
-may_map (Some refusal.NotRequestId) m = m
-may_map (Some (refusal.Raised id)) m = m
-may_map (Some refusal.OutOfMemory) m = m
+may_map (Some (refusal.Malformed why)) m = tt
+may_map (Some _) m = m
 
-listed : (act : EndpointHistory → Option Refusal × EndpointHistory) (old new : EndpointState) (id : ℕ) (fields : List Field) (refused : Option Refusal)
-    → SendsSection act old new id fields refused → SendsList (λ e. as_error (act e)) old new id fields (option_map error.Refused refused)
-listed act old new id fields refused h =
+listed : (act : EndpointHistory → Option Refusal × EndpointHistory) (old new : EndpointState) (id : ℕ) (fields : List Field) (refused : Option Refusal) → IsReadable (head_of fields)
+    → SendsSection act old new id fields refused → SendsList (λ e. as_error (act e)) old new id fields (option_map error_of refused)
+listed act old new id fields refused read h =
     record {
       done = λ e stands told.
-          let d = h.done e stands (λ is. told (ap (option_map error.Refused) is)) in
-          (ap (option_map error.Refused) d.0, d.1);
-      same = λ some told. h.same (λ none. some (ap (option_map error.Refused) none)) (λ is. told (ap (option_map error.Refused) is));
+          let d = h.done e stands (λ is. told (ap (option_map error_of) is)) in
+          (ap (option_map error_of) d.0, d.1);
+      same = λ some told. h.same (λ none. some (ap (option_map error_of) none)) (λ is. told (ap (option_map error_of) is));
       memory = λ e stands told. let m = h.memory e stands (memory_back refused told) in (may_map (act e).0 m.0, m.1);
       short = λ e stands told few. may_size (act e).0 (h.memory e stands (memory_back refused told)).0;
-      refused = λ e stands told some. h.too_large e stands (memory_back refused told) (λ none. some (ap (option_map error.Refused) none));
+      readable = λ told few. read;
+      refused = λ e stands told some. h.too_large e stands (memory_back refused told) (λ none. some (ap (option_map error_of) none));
     }
+
+reads_head : (side : Side) (r : HeadRead) (place : SendPlace) → IsHeadAt side r place → IsReadable r
+reads_head side (IsHead head) place at = tt
+reads_head side (IsNone why) place at = absurd at
+
+reads_trailer : (r : HeadRead) → IsTrailer r → IsReadable r
+reads_trailer (IsHead trailer) at = tt
+reads_trailer (IsNone why) at = absurd at
 
 -- A call that is refused by its list or its stream, with nothing changed.
 module _ (act : EndpointHistory → Option FieldsError × EndpointHistory) (s : EndpointState) (id : ℕ) (fields : List Field) where
@@ -79,6 +82,7 @@ module _ (act : EndpointHistory → Option FieldsError × EndpointHistory) (s : 
         same = λ some ne. same_itself s;
         memory = λ e stands memory. absurd (unlike (let same : told ≡ no_memory = cc in same));
         short = λ e stands memory few. absurd (unlike (let same : told ≡ no_memory = cc in same));
+        readable = λ memory few. absurd (unlike (let same : told ≡ no_memory = cc in same));
         refused = λ e stands memory some. same_itself s;
       }
 
@@ -89,6 +93,7 @@ module _ (act : EndpointHistory → Option FieldsError × EndpointHistory) (s : 
         same = λ some ne. absurd (ne refl);
         memory = λ e stands memory. (may e stands, not_begun s e id fields stands);
         short = λ e stands memory few. absurd (omega (arith, many, few));
+        readable = λ memory few. absurd (omega (arith, many, few));
         refused = λ e stands memory some. same_itself s;
       }
 
@@ -118,7 +123,7 @@ no_memory_is (error.Refused refusal.OutOfMemory) is = refl
 no_memory_is (error.Refused _) is = cc
 no_memory_is (error.Malformed why) is = cc
 
-told_of : (rule : Option Refusal) (e f : EndpointHistory) → (as_error (does rule e f)).0 ≡ option_map error.Refused rule
+told_of : (rule : Option Refusal) (e f : EndpointHistory) → (as_error (does rule e f)).0 ≡ option_map error_of rule
 told_of None e f = refl
 told_of (Some r) e f = refl
 
@@ -133,7 +138,7 @@ module _ (act : EndpointHistory → Option FieldsError × EndpointHistory) (own 
   by_stream : (later : FieldsError) (there : Option Refusal) → Begins later → ((e : EndpointHistory) → StandsFor s e → own e ≡ there) → there ≢ Some refusal.OutOfMemory
       → SendsList act s s id fields (Some (error_after there later))
   by_stream later (Some r) begins is unlike =
-      refuses act s id fields (error.Refused r) (λ e stands. begins.first e r (is e stands)) (λ same. unlike (memory_back (Some r) (ap Some same)))
+      refuses act s id fields (error.Refused r) (λ e stands. begins.first e r (is e stands)) (λ same. unlike (let memory : r ≡ refusal.OutOfMemory = cc in ap Some memory))
   by_stream later None begins is unlike = by (is_no_memory later) refl
     where
       by : (b : Bool) → is_no_memory later ≡ b → SendsList act s s id fields (Some later)
@@ -157,21 +162,29 @@ body_not_memory : (there : Option RequestState) → body_refused_at there ≢ So
 body_not_memory None is = absurd (cc)
 body_not_memory (Some r) is = not_memory_at (not (sent.takes_body r.outgoing)) is
 
--- what is behind the stream's refusal
-may_behind : (a b : Bool) (p : Refusal) (size : ℕ) → MayLackMap (Some (error.Refused p)) → MayLackMap (option_map error.Refused (if a then Some p else (if b then Some (refusal.TooLarge size) else None)))
-may_behind true b p size may = may
-may_behind false true p size may = tt
-may_behind false false p size may = tt
+-- the stream's refusal is told as it is
+plain_first : (closed : Option ℕ) (a b : Bool) (x : Refusal) → closed_or closed (if a then Some refusal.NotOpen else (if b then Some refusal.OutOfOrder else None)) ≡ Some x → error_of x ≡ error.Refused x
+plain_first (Some code) a b x is = let same : refusal.Closed code ≡ x = cc in subst (λ r. error_of r ≡ error.Refused r) same refl
+plain_first None true b x is = let same : refusal.NotOpen ≡ x = cc in subst (λ r. error_of r ≡ error.Refused r) same refl
+plain_first None false true x is = let same : refusal.OutOfOrder ≡ x = cc in subst (λ r. error_of r ≡ error.Refused r) same refl
+plain_first None false false x is = absurd (cc)
 
-behind_is : (a b : Bool) (p : Refusal) (size : ℕ) (later : FieldsError) → option_map error.Refused (refused_if a p) ≡ Some later
-    → option_map error.Refused (if a then Some p else (if b then Some (refusal.TooLarge size) else None)) ≡ Some later
-behind_is true b p size later is = is
-behind_is false b p size later is = absurd (cc)
+-- what is judged of the list behind the stream's refusal and that of the place
+abbrev judged_last : Option Malformation → Bool → ℕ → Option Refusal
+judged_last broken b size = first_of (unless_malformed broken ((b, refusal.TooLarge size) ∷ []))
 
-behind_rule : (a b : Bool) (p : Refusal) (size : ℕ) (later : FieldsError) → option_map error.Refused (refused_if a p) ≡ Some later
-    → (if a then Some p else (if b then Some (refusal.TooLarge size) else None)) ≡ Some p
-behind_rule true b p size later is = refl
-behind_rule false b p size later is = absurd (cc)
+may_last : (broken : Option Malformation) (b : Bool) (size : ℕ) → MayLackMap (option_map error_of (judged_last broken b size))
+may_last (Some why) b size = tt
+may_last None true size = tt
+may_last None false size = tt
+
+may_behind : (a : Bool) (p : Refusal) (broken : Option Malformation) (b : Bool) (size : ℕ) → MayLackMap (Some (error_of p)) → MayLackMap (option_map error_of (if a then Some p else judged_last broken b size))
+may_behind true p broken b size may = may
+may_behind false p broken b size may = may_last broken b size
+
+behind_rule : (a : Bool) (p : Refusal) (rest : Option Refusal) (later : FieldsError) → option_map error.Refused (refused_if a p) ≡ Some later → (if a then Some p else rest) ≡ Some p
+behind_rule true p rest later is = refl
+behind_rule false p rest later is = absurd (cc)
 
 refused_later : (a : Bool) (p : Refusal) (later : FieldsError) → option_map error.Refused (refused_if a p) ≡ Some later → error.Refused p ≡ later
 refused_later true p later is = let same : error.Refused p ≡ later = cc in same
@@ -182,11 +195,12 @@ module _ (s : EndpointState) (id : ℕ) (fields : List Field) where
   head_first (IsHead head) e x is =
       ap (λ o. as_error (does o e (after_head e id head fields)))
       (sized_first e.closed (not (is_open e id)) (not (takes_head (outgoing_at e id))) refusal.NotOpen refusal.OutOfOrder
-      (if not (is_for (other e.side) head) then Some refusal.WrongSide else (if is_too_large e.peer.settings fields then Some (refusal.TooLarge (section_size fields)) else None)) x is)
+      (if not (is_for (other e.side) head) then Some refusal.WrongSide else judged_last (broken_head e.side e.announced e.peer.settings fields) (is_too_large e.peer.settings fields) (section_size fields)) x is)
+      ∙ ap (λ t. (Some t, e)) (plain_first e.closed (not (is_open e id)) (not (takes_head (outgoing_at e id))) x is)
   head_first (IsNone why) e x is = ap (λ o. (Some (error_after o (malformed why)), e)) is
 
   head_behind : (e : EndpointHistory) (head : Head) → place_refusal e id ≡ None
-      → listed_head_refusal e id head fields ≡ (if not (is_for (other e.side) head) then Some refusal.WrongSide else (if is_too_large e.peer.settings fields then Some (refusal.TooLarge (section_size fields)) else None))
+      → listed_head_refusal e id head fields ≡ (if not (is_for (other e.side) head) then Some refusal.WrongSide else judged_last (broken_head e.side e.announced e.peer.settings fields) (is_too_large e.peer.settings fields) (section_size fields))
   head_behind e head is = sized_rest e.closed (not (is_open e id)) (not (takes_head (outgoing_at e id))) refusal.NotOpen refusal.OutOfOrder _ is
 
   head_begins : (r : HeadRead) (later : FieldsError) → (later ≢ no_memory → head_list_error s.side r ≡ Some later) → (later ≡ no_memory → 24576 < length fields)
@@ -198,14 +212,14 @@ module _ (s : EndpointState) (id : ℕ) (fields : List Field) where
             let here : option_map error.Refused (refused_if (not (is_for (other e.side) head)) refusal.WrongSide) ≡ Some later
             = subst (λ side. option_map error.Refused (side_refused side head) ≡ Some later) stands.side (errs differs) in
             ap (λ o. as_error (does o e (after_head e id head fields)))
-            (head_behind e head is ∙ behind_rule (not (is_for (other e.side) head)) (is_too_large e.peer.settings fields) refusal.WrongSide (section_size fields) later here)
+            (head_behind e head is ∙ behind_rule (not (is_for (other e.side) head)) refusal.WrongSide (judged_last (broken_head e.side e.announced e.peer.settings fields) (is_too_large e.peer.settings fields) (section_size fields)) later here)
             ∙ ap (λ t. (Some t, e)) (refused_later (not (is_for (other e.side) head)) refusal.WrongSide later here);
         map = λ memory. (
           many memory,
           λ e is.
-              subst MayLackMap (ap (option_map error.Refused) (sym (head_behind e head is))
+              subst MayLackMap (ap (option_map error_of) (sym (head_behind e head is))
               ∙ sym (told_of (listed_head_refusal e id head fields) e (after_head e id head fields)))
-              (may_behind (not (is_for (other e.side) head)) (is_too_large e.peer.settings fields) refusal.WrongSide (section_size fields) tt),
+              (may_behind (not (is_for (other e.side) head)) refusal.WrongSide (broken_head e.side e.announced e.peer.settings fields) (is_too_large e.peer.settings fields) (section_size fields) tt),
         );
       }
   head_begins (IsNone why) later errs many =
@@ -230,13 +244,13 @@ module _ (s : EndpointState) (id : ℕ) (fields : List Field) where
 
   pub head_list_sent : (new : EndpointState) (place : SendPlace) (answer : Result Unit Refusal) (result : Result Unit FieldsError) → IsHeadAt s.side (head_of fields) place
       → ((head : Head) → side_refused s.side head ≡ None → place ≡ (if is_interim head.status then NothingSent else HeadSent) → SendsListedHead s new id head fields answer)
-      → list_told result ≡ option_map error.Refused (call_refused answer) → SendsFieldList s new id fields result
+      → list_told result ≡ option_map error_of (call_refused answer) → SendsFieldList s new id fields result
   head_list_sent new place answer result at sends is = by (head_of fields) at
     where
       by : (r : HeadRead) → IsHeadAt s.side r place → SendsList (λ e. send_read_head e id fields r) s new id fields (list_told result)
       by (IsHead head) here =
           subst (SendsList (λ e. as_error (send_listed_head e id head fields)) s new id fields) (sym is)
-          (listed (λ e. send_listed_head e id head fields) s new id fields (call_refused answer) (sends head here.0 here.1))
+          (listed (λ e. send_listed_head e id head fields) s new id fields (call_refused answer) (reads_head s.side (head_of fields) place at) (sends head here.0 here.1))
       by (IsNone why) here = absurd here
 
   -- a list in the place of a trailer
@@ -244,11 +258,12 @@ module _ (s : EndpointState) (id : ℕ) (fields : List Field) where
   trailer_first (IsHead trailer) e x is =
       ap (λ o. as_error (does o e (after_trailer e id fields)))
       (sized_first e.closed (not (is_open e id)) (not (takes_body (outgoing_at e id))) refusal.NotOpen refusal.OutOfOrder
-      (if has_pseudo trailer then Some refusal.PseudoInTrailer else (if is_too_large e.peer.settings fields then Some (refusal.TooLarge (section_size fields)) else None)) x is)
+      (if has_pseudo trailer then Some refusal.PseudoInTrailer else judged_last (broken_trailer e.announced fields) (is_too_large e.peer.settings fields) (section_size fields)) x is)
+      ∙ ap (λ t. (Some t, e)) (plain_first e.closed (not (is_open e id)) (not (takes_body (outgoing_at e id))) x is)
   trailer_first (IsNone why) e x is = ap (λ o. (Some (error_after o (malformed why)), e)) is
 
   trailer_behind : (e : EndpointHistory) (trailer : Head) → body_refusal e id ≡ None
-      → listed_trailer_refusal e id trailer fields ≡ (if has_pseudo trailer then Some refusal.PseudoInTrailer else (if is_too_large e.peer.settings fields then Some (refusal.TooLarge (section_size fields)) else None))
+      → listed_trailer_refusal e id trailer fields ≡ (if has_pseudo trailer then Some refusal.PseudoInTrailer else judged_last (broken_trailer e.announced fields) (is_too_large e.peer.settings fields) (section_size fields))
   trailer_behind e trailer is = sized_rest e.closed (not (is_open e id)) (not (takes_body (outgoing_at e id))) refusal.NotOpen refusal.OutOfOrder _ is
 
   trailer_begins : (r : HeadRead) (later : FieldsError) → (later ≢ no_memory → trailer_list_error r ≡ Some later) → (later ≡ no_memory → 24576 < length fields)
@@ -258,14 +273,14 @@ module _ (s : EndpointState) (id : ℕ) (fields : List Field) where
         first = trailer_first (IsHead trailer);
         told = λ differs e stands is.
             ap (λ o. as_error (does o e (after_trailer e id fields)))
-            (trailer_behind e trailer is ∙ behind_rule (has_pseudo trailer) (is_too_large e.peer.settings fields) refusal.PseudoInTrailer (section_size fields) later (errs differs))
+            (trailer_behind e trailer is ∙ behind_rule (has_pseudo trailer) refusal.PseudoInTrailer (judged_last (broken_trailer e.announced fields) (is_too_large e.peer.settings fields) (section_size fields)) later (errs differs))
             ∙ ap (λ t. (Some t, e)) (refused_later (has_pseudo trailer) refusal.PseudoInTrailer later (errs differs));
         map = λ memory. (
           many memory,
           λ e is.
-              subst MayLackMap (ap (option_map error.Refused) (sym (trailer_behind e trailer is))
+              subst MayLackMap (ap (option_map error_of) (sym (trailer_behind e trailer is))
               ∙ sym (told_of (listed_trailer_refusal e id trailer fields) e (after_trailer e id fields)))
-              (may_behind (has_pseudo trailer) (is_too_large e.peer.settings fields) refusal.PseudoInTrailer (section_size fields) tt),
+              (may_behind (has_pseudo trailer) refusal.PseudoInTrailer (broken_trailer e.announced fields) (is_too_large e.peer.settings fields) (section_size fields) tt),
         );
       }
   trailer_begins (IsNone why) later errs many =
@@ -289,11 +304,11 @@ module _ (s : EndpointState) (id : ℕ) (fields : List Field) where
       (λ e stands. sym (body_refusal_is s e id stands) ∙ ap (λ c. closed_or c (body_refused_at (kept_at s.requests id))) closed) (body_not_memory (kept_at s.requests id)))
 
   pub trailer_list_sent : (new : EndpointState) (answer : Result Unit Refusal) (result : Result Unit FieldsError) → IsTrailer (head_of fields)
-      → ((trailer : Head) → pseudo_refused trailer ≡ None → SendsListedTrailer s new id trailer fields answer) → list_told result ≡ option_map error.Refused (call_refused answer) → SendsTrailerList s new id fields result
+      → ((trailer : Head) → pseudo_refused trailer ≡ None → SendsListedTrailer s new id trailer fields answer) → list_told result ≡ option_map error_of (call_refused answer) → SendsTrailerList s new id fields result
   trailer_list_sent new answer result at sends is = by (head_of fields) at
     where
       by : (r : HeadRead) → IsTrailer r → SendsList (λ e. send_read_trailer e id fields r) s new id fields (list_told result)
       by (IsHead trailer) here =
           subst (SendsList (λ e. as_error (send_listed_trailer e id trailer fields)) s new id fields) (sym is)
-          (listed (λ e. send_listed_trailer e id trailer fields) s new id fields (call_refused answer) (sends trailer here))
+          (listed (λ e. send_listed_trailer e id trailer fields) s new id fields (call_refused answer) (reads_trailer (head_of fields) at) (sends trailer here))
       by (IsNone why) here = absurd here

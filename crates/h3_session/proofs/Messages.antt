@@ -1,23 +1,37 @@
--- What is handed out in a run is what was sent.
-use Rattle.std.proofs.Common.{List, take, sym, subst}
+-- What is handed out in a run is what was sent, memory refused or not.
+use Rattle.std.proofs.Common.{ℕ, zero, suc, List, [], ◌∷◌, take, refl}
 use Rattle.std.specs.List.{AllByRecursion}
 use Rattle.h3_world.specs.declared.event.Answer.{Answer}
 use Rattle.h3_world.specs.declared.event.Event.{Event}
 use Rattle.h3_world.specs.declared.setup.Setup.{Setup}
-use Rattle.h3_world.specs.Ends.{new_ends, answers_of_ends}
 use Rattle.h3_world.specs.Few.{AreFew}
+use Rattle.h3_world.specs.Run.{Run}
 use Rattle.h3_world.specs.Sendable.{IsSendable}
-use Rattle.h3_session.specs.Messages.{HandsOutUntilMemory, HandsOutWhatWasSent}
-use Rattle.h3_session.specs.Running.{AnswersEach}
+use Rattle.h3_world.specs.World.{empty_world}
+use Rattle.h3_memory.specs.Kept.{KeepingWorld, nothing_kept}
+use Rattle.h3_memory.specs.MemoryStep.{HappensWithMemory}
+use Rattle.h3_session.specs.Messages.{HandsOutAlways, HandsOutWhatWasSent}
 use Rattle.h3_session.specs.Typed.{IsTyped}
 use Rattle.h3_session.proofs.Headlines.{front_of_all}
 use Rattle.h3_session.proofs.Sendables.{few_are_sendable}
 
--- Two endpoints answer so, by the law of `h3_headline`.
-pub until_memory : (setup : Setup) (events : List Event) (answers : List Answer)
-    → ((front : List Event) → AllByRecursion IsSendable front → HandsOutWhatWasSent setup front (answers_of_ends (new_ends setup) front))
-    → AllByRecursion IsTyped events → AnswersEach (new_ends setup) events answers → AreFew events → HandsOutUntilMemory setup events answers
-until_memory setup events answers law typed h few = λ n not_memory.
-    let front = take n events in
-    subst (λ given. HandsOutWhatWasSent setup front given) (sym (h.until_memory n not_memory))
-    (law front (front_of_all IsSendable n events (few_are_sendable events typed few)))
+-- The first events of a run are one.
+run_front : {W : Type 0} (step : W → Event → Answer → W → Type 0) (old new : W) (events : List Event) (answers : List Answer) (n : ℕ) → Run step old events answers new → (mid : W) × Run step old (take n events) (take n answers) mid
+run_front step old new events answers zero run = (old, refl)
+run_front step old new [] [] (suc n) run = (old, refl)
+run_front step old new (e ∷ events) (a ∷ answers) (suc n) run =
+    let rest = run_front step run.0 new events answers n run.2 in
+    (rest.0, (run.0, run.1, rest.1))
+run_front step old new [] (a ∷ answers) (suc n) run = absurd run
+run_front step old new (e ∷ events) [] (suc n) run = absurd run
+
+abbrev pub RunsFromNothing : Setup → List Event → List Answer → KeepingWorld → Type 0
+RunsFromNothing setup events answers k = Run (HappensWithMemory setup) (nothing_kept (empty_world setup)) events answers k
+
+-- Runs hand out so, by the law of `h3_memory`.
+pub hands_out_always : (setup : Setup) (events : List Event) (answers : List Answer) (k : KeepingWorld)
+    → ((front : List Event) (given : List Answer) (mid : KeepingWorld) → AllByRecursion IsSendable front → RunsFromNothing setup front given mid → HandsOutWhatWasSent setup front given)
+    → AllByRecursion IsTyped events → AreFew events → RunsFromNothing setup events answers k → HandsOutAlways setup events answers
+hands_out_always setup events answers k law typed few run = λ n.
+    let front = run_front (HappensWithMemory setup) (nothing_kept (empty_world setup)) k events answers n run in
+    law (take n events) (take n answers) front.0 (front_of_all IsSendable n events (few_are_sendable events typed few)) front.1

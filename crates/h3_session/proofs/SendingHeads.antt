@@ -1,6 +1,6 @@
 -- What a head or trailer that is sent does to what is stored is what its contract says.
 use Rattle.std.proofs.Common.{◌≡◌, ℕ, Bool, true, false, if◌then◌else◌, List, [], ◌∷◌, ◌++◌, take, Option, Some, None, Result, Err, refl, ap, sym, subst, ◌∙◌}
-use Rattle.std.specs.Prelude.{◌≢◌, not, ◌&&◌, unwrap_or}
+use Rattle.std.specs.Prelude.{◌≢◌, not, ◌&&◌, option_map, unwrap_or}
 use Rattle.h3_field.specs.Field.{Field, section_size}
 use Rattle.h3_header.specs.Head.{Head, has_pseudo}
 use Rattle.h3_outgoing.specs.Sent as sent
@@ -15,6 +15,8 @@ use Rattle.h3_connection.specs.Sending.{does, closed_or, appended, encoded, outg
 use Rattle.h3_connection.specs.SendingContracts.{CutsOff, MayLackMemory, SendsSection}
 use Rattle.h3_connection.specs.State.{EndpointState, RequestState, StandsFor, kept_at, place_of}
 use Rattle.h3_connection.specs.StreamSets.{Streams}
+use Rattle.h3_connection.specs.StrictSending.{broken_head, broken_trailer}
+use Rattle.h3_connection.specs.declared.event.Malformation.{Malformation}
 use Rattle.h3_connection.specs.WaitingPieces.{piece_of, frame_piece}
 use Rattle.h3_connection.specs.declared.event.Refusal.{Refusal}
 use Rattle.h3_connection.specs.declared.event.Refusal.TheVariants as refusal
@@ -23,9 +25,9 @@ use Rattle.h3_connection.specs.declared.place.SendPlace.TheVariants.{NothingSent
 use Rattle.h3_requests.specs.Refused.{or_later, refused_if, head_refused_at, body_refused_at}
 use Rattle.h3_session.specs.OpenedLaws.{stands_same}
 use Rattle.h3_session.specs.SendingLists.{SendsListedHead, SendsListedTrailer, after_head, after_trailer, listed_head_refusal, listed_trailer_refusal, send_listed_head, send_listed_trailer}
-use Rattle.h3_session.specs.Refused.{size_refused, side_refused, pseudo_refused, head_refused, trailer_refused}
+use Rattle.h3_session.specs.Refused.{list_refused, refused_behind, broken_behind, side_refused, pseudo_refused, head_refused, trailer_refused}
 use Rattle.h3_session.proofs.ReceivingCancel.{requests_same}
-use Rattle.h3_session.specs.SendingFields.{IsPart, SendsFields}
+use Rattle.h3_session.specs.SendingFields.{IsPart, SendsFields, asking}
 use Rattle.h3_session.proofs.Parts.{before_head, in_body, place_pushed}
 use Rattle.h3_session.proofs.SendingBodies.{TakesBody}
 use Rattle.h3_session.proofs.SendingCalls.{was_done, was_refused, sender_of, same_itself}
@@ -33,14 +35,15 @@ use Rattle.h3_session.proofs.SendingRefusals.{head_refusal_is, trailer_refusal_i
 use Rattle.h3_session.proofs.SendingSections.{not_begun}
 
 -- A section by its rule, which ends in the size, and by the part that it is.
-lacks_by : (e f : EndpointHistory) (b : Bool) (size : ℕ) → MayLackMemory (does (refused_if b (refusal.TooLarge size)) e f).0
-lacks_by e f true size = tt
-lacks_by e f false size = tt
+lacks_by : (e f : EndpointHistory) (broken : Option Malformation) (b : Bool) (size : ℕ) → MayLackMemory (does (or_later (option_map refusal.Malformed broken) (refused_if b (refusal.TooLarge size))) e f).0
+lacks_by e f (Some why) b size = tt
+lacks_by e f None true size = tt
+lacks_by e f None false size = tt
 
-module _ (rule : EndpointHistory → Option Refusal) (after : EndpointHistory → EndpointHistory) (old : EndpointState) (id : ℕ) (fields : List Field) where
-  may_lack : ((e : EndpointHistory) → StandsFor old e → rule e ≡ size_refused old.peer.settings fields) → (e : EndpointHistory) → StandsFor old e → MayLackMemory (does (rule e) e (after e)).0
+module _ (rule : EndpointHistory → Option Refusal) (after : EndpointHistory → EndpointHistory) (old : EndpointState) (id : ℕ) (fields : List Field) (broken : Option Malformation) where
+  may_lack : ((e : EndpointHistory) → StandsFor old e → rule e ≡ list_refused broken old.peer.settings fields) → (e : EndpointHistory) → StandsFor old e → MayLackMemory (does (rule e) e (after e)).0
   may_lack is e h =
-      subst (λ o. MayLackMemory (does o e (after e)).0) (sym (is e h)) (lacks_by e (after e) (is_too_large old.peer.settings fields) (section_size fields))
+      subst (λ o. MayLackMemory (does o e (after e)).0) (sym (is e h)) (lacks_by e (after e) broken (is_too_large old.peer.settings fields) (section_size fields))
 
   pub section_refused : (r : Refusal) → ((e : EndpointHistory) → StandsFor old e → rule e ≡ Some r) → r ≢ refusal.OutOfMemory → SendsSection (λ e. does (rule e) e (after e)) old old id fields (Some r)
   section_refused r is is_rule =
@@ -51,7 +54,7 @@ module _ (rule : EndpointHistory → Option Refusal) (after : EndpointHistory �
         too_large = λ e h memory some. absurd (is_rule (cc));
       }
 
-  pub section_lacks : ((e : EndpointHistory) → StandsFor old e → rule e ≡ size_refused old.peer.settings fields) → SendsSection (λ e. does (rule e) e (after e)) old old id fields (Some refusal.OutOfMemory)
+  pub section_lacks : ((e : EndpointHistory) → StandsFor old e → rule e ≡ list_refused broken old.peer.settings fields) → SendsSection (λ e. does (rule e) e (after e)) old old id fields (Some refusal.OutOfMemory)
   section_lacks is =
       record {
         done = λ e h not_memory. absurd (not_memory refl);
@@ -65,18 +68,19 @@ module _ (rule : EndpointHistory → Option Refusal) (after : EndpointHistory �
   done_by new e None h is stands same = was_done e (after e) new (rule e) is (stands refl)
   done_by new e (Some r) h is stands same = was_refused e (after e) new (rule e) r is (subst (λ v. StandsFor v e) (sym (same (λ never. absurd (cc)))) h)
 
-  section_sends : (new : EndpointState) (place : SendPlace) (refused : Option Refusal) (part : EndpointHistory → OwnPart)
-      → ((e : EndpointHistory) → StandsFor old e → rule e ≡ size_refused old.peer.settings fields) → ((e : EndpointHistory) → StandsFor old e → IsPart e id fields place (part e))
-      → ((e : EndpointHistory) → after e ≡ counted (appended (encoded e id fields) id (part e)) (fields_cost fields))
-      → SendsFields old new id fields place refused → SendsSection (λ e. does (rule e) e (after e)) old new id fields refused
-  section_sends new place refused part is parts afters h =
+  section_sends : (behind : EndpointHistory → EndpointHistory) (new : EndpointState) (place : SendPlace) (refused : Option Refusal) (part : EndpointHistory → OwnPart)
+      → ((e : EndpointHistory) → StandsFor old e → rule e ≡ list_refused broken old.peer.settings fields) → ((e : EndpointHistory) → StandsFor old e → IsPart e id fields place (part e))
+      → ((e : EndpointHistory) → after e ≡ behind (counted (appended (encoded e id fields) id (part e)) (fields_cost fields)))
+      → broken ≡ broken_behind place old fields → SendsFields behind old new id fields place refused → SendsSection (λ e. does (rule e) e (after e)) old new id fields refused
+  section_sends behind new place refused part is parts afters rules h =
+      let same_list : refused_behind old place fields ≡ list_refused broken old.peer.settings fields = ap (λ b. list_refused b old.peer.settings fields) (sym rules) in
       record {
         done = λ e stands not_memory.
-            done_by new e refused stands (is e stands ∙ sym (h.size not_memory)) (λ none. subst (StandsFor new) (sym (afters e)) (h.done none e (part e) stands (parts e stands))) (λ some. h.same some not_memory);
+            done_by new e refused stands (is e stands ∙ sym (h.list not_memory ∙ same_list)) (λ none. subst (StandsFor new) (sym (afters e)) (h.done none e (part e) stands (parts e stands))) (λ some. h.same some not_memory);
         same = λ some not_memory. subst (λ v. IsSame old v) (sym (h.same some not_memory)) (same_itself old);
         memory = λ e stands memory. (may_lack is e stands, h.memory memory e stands);
         too_large = λ e stands memory some.
-            subst (λ v. IsSame old v) (sym (h.too_large memory (λ none. some (ap (λ o. (does o e (after e)).0) (is e stands ∙ none))))) (same_itself old);
+            subst (λ v. IsSame old v) (sym (h.too_large memory (λ none. some (ap (λ o. (does o e (after e)).0) (is e stands ∙ sym same_list ∙ none))))) (same_itself old);
       }
 
 -- The call begins over streams that are found as they were: it is refused there,
@@ -163,24 +167,30 @@ head_is s e id head fields (Some r) h was takes =
     let section = encoded_section e.encoder id fields in
     record { sends_on = o.here; piece = head_piece (is_interim head.status) section; place_is = head_place (outgoing_at e id).parts (is_interim head.status) section o.unsent }
 
-head_rule : (s : EndpointState) (id : ℕ) (head : Head) (fields : List Field) → head_refused s id head ≡ None → (e : EndpointHistory) → StandsFor s e → listed_head_refusal e id head fields ≡ size_refused s.peer.settings fields
-head_rule s id head fields none e h = sym (head_refusal_is s e id head fields h) ∙ ap (λ o. or_later o (size_refused s.peer.settings fields)) none
+head_rule : (s : EndpointState) (id : ℕ) (head : Head) (fields : List Field) → head_refused s id head ≡ None → (e : EndpointHistory) → StandsFor s e → listed_head_refusal e id head fields ≡ list_refused (broken_head s.side s.announced s.peer.settings fields) s.peer.settings fields
+head_rule s id head fields none e h = sym (head_refusal_is s e id head fields h) ∙ ap (λ o. or_later o (list_refused (broken_head s.side s.announced s.peer.settings fields) s.peer.settings fields)) none
 
 head_refuses : (s : EndpointState) (id : ℕ) (head : Head) (fields : List Field) (r : Refusal) → head_refused s id head ≡ Some r → SendsListedHead s s id head fields (Err r)
 head_refuses s id head fields r is =
-    section_refused (λ e. listed_head_refusal e id head fields) (λ e. after_head e id head fields) s id fields r
-    (λ e h. sym (head_refusal_is s e id head fields h) ∙ ap (λ o. or_later o (size_refused s.peer.settings fields)) is) (λ memory. head_takes_none s id head (is ∙ ap Some memory))
+    section_refused (λ e. listed_head_refusal e id head fields) (λ e. after_head e id head fields) s id fields (broken_head s.side s.announced s.peer.settings fields) r
+    (λ e h. sym (head_refusal_is s e id head fields h) ∙ ap (λ o. or_later o (list_refused (broken_head s.side s.announced s.peer.settings fields) s.peer.settings fields)) is) (λ memory. head_takes_none s id head (is ∙ ap Some memory))
 
 head_lacks : (s : EndpointState) (id : ℕ) (head : Head) (fields : List Field) → head_refused s id head ≡ None → SendsListedHead s s id head fields (Err refusal.OutOfMemory)
-head_lacks s id head fields none = section_lacks (λ e. listed_head_refusal e id head fields) (λ e. after_head e id head fields) s id fields (head_rule s id head fields none)
+head_lacks s id head fields none = section_lacks (λ e. listed_head_refusal e id head fields) (λ e. after_head e id head fields) s id fields (broken_head s.side s.announced s.peer.settings fields) (head_rule s id head fields none)
+
+-- the rules of a head are those of its place
+behind_head : (interim : Bool) (s : EndpointState) (fields : List Field) → broken_head s.side s.announced s.peer.settings fields ≡ broken_behind (place_behind interim) s fields
+behind_head true s fields = refl
+behind_head false s fields = refl
 
 head_sends : (old new : EndpointState) (id : ℕ) (head : Head) (given fields : List Field) (place : SendPlace) (result : Result Unit Refusal) → head_refused old id head ≡ None → given ≡ fields
-    → place ≡ (if is_interim head.status then NothingSent else HeadSent) → SendsFields old new id given place (call_refused result) → SendsListedHead old new id head fields result
+    → place ≡ (if is_interim head.status then NothingSent else HeadSent) → SendsFields (asking id given) old new id given place (call_refused result) → SendsListedHead old new id head fields result
 head_sends old new id head given fields place result none are at h =
-    let sent_here : SendsFields old new id fields (place_behind (is_interim head.status)) (call_refused result)
-    = subst (λ p. SendsFields old new id fields p (call_refused result)) at (subst (λ fs. SendsFields old new id fs place (call_refused result)) are h) in
-    section_sends (λ e. listed_head_refusal e id head fields) (λ e. after_head e id head fields) old id fields new (place_behind (is_interim head.status)) (call_refused result) (λ e. head_part head (encoded_section e.encoder id fields))
-    (head_rule old id head fields none) (λ e stands. head_is old e id head fields (kept_at old.requests id) stands refl (head_allowed (not (is_for (other old.side) head)) old.closed (kept_at old.requests id) none)) (λ e. refl) sent_here
+    let sent_here : SendsFields (asking id fields) old new id fields (place_behind (is_interim head.status)) (call_refused result)
+    = subst (λ p. SendsFields (asking id fields) old new id fields p (call_refused result)) at (subst (λ fs. SendsFields (asking id fs) old new id fs place (call_refused result)) are h) in
+    section_sends (λ e. listed_head_refusal e id head fields) (λ e. after_head e id head fields) old id fields (broken_head old.side old.announced old.peer.settings fields) (asking id fields) new (place_behind (is_interim head.status)) (call_refused result) (λ e. head_part head (encoded_section e.encoder id fields))
+    (head_rule old id head fields none) (λ e stands. head_is old e id head fields (kept_at old.requests id) stands refl (head_allowed (not (is_for (other old.side) head)) old.closed (kept_at old.requests id) none)) (λ e. refl)
+    (behind_head (is_interim head.status) old fields) sent_here
 
 head_open : (s : EndpointState) (id : ℕ) (head : Head) → s.closed ≡ None → head_refused s id head ≡ or_later (head_refused_at (kept_at s.requests id)) (side_refused s.side head)
 head_open s id head closed = ap (λ c. closed_or c (or_later (head_refused_at (kept_at s.requests id)) (side_refused s.side head))) closed
@@ -210,13 +220,13 @@ head_unlisted s n id head fields later closed is rest same none =
 -- or they were sent
 pub head_sent : (s m n : EndpointState) (id : ℕ) (head : Head) (later : Option Refusal) (given fields : List Field) (place : SendPlace) (result : Result Unit Refusal) → s.closed ≡ None → later ≡ side_refused s.side head
     → m ≡ record s { requests = m.requests } → AllSame s.requests m.requests → or_later (head_refused_at (kept_at s.requests id)) later ≡ None → given ≡ fields
-    → place ≡ (if is_interim head.status then NothingSent else HeadSent) → SendsFields m n id given place (call_refused result) → SendsListedHead s n id head fields result
+    → place ≡ (if is_interim head.status then NothingSent else HeadSent) → SendsFields (asking id given) m n id given place (call_refused result) → SendsListedHead s n id head fields result
 head_sent s m n id head later given fields place result closed is rest same none are at h =
     let mid = record s { requests = m.requests } in
     let taken : head_refused mid id head ≡ None = head_open mid id head closed
     ∙ ap (λ o. or_later (head_refused_at o) (side_refused s.side head)) (same.each id) ∙ ap (or_later (head_refused_at (kept_at s.requests id))) (sym is) ∙ none in
     section_begun (λ e. send_listed_head e id head fields) s id fields m.requests same n (call_refused result)
-    (head_sends mid n id head given fields place result taken are at (subst (λ v. SendsFields v n id given place (call_refused result)) rest h))
+    (head_sends mid n id head given fields place result taken are at (subst (λ v. SendsFields (asking id given) v n id given place (call_refused result)) rest h))
 
 -- `send_trailer`
 trailer_allowed : (b : Bool) (closed : Option ℕ) (there : Option RequestState) → closed_or closed (or_later (body_refused_at there) (refused_if b refusal.PseudoInTrailer)) ≡ None → TakesBody there
@@ -236,24 +246,24 @@ trailer_is s e id fields (Some r) h was takes =
       place_is = sym (place_pushed (outgoing_at e id).parts (OwnTrailer section) ∙ ap (λ b. if b && false then NothingSent else TrailerSent) o.sent);
     }
 
-trailer_rule : (s : EndpointState) (id : ℕ) (trailer : Head) (fields : List Field) → trailer_refused s id trailer ≡ None → (e : EndpointHistory) → StandsFor s e → listed_trailer_refusal e id trailer fields ≡ size_refused s.peer.settings fields
-trailer_rule s id trailer fields none e h = sym (trailer_refusal_is s e id trailer fields h) ∙ ap (λ o. or_later o (size_refused s.peer.settings fields)) none
+trailer_rule : (s : EndpointState) (id : ℕ) (trailer : Head) (fields : List Field) → trailer_refused s id trailer ≡ None → (e : EndpointHistory) → StandsFor s e → listed_trailer_refusal e id trailer fields ≡ list_refused (broken_trailer s.announced fields) s.peer.settings fields
+trailer_rule s id trailer fields none e h = sym (trailer_refusal_is s e id trailer fields h) ∙ ap (λ o. or_later o (list_refused (broken_trailer s.announced fields) s.peer.settings fields)) none
 
 trailer_refuses : (s : EndpointState) (id : ℕ) (trailer : Head) (fields : List Field) (r : Refusal) → trailer_refused s id trailer ≡ Some r → SendsListedTrailer s s id trailer fields (Err r)
 trailer_refuses s id trailer fields r is =
-    section_refused (λ e. listed_trailer_refusal e id trailer fields) (λ e. after_trailer e id fields) s id fields r
-    (λ e h. sym (trailer_refusal_is s e id trailer fields h) ∙ ap (λ o. or_later o (size_refused s.peer.settings fields)) is) (λ memory. trailer_takes_none s id trailer (is ∙ ap Some memory))
+    section_refused (λ e. listed_trailer_refusal e id trailer fields) (λ e. after_trailer e id fields) s id fields (broken_trailer s.announced fields) r
+    (λ e h. sym (trailer_refusal_is s e id trailer fields h) ∙ ap (λ o. or_later o (list_refused (broken_trailer s.announced fields) s.peer.settings fields)) is) (λ memory. trailer_takes_none s id trailer (is ∙ ap Some memory))
 
 trailer_lacks : (s : EndpointState) (id : ℕ) (trailer : Head) (fields : List Field) → trailer_refused s id trailer ≡ None → SendsListedTrailer s s id trailer fields (Err refusal.OutOfMemory)
-trailer_lacks s id trailer fields none = section_lacks (λ e. listed_trailer_refusal e id trailer fields) (λ e. after_trailer e id fields) s id fields (trailer_rule s id trailer fields none)
+trailer_lacks s id trailer fields none = section_lacks (λ e. listed_trailer_refusal e id trailer fields) (λ e. after_trailer e id fields) s id fields (broken_trailer s.announced fields) (trailer_rule s id trailer fields none)
 
 trailer_sends : (old new : EndpointState) (id : ℕ) (trailer : Head) (given fields : List Field) (result : Result Unit Refusal) → trailer_refused old id trailer ≡ None → given ≡ fields
-    → SendsFields old new id given TrailerSent (call_refused result) → SendsListedTrailer old new id trailer fields result
+    → SendsFields (λ e. e) old new id given TrailerSent (call_refused result) → SendsListedTrailer old new id trailer fields result
 trailer_sends old new id trailer given fields result none are h =
-    section_sends (λ e. listed_trailer_refusal e id trailer fields) (λ e. after_trailer e id fields) old id fields new TrailerSent (call_refused result) (λ e. OwnTrailer (encoded_section e.encoder id fields))
+    section_sends (λ e. listed_trailer_refusal e id trailer fields) (λ e. after_trailer e id fields) old id fields (broken_trailer old.announced fields) (λ e. e) new TrailerSent (call_refused result) (λ e. OwnTrailer (encoded_section e.encoder id fields))
     (trailer_rule old id trailer fields none)
-    (λ e stands. trailer_is old e id fields (kept_at old.requests id) stands refl (trailer_allowed (has_pseudo trailer) old.closed (kept_at old.requests id) none)) (λ e. refl)
-    (subst (λ fs. SendsFields old new id fs TrailerSent (call_refused result)) are h)
+    (λ e stands. trailer_is old e id fields (kept_at old.requests id) stands refl (trailer_allowed (has_pseudo trailer) old.closed (kept_at old.requests id) none)) (λ e. refl) refl
+    (subst (λ fs. SendsFields (λ e. e) old new id fs TrailerSent (call_refused result)) are h)
 
 trailer_open : (s : EndpointState) (id : ℕ) (trailer : Head) → s.closed ≡ None → trailer_refused s id trailer ≡ or_later (body_refused_at (kept_at s.requests id)) (pseudo_refused trailer)
 trailer_open s id trailer closed = ap (λ c. closed_or c (or_later (body_refused_at (kept_at s.requests id)) (pseudo_refused trailer))) closed
@@ -283,10 +293,10 @@ trailer_unlisted s n id trailer fields later closed is rest same none =
 -- or they were sent
 pub trailer_sent : (s m n : EndpointState) (id : ℕ) (trailer : Head) (later : Option Refusal) (given fields : List Field) (result : Result Unit Refusal) → s.closed ≡ None → later ≡ pseudo_refused trailer
     → m ≡ record s { requests = m.requests } → AllSame s.requests m.requests → or_later (body_refused_at (kept_at s.requests id)) later ≡ None → given ≡ fields
-    → SendsFields m n id given TrailerSent (call_refused result) → SendsListedTrailer s n id trailer fields result
+    → SendsFields (λ e. e) m n id given TrailerSent (call_refused result) → SendsListedTrailer s n id trailer fields result
 trailer_sent s m n id trailer later given fields result closed is rest same none are h =
     let mid = record s { requests = m.requests } in
     let taken : trailer_refused mid id trailer ≡ None = trailer_open mid id trailer closed
     ∙ ap (λ o. or_later (body_refused_at o) (pseudo_refused trailer)) (same.each id) ∙ ap (or_later (body_refused_at (kept_at s.requests id))) (sym is) ∙ none in
     section_begun (λ e. send_listed_trailer e id trailer fields) s id fields m.requests same n (call_refused result)
-    (trailer_sends mid n id trailer given fields result taken are (subst (λ v. SendsFields v n id given TrailerSent (call_refused result)) rest h))
+    (trailer_sends mid n id trailer given fields result taken are (subst (λ v. SendsFields (λ e. e) v n id given TrailerSent (call_refused result)) rest h))

@@ -17,11 +17,13 @@ use Rattle.h3_connection.specs.Pulling.{is_client, is_for}
 use Rattle.h3_connection.specs.Sending.{closed_or, first_of, going_away, outgoing_at, raised, open_refusal, body_refusal, finish_refusal, reset_refusal, goaway_refusal, is_too_large}
 use Rattle.h3_connection.specs.State.{EndpointState, RequestState, StandsFor, IsOfOutgoing, SameAt, kept_at}
 use Rattle.h3_connection.specs.StreamSets.{stream_at}
+use Rattle.h3_connection.specs.StrictSending.{broken_head, broken_trailer, unless_malformed}
+use Rattle.h3_connection.specs.declared.event.Malformation.{Malformation}
 use Rattle.h3_connection.specs.declared.event.Refusal.{Refusal}
 use Rattle.h3_connection.specs.declared.event.Refusal.TheVariants as refusal
 use Rattle.h3_requests.specs.Refused.{or_later, refused_if, head_refused_at, body_refused_at, end_refused_at, reset_refused_at}
 use Rattle.h3_session.specs.SendingLists.{listed_head_refusal, listed_trailer_refusal, place_refusal}
-use Rattle.h3_session.specs.Refused.{size_refused, streams_of, side_refused, pseudo_refused, head_refused, body_refused, trailer_refused, end_refused, is_critical_in, reset_refused, goaway_refused}
+use Rattle.h3_session.specs.Refused.{list_refused, streams_of, side_refused, pseudo_refused, head_refused, body_refused, trailer_refused, end_refused, is_critical_in, reset_refused, goaway_refused}
 
 -- the sender's part of a stream, by what is stored of it
 record SameSender (o : Option Outgoing) (r : Option RequestState) : Type 0 where
@@ -91,27 +93,31 @@ end_refusal_is s e id h = ap (λ c. closed_or c (end_refused_at (kept_at s.reque
 pub body_refusal_is : (s : EndpointState) (e : EndpointHistory) (id : ℕ) → StandsFor s e → body_refused s id ≡ body_refusal e id
 body_refusal_is s e id h = ap (λ c. closed_or c (body_refused_at (kept_at s.requests id))) h.closed ∙ ap (closed_or e.closed) (body_at (stream_at e.outgoing id) (kept_at s.requests id) (sender s e id h))
 
-sized : (closed : Option ℕ) (a b c : Bool) (p q r : Refusal) (settings : Option (List (ℕ × ℕ))) (fields : List Field)
-    → or_later (closed_or closed (if a then Some p else (if b then Some q else (if c then Some r else None)))) (size_refused settings fields)
-    ≡ closed_or closed (if a then Some p else (if b then Some q else (if c then Some r else (if is_too_large settings fields then Some (refusal.TooLarge (section_size fields)) else None))))
-sized (Some code) a b c p q r settings fields = refl
-sized None true b c p q r settings fields = refl
-sized None false true c p q r settings fields = refl
-sized None false false true p q r settings fields = refl
-sized None false false false p q r settings fields = refl
+sized : (closed : Option ℕ) (a b c : Bool) (p q r : Refusal) (broken : Option Malformation) (settings : Option (List (ℕ × ℕ))) (fields : List Field)
+    → or_later (closed_or closed (if a then Some p else (if b then Some q else (if c then Some r else None)))) (list_refused broken settings fields)
+    ≡ closed_or closed (if a then Some p else (if b then Some q else (if c then Some r else first_of (unless_malformed broken ((is_too_large settings fields, refusal.TooLarge (section_size fields)) ∷ [])))))
+sized (Some code) a b c p q r broken settings fields = refl
+sized None true b c p q r broken settings fields = refl
+sized None false true c p q r broken settings fields = refl
+sized None false false true p q r broken settings fields = refl
+sized None false false false p q r None settings fields = refl
+sized None false false false p q r (Some why) settings fields = refl
 
 -- Sending a head, as a list.
 pub head_refusal_is : (s : EndpointState) (e : EndpointHistory) (id : ℕ) (head : Head) (fields : List Field) → StandsFor s e
-    → or_later (head_refused s id head) (size_refused s.peer.settings fields) ≡ listed_head_refusal e id head fields
+    → or_later (head_refused s id head) (list_refused (broken_head s.side s.announced s.peer.settings fields) s.peer.settings fields) ≡ listed_head_refusal e id head fields
 head_refusal_is s e id head fields h =
     let wrong = not (is_for (other e.side) head) in
-    let early : head_refused s id head ≡ closed_or e.closed (first_of ((not (is_some (stream_at e.outgoing id)), refusal.NotOpen) ∷ (not (takes_head (outgoing_at e id)), refusal.OutOfOrder) ∷ (wrong, refusal.WrongSide) ∷ []))
+    let rules = first_of ((not (is_some (stream_at e.outgoing id)), refusal.NotOpen) ∷ (not (takes_head (outgoing_at e id)), refusal.OutOfOrder) ∷ (wrong, refusal.WrongSide) ∷ []) in
+    let early : head_refused s id head ≡ closed_or e.closed rules
     = ap (λ c. closed_or c (or_later (head_refused_at (kept_at s.requests id)) (side_refused s.side head))) h.closed
     ∙ ap (λ side. closed_or e.closed (or_later (head_refused_at (kept_at s.requests id)) (side_refused side head))) h.side
     ∙ ap (closed_or e.closed) (head_at (stream_at e.outgoing id) (kept_at s.requests id) wrong refusal.WrongSide (sender s e id h)) in
-    ap (λ o. or_later o (size_refused s.peer.settings fields)) early
-    ∙ ap (λ p. or_later (closed_or e.closed (first_of ((not (is_some (stream_at e.outgoing id)), refusal.NotOpen) ∷ (not (takes_head (outgoing_at e id)), refusal.OutOfOrder) ∷ (wrong, refusal.WrongSide) ∷ []))) (size_refused p.settings fields)) h.peer
-    ∙ sized e.closed (not (is_some (stream_at e.outgoing id))) (not (takes_head (outgoing_at e id))) wrong refusal.NotOpen refusal.OutOfOrder refusal.WrongSide e.peer.settings fields
+    ap (λ o. or_later o (list_refused (broken_head s.side s.announced s.peer.settings fields) s.peer.settings fields)) early
+    ∙ ap (λ side. or_later (closed_or e.closed rules) (list_refused (broken_head side s.announced s.peer.settings fields) s.peer.settings fields)) h.side
+    ∙ ap (λ own. or_later (closed_or e.closed rules) (list_refused (broken_head e.side own s.peer.settings fields) s.peer.settings fields)) h.announced
+    ∙ ap (λ p. or_later (closed_or e.closed rules) (list_refused (broken_head e.side e.announced p.settings fields) p.settings fields)) h.peer
+    ∙ sized e.closed (not (is_some (stream_at e.outgoing id))) (not (takes_head (outgoing_at e id))) wrong refusal.NotOpen refusal.OutOfOrder refusal.WrongSide (broken_head e.side e.announced e.peer.settings fields) e.peer.settings fields
 
 -- the stream's own refusal of a head
 place_at : (o : Option Outgoing) (r : Option RequestState) → SameSender o r
@@ -126,14 +132,16 @@ place_refusal_is s e id h = ap (λ c. closed_or c (head_refused_at (kept_at s.re
 
 -- Sending a trailer, as a list.
 pub trailer_refusal_is : (s : EndpointState) (e : EndpointHistory) (id : ℕ) (head : Head) (fields : List Field) → StandsFor s e
-    → or_later (trailer_refused s id head) (size_refused s.peer.settings fields) ≡ listed_trailer_refusal e id head fields
+    → or_later (trailer_refused s id head) (list_refused (broken_trailer s.announced fields) s.peer.settings fields) ≡ listed_trailer_refusal e id head fields
 trailer_refusal_is s e id head fields h =
-    let early : trailer_refused s id head ≡ closed_or e.closed (first_of ((not (is_some (stream_at e.outgoing id)), refusal.NotOpen) ∷ (not (takes_body (outgoing_at e id)), refusal.OutOfOrder) ∷ (has_pseudo head, refusal.PseudoInTrailer) ∷ []))
+    let rules = first_of ((not (is_some (stream_at e.outgoing id)), refusal.NotOpen) ∷ (not (takes_body (outgoing_at e id)), refusal.OutOfOrder) ∷ (has_pseudo head, refusal.PseudoInTrailer) ∷ []) in
+    let early : trailer_refused s id head ≡ closed_or e.closed rules
     = ap (λ c. closed_or c (or_later (body_refused_at (kept_at s.requests id)) (pseudo_refused head))) h.closed
     ∙ ap (closed_or e.closed) (trailer_at (stream_at e.outgoing id) (kept_at s.requests id) (has_pseudo head) refusal.PseudoInTrailer (sender s e id h)) in
-    ap (λ o. or_later o (size_refused s.peer.settings fields)) early
-    ∙ ap (λ p. or_later (closed_or e.closed (first_of ((not (is_some (stream_at e.outgoing id)), refusal.NotOpen) ∷ (not (takes_body (outgoing_at e id)), refusal.OutOfOrder) ∷ (has_pseudo head, refusal.PseudoInTrailer) ∷ []))) (size_refused p.settings fields)) h.peer
-    ∙ sized e.closed (not (is_some (stream_at e.outgoing id))) (not (takes_body (outgoing_at e id))) (has_pseudo head) refusal.NotOpen refusal.OutOfOrder refusal.PseudoInTrailer e.peer.settings fields
+    ap (λ o. or_later o (list_refused (broken_trailer s.announced fields) s.peer.settings fields)) early
+    ∙ ap (λ own. or_later (closed_or e.closed rules) (list_refused (broken_trailer own fields) s.peer.settings fields)) h.announced
+    ∙ ap (λ p. or_later (closed_or e.closed rules) (list_refused (broken_trailer e.announced fields) p.settings fields)) h.peer
+    ∙ sized e.closed (not (is_some (stream_at e.outgoing id))) (not (takes_body (outgoing_at e id))) (has_pseudo head) refusal.NotOpen refusal.OutOfOrder refusal.PseudoInTrailer (broken_trailer e.announced fields) e.peer.settings fields
 
 -- What refuses a stream whatever is stored of it comes before the stream's own rule, and where nothing does, that rule is left.
 pub critical_first : (closed : Option ℕ) (b : Bool) (rest : Option Refusal) (r : Refusal) → closed_or closed (refused_if b refusal.Critical) ≡ Some r → closed_or closed (or_later (refused_if b refusal.Critical) rest) ≡ Some r

@@ -1,11 +1,12 @@
 -- What each event of a run does: it is a call of one endpoint, or two, by the contracts of these calls. So it is too where memory was refused.
-use Rattle.std.specs.Prelude.{◌≡◌, ◌⊎◌, ℕ, List, [], ◌∷◌, take, true, false, Result}
+use Rattle.std.specs.Prelude.{◌≡◌, ◌⊎◌, ◌≤◌, ℕ, List, [], ◌∷◌, take, true, false, Result}
 use Rattle.h3_proto.specs.declared.stream.Side.{Side}
 use Rattle.h3_proto.specs.declared.stream.Side.TheVariants.{Client, Server}
 use Rattle.h3_connection.specs.Answers.{delivery_refused}
 use Rattle.h3_connection.specs.Endpoint.{EndpointHistory, bytes_waiting}
 use Rattle.h3_connection.specs.ReceivingContracts.{Delivers, DeliversEnd, DeliversReset, PullsNext}
 use Rattle.h3_connection.specs.SendingContracts.{Opens, SendsHead, SendsBody, SendsTrailer, Finishes, Resets, Cancels, GoesAway, Advances}
+use Rattle.h3_connection.specs.Shown.{has_outgoing, waiting, is_finished, is_reset}
 use Rattle.h3_connection.specs.State.{EndpointState, StandsFor}
 use Rattle.h3_connection.specs.declared.event.DeliverError.{DeliverError}
 use Rattle.h3_connection.specs.declared.event.Refusal.TheVariants as refusal
@@ -52,24 +53,36 @@ pub record OffersFront (id count : ℕ) (writer reader : EndpointState) (given :
   pub front : (w : EndpointHistory) → StandsFor writer w → bytes ≡ take count (bytes_waiting w id)
   pub offers : Offers id count bytes writer reader given writer_after reader_after
 
--- Bytes go over. Memory is refused for a copy of them, and then nothing has changed, or by the delivery.
+-- What goes over is there: so many bytes wait; the stream is finished, and none wait; it was reset.
+abbrev pub HasBytes : ℕ → ℕ → EndpointHistory → Type 0
+HasBytes id count w = (has_outgoing w id ≡ true) × (count ≤ waiting w id)
+
+abbrev pub HasEnd : ℕ → EndpointHistory → Type 0
+HasEnd id w = (is_finished w id ≡ true) × (waiting w id ≡ 0)
+
+abbrev pub HasReset : ℕ → EndpointHistory → Type 0
+HasReset id w = is_reset w id ≡ true
+
+-- Bytes go over. Memory is refused where so many wait: for a copy of them, and then nothing has changed, or by the delivery.
 pub record CarriesBytes (id count : ℕ) (writer reader : EndpointState) (given : Answer) (writer_after reader_after : EndpointState) : Type 0 where
   pub goes : Carries (λ w r. bytes_go w r id count) writer reader given writer_after reader_after
+  pub there : is_memory given ≡ true → (w : EndpointHistory) → StandsFor writer w → HasBytes id count w
   pub lacks : is_memory given ≡ true
       → OffersFront id count writer reader given writer_after reader_after ⊎ ((given ≡ answer.Refused refusal.OutOfMemory) × (writer_after ≡ writer) × (reader_after ≡ reader))
 
--- An end or a reset goes over, and the writer is as it was. Memory is refused by the delivery alone.
-pub record CarriesTold (goes_over : EndpointHistory → EndpointHistory → Carried) (delivery : EndpointState → EndpointState → Result Unit DeliverError → Type 0) (writer reader : EndpointState) (given : Answer) (writer_after reader_after : EndpointState) : Type 0 where
+-- An end or a reset goes over, and the writer is as it was. Memory is refused by the delivery alone, of what is there.
+pub record CarriesTold (goes_over : EndpointHistory → EndpointHistory → Carried) (has : EndpointHistory → Type 0) (delivery : EndpointState → EndpointState → Result Unit DeliverError → Type 0) (writer reader : EndpointState) (given : Answer) (writer_after reader_after : EndpointState) : Type 0 where
   pub goes : Carries goes_over writer reader given writer_after reader_after
   pub same : writer_after ≡ writer
+  pub there : is_memory given ≡ true → (w : EndpointHistory) → StandsFor writer w → has w
   pub lacks : is_memory given ≡ true → Tells told_answer delivery reader reader_after given
 
 abbrev pub CarriesEnd : ℕ → EndpointState → EndpointState → Answer → EndpointState → EndpointState → Type 0
-CarriesEnd id writer reader given writer_after reader_after = CarriesTold (λ w r. end_goes w r id) (λ s t r. DeliversEnd s t id r) writer reader given writer_after reader_after
+CarriesEnd id writer reader given writer_after reader_after = CarriesTold (λ w r. end_goes w r id) (HasEnd id) (λ s t r. DeliversEnd s t id r) writer reader given writer_after reader_after
 
 abbrev pub CarriesReset : ℕ → EndpointState → EndpointState → Answer → EndpointState → EndpointState → Type 0
 CarriesReset id writer reader given writer_after reader_after =
-    CarriesTold (λ w r. reset_goes w r id) (λ s t r. DeliversReset s t id reset_code r) writer reader given writer_after reader_after
+    CarriesTold (λ w r. reset_goes w r id) (HasReset id) (λ s t r. DeliversReset s t id reset_code r) writer reader given writer_after reader_after
 
 -- The event was answered so, and left both endpoints so.
 abbrev pub Acts : Event → EndpointState → EndpointState → Answer → EndpointState → EndpointState → Type 0

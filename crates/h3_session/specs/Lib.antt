@@ -1,6 +1,7 @@
 pub mod OpenedLaws
 pub mod Refused
 pub mod Next
+pub mod NextRequest
 pub mod Reading
 pub mod Canceling
 pub mod Arriving
@@ -16,3 +17,4 @@ pub mod Frames
 pub mod Outline
 pub mod SendingLists
 pub mod JudgedLists
+pub mod StrictLists

@@ -7,7 +7,7 @@ use Rattle.h3_connection.specs.OwnIds.{other}
 use Rattle.h3_world.specs.declared.event.Answer.{Answer}
 use Rattle.h3_world.specs.declared.event.Event.{Event}
 use Rattle.h3_world.specs.declared.setup.Setup.{Setup}
-use Rattle.h3_world.specs.Headline.{is_connection_fault, is_memory}
+use Rattle.h3_world.specs.Headline.{is_connection_fault}
 use Rattle.h3_world.specs.Setup.{announced_at}
 use Rattle.h3_headline.specs.Messages.{Content, IsFrontOf, at_reader, has_finished, has_pulled_end, pulled, sent}
 
@@ -24,7 +24,6 @@ pub record HandsOutWhatWasSent (setup : Setup) (events : List Event) (answers : 
   pub ends : (side : Side) (id : ℕ) → has_pulled_end side id events answers ≡ true →
       (pulled side id events answers ≡ sent_to setup side id events answers) × (has_finished (other side) id events answers ≡ true)
 
--- So it is of the events and answers up to the first that tells of refused memory.
-abbrev pub HandsOutUntilMemory : Setup → List Event → List Answer → Type 0
-HandsOutUntilMemory setup events answers =
-    (n : ℕ) → list_any is_memory (take n answers) ≡ false → HandsOutWhatWasSent setup (take n events) (take n answers)
+-- So it is behind each event, of the events so far and their answers.
+abbrev pub HandsOutAlways : Setup → List Event → List Answer → Type 0
+HandsOutAlways setup events answers = (n : ℕ) → HandsOutWhatWasSent setup (take n events) (take n answers)

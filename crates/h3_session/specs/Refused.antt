@@ -1,13 +1,20 @@
 -- Why a call that sends is refused, by what is stored.
-use Rattle.std.specs.Prelude.{ℕ, ◌%◌, Bool, List, not, ◌&&◌, ◌==◌, Option, option_map}
+use Rattle.std.specs.Prelude.{ℕ, ◌%◌, Bool, List, not, ◌&&◌, ◌==◌, if◌then◌else◌, Option, None, option_map}
 use Rattle.h3_field.specs.Field.{Field, section_size}
 use Rattle.h3_header.specs.Head.{Head, has_pseudo}
+use Rattle.h3_messages.specs.Messages.{violation_of_trailer}
+use Rattle.h3_messages.specs.declared.violation.Violation.{Violation}
 use Rattle.h3_proto.specs.declared.stream.Side.{Side}
 use Rattle.h3_connection.specs.Endpoint.{kind_of}
 use Rattle.h3_connection.specs.OwnIds.{other}
 use Rattle.h3_connection.specs.Pulling.{is_client, is_for}
 use Rattle.h3_connection.specs.Sending.{closed_or, raised, is_too_large}
 use Rattle.h3_connection.specs.State.{EndpointState, OutgoingState, kept_at}
+use Rattle.h3_connection.specs.StrictMessages.{malformation_by}
+use Rattle.h3_connection.specs.StrictSending.{violation_of_own_head}
+use Rattle.h3_connection.specs.declared.event.Malformation.{Malformation}
+use Rattle.h3_connection.specs.declared.place.SendPlace.{SendPlace}
+use Rattle.h3_connection.specs.declared.place.SendPlace.TheVariants.{NothingSent, HeadSent, TrailerSent}
 use Rattle.h3_requests.specs.Refused.{or_later, refused_if, head_refused_at, body_refused_at, end_refused_at, reset_refused_at}
 use Rattle.h3_streams.specs.Placed.{StreamsState, is_critical_at}
 use Rattle.h3_connection.specs.declared.event.Refusal.{Refusal}
@@ -66,6 +73,22 @@ reset_refused s id = closed_or s.closed (or_later (refused_if (is_critical_in s 
 abbrev pub goaway_refused : EndpointState → ℕ → Option Refusal
 goaway_refused s id = closed_or s.closed (or_later (refused_if (not (is_client s.side) && not (id % 4 == 0)) refusal.NotRequestId) (raised id s.last_goaway))
 
+-- The rule that a list breaks, where rules are asked, by the place of its message behind it: as a trailer, or as a head.
+abbrev pub violation_behind : SendPlace → EndpointState → List Field → Option Violation
+violation_behind TrailerSent s fields = violation_of_trailer fields
+violation_behind HeadSent s fields = violation_of_own_head s.side s.peer.settings fields
+violation_behind NothingSent s fields = violation_of_own_head s.side s.peer.settings fields
+
+abbrev pub broken_behind : SendPlace → EndpointState → List Field → Option Malformation
+broken_behind place s fields = if s.announced.choices.strict_messages then option_map malformation_by (violation_behind place s fields) else None
+
 -- The size of a section is judged last, and by the peer's settings.
 abbrev pub size_refused : Option (List (ℕ × ℕ)) → List Field → Option Refusal
 size_refused settings fields = refused_if (is_too_large settings fields) (refusal.TooLarge (section_size fields))
+
+abbrev pub list_refused : Option Malformation → Option (List (ℕ × ℕ)) → List Field → Option Refusal
+list_refused broken settings fields = or_later (option_map refusal.Malformed broken) (size_refused settings fields)
+
+-- what refuses a section by its list, by the place of its message behind it
+abbrev pub refused_behind : EndpointState → SendPlace → List Field → Option Refusal
+refused_behind s place fields = list_refused (broken_behind place s fields) s.peer.settings fields

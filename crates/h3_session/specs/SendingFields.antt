@@ -9,14 +9,14 @@ use Rattle.h3_streams.specs.Placed.{StreamsState}
 use Rattle.h3_connection.specs.Endpoint.{EndpointHistory}
 use Rattle.h3_connection.specs.Outgoing.{OwnPart}
 use Rattle.h3_connection.specs.Sections.{encoded_section, instructions_for, having_inserted}
-use Rattle.h3_connection.specs.Sending.{appended, encoded, outgoing_at, fields_cost, counted}
+use Rattle.h3_connection.specs.Sending.{appended, asked, encoded, outgoing_at, fields_cost, counted}
 use Rattle.h3_connection.specs.SendingContracts.{CutsOff}
 use Rattle.h3_connection.specs.State.{EndpointState, StandsFor, place_of}
 use Rattle.h3_connection.specs.WaitingPieces.{piece_of, frame_piece}
 use Rattle.h3_connection.specs.declared.event.Refusal.{Refusal}
 use Rattle.h3_connection.specs.declared.event.Refusal.TheVariants as refusal
 use Rattle.h3_connection.specs.declared.place.SendPlace.{SendPlace}
-use Rattle.h3_session.specs.Refused.{size_refused}
+use Rattle.h3_session.specs.Refused.{size_refused, refused_behind}
 
 -- nothing but the encoder and the own encoder stream has changed
 abbrev pub SameStreams : StreamsState → StreamsState → Type 0
@@ -51,14 +51,21 @@ pub record Queues (old new : EndpointState) (id : ℕ) (fields : List Field) (pl
   pub stands : (e : EndpointHistory) (part : OwnPart) → StandsFor old e → IsPart e id fields place part → StandsFor new (appended (encoded e id fields) id part)
   pub sent : new.sent ≡ old.sent
 
--- The section was sent, or refused by its size, or for want of memory.
-pub record SendsFields (old new : EndpointState) (id : ℕ) (fields : List Field) (place : SendPlace) (refused : Option Refusal) : Type 0 where
+-- What a request asks is remembered.
+abbrev pub asking : ℕ → List Field → EndpointHistory → EndpointHistory
+asking id fields e = asked e id fields
+
+pub record Remembers (old new : EndpointState) (id : ℕ) (fields : List Field) : Type 0 where
+  pub stands : (e : EndpointHistory) → StandsFor old e → StandsFor new (asked e id fields)
+
+-- The section was sent, and then this is done; or it was refused by its list, or for want of memory.
+pub record SendsFields (behind : EndpointHistory → EndpointHistory) (old new : EndpointState) (id : ℕ) (fields : List Field) (place : SendPlace) (refused : Option Refusal) : Type 0 where
   pub done : refused ≡ None → (e : EndpointHistory) (part : OwnPart) → StandsFor old e → IsPart e id fields place part
-      → StandsFor new (counted (appended (encoded e id fields) id part) (fields_cost fields))
-  pub size : refused ≢ Some refusal.OutOfMemory → refused ≡ size_refused old.peer.settings fields
+      → StandsFor new (behind (counted (appended (encoded e id fields) id part) (fields_cost fields)))
+  pub list : refused ≢ Some refusal.OutOfMemory → refused ≡ refused_behind old place fields
   pub same : refused ≢ None → refused ≢ Some refusal.OutOfMemory → new ≡ old
   pub memory : refused ≡ Some refusal.OutOfMemory → (e : EndpointHistory) → StandsFor old e → CutsOff e id fields new
-  pub too_large : refused ≡ Some refusal.OutOfMemory → size_refused old.peer.settings fields ≢ None → new ≡ old
+  pub too_large : refused ≡ Some refusal.OutOfMemory → refused_behind old place fields ≢ None → new ≡ old
 
 -- The sum of what was sent, with the section.
 pub record IsJudged (s : EndpointState) (fields : List Field) (sum : ℕ) : Type 0 where

@@ -12,9 +12,10 @@ use Rattle.h3_connection.specs.Outgoing.OwnPart.{OwnTrailer}
 use Rattle.h3_connection.specs.OwnIds.{other}
 use Rattle.h3_connection.specs.Pulling.{is_for, malformation_of}
 use Rattle.h3_connection.specs.Sections.{encoded_section}
-use Rattle.h3_connection.specs.Sending.{does, unless_closed, first_of, is_open, is_too_large, outgoing_at, body_refusal, appended, counted, encoded, fields_cost, head_part}
+use Rattle.h3_connection.specs.Sending.{does, unless_closed, first_of, is_open, is_too_large, outgoing_at, body_refusal, appended, asked, counted, encoded, fields_cost, head_part}
 use Rattle.h3_connection.specs.SendingContracts.{CutsOff, MayLackMemory, SendsSection}
 use Rattle.h3_connection.specs.State.{EndpointState, StandsFor}
+use Rattle.h3_connection.specs.StrictSending.{broken_head, broken_trailer, unless_malformed}
 use Rattle.h3_connection.specs.declared.event.Refusal.{Refusal}
 use Rattle.h3_connection.specs.declared.event.Refusal.TheVariants as refusal
 use Rattle.h3_session.specs.declared.endpoint.lists.FieldsError.{FieldsError}
@@ -26,10 +27,11 @@ listed_head_refusal e id head fields = unless_closed e (first_of (
     (not (is_open e id), refusal.NotOpen) ∷
     (not (takes_head (outgoing_at e id)), refusal.OutOfOrder) ∷
     (not (is_for (other e.side) head), refusal.WrongSide) ∷
-    (is_too_large e.peer.settings fields, refusal.TooLarge (section_size fields)) ∷ []))
+    unless_malformed (broken_head e.side e.announced e.peer.settings fields) (
+    (is_too_large e.peer.settings fields, refusal.TooLarge (section_size fields)) ∷ [])))
 
 abbrev pub after_head : EndpointHistory → ℕ → Head → List Field → EndpointHistory
-after_head e id head fields = counted (appended (encoded e id fields) id (head_part head (encoded_section e.encoder id fields))) (fields_cost fields)
+after_head e id head fields = asked (counted (appended (encoded e id fields) id (head_part head (encoded_section e.encoder id fields))) (fields_cost fields)) id fields
 
 abbrev pub send_listed_head : EndpointHistory → ℕ → Head → List Field → Option Refusal × EndpointHistory
 send_listed_head e id head fields = does (listed_head_refusal e id head fields) e (after_head e id head fields)
@@ -40,7 +42,8 @@ listed_trailer_refusal e id trailer fields = unless_closed e (first_of (
     (not (is_open e id), refusal.NotOpen) ∷
     (not (takes_body (outgoing_at e id)), refusal.OutOfOrder) ∷
     (has_pseudo trailer, refusal.PseudoInTrailer) ∷
-    (is_too_large e.peer.settings fields, refusal.TooLarge (section_size fields)) ∷ []))
+    unless_malformed (broken_trailer e.announced fields) (
+    (is_too_large e.peer.settings fields, refusal.TooLarge (section_size fields)) ∷ [])))
 
 abbrev pub after_trailer : EndpointHistory → ℕ → List Field → EndpointHistory
 after_trailer e id fields = counted (appended (encoded e id fields) id (OwnTrailer (encoded_section e.encoder id fields))) (fields_cost fields)
@@ -68,9 +71,14 @@ error_after None later = later
 abbrev pub malformed : HeadRefusal → FieldsError
 malformed why = error.Malformed (malformation_of why)
 
+-- a malformed list is told in one way, whatever finds it
+abbrev pub error_of : Refusal → FieldsError
+error_of (refusal.Malformed why) = error.Malformed why
+error_of r = error.Refused r
+
 -- a call that is refused as this one is
 abbrev pub as_error : Option Refusal × EndpointHistory → Option FieldsError × EndpointHistory
-as_error p = (option_map error.Refused p.0, p.1)
+as_error p = (option_map error_of p.0, p.1)
 
 abbrev pub send_read_head : EndpointHistory → ℕ → List Field → HeadRead → Option FieldsError × EndpointHistory
 send_read_head e id fields (IsHead head) = as_error (send_listed_head e id head fields)
@@ -90,11 +98,16 @@ send_trailer_fields e id fields = send_read_trailer e id fields (head_of fields)
 abbrev pub no_memory : FieldsError
 no_memory = error.Refused refusal.OutOfMemory
 
--- Want of memory comes last: it may be told of a list that is too large.
+-- Want of memory comes last: it may be told of a list that breaks a rule of strict messages, or is too large.
 abbrev pub MayLackSize : Option FieldsError → Type 0
 MayLackSize None = Unit {0}
 MayLackSize (Some (error.Refused r)) = MayLackMemory (Some r)
-MayLackSize (Some (error.Malformed why)) = ⊥
+MayLackSize (Some (error.Malformed why)) = Unit {0}
+
+-- but of none that is no list of a header
+abbrev pub IsReadable : HeadRead → Type 0
+IsReadable (IsHead head) = Unit {0}
+IsReadable (IsNone why) = ⊥
 
 -- Where a map has to be made for the list, also of one that is malformed, or none of this place.
 abbrev pub MayLackMap : Option FieldsError → Type 0
@@ -111,6 +124,7 @@ pub record SendsList (act : EndpointHistory → Option FieldsError × EndpointHi
   pub memory : (e : EndpointHistory) → StandsFor old e → told ≡ Some no_memory → MayLackMap (act e).0 × CutsOff e id fields new
   -- no map is made of so few fields
   pub short : (e : EndpointHistory) → StandsFor old e → told ≡ Some no_memory → length fields ≤ 24576 → MayLackSize (act e).0
+  pub readable : told ≡ Some no_memory → length fields ≤ 24576 → IsReadable (head_of fields)
   -- of a list that is refused nothing was inserted
   pub refused : (e : EndpointHistory) → StandsFor old e → told ≡ Some no_memory → (act e).0 ≢ None → IsSame old new
 

@@ -29,6 +29,7 @@ mod reading;
 mod receiving;
 mod sending;
 mod showing;
+mod strict;
 mod unread;
 
 pub use lists::FieldsError;

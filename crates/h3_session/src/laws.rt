@@ -7,27 +7,38 @@
 //! - Bounds: no section is tried more than twice, and no more streams wait than were announced (`tries_and_waiting_streams_are_bounded`).
 //! - Well-formed messages: where an endpoint asks for strict messages it hands out no head and no trailer whose list breaks a rule
 //!   (`strict_endpoints_hand_out_no_broken_list`), and of content no more than the head says, and the end behind all of it
-//!   (`content_is_as_long_as_was_said`).
+//!   (`content_is_as_long_as_was_said`). What it sends breaks none for a peer that asks for them (`strict_endpoints_send_no_broken_list`, and
+//!   of lists `strict_endpoints_send_no_broken_field_list`).
 //! - What stays: a connection fault (`a_connection_fault_stays`), and the end of a stream once it was handed out (`the_end_stays`). Where nothing is
 //!   kept, calls are the plain ones (`nothing_kept_is_plain`).
 //! - Two endpoints: a schedule's answers are those of a run of the world of a connection (`two_endpoints_run_in_a_world`), in which each endpoint
 //!   decodes what the other sent (`endpoints_decode_what_was_sent`). The parts of what `run` promises, each by itself: `no_connection_fault`,
 //!   `ordered_sends_are_accepted`, `what_is_pulled_is_what_was_sent`, `everything_comes_out`, `what_comes_out_rests_on_what_was_sent`, `tables_agree`,
 //!   `no_instruction_is_refused`, `runs_can_be_cut`, and by the answers of two endpoints alone `endpoints_hand_out_what_was_sent`.
+//! - Where memory may be refused: events that were answered by their calls are steps of two endpoints (`calls_are_steps_of_two_endpoints`), and
+//!   these run in a world in which it may (`two_endpoints_run_with_memory`), which is the world of a connection where none is refused
+//!   (`without_memory_answers_a_run_is_one_of_the_world`). What such a run hands out is what was sent
+//!   (`what_is_pulled_with_memory_refused_is_what_was_sent`), and nothing is lost (`once_memory_is_back_nothing_is_lost`).
 //! - What `Setup::new` answers may be given to `run` (`setups_are_made`).
 //! - Lists: a head and a trailer are sent as the lists of their fields are (`heads_are_sent_as_their_lists`).
-ghost use Rattle.std.specs.Prelude.{◌≡◌, ℕ};
+ghost use Rattle.std.specs.Prelude.{◌≡◌, ℕ, List};
 ghost use Rattle.h3_header.specs.Head.{head_fields};
 ghost use Rattle.h3_connection.specs.Endpoint.{EndpointHistory};
 ghost use Rattle.h3_connection.specs.Sending.{send_head, send_trailer};
+ghost use Rattle.h3_connection.specs.State.{EndpointState, StandsFor};
+ghost use Rattle.h3_world.specs.Ends.{Ends};
+ghost use Rattle.h3_world.specs.declared.event.Answer.{Answer};
+ghost use Rattle.h3_world.specs.declared.event.Event.{Event};
+ghost use Rattle.h3_memory.specs.Refused.{EndsRun};
+ghost use Rattle.h3_session.specs.Acting.{RunsByCalls};
 ghost use Rattle.h3_session.specs.SendingLists.{as_error, send_fields, send_trailer_fields};
 
 pub use h3_connection::laws::{
     a_connection_fault_stays, content_is_as_long_as_was_said, cut_calls_are_answered_alike,
     cut_deliveries_are_answered_alike, cut_pulls_are_answered_alike, each_stream_is_isolated,
-    nothing_kept_is_plain, strict_endpoints_hand_out_no_broken_list, the_end_stays,
-    tries_and_waiting_streams_are_bounded, unknown_frames_give_nothing,
-    unknown_streams_change_nothing_else,
+    nothing_kept_is_plain, strict_endpoints_hand_out_no_broken_list,
+    strict_endpoints_send_no_broken_list, the_end_stays, tries_and_waiting_streams_are_bounded,
+    unknown_frames_give_nothing, unknown_streams_change_nothing_else,
 };
 use h3_header::Header;
 pub use h3_headline::laws::{endpoints_decode_what_was_sent, two_endpoints_run_in_a_world};
@@ -35,6 +46,11 @@ pub use h3_headline::parts::{
     endpoints_hand_out_what_was_sent, everything_comes_out, no_connection_fault,
     no_instruction_is_refused, ordered_sends_are_accepted, runs_can_be_cut, tables_agree,
     what_comes_out_rests_on_what_was_sent, what_is_pulled_is_what_was_sent,
+};
+pub use h3_memory::laws::{
+    once_memory_is_back_nothing_is_lost, two_endpoints_run_with_memory,
+    what_is_pulled_with_memory_refused_is_what_was_sent,
+    without_memory_answers_a_run_is_one_of_the_world,
 };
 pub use h3_world::laws::setups_are_made;
 
@@ -46,3 +62,20 @@ pub fn heads_are_sent_as_their_lists(header: &Header)
     h3_header::laws::every_header_reads_back(header);
     h3_header::laws::lists_are_their_value();
 }
+
+ghost use Rattle.h3_session.specs.StrictLists.{SendsWellFormedLists, SendsWellFormedTrailerLists};
+
+/// A list that an endpoint which asks for strict messages sends as a head or as a trailer breaks no rule of well-formed messages (RFC 9114,
+/// sections 4.1.2 and 4.2 to 4.5) as a peer judges it that asks for them, so long as that announced extended CONNECT where its settings that
+/// came say so.
+pub fn strict_endpoints_send_no_broken_field_list()
+    ensures heads { SendsWellFormedLists }
+    ensures trailers { SendsWellFormedTrailerLists }
+{}
+
+/// Events that were answered by their calls are steps of the two endpoints that were stood for, memory refused or not, and what is stored then
+/// stands for the endpoints behind them.
+pub fn calls_are_steps_of_two_endpoints()
+    ensures { (ends : Ends) (events : List Event) (answers : List Answer) (client server : EndpointState) → RunsByCalls ends events answers client server →
+        (new : Ends) × EndsRun ends events answers new × StandsFor client new.client × StandsFor server new.server }
+{}

@@ -5,8 +5,8 @@ ghost use Rattle.h3_world.specs.Ends.{new_ends};
 ghost use Rattle.h3_world.specs.Few.{AreFew};
 ghost use Rattle.h3_world.specs.Headline.{is_memory};
 ghost use Rattle.h3_world.specs.Setup.{IsMadeSetup, JudgesPlainly};
-ghost use Rattle.h3_session.specs.Headlines.{RunsInWorld, RunsUntilMemory};
-ghost use Rattle.h3_session.specs.Messages.{HandsOutUntilMemory};
+ghost use Rattle.h3_session.specs.Headlines.{RunsInKeepingWorld, RunsInWorld, RunsUntilMemory};
+ghost use Rattle.h3_session.specs.Messages.{HandsOutAlways};
 ghost use Rattle.h3_session.specs.Acting.{ActsEach, RunsByCalls};
 ghost use Rattle.h3_session.specs.Running.{AnswersEach, RunsTo};
 
@@ -18,7 +18,9 @@ use self::acting::act;
 use self::typed::events_are_typed;
 use crate::endpoint::Endpoint;
 use h3_headline::laws::two_endpoints_run_in_a_world;
-use h3_headline::parts::endpoints_hand_out_what_was_sent;
+use h3_memory::laws::{
+    two_endpoints_run_with_memory, what_is_pulled_with_memory_refused_is_what_was_sent,
+};
 use h3_proto::stream::Side;
 use h3_world::event::{Answer, Event};
 use h3_world::setup::Setup;
@@ -27,8 +29,11 @@ use std::alloc::{AllocError, Global};
 /// What a run gives: an answer for each event, and both endpoints as the schedule left them.
 #[derive(Drop)]
 pub struct Outcome {
+    /// An answer for each event, in order.
     pub answers: Vec<Answer>,
+    /// The client behind the last event.
     pub client: Endpoint,
+    /// The server behind the last event.
     pub server: Endpoint,
 }
 
@@ -80,10 +85,13 @@ fn beside<A: Drop, B: Drop>(first: A, second: Result<B, AllocError>) -> Result<(
 ///   as these left them.
 /// - `each`: there are as many answers as events, and those up to the first that tells of refused memory are the answers of two
 ///   endpoints of the definitions with the bytes carried between them.
-/// - `messages`: within the bounds of `headline`, as far as the first answer that tells of refused memory, no answer tells of a connection
-///   fault, what a side is handed out of a stream is a front of what the other side sent on it, and with the end it is all of that.
+/// - `messages`: within the bounds of `headline`, behind each event, no answer tells of a connection fault, what a side is handed out of a
+///   stream is a front of what the other side sent on it, and with the end it is all of that.
 /// - `front`: within the bounds of `headline`, these are the answers of a run of the world of a connection, in each step of which
 ///   all that `headline` says holds.
+/// - `memory`: within the bounds of `headline` all answers are those of a run of a world in which memory may be refused: what a side keeps
+///   and has not read counts as not delivered there. An answer that tells of no refused memory is one of that world, and one that does
+///   loses nothing; no connection fault arises. The endpoints handed back stand in its last world, with what they keep.
 ///
 /// Where no answer tells of refused memory:
 /// - `runs`: the answers are those of two endpoints of the definitions with the bytes carried between them, and the endpoints
@@ -98,15 +106,17 @@ pub fn run(alloc: Global, setup: Setup, events: &[Event]) -> Result<Outcome, All
     requires { IsMadeSetup setup }
     ensures calls { IfOk result (λ out. RunsByCalls (new_ends setup) events.now out.answers.items out.client out.server) }
     ensures each { IfOk result (λ out. AnswersEach (new_ends setup) events.now out.answers.items) }
-    ensures messages { IfOk result (λ out. AreFew events.now → JudgesPlainly setup → HandsOutUntilMemory setup events.now out.answers.items) }
+    ensures messages { IfOk result (λ out. AreFew events.now → JudgesPlainly setup → HandsOutAlways setup events.now out.answers.items) }
     ensures front { IfOk result (λ out. AreFew events.now → JudgesPlainly setup → RunsUntilMemory setup events.now out.answers.items) }
+    ensures memory { IfOk result (λ out. AreFew events.now → JudgesPlainly setup → RunsInKeepingWorld setup events.now out.answers.items out.client out.server) }
     ensures runs { IfOk result (λ out. list_any is_memory out.answers.items ≡ false →
         RunsTo (new_ends setup) events.now out.answers.items out.client out.server) }
     ensures headline { IfOk result (λ out. list_any is_memory out.answers.items ≡ false → AreFew events.now → JudgesPlainly setup →
         RunsInWorld setup events.now out.answers.items out.client out.server) }
 {
     two_endpoints_run_in_a_world();
-    endpoints_hand_out_what_was_sent();
+    two_endpoints_run_with_memory();
+    what_is_pulled_with_memory_refused_is_what_was_sent();
     events_are_typed(events);
     let client = Endpoint::announcing(alloc, Side::Client, setup.client);
     let server = Endpoint::announcing(alloc, Side::Server, setup.server);

@@ -9,10 +9,13 @@ use h3_proto::stream::{Side, StreamId};
 /// What an id is to an endpoint, by its two low bits.
 #[derive(Clone, Copy)]
 pub enum StreamKind {
+    /// A request stream, which a client opens.
     Request,
     /// A stream both ways that a server would open.
     ServerOpened,
+    /// A stream on which this side alone sends.
     OwnUnidirectional,
+    /// A stream on which the peer alone sends.
     PeerUnidirectional,
 }
 

@@ -8,8 +8,11 @@ use h3_proto::stream::StreamId;
 /// the settings came for which its bytes have waited. No bytes stand for those that the stream's reader holds.
 #[derive(Drop)]
 pub struct Left {
+    /// The stream.
     pub id: StreamId,
+    /// What came on it and is not read.
     pub bytes: Bytes,
+    /// The peer's decoder stream, where it is read behind them.
     pub early: Option<StreamId>,
 }
 

@@ -32,9 +32,13 @@ pub struct ConnectionStreams {
     pub encoder_on: Option<StreamId>,
     /// The one that is read as its decoder stream.
     pub decoder_on: Option<StreamId>,
+    /// What the peer's control stream said, and what of it is not read.
     pub peer: PeerControl,
+    /// The own decoder, with the peer's encoder stream.
     pub decoding: Decoding,
+    /// The own encoder, with the peer's decoder stream.
     pub encoding: Encoding,
+    /// What waits on the own control, encoder and decoder streams.
     pub own: OwnStreams,
 }
 

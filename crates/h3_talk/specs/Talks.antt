@@ -12,6 +12,8 @@ use Rattle.h3_world.specs.World.{World, empty_world}
 use Rattle.h3_world.specs.declared.setup.Setup.{Setup}
 use Rattle.h3_world.specs.declared.event.Event.{Event}
 use Rattle.h3_world.specs.declared.event.Answer.{Answer}
+use Rattle.h3_memory.specs.Kept.{KeepingWorld, nothing_kept}
+use Rattle.h3_memory.specs.MemoryStep.{HappensWithMemory}
 use Rattle.h3_session.specs.Headlines.{RunsUntilMemory}
 use Rattle.h3_session.specs.Running.{AnswersEach}
 
@@ -23,11 +25,14 @@ pub record AreAnswers (setup : Setup) (events : List Event) (answers : List Answ
   pub of_ends : answers ≡ answers_of_ends (new_ends setup) events
 
 -- What is said of the answers to some events. There is one for each; and those up to the first that tells of refused memory are those of
--- two endpoints with the bytes carried between them, and of a run from the empty world, each step of which happens.
+-- two endpoints with the bytes carried between them, and of a run from the empty world, each step of which happens. Memory refused or not, all are
+-- those of a run of a world in which memory may be refused.
 pub record AnswersTo (setup : Setup) (events : List Event) (answers : List Answer) : Type 0 where
   pub each : AnswersEach (new_ends setup) events answers
   pub front : RunsUntilMemory setup events answers
   pub whole : list_any is_memory answers ≡ false → AreAnswers setup events answers
+  pub world : KeepingWorld
+  pub run : Run (HappensWithMemory setup) (nothing_kept (empty_world setup)) events answers world
 
 -- The lines of the answers to some events were written.
 pub record Prints (setup : Setup) (events : List Event) (old new : Option (List ℕ)) : Type 0 where

@@ -47,14 +47,15 @@ impl Model for Encoding {
 }
 
 impl Encoding {
-    /// An encoder that may not use a table yet. Whether acknowledgments tell of insertions (RFC 9204, section 2.1.4), and the most that
-    /// its table may have, is chosen here.
+    /// An encoder that may not use a table yet. Whether acknowledgments tell of insertions (RFC 9204, section 2.1.4), the most that its
+    /// table may have, and whether it is economical with it, is chosen here.
     pub fn new(alloc: Global, choices: Choices) -> Encoding
-        ensures { result ≡ record { encoder = encoder_state (record no_table { most_capacity = choices.encoder_table; counts_acknowledgments = choices.acknowledgments_counted }); unread = [] } }
+        ensures { result ≡ record { encoder = encoder_state (record no_table { most_capacity = choices.encoder_table; counts_acknowledgments = choices.acknowledgments_counted; economical = choices.economical_table }); unread = [] } }
     {
         let mut encoder = Encoder::new(alloc);
         encoder.limit_table(choices.encoder_table as usize);
         encoder.count_acknowledgments(choices.acknowledgments_counted);
+        encoder.economize(choices.economical_table);
         Encoding {
             encoder,
             unread: Vec::new(alloc),

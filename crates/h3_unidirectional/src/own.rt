@@ -19,8 +19,11 @@ use std::marker::Model;
 /// What waits on the own streams.
 #[derive(Drop)]
 pub struct OwnStreams {
+    /// On the control stream.
     pub control: WaitingBytes,
+    /// On the encoder stream.
     pub encoder: WaitingBytes,
+    /// On the decoder stream.
     pub decoder: WaitingBytes,
 }
 

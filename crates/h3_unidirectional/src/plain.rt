@@ -10,8 +10,11 @@ use bytes::Bytes;
 /// A role that the type alone tells.
 #[derive(Clone, Copy)]
 pub enum PlainRole {
+    /// The control stream (RFC 9114, section 6.2.1).
     Control,
+    /// The encoder stream (RFC 9204, section 4.2).
     Encoder,
+    /// The decoder stream (RFC 9204, section 4.2).
     Decoder,
     /// A type without a meaning.
     Ignored,

@@ -22,8 +22,11 @@ mod unread;
 pub enum Kind {
     /// Its type, or the id that follows it, is not whole.
     Untold,
+    /// The control stream (RFC 9114, section 6.2.1).
     Control,
+    /// The encoder stream (RFC 9204, section 4.2).
     Encoder,
+    /// The decoder stream (RFC 9204, section 4.2).
     Decoder,
     /// A WebTransport stream of this session.
     Session(SessionId),
@@ -36,8 +39,11 @@ pub enum Kind {
 /// What came is for this reader.
 #[derive(Drop)]
 pub enum Received {
+    /// That of the control stream.
     Control(Bytes),
+    /// That of the encoder stream.
     Encoder(Bytes),
+    /// That of the decoder stream.
     Decoder(Bytes),
     /// The stream is a push stream.
     Push,

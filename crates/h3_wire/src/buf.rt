@@ -39,6 +39,7 @@ impl<T: Buf> Model for BufList<T> {
 }
 
 impl<T: Buf> BufList<T> {
+    /// A list without pieces.
     pub fn new(alloc: Global) -> BufList<T>
         ensures pieces { result.pieces ≡ [] }
         ensures bytes { concat result.pieces ≡ [] }

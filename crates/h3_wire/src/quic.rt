@@ -8,6 +8,7 @@ use bytes::Bytes;
 /// What a call has for its caller now.
 #[derive(Clone, Copy, Debug, PartialEq, Eq)]
 pub enum Poll<T> {
+    /// This is it.
     Ready(T),
     /// Nothing yet: ask again.
     Pending,

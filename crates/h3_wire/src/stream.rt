@@ -52,6 +52,7 @@ impl<S> Model for BufRecvStream<S> {
 }
 
 impl<S> BufRecvStream<S> {
+    /// A stream of which nothing was read.
     pub fn new(alloc: Global, stream: S) -> Self
         ensures bytes { concat result.pieces ≡ [] }
         ensures pieces { result.pieces ≡ [] }

@@ -1,10 +1,11 @@
 -- The world before anything is sound.
-use Rattle.std.proofs.Common.{◌≡◌, inr, ℕ, ◌+◌, Bool, true, false, [], ◌++◌, length, min, refl, sym, ap, arith, nat_le, length-append, if◌then◌else◌}
+use Rattle.std.proofs.Common.{◌≡◌, inr, ℕ, ◌+◌, Bool, true, false, [], ◌∷◌, ◌++◌, length, min, refl, sym, ap, arith, nat_le, length-append, if◌then◌else◌}
 use Rattle.std.specs.Prelude.{is_some, unwrap_or, slice_get, drop}
 use Rattle.std.proofs.lemmas.Grind.{common_steps}
 use Rattle.h3_coding.specs.Encodings.{encoding}
 use Rattle.h3_field.specs.Instruction.{DecoderInstruction}
-use Rattle.h3_qpack.specs.Schedule.{beginning}
+use Rattle.h3_qpack.specs.Schedule.{beginning, economizing}
+use Rattle.h3_qpack.specs.Schedule.SessionEvent.{Economize}
 use Rattle.h3_qpack.specs.Session.{Session}
 use Rattle.h3_qpack.specs.WholeInstructions.{decoder_instructions_in}
 use Rattle.h3_wire.specs.Encoded.{frame_encoding}
@@ -52,12 +53,17 @@ flow-empty : (setup : Setup) (side : Side) (id : ℕ) → flow (empty_world setu
 flow-empty setup Client id = ap (λ e. e.request) (exchange-empty setup id)
 flow-empty setup Server id = ap (λ e. e.response) (exchange-empty setup id)
 
--- the session of a side, before anything
+-- the session of a side, before its encoder chose whether it is economical
+abbrev first : Setup → Side → Session
+first setup side = beginning (announced_at setup side).choices.acknowledgments_counted (announced_at setup side).choices.encoder_table 0 0
+
+-- and before anything else
 abbrev begun : Setup → Side → Session
-begun setup side = beginning (announced_at setup side).choices.acknowledgments_counted (announced_at setup side).choices.encoder_table 0 0
+begun setup side = economizing (first setup side) (announced_at setup side).choices.economical_table
 
 -- its encoder has no table
-none_used : (announced : Announced) → (beginning announced.choices.acknowledgments_counted announced.choices.encoder_table 0 0).encoder ≡ (silent announced).encoder
+none_used : (announced : Announced)
+    → (economizing (beginning announced.choices.acknowledgments_counted announced.choices.encoder_table 0 0) announced.choices.economical_table).encoder ≡ (silent announced).encoder
 none_used announced = ap (λ c. record (first_encoder announced) { capacity = c }) (least_none announced.choices.encoder_table)
   where
     least_none : (n : ℕ) → min n 0 ≡ 0
@@ -85,10 +91,10 @@ follows_empty setup Server =
 
 writer_empty : (setup : Setup) (side : Side) (announced : Announced) (knows : Bool) → IsSoundWriter setup side (silent announced) knows
 writer_empty setup side announced knows =
-    record { control = omega arith; encoder = omega arith; decoder = omega arith; unknown = λ e. (refl, refl, refl); limit = omega arith; capacity = inr (refl, refl) }
+    record { control = omega arith; encoder = omega arith; decoder = omega arith; unknown = λ e. ((refl, refl), refl, refl); limit = omega arith; capacity = inr ((refl, refl), refl) }
 
 session_empty : (setup : Setup) (side : Side) → HasSession setup (empty_world setup) side
-session_empty setup side = record { counts = (announced_at setup side).choices.acknowledgments_counted; most = (announced_at setup side).choices.encoder_table; events = []; session = begun setup side; run = refl; follows = follows_empty setup side }
+session_empty setup side = record { counts = (announced_at setup side).choices.acknowledgments_counted; most = (announced_at setup side).choices.encoder_table; events = Economize (announced_at setup side).choices.economical_table ∷ []; session = begun setup side; run = (begun setup side, refl, refl); follows = follows_empty setup side }
 
 pub empty_sound : (setup : Setup) → IsSoundWorld setup (empty_world setup)
 empty_sound setup =

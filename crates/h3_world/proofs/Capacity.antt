@@ -42,4 +42,4 @@ all_read_same s (i ∷ is) =
 
 pub capacity_read : (announced : ℕ) (s t : EncoderHistory) → SameWriting s t → HasCapacity announced s → HasCapacity announced t
 capacity_read announced s t same (inl e) = inl (same.announced ∙ e.0, same.capacity ∙ e.1 ∙ ap (λ m. min m announced) (sym same.most))
-capacity_read announced s t same (inr h) = inr (same.limit ∙ h.0, same.inserted ∙ h.1)
+capacity_read announced s t same (inr h) = inr ((same.limit ∙ h.0.0, same.capacity ∙ h.0.1), same.inserted ∙ h.1)

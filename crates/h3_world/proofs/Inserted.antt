@@ -9,10 +9,10 @@ use Rattle.h3_field.specs.Field.{Field}
 use Rattle.h3_field.specs.StaticTable.{static_field, static_name}
 use Rattle.h3_field.specs.Instruction.{EncoderInstruction, encoder_bytes}
 use Rattle.h3_qpack.specs.EncoderHistory.{EncoderHistory, writing_on}
-use Rattle.h3_qpack.specs.SectionEncoding.{Draft, add_field, add_literal, draft_of, found, found_name, insertion, remaining, is_insertable, required_insert_count, instructions_for, sent_section}
+use Rattle.h3_qpack.specs.SectionEncoding.{Draft, add_ahead, add_field, add_literal, draft_of, found, found_name, insertion, remaining, is_insertable, is_insertable_ahead, required_insert_count, instructions_for, sent_section, write_field}
 use Rattle.h3_qpack.specs.Session.{Session}
 use Rattle.h3_qpack.specs.Schedule.{SessionEvent, SessionStep, SessionRun, beginning}
-use Rattle.h3_qpack.specs.Schedule.SessionEvent.{UseTable, Encode, CutOff, InsertionsRead, Decode, Cancel, DecoderInstructionRead}
+use Rattle.h3_qpack.specs.Schedule.SessionEvent.{UseTable, Economize, Encode, CutOff, InsertionsRead, Decode, Cancel, DecoderInstructionRead}
 use Rattle.h3_table.specs.Table.{newest_from, or_else}
 use Rattle.h3_qpack.specs.WholeInstructions.{whole_in, insertions_in, is_insertion}
 use Rattle.h3_proto.specs.declared.stream.Side.{Side}
@@ -61,11 +61,18 @@ literal_inserts : (s : EncoderHistory) (d : Draft) (f : Field) → InsertsOnly d
 literal_inserts s d f h =
     chosen InsertsOnly (static_name f.name) _ _ (λ index e. h) (λ none. chosen InsertsOnly (found_name s d f) _ _ (λ number e. h) (λ none. h))
 
-field_inserts : (s : EncoderHistory) (d : Draft) (f : Field) → InsertsOnly d → InsertsOnly (add_field s d f)
-field_inserts s d f h =
+-- what holds of a draft with the line of a field holds of it with the field, where an insertion for later sections keeps it
+pub with_field : (P : Draft → Type 0) (s : EncoderHistory) (d : Draft) (f : Field) → P (write_field s d f) → ((e : Draft) → P e → P (add_ahead s e f)) → P (add_field s d f)
+with_field P s d f h ahead = either_way P (is_insertable_ahead s (write_field s d f) f) _ _ (ahead (write_field s d f) h) h
+
+line_of_field_inserts : (s : EncoderHistory) (d : Draft) (f : Field) → InsertsOnly d → InsertsOnly (write_field s d f)
+line_of_field_inserts s d f h =
     chosen InsertsOnly (static_field f) _ _ (λ index e. h) (λ none.
     chosen InsertsOnly (found s d f) _ _ (λ number e. h) (λ none.
     either_way InsertsOnly (is_insertable s d f) _ _ (joined d.instructions (insertion s d f ∷ []) h (one (insertion s d f) (inserts s d f))) (literal_inserts s d f h)))
+
+field_inserts : (s : EncoderHistory) (d : Draft) (f : Field) → InsertsOnly d → InsertsOnly (add_field s d f)
+field_inserts s d f h = with_field InsertsOnly s d f (line_of_field_inserts s d f h) (λ e k. joined e.instructions (insertion s e f ∷ []) k (one (insertion s e f) (inserts s e f)))
 
 fields_insert : (s : EncoderHistory) (d : Draft) (fields : List Field) → InsertsOnly d → InsertsOnly (fold (add_field s) d fields)
 fields_insert s d [] h = h
@@ -76,6 +83,7 @@ section_inserts s fields = fields_insert s (record { inserted = s.inserted; inst
 
 step_inserts : (s : Session) (event : SessionEvent) (new : Session) → AreInsertions s.instructions → SessionStep s event new → AreInsertions new.instructions
 step_inserts s (UseTable capacity limit) new h e = subst (λ x. AreInsertions x.instructions) (sym e.2) h
+step_inserts s (Economize economical) new h e = subst (λ x. AreInsertions x.instructions) (sym e) h
 step_inserts s (Encode stream fields) new h e = subst (λ x. AreInsertions x.instructions) (sym e) (joined s.instructions (instructions_for (writing_on s.encoder stream) fields) h (section_inserts (writing_on s.encoder stream) fields))
 step_inserts s (CutOff stream fields) new h e = subst (λ x. AreInsertions x.instructions) (sym e) (joined s.instructions (instructions_for (writing_on s.encoder stream) fields) h (section_inserts (writing_on s.encoder stream) fields))
 step_inserts s (InsertionsRead count) new h e = subst (λ x. AreInsertions x.instructions) (sym e.2) h
@@ -122,13 +130,16 @@ literal_names s d f h =
     chosen NamesMade (found_name s d f) _ _ (λ number e. names_joined d.inserted d.references (number ∷ []) h (omega (arith, newest_below _ 1 d.inserted number e), tt))
     (λ none. names_joined d.inserted d.references [] h tt))
 
-field_names : (s : EncoderHistory) (d : Draft) (f : Field) → NamesMade d → NamesMade (add_field s d f)
-field_names s d f h =
+line_of_field_names : (s : EncoderHistory) (d : Draft) (f : Field) → NamesMade d → NamesMade (write_field s d f)
+line_of_field_names s d f h =
     chosen NamesMade (static_field f) _ _ (λ index e. names_joined d.inserted d.references [] h tt) (λ none.
     chosen NamesMade (found s d f) _ _ (λ number e. names_joined d.inserted d.references (number ∷ []) h (omega (arith, newest_below _ 1 d.inserted number e), tt)) (λ none.
     either_way NamesMade (is_insertable s d f) _ _
     (names_joined (d.inserted ++ f ∷ []) d.references ((length d.inserted + 1) ∷ []) (names_stay d.inserted f d.references h) (omega (arith, length-append d.inserted (f ∷ [])), tt))
     (literal_names s d f h)))
+
+field_names : (s : EncoderHistory) (d : Draft) (f : Field) → NamesMade d → NamesMade (add_field s d f)
+field_names s d f h = with_field NamesMade s d f (line_of_field_names s d f h) (λ e k. names_stay e.inserted f e.references k)
 
 fields_name : (s : EncoderHistory) (d : Draft) (fields : List Field) → NamesMade d → NamesMade (fold (add_field s) d fields)
 fields_name s d [] h = h

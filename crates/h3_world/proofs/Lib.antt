@@ -41,3 +41,5 @@ pub mod Short
 pub mod Runs
 pub mod Made
 pub mod SectionCapacities
+pub mod CutOff
+pub mod HeldBack

@@ -227,5 +227,5 @@ own_sound laws setup w writer id count fits h =
     read_session false true e k =
         let u = (was false e).unknown refl in
         learning_direction_kept setup w writer id count
-        (record { unknown = e; knows = k; no_limit = u.0; empty = u.1; nothing = u.2; came = (party_of setup w (other writer) h).writer.encoder })
+        (record { unknown = e; knows = k; no_limit = u.0.0; empty = u.1; nothing = u.2; came = (party_of setup w (other writer) h).writer.encoder })
         (party_of setup w (other writer) h).session

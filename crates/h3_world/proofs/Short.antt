@@ -11,10 +11,10 @@ use Rattle.h3_field.specs.Prefix.{most_entries, prefix_bytes}
 use Rattle.h3_field.specs.StaticTable.{static_field, static_name}
 use Rattle.h3_field.specs.StringLiteral.{string_literal}
 use Rattle.h3_qpack.specs.EncoderHistory.{EncoderHistory, writing_on}
-use Rattle.h3_qpack.specs.SectionEncoding.{Draft, add_field, add_literal, draft_of, entry_name_line, found, found_name, is_insertable, required_insert_count}
+use Rattle.h3_qpack.specs.SectionEncoding.{Draft, add_field, add_literal, draft_of, entry_name_line, found, found_name, is_insertable, required_insert_count, write_field}
 use Rattle.h3_qpack.specs.ShortLaws.{prefixed_short, string_short}
 use Rattle.h3_connection.specs.Sections.{encoded_section}
-use Rattle.h3_world.proofs.Inserted.{chosen, either_way}
+use Rattle.h3_world.proofs.Inserted.{chosen, either_way, with_field}
 
 -- the lines so far take no more than that
 abbrev pub LinesWithin : ℕ → Draft → Type 0
@@ -51,13 +51,16 @@ literal_short most s d f h =
     (λ none. line_added most (30 * field_size f) d (Literal f.name f.value) h
     (omega (arith, length-append (string_literal 4 2 f.name) (string_literal 8 0 f.value), string_short 4 2 f.name, string_short 8 0 f.value))))
 
-field_short : (most : ℕ) (s : EncoderHistory) (d : Draft) (f : Field) → LinesWithin most d → LinesWithin (most + 30 * field_size f) (add_field s d f)
-field_short most s d f h =
+line_of_field_short : (most : ℕ) (s : EncoderHistory) (d : Draft) (f : Field) → LinesWithin most d → LinesWithin (most + 30 * field_size f) (write_field s d f)
+line_of_field_short most s d f h =
     chosen (LinesWithin (most + 30 * field_size f)) (static_field f) _ _ (λ index e. line_added most (30 * field_size f) d (StaticField index) h (short_index 6 3 index f)) (λ none.
     chosen (LinesWithin (most + 30 * field_size f)) (found s d f) _ _
     (λ number e. line_added most (30 * field_size f) d (RelativeField (length s.inserted - number)) h (short_index 6 2 (length s.inserted - number) f)) (λ none.
     either_way (LinesWithin (most + 30 * field_size f)) (is_insertable s d f) _ _
     (line_added most (30 * field_size f) d (PostBaseField (length d.inserted - length s.inserted)) h (short_index 4 1 (length d.inserted - length s.inserted) f)) (literal_short most s d f h)))
+
+field_short : (most : ℕ) (s : EncoderHistory) (d : Draft) (f : Field) → LinesWithin most d → LinesWithin (most + 30 * field_size f) (add_field s d f)
+field_short most s d f h = with_field (LinesWithin (most + 30 * field_size f)) s d f (line_of_field_short most s d f h) (λ e k. k)
 
 fields_short : (most : ℕ) (s : EncoderHistory) (d : Draft) (fields : List Field) → LinesWithin most d → LinesWithin (most + 30 * section_size fields) (fold (add_field s) d fields)
 fields_short most s d [] h = omega (arith, h)

@@ -121,7 +121,7 @@ writer_listens setup side p knew knows is more before h =
       decoder = omega (arith, h.decoder, bytes_longer decoder_bytes (encoding 3) p.own.replies more);
       unknown = λ e.
           let u = h.unknown (before e) in
-          (same.limit ∙ u.0, same.inserted ∙ u.1, u.2);
+          ((same.limit ∙ u.0.0, same.capacity ∙ u.0.1), same.inserted ∙ u.1, u.2);
       limit = omega (arith, h.limit, same.limit);
       capacity = capacity_read (limits_for setup side).table p.encoder (encoder_after_all p.encoder is) same h.capacity;
     }

@@ -3,7 +3,7 @@ use Rattle.std.specs.Prelude.{◌≡◌, ◌⊎◌, ℕ, Bool, List, [], ◌∷�
 use Rattle.h3_field.specs.Field.{Field}
 use Rattle.h3_field.specs.Instruction.{EncoderInstruction, DecoderInstruction}
 use Rattle.h3_field.specs.Instruction.EncoderInstruction.{SetCapacity}
-use Rattle.h3_qpack.specs.EncoderHistory.{EncoderHistory}
+use Rattle.h3_qpack.specs.EncoderHistory.{EncoderHistory, HasNoTable}
 use Rattle.h3_qpack.specs.SectionEncoding.{encoded_section}
 use Rattle.h3_qpack.specs.Session.{Session, UndecodedSection, is_canceled, count_of}
 use Rattle.h3_qpack.specs.Schedule.{SessionEvent, SessionRun, beginning}
@@ -85,4 +85,4 @@ pub record HasSession (setup : Setup) (w : World) (side : Side) : Type 0 where
 -- The encoder goes by the announced capacity and has set the lesser of it and the most that its table may have, or may name no entry
 -- yet.
 abbrev pub HasCapacity : ℕ → EncoderHistory → Type 0
-HasCapacity announced s = ((s.announced ≡ announced) × (s.capacity ≡ min s.most_capacity announced)) ⊎ ((s.limit ≡ 0) × (s.inserted ≡ []))
+HasCapacity announced s = ((s.announced ≡ announced) × (s.capacity ≡ min s.most_capacity announced)) ⊎ (HasNoTable s × (s.inserted ≡ []))

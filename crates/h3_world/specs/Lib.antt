@@ -6,6 +6,7 @@ pub mod Came
 pub mod Streams
 pub mod Order
 pub mod Refusals
+pub mod Refused
 pub mod Sending
 pub mod Delivering
 pub mod Items

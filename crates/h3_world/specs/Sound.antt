@@ -4,6 +4,7 @@ use Rattle.std.specs.List.{AllByRecursion}
 use Rattle.h3_field.specs.Field.{section_size}
 use Rattle.h3_field.specs.ReadBack.{IsFieldOfBytes}
 use Rattle.h3_header.specs.ReadsBack.{ReadsBack}
+use Rattle.h3_qpack.specs.EncoderHistory.{HasNoTable}
 use Rattle.h3_qpack.specs.WholeInstructions.{insertions_in}
 use Rattle.h3_proto.specs.declared.stream.Side.{Side}
 use Rattle.h3_proto.specs.declared.stream.Side.TheVariants.{Client, Server}
@@ -125,7 +126,7 @@ pub record IsSoundWriter (setup : Setup) (side : Side) (p : Party) (knows : Bool
   pub encoder : p.own.encoder_taken ≤ length (encoder_stream p)
   pub decoder : p.own.decoder_taken ≤ length (decoder_stream p)
   -- an encoder that doesn't know its peer's limits has no table, and has inserted nothing
-  pub unknown : knows ≡ false → (p.encoder.limit ≡ 0) × (p.encoder.inserted ≡ []) × (p.own.instructions ≡ [])
+  pub unknown : knows ≡ false → HasNoTable p.encoder × (p.encoder.inserted ≡ []) × (p.own.instructions ≡ [])
   -- its limit is at most that of its peer, and its capacity the lesser of the announced one and the most that its table may have
   pub limit : p.encoder.limit ≤ (limits_for setup side).blocked
   pub capacity : HasCapacity (limits_for setup side).table p.encoder

@@ -39,7 +39,9 @@ pub enum Event {
 /// What comes of an event.
 #[derive(Debug, Drop)]
 pub enum Answer {
+    /// The request stream of this id was opened.
     Opened(StreamId),
+    /// It was done.
     Done,
     /// So many bytes went over.
     Delivered(usize),
@@ -49,8 +51,10 @@ pub enum Answer {
     NoStream,
     /// The end or the reset can't go over yet.
     Early,
+    /// The answer of the pull.
     Pulled(Pull),
     /// The other side's limits once they are known, the tables, and how many streams wait.
     Shown(Option<PeerLimits>, TableSizes, usize),
+    /// The call was refused.
     Refused(Refusal),
 }

@@ -71,3 +71,24 @@ pub fn sections_have_the_capacity()
     h3_qpack::laws::every_session_is_sound();
     h3_qpack::laws::canceled_streams_use_no_table();
 }
+
+ghost use Rattle.std.specs.Prelude.{◌+◌, ◌≤◌, false, true, length};
+ghost use Rattle.h3_field.specs.Field.{Field};
+ghost use Rattle.h3_proto.specs.declared.stream.Side.{Side};
+ghost use Rattle.h3_world.specs.Came.{settings_came};
+ghost use Rattle.h3_world.specs.Delivering.{delivered_message};
+ghost use Rattle.h3_world.specs.Flow.{flow_bytes};
+ghost use Rattle.h3_world.specs.Refused.{held_back, with_insertions};
+ghost use Rattle.h3_world.specs.Streams.{flow, is_open};
+
+/// A sound world is sound where memory was refused: with the insertions for fields whose section was not written; where what a decoder wrote
+/// before its side's settings came counts as not delivered; and once bytes are read that were handed over before their stream was reset.
+pub fn what_refused_memory_leaves_is_sound()
+    ensures insertions { (setup : Setup) (w : World) (side : Side) (id : ℕ) (fields : List Field) → IsSoundWorld setup w → IsSoundWorld setup (with_insertions w side id fields) }
+    ensures held { (setup : Setup) (w : World) (side : Side) → settings_came setup w side ≡ false → IsSoundWorld setup w → IsSoundWorld setup (held_back w side) }
+    ensures bytes { (setup : Setup) (w : World) (writer : Side) (id count : ℕ) → IsSoundWorld setup w → is_open w writer id ≡ true → (flow w writer id).delivered + count ≤ length (flow_bytes (flow w writer id)) →
+        (flow w writer id).ended ≡ false → IsSoundWorld setup (delivered_message w writer id count) }
+{
+    h3_qpack::laws::every_session_is_sound();
+    h3_qpack::laws::encoders_without_insertions_use_no_table();
+}

@@ -11,7 +11,9 @@ use h3_proto::stream::Side;
 /// What a client and a server announce.
 #[derive(Drop)]
 pub struct Setup {
+    /// What the client announces.
     pub client: Announced,
+    /// What the server announces.
     pub server: Announced,
 }
 

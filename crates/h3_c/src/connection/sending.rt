@@ -1,7 +1,7 @@
 //! What C sends, heads and trailers aside.
 ghost use Rattle.std.specs.Prelude.{◌≡◌};
 ghost use Rattle.h3_connection.specs.SendingContracts.{Opens, SendsBody, Finishes, Resets, Cancels, GoesAway};
-ghost use Rattle.h3_c.specs.Exported.{Calls, CallsOn, OnStream, OpensRequest, OrMemory};
+ghost use Rattle.h3_c.specs.Exported.{Calls, CallsOn, OnStream, OpensRequest, OrMemory, ShowsNextId};
 ghost use Rattle.h3_c.specs.Numbers.{call_told, body_told};
 
 use super::Connection;
@@ -22,6 +22,20 @@ impl Connection {
                 OK
             }
             Err(refusal) => refused(refusal),
+        }
+    }
+
+    /// The id that `open_request` gives next goes to `id`, and nothing is opened.
+    #[tactic(auto, using(crate::proofs::NextIds::shows_id, crate::proofs::NextIds::shows_refusal))]
+    pub(crate) fn next_request_id(&self, id: &mut u64) -> Told
+        ensures { ShowsNextId self.now result id.old id.new }
+    {
+        match self.endpoint.next_request() {
+            Ok(next) => {
+                *id = next.into_inner();
+                OK
+            }
+            Err(why) => refused(why),
         }
     }
 

@@ -1,7 +1,7 @@
 //! What C calls: sending.
-ghost use Rattle.std.specs.Prelude.{IsSome};
+ghost use Rattle.std.specs.Prelude.{◌≡◌, IsSome};
 ghost use Rattle.h3_connection.specs.SendingContracts.{SendsBody, Finishes, Resets, Cancels, GoesAway};
-ghost use Rattle.h3_c.specs.Exported.{Calls, CallsOn, OnStream, OpensRequest, OrMemory, Steps};
+ghost use Rattle.h3_c.specs.Exported.{Calls, CallsOn, OnStream, OpensRequest, OrMemory, ShowsNextId, Steps};
 ghost use Rattle.h3_c.specs.Numbers.{number, call_told, body_told};
 
 use crate::handle::{Handle, kept, opened};
@@ -22,6 +22,26 @@ pub extern "C" fn h3_raw_open_request(
 {
     let mut connection = opened(alloc, handle);
     let told = connection.open_request(id);
+    *out = kept(connection);
+    *detail = told.detail;
+    told.number
+}
+
+/// The id that `h3_raw_open_request` gives next goes to `id`, and nothing is opened.
+#[unsafe(no_mangle)]
+pub extern "C" fn h3_raw_next_request_id(
+    alloc: Global,
+    handle: Handle,
+    id: &mut u64,
+    detail: &mut u64,
+    out: &mut Handle,
+) -> u32
+    requires { IsSome handle.value }
+    ensures there { IsSome out.new.value }
+    ensures goes { Steps handle.value out.new.value (λ v w. (w ≡ v) × ShowsNextId v (number result detail.new) id.old id.new) }
+{
+    let connection = opened(alloc, handle);
+    let told = connection.next_request_id(id);
     *out = kept(connection);
     *detail = told.detail;
     told.number

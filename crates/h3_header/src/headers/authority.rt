@@ -53,16 +53,6 @@ pub(crate) fn scheme_or_https(scheme: Option<Scheme>) -> Scheme
     }
 }
 
-/// The path, or else `/`.
-pub(crate) fn path_or_root(path: Option<PathAndQuery>) -> PathAndQuery
-    ensures { result ≡ unwrap_or path (codes "/") }
-{
-    match path {
-        Some(path) => path,
-        None => root(),
-    }
-}
-
 fn host(map: &HeaderMap) -> Option<&[u8]>
     ensures { option_copied result ≡ host_of map.now }
 {

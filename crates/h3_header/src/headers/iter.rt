@@ -84,7 +84,7 @@ impl Pseudo {
             return Some(field);
         }
         if let Some(part) = self.path.take() {
-            let field = pseudo_field(alloc, b":path", part.as_str());
+            let field = part.field(alloc);
             drop(part);
             return Some(field);
         }

@@ -18,7 +18,9 @@ const MOST_NAMES: usize = 24576;
 /// What is malformed of a field by itself (RFC 9114, 4.2 and 4.3).
 #[derive(Clone, Copy, Debug, PartialEq, Eq)]
 pub enum BadPart {
+    /// Its name.
     Name,
+    /// Its value.
     Value,
 }
 

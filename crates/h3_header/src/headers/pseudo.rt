@@ -1,5 +1,5 @@
 //! The pseudo-header fields of a message (RFC 9114, 4.3).
-ghost use Rattle.std.specs.Prelude.{◌≡◌, ◌++◌, OnOk, length, None, Some, option_map, option_copied, IfSome};
+ghost use Rattle.std.specs.Prelude.{◌≡◌, ◌++◌, true, IfErr, IfOk, OnOk, length, None, Some, option_map, option_copied, IfSome};
 ghost use Rattle.std.specs.List.{AllByRecursion};
 ghost use Rattle.http_header.specs.Token.{IsToken};
 ghost use Rattle.http.specs.StatusCode.{IsStatusCode, code_digits};
@@ -9,15 +9,17 @@ ghost use Rattle.h3_header.specs.ProtocolText.{IsProtocolText};
 ghost use Rattle.http_header.specs.FieldValue.{FieldValue};
 ghost use Rattle.http_header.specs.HeaderMap.{Entries};
 ghost use Rattle.h3_header.specs.Parts.{head_of_parts, no_pseudo, fields_of_pseudo};
-ghost use Rattle.h3_header.specs.Request.{request_head};
+ghost use Rattle.h3_header.specs.Request.{request_head, is_path_rooted};
 ghost use Rattle.h3_header.specs.ReadsBack.{IsValidPseudo};
 
-use super::authority::{path_or_root, protocol_of, scheme_or_https};
+use super::authority::{protocol_of, scheme_or_https};
+use super::error::HeaderError;
+use super::path::{RequestPath, append_path, joined_path, visit_path};
 use super::write::{append_pseudo, append_static, visit_text};
 use crate::ext::Protocol;
 use h3_field::HeaderField;
 use http::{Method, StatusCode};
-use http_uri::{Authority, Parts, PathAndQuery, Scheme, Uri};
+use http_uri::{Authority, Parts, Scheme, Uri};
 use std::alloc::{AllocError, Global};
 
 /// The pseudo-header fields that are there.
@@ -26,8 +28,16 @@ pub(crate) struct Pseudo {
     pub(crate) method: Option<Method>,
     pub(crate) scheme: Option<Scheme>,
     pub(crate) authority: Option<Authority>,
-    pub(crate) path: Option<PathAndQuery>,
+    pub(crate) path: Option<RequestPath>,
     pub(crate) status: Option<StatusCode>,
+    pub(crate) protocol: Option<Protocol>,
+}
+
+/// What a request is made of, but for its regular fields.
+#[derive(Drop)]
+pub(crate) struct RequestParts {
+    pub(crate) method: Option<Method>,
+    pub(crate) parts: Parts,
     pub(crate) protocol: Option<Protocol>,
 }
 
@@ -61,7 +71,7 @@ impl Pseudo {
     }
 
     /// The pseudo-header fields of a request (RFC 9114, 4.3.1). A missing scheme is https, a missing
-    /// path is `/`, and the protocol counts for CONNECT alone.
+    /// path is `/`, ahead of a query too, and the protocol counts for CONNECT alone.
     pub(crate) fn request(method: Method, uri: Uri, protocol: Option<Protocol>) -> Pseudo
         ensures { (regular : Entries FieldValue) → head_of_parts result regular ≡ request_head method uri regular protocol }
     {
@@ -71,21 +81,22 @@ impl Pseudo {
             authority,
             path_and_query,
         } = uri.into_parts();
+        let path = RequestPath::of_request(&method, path_and_query);
         Pseudo {
             method: Some(method),
             scheme: Some(scheme_or_https(scheme)),
             authority,
-            path: Some(path_or_root(path_and_query)),
+            path: Some(path),
             status: None,
             protocol,
         }
     }
 
-    /// The method, the parts of the URI and the protocol.
-    pub(crate) fn into_request(self) -> (Option<Method>, Parts, Option<Protocol>)
-        ensures method { result.0 ≡ self.method }
-        ensures parts { result.1 ≡ record { scheme = self.scheme; authority = self.authority; path_and_query = self.path } }
-        ensures protocol { result.2 ≡ self.protocol }
+    /// The method, the parts of the URI and the protocol. A query behind `/` takes memory.
+    pub(crate) fn into_request(self, alloc: Global) -> Result<RequestParts, HeaderError>
+        ensures ok { IfOk result (λ made. (made.method ≡ self.method) × (made.protocol ≡ self.protocol)
+            × (made.parts ≡ record { scheme = self.scheme; authority = self.authority; path_and_query = self.path })) }
+        ensures err { IfErr result (λ e. (e ≡ HeaderError.OutOfMemory) × (is_path_rooted self.path ≡ true)) }
     {
         let Pseudo {
             method,
@@ -95,12 +106,17 @@ impl Pseudo {
             status: _,
             protocol,
         } = self;
+        let path_and_query = joined_path(alloc, path)?;
         let parts = Parts {
             scheme,
             authority,
-            path_and_query: path,
+            path_and_query,
         };
-        (method, parts, protocol)
+        Ok(RequestParts {
+            method,
+            parts,
+            protocol,
+        })
     }
 
     pub(crate) fn method_text(&self) -> Option<&str>
@@ -128,16 +144,6 @@ impl Pseudo {
         ensures valid { IfSome self.now.authority IsAuthority }
     {
         match &self.authority {
-            Some(part) => Some(part.as_str()),
-            None => None,
-        }
-    }
-
-    pub(crate) fn path_text(&self) -> Option<&str>
-        ensures value { option_copied result ≡ option_map or_slash self.now.path }
-        ensures valid { IfSome self.now.path IsPathAndQuery }
-    {
-        match &self.path {
             Some(part) => Some(part.as_str()),
             None => None,
         }
@@ -175,7 +181,7 @@ impl Pseudo {
         visit_text(self.method_text());
         visit_text(self.scheme_text());
         visit_text(self.authority_text());
-        visit_text(self.path_text());
+        visit_path(&self.path);
         visit_text(self.status_text());
         visit_text(self.protocol_text());
     }
@@ -205,7 +211,7 @@ impl Pseudo {
         append_pseudo(alloc, list, b":method", self.method_text())?;
         append_pseudo(alloc, list, b":scheme", self.scheme_text())?;
         append_pseudo(alloc, list, b":authority", self.authority_text())?;
-        append_pseudo(alloc, list, b":path", self.path_text())?;
+        append_path(alloc, list, &self.path)?;
         append_static(list, b":status", self.status_text())?;
         append_static(list, b":protocol", self.protocol_text())?;
         Ok(())

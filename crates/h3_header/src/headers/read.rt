@@ -15,6 +15,7 @@ ghost use Rattle.h3_header.specs.Parts.{head_of_parts};
 use super::authority::{https, root};
 use super::error::HeaderError;
 use super::kind::FieldKind;
+use super::path::RequestPath;
 use super::pseudo::Pseudo;
 use super::store::Store;
 use crate::ext::Protocol;
@@ -65,20 +66,16 @@ fn read_authority(
     }
 }
 
-fn read_path(
-    alloc: Global,
-    store: &mut Store,
-    value: &Part<'_>,
-) -> Result<PathAndQuery, HeaderError>
+fn read_path(alloc: Global, store: &mut Store, value: &Part<'_>) -> Result<RequestPath, HeaderError>
     ensures ok { IfOk result (λ m. IsPathInput (part_bytes value.now)
         × (m ≡ without_fragment (part_bytes value.now))) }
     ensures err { IfErr result (RefusesValue (IsPathInput (part_bytes value.now)) ⊤) }
 {
     if value.bytes() == b"/".as_slice() {
-        return Ok(root());
+        return Ok(RequestPath::of_text(root()));
     }
     match PathAndQuery::from_shared(store.keep(value)?) {
-        Ok(path) => Ok(path),
+        Ok(path) => Ok(RequestPath::of_text(path)),
         Err(_) => Err(HeaderError::invalid_value(alloc, b":path", value.bytes())),
     }
 }

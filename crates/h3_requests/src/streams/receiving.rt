@@ -3,6 +3,7 @@ ghost use Rattle.std.specs.Prelude.{◌≡◌, ◌++◌, true, false, None, OnOk
 ghost use Rattle.h3_blocked.specs.Sums.{TakesOut};
 ghost use Rattle.h3_connection.specs.Calls.{Sets, AllSame};
 ghost use Rattle.h3_connection.specs.Delivering.{kept, with_end, given_up_once, cancellation};
+ghost use Rattle.h3_connection.specs.Incoming.{awaiting};
 ghost use Rattle.h3_connection.specs.State.{kept_at};
 ghost use Rattle.h3_connection.specs.declared.event.StreamFault.TheVariants.{Reset};
 ghost use Rattle.h3_incoming.specs.Replying.{encodings};
@@ -11,6 +12,7 @@ ghost use Rattle.h3_requests.specs.Changing.{opened_at, Receives, receiver_refus
 use super::RequestStreams;
 use bytes::Bytes;
 use h3_connection::event::{DeliverError, Refusal};
+use h3_messages::Content;
 use h3_proto::stream::{Side, StreamId};
 use std::alloc::{AllocError, Global};
 
@@ -169,6 +171,18 @@ impl RequestStreams {
                 Err(e)
             }
         }
+    }
+
+    /// This content is awaited of a stream, until the head of its message comes. Nothing happens where the stream is not there.
+    pub fn await_content(&mut self, id: StreamId, content: Content)
+        ensures there { IfSome (kept_at self.old id) (λ r. Sets self.old self.new id (record r { incoming = awaiting r.incoming content })) }
+        ensures absent { kept_at self.old id ≡ None → AllSame self.old self.new }
+    {
+        let Some(stream) = self.streams.get_mut(id) else {
+            let _over = self.streams.is_over(id);
+            return;
+        };
+        stream.incoming.await_content(content);
     }
 
     // Opens the stream where it is not there, takes it up where it is over, and answers whether it was there.

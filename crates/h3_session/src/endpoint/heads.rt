@@ -9,13 +9,13 @@ ghost use Rattle.h3_connection.specs.Calls.{AllSame};
 ghost use Rattle.h3_connection.specs.Endpoint.{EndpointHistory};
 ghost use Rattle.h3_connection.specs.OwnIds.{other};
 ghost use Rattle.h3_connection.specs.Pulling.{is_for, is_interim};
-ghost use Rattle.h3_connection.specs.Sending.{fields_cost, is_too_large};
+ghost use Rattle.h3_connection.specs.Sending.{fields_cost, is_too_large, remembers};
 ghost use Rattle.h3_connection.specs.SendingContracts.{SendsHead, SendsTrailer, CutsOff};
 ghost use Rattle.h3_connection.specs.State.{StandsFor, kept_at};
 ghost use Rattle.h3_connection.specs.declared.event.Refusal.TheVariants.{OutOfMemory};
 ghost use Rattle.h3_requests.specs.Refused.{or_later, head_refused_at, body_refused_at};
-ghost use Rattle.h3_session.specs.Refused.{side_refused, pseudo_refused, size_refused};
-ghost use Rattle.h3_session.specs.SendingFields.{Encodes, StopsEncoding, Queues, SendsFields, IsJudged};
+ghost use Rattle.h3_session.specs.Refused.{side_refused, pseudo_refused, size_refused, refused_behind};
+ghost use Rattle.h3_session.specs.SendingFields.{Encodes, StopsEncoding, Queues, Remembers, SendsFields, IsJudged, asking};
 
 use super::Endpoint;
 use bytes::Bytes;
@@ -24,6 +24,7 @@ use h3_connection::event::Refusal;
 use h3_connection::place::SendPlace;
 use h3_field::HeaderField;
 use h3_header::Header;
+use h3_messages::Content;
 use h3_proto::frame::SettingId;
 use h3_proto::stream::{Side, StreamId};
 use h3_qpack::laws::sections_leave_their_counts;
@@ -35,9 +36,9 @@ use std::alloc::{AllocError, Global};
 impl Endpoint {
     /// A head goes out on a stream: an encoded field section in a HEADERS frame (RFC 9114, section 4.3), and its insertions on the
     /// encoder stream. One with a status from 100 to 199 is not the last one. Refused are, in this order, every call after a
-    /// connection fault, a stream that is not open, one whose final head or end was sent, a head of the other side's messages, and
-    /// one whose size is above what the peer's settings allow. Where memory is refused the encoder stream may have gained whole
-    /// instructions, and the stream is as it was.
+    /// connection fault, a stream that is not open, one whose final head or end was sent, a head of the other side's messages, where
+    /// the endpoint asks for strict messages one that a strict peer would call malformed, and one whose size is above what the peer's
+    /// settings allow. Where memory is refused the encoder stream may have gained whole instructions, and the stream is as it was.
     pub fn send_head(&mut self, id: StreamId, head: &Header) -> Result<(), Refusal>
         ensures { SendsHead self.old self.new id head.now result }
     {
@@ -52,7 +53,7 @@ impl Endpoint {
         let Ok(fields) = head.fields(self.alloc) else {
             return Err(Refusal::OutOfMemory);
         };
-        self.send_section(room, fields.as_slice(), place_behind(head))
+        self.send_head_section(room, fields.as_slice(), place_behind(head))
     }
 
     // Room for the frame of a head on a stream that takes one, unless `later` refuses it. The streams are found as they were.
@@ -72,7 +73,8 @@ impl Endpoint {
 
     /// A trailer goes out on a stream, as a head does, and ends the message's fields. Refused are, in this order, every call after
     /// a connection fault, a stream that is not open, one whose final head was not sent, or whose trailer or end was, a trailer
-    /// with a pseudo-header field, and one whose size is above what the peer's settings allow.
+    /// with a pseudo-header field, where the endpoint asks for strict messages one that a strict peer would call malformed, and one
+    /// whose size is above what the peer's settings allow.
     pub fn send_trailer(&mut self, id: StreamId, trailer: &Header) -> Result<(), Refusal>
         ensures { SendsTrailer self.old self.new id trailer.now result }
     {
@@ -105,16 +107,54 @@ impl Endpoint {
         self.requests.reserve_trailer(id, later)
     }
 
-    // Sends fields on a stream that takes them and has room for their frame, where their size is allowed.
+    // Sends the fields of a head so, and a strict client remembers what a request asks.
+    pub(super) fn send_head_section(
+        &mut self,
+        room: SectionRoom,
+        fields: &[HeaderField],
+        place: SendPlace,
+    ) -> Result<(), Refusal>
+        ensures { SendsFields (asking room fields.now) self.old self.new room fields.now place (call_refused result) }
+    {
+        let id = room.id();
+        match self.send_section(room, fields, place) {
+            Ok(()) => {
+                self.await_response(id, fields);
+                Ok(())
+            }
+            Err(refusal) => Err(refusal),
+        }
+    }
+
+    // What a request of these fields says of the content of its response is remembered on its stream, where this is a strict client.
+    fn await_response(&mut self, id: StreamId, fields: &[HeaderField])
+        ensures { Remembers self.old self.new id fields.now }
+    {
+        if self.remembers() {
+            self.requests.await_content(id, Content::awaited_by(fields));
+        }
+    }
+
+    // Whether this is a client that asks for strict messages.
+    fn remembers(&self) -> bool
+        ensures { result ≡ remembers self.now.side self.now.announced }
+    {
+        match self.side {
+            Side::Client => self.announced.choices.strict_messages,
+            Side::Server => false,
+        }
+    }
+
+    // Sends fields on a stream that takes them and has room for their frame, where their list is allowed.
     pub(super) fn send_section(
         &mut self,
         room: SectionRoom,
         fields: &[HeaderField],
         place: SendPlace,
     ) -> Result<(), Refusal>
-        ensures { SendsFields self.old self.new room fields.now place (call_refused result) }
+        ensures { SendsFields (λ e. e) self.old self.new room fields.now place (call_refused result) }
     {
-        let sum = match self.judge_size(fields) {
+        let sum = match self.judge_list(fields, place) {
             Ok(sum) => sum,
             Err(refusal) => return Err(refusal),
         };
@@ -125,7 +165,20 @@ impl Endpoint {
         Ok(())
     }
 
-    // What was sent, with these fields, where the peer allows their size.
+    // What was sent, with these fields, where they break no rule that is asked and the peer allows their size.
+    fn judge_list(&self, fields: &[HeaderField], place: SendPlace) -> Result<u64, Refusal>
+        ensures ok { IfOk result (λ sum. IsJudged self.now fields.now sum) }
+        ensures fits { OnOk result (refused_behind self.now place fields.now ≡ None) }
+        ensures err { IfErr result (λ refusal. refusal ≢ Refusal.OutOfMemory → refused_behind self.now place fields.now ≡ Some refusal) }
+        ensures memory { IfErr result (λ refusal. refusal ≡ Refusal.OutOfMemory → 2 ^ 56 ≤ self.now.sent + fields_cost fields.now + 64) }
+    {
+        if let Some(why) = self.broken_rule(fields, place) {
+            return Err(Refusal::Malformed(why));
+        }
+        self.judge_size(fields)
+    }
+
+    // The same where they break none.
     #[tactic(auto, using(crate::proofs::Costs::cost_is, crate::proofs::Costs::many_fields))]
     fn judge_size(&self, fields: &[HeaderField]) -> Result<u64, Refusal>
         ensures ok { IfOk result (λ sum. IsJudged self.now fields.now sum) }

@@ -8,7 +8,7 @@ ghost use Rattle.h3_connection.specs.State.{kept_at};
 ghost use Rattle.h3_connection.specs.declared.event.Refusal.TheVariants as refusal;
 ghost use Rattle.h3_requests.specs.Refused.{head_refused_at, body_refused_at};
 ghost use Rattle.h3_session.specs.Refused.{side_refused, pseudo_refused};
-ghost use Rattle.h3_session.specs.SendingLists.{SendsFieldList, SendsTrailerList, SendsListedHead, SendsListedTrailer, error_after, no_memory, list_told};
+ghost use Rattle.h3_session.specs.SendingLists.{SendsFieldList, SendsTrailerList, SendsListedHead, SendsListedTrailer, error_after, error_of, no_memory, list_told};
 ghost use Rattle.h3_session.specs.Outline.{is_sent_outline};
 ghost use Rattle.h3_session.specs.declared.endpoint.lists.FieldsError.TheVariants as error;
 ghost use Rattle.h3_session.specs.JudgedLists.{head_list_error, trailer_list_error, IsHeadAt, IsTrailer};
@@ -27,16 +27,18 @@ use std::alloc::Global;
 pub enum FieldsError {
     /// As a header of these fields is refused.
     Refused(Refusal),
-    /// It is no list of a header (`Name`, `Value`, `TooMany`), as `Header::try_from` tells it.
+    /// It is no list of a header (`Name`, `Value`, `TooMany`), as `Header::try_from` tells it. Or the endpoint asks for strict messages, and
+    /// a strict peer would call it malformed, as a header of these fields is refused by `Refusal::Malformed`.
     Malformed(Malformation),
 }
 
 impl Endpoint {
     /// A head goes out on a stream, as `send_head` sends it, but as the list that it is given as: in its order, and from where its fields lie.
     /// No header is made of it. Refused are, in this order, every call after a connection fault, a stream that is not open, one whose final
-    /// head or end was sent, a list that `Header::try_from` refuses, a head of the other side's messages, and one whose size is above what
-    /// the peer's settings allow. Where memory is refused the encoder stream may have gained whole instructions, and the stream is as it
-    /// was. A list of more than 24,576 fields also takes memory to be judged.
+    /// head or end was sent, a list that `Header::try_from` refuses, a head of the other side's messages, where the endpoint asks for strict
+    /// messages one that a strict peer would call malformed, and one whose size is above what the peer's settings allow. Where memory is
+    /// refused the encoder stream may have gained whole instructions, and the stream is as it was. A list of more than 24,576 fields also
+    /// takes memory to be judged.
     pub fn send_fields(&mut self, id: StreamId, fields: &[HeaderField]) -> Result<(), FieldsError>
         ensures { SendsFieldList self.old self.new id fields.now result }
     {
@@ -52,7 +54,8 @@ impl Endpoint {
 
     /// A trailer goes out on a stream, as `send_trailer` sends it, but as the list that it is given as. Refused are, in this order, every
     /// call after a connection fault, a stream that is not open, one whose final head was not sent, or whose trailer or end was, a list
-    /// that `Header::try_from` refuses, one with a pseudo-header field, and one whose size is above what the peer's settings allow.
+    /// that `Header::try_from` refuses, one with a pseudo-header field, where the endpoint asks for strict messages one that a strict peer
+    /// would call malformed, and one whose size is above what the peer's settings allow.
     pub fn send_trailer_fields(
         &mut self,
         id: StreamId,
@@ -109,7 +112,7 @@ impl Endpoint {
             Ok(room) => room,
             Err(refusal) => return Err(refusal),
         };
-        self.send_section(room, fields, place)
+        self.send_head_section(room, fields, place)
     }
 
     // A list that reads as a trailer goes out.
@@ -179,10 +182,11 @@ fn without_pseudo(outline: &Outline) -> Result<(), FieldsError>
 
 // A refusal as one of a list.
 fn as_error(sent: Result<(), Refusal>) -> Result<(), FieldsError>
-    ensures { list_told result ≡ option_map error.Refused (call_refused sent) }
+    ensures { list_told result ≡ option_map error_of (call_refused sent) }
 {
     match sent {
         Ok(()) => Ok(()),
+        Err(Refusal::Malformed(why)) => Err(FieldsError::Malformed(why)),
         Err(refusal) => Err(FieldsError::Refused(refusal)),
     }
 }

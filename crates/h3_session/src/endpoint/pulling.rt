@@ -96,7 +96,8 @@ fn cancel_stream(
 impl Endpoint {
     /// What comes next on a stream: the fault of the connection, the fault for which the stream was given up, its end again, or its
     /// next item. All that came before is read first. A fault of the connection closes it. `Fault::Memory` loses nothing: what came
-    /// is read on by the next delivery or pull, and the stream goes on as if it had not been asked.
+    /// is read on by the next delivery or pull, and the stream goes on as if it had not been asked. No pull sets back how often the head of
+    /// the frame under way was tried (`frames`): at most 17 times, however often a stream is pulled.
     pub fn pull(&mut self, id: StreamId) -> Pull
         ensures { PullsNext self.old self.new id result }
     {

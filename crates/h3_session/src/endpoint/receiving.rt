@@ -148,7 +148,8 @@ impl Endpoint {
     /// Bytes came on a stream. They are kept as they are, with no copy, and all that can be read of them is read. Refused are, in this
     /// order, everything after a connection fault, what comes on a stream that sends nothing or isn't open, and what comes behind an
     /// end or a reset. `OutOfMemory` hands the bytes back, and nothing has changed. `Kept`: the bytes are taken, and memory was
-    /// refused in reading what came; the next delivery or pull reads on from there.
+    /// refused in reading what came; the next delivery or pull reads on from there. However small the pieces are, the head of a frame is
+    /// tried at most 17 times: no delivery sets the count back that `frames` shows.
     #[tactic(auto, using(crate::proofs::ReceivingAtOnce::delivers_at_once))]
     pub fn deliver(&mut self, id: StreamId, bytes: Bytes) -> Result<(), DeliverError>
         ensures { Delivers self.old self.new id bytes result }

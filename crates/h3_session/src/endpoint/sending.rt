@@ -11,6 +11,7 @@ ghost use Rattle.h3_connection.specs.State.{kept_at};
 ghost use Rattle.h3_connection.specs.declared.event.Refusal.TheVariants.{OutOfMemory};
 ghost use Rattle.h3_outgoing.specs.Sent.{has_body, has_ended, was_cut_off};
 ghost use Rattle.h3_requests.specs.Refused.{body_refused_at, end_refused_at, reset_refused_at};
+ghost use Rattle.h3_session.specs.NextRequest.{ShowsNextRequest};
 ghost use Rattle.h3_session.specs.Refused.{sender_in, critical_refused, goaway_refused};
 
 use super::Endpoint;
@@ -39,6 +40,20 @@ impl Endpoint {
         };
         self.next_id += 4;
         Ok(id)
+    }
+
+    /// The id that `open_request` gives next, or the refusal that it answers, want of memory aside. Nothing is opened.
+    #[tactic(auto, using(crate::proofs::NextRequest::shows_id, crate::proofs::NextRequest::shows_refusal, crate::proofs::NextRequest::shows_far))]
+    pub fn next_request(&self) -> Result<StreamId, Refusal>
+        ensures { ShowsNextRequest self.now result }
+    {
+        if let Some(refusal) = self.open_refusal() {
+            return Err(refusal);
+        }
+        match StreamId::try_from(self.next_id) {
+            Ok(id) => Ok(id),
+            Err(_) => Err(Refusal::IdsUsedUp),
+        }
     }
 
     fn open_refusal(&self) -> Option<Refusal>

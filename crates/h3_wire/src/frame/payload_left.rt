@@ -4,6 +4,8 @@
 /// stream's end.
 #[derive(Clone, Copy, Debug, PartialEq, Eq)]
 pub enum PayloadLeft {
+    /// So many bytes.
     Bytes(usize),
+    /// All to the stream's end.
     ToEnd,
 }

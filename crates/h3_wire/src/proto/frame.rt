@@ -120,6 +120,7 @@ impl Model for PushPromise {
 }
 
 impl PushPromise {
+    /// The promise of a push of this id, with its encoded field section.
     pub fn new(id: PushId, encoded: Bytes) -> PushPromise
         ensures id { result.id ≡ id }
         ensures section { result.section ≡ encoded }
@@ -139,14 +140,19 @@ impl PushPromise {
 /// they are.
 #[derive(Drop)]
 pub enum Frame<B> {
+    /// Content of a message (RFC 9114, section 7.2.1).
     Data(B),
     /// An encoded field section.
     Headers(Bytes),
+    /// A push is canceled (RFC 9114, section 7.2.3).
     CancelPush(PushId),
+    /// What an end announces (RFC 9114, section 7.2.4).
     Settings(Settings),
+    /// A push is promised (RFC 9114, section 7.2.5).
     PushPromise(PushPromise),
     /// The id of a request or of a push.
     Goaway(VarInt),
+    /// The greatest id that a push may have (RFC 9114, section 7.2.7).
     MaxPushId(PushId),
     /// The head of a WebTransport stream, which lasts to the stream's end.
     WebTransportStream(SessionId),

@@ -35,10 +35,15 @@ pub enum PollTypeError {
 /// A one-way stream by its type, with every byte behind the type and its id.
 #[derive(Drop)]
 pub enum AcceptedRecvStream<S> {
+    /// A control stream.
     Control(FrameStream<S>),
+    /// A push stream.
     Push(FrameStream<S>),
+    /// An encoder stream of QPACK.
     Encoder(BufRecvStream<S>),
+    /// A decoder stream of QPACK.
     Decoder(BufRecvStream<S>),
+    /// A stream of this WebTransport session.
     WebTransportUni(SessionId, BufRecvStream<S>),
     /// A type without a meaning.
     Unknown(BufRecvStream<S>),
@@ -65,6 +70,7 @@ impl<S> Model for AcceptRecvStream<S> {
 }
 
 impl<S> AcceptRecvStream<S> {
+    /// A stream whose type is not read yet.
     pub fn new(alloc: Global, stream: S) -> Self
         ensures bytes { concat result.pieces ≡ [] }
         ensures pieces { result.pieces ≡ [] }

@@ -17,7 +17,9 @@ pub enum UniStreamHeader {
     Control(Settings),
     /// A WebTransport stream of a session.
     WebTransportUni(SessionId),
+    /// An encoder stream of QPACK.
     Encoder,
+    /// A decoder stream of QPACK.
     Decoder,
 }
 

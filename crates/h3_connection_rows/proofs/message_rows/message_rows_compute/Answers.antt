@@ -16,7 +16,7 @@ use Rattle.h3_qpack.specs.DecodedSection.{fields_in, decode_section}
 use Rattle.h3_connection.specs.Skipping.{skipped}
 use Rattle.h3_connection.specs.PeerReading.{read_peer}
 use Rattle.h3_connection.specs.Pulling.{pull_stream}
-use Rattle.h3_messages.specs.Messages.{violation_of_request}
+use Rattle.h3_messages.specs.Messages.{violation_of_request, violation_of_response, violation_of_trailer}
 use Rattle.std.proofs.Common.{refl}
 use Rattle.h3_connection_rows.proofs.message_rows.message_rows_compute.Goals as goal
 
@@ -119,3 +119,7 @@ returns-clause-interim_head_in_a_trailers_place c = refl
 pub returns-clause-content_counted : goal.returns-clause-content_counted
 unfolding violation_of_request encoding static_field static_name chars encode varint_at split_of bits code_word octets huffman static_table frame_at frame_of known is_token_byte is_utf8 kind_of head_of unhuffman hear listen fields_in decode_section skipped read_peer pull_stream
 returns-clause-content_counted c = refl
+
+pub returns-clause-response_content_counted : goal.returns-clause-response_content_counted
+unfolding violation_of_request violation_of_response violation_of_trailer encoding static_field static_name chars encode varint_at split_of bits code_word octets huffman static_table frame_at frame_of known is_token_byte is_utf8 kind_of head_of unhuffman hear listen fields_in decode_section skipped read_peer pull_stream
+returns-clause-response_content_counted c = refl

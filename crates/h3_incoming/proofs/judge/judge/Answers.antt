@@ -11,4 +11,4 @@ returns-in-Fields c = judged_within _ c.args.side c.args.announced.now c.args.pl
 pub returns-in-TooLarge : goal.returns-in-TooLarge
 returns-in-TooLarge c = λ id r i replies dyn_ref fields within at left.
     let large = subst (λ d. IsWithin (section_of c.args.announced.now) (codes ":status") dyn_ref fields d) c.in-TooLarge.is within in
-    c.judge_large.ensures c.args.announced.now id r i replies dyn_ref fields large.0 large.1 at left
+    c.judge_large.ensures id r i replies dyn_ref fields large.0 large.1 at left

@@ -1,14 +1,20 @@
-use Rattle.h3_qpack.proofs.Fieldwise.{on_both, on_four, grown, over_after, drafted_after}
+use Rattle.std.proofs.Common.{◌∙◌, sym}
+use Rattle.h3_qpack.proofs.Ahead.{alone_after, ahead_after, on_one}
+use Rattle.h3_qpack.proofs.Fieldwise.{over_after}
 use Rattle.h3_qpack.proofs.writing.put_field.Goals as goal
 
-pub returns-clause-over : goal.returns-clause-over
-returns-clause-over c =
-    on_both c.put_chosen.result (λ table section. over_after _ _ _ _ _ _ c.requires.over c.choose-choice.ensures.possible table section) c.put_chosen.ensures.table c.put_chosen.ensures.section
+pub returns-then-not-is_literal-clause-over : goal.returns-then-not-is_literal-clause-over
+returns-then-not-is_literal-clause-over c =
+    over_after _ _ _ _ _ _ c.requires.over c.choose-choice.ensures.possible c.in_ok-put_chosen.ensures.table c.in_ok-put_chosen.ensures.section
+
+pub returns-then-not-is_literal-clause-ok : goal.returns-then-not-is_literal-clause-ok
+returns-then-not-is_literal-clause-ok c = λ s d start h.
+    alone_after s d start _ _ _ _ _ _ _ _ _ _ h c.is_small.ensures c.choose-choice.ensures.rule c.choose-choice.ensures.possible (sym c.is_literal.ensures ∙ c.if-not-is_literal.true)
+    c.in_ok-put_chosen.ensures.table c.in_ok-put_chosen.ensures.section c.in_ok-put_chosen.ensures.line c.in_ok-put_chosen.ensures.instructions
 
 pub returns-clause-ok : goal.returns-clause-ok
 returns-clause-ok c =
-    on_four c.put_chosen.result (λ table section line instructions. λ s d start h. drafted_after s d start _ _ _ _ _ _ _ _ _ _ h c.is_small.ensures c.choose-choice.ensures.rule c.choose-choice.ensures.possible table section line instructions)
-    c.put_chosen.ensures.table c.put_chosen.ensures.section c.put_chosen.ensures.line c.put_chosen.ensures.instructions
-
-pub returns-clause-grows : goal.returns-clause-grows
-returns-clause-grows c = grown _ c.put_chosen.result _ _ _ c.put_chosen.ensures.instructions c.put_chosen.ensures.err
+    on_one c.put_ahead.result (λ put. λ s d start h.
+    ahead_after s d start _ _ _ _ _ _ _ _ _ _ _ _ h c.is_small.ensures c.choose-choice.ensures.rule c.choose-choice.ensures.possible (sym c.is_literal.ensures ∙ c.if-not-is_literal.false)
+    c.in_ok-put_chosen.ensures.table c.in_ok-put_chosen.ensures.section c.in_ok-put_chosen.ensures.line c.in_ok-put_chosen.ensures.instructions put)
+    c.put_ahead.ensures.ok

@@ -1,6 +1,6 @@
 use Rattle.h3_world.specs.Ends.{new_ends}
-use Rattle.h3_session.proofs.Headlines.{runs_in_world, runs_until_memory}
-use Rattle.h3_session.proofs.Messages.{until_memory}
+use Rattle.h3_session.proofs.Headlines.{runs_in_keeping_world, runs_in_world, runs_until_memory}
+use Rattle.h3_session.proofs.Messages.{hands_out_always}
 use Rattle.h3_session.proofs.Runs.{answers_each, ran, runs_to}
 use Rattle.h3_session.proofs.run.run.Goals as goal
 
@@ -20,13 +20,15 @@ returns-clause-messages c = λ few plain.
     let calls = ran (λ v. v.items) (new_ends c.args.setup) c.args.events.now c.announcing-client.result c.announcing-server.result c.run_between-answers.result _ _ _ _ _ c.in_ok-client-2.answers
     c.announcing-client.ensures c.announcing-server.ensures c.in_ok-client.ensures.0 c.in_ok-client.ensures.1 c.run_between-answers.ensures c.in_ok-client-2.ensures.0 c.in_ok-client-2.ensures.1 in
     let setup = c.args.setup in
-    until_memory setup c.args.events.now c.in_ok-client-2.answers.items
-    (λ front sendable. record {
-      no_connection_fault = c.endpoints_hand_out_what_was_sent.ensures.fault setup front c.requires plain sendable;
-      begins = λ side id. c.endpoints_hand_out_what_was_sent.ensures.front setup front side id c.requires plain sendable;
-      ends = λ side id ended. c.endpoints_hand_out_what_was_sent.ensures.end setup front side id c.requires plain sendable ended;
-    }) c.events_are_typed.ensures
-    (answers_each (new_ends setup) c.args.events.now c.in_ok-client-2.answers.items _ _ calls) few
+    let answers = c.in_ok-client-2.answers.items in
+    let kept = runs_in_keeping_world setup c.args.events.now answers _ _
+    (λ ends sendable run. c.two_endpoints_run_with_memory.ensures setup c.args.events.now answers ends c.requires plain sendable run) c.events_are_typed.ensures calls few in
+    hands_out_always setup c.args.events.now answers kept.runs.world
+    (λ front given mid sendable run. record {
+      no_connection_fault = c.what_is_pulled_with_memory_refused_is_what_was_sent.ensures.fault setup front given mid run;
+      begins = λ side id. c.what_is_pulled_with_memory_refused_is_what_was_sent.ensures.front setup front given mid side id sendable run;
+      ends = λ side id ended. c.what_is_pulled_with_memory_refused_is_what_was_sent.ensures.end setup front given mid side id sendable run ended;
+    }) c.events_are_typed.ensures few kept.runs.run
 
 pub returns-clause-front : goal.returns-clause-front
 returns-clause-front c = λ few plain.
@@ -49,3 +51,12 @@ returns-clause-headline c = λ whole few plain.
     runs_in_world c.args.setup c.args.events.now c.in_ok-client-2.answers.items _ _
     (c.two_endpoints_run_in_a_world.ensures c.args.setup c.args.events.now c.requires plain) c.events_are_typed.ensures
     (runs_to (new_ends c.args.setup) c.args.events.now c.in_ok-client-2.answers.items _ _ calls whole) few
+
+pub returns-clause-memory : goal.returns-clause-memory
+returns-clause-memory c = λ few plain.
+    let calls = ran (λ v. v.items) (new_ends c.args.setup) c.args.events.now c.announcing-client.result c.announcing-server.result c.run_between-answers.result _ _ _ _ _ c.in_ok-client-2.answers
+    c.announcing-client.ensures c.announcing-server.ensures c.in_ok-client.ensures.0 c.in_ok-client.ensures.1 c.run_between-answers.ensures c.in_ok-client-2.ensures.0 c.in_ok-client-2.ensures.1 in
+    let setup = c.args.setup in
+    let answers = c.in_ok-client-2.answers.items in
+    runs_in_keeping_world setup c.args.events.now answers _ _
+    (λ ends sendable run. c.two_endpoints_run_with_memory.ensures setup c.args.events.now answers ends c.requires plain sendable run) c.events_are_typed.ensures calls few

@@ -11,6 +11,7 @@ use bytes::{Buf, Bytes};
 /// The bytes that a frame lends, to be read.
 #[derive(Drop)]
 pub enum Payload<'a, B> {
+    /// The payload of DATA.
     Data(&'a B),
     /// An encoded field section, or what is left of bytes that were passed.
     Bytes(&'a [u8]),
@@ -19,6 +20,7 @@ pub enum Payload<'a, B> {
 /// The bytes that a frame lends, to be taken from it.
 #[derive(Drop)]
 pub enum PayloadMut<'a, B> {
+    /// The payload of DATA.
     Data(&'a mut B),
     /// An encoded field section.
     Bytes(&'a mut Bytes),

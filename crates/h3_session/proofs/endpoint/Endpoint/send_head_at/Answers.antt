@@ -9,5 +9,5 @@ returns-in-Err c = λ head sent at.
 
 pub returns : goal.returns
 returns c = λ head sent at.
-    head_sent c.args.self.now c.reserve_head.new.self c.send_section.new.self c.args.id head None c.args.fields.now c.args.fields.now c.args.place c.send_section.result c.requires (sym sent)
-    c.reserve_head.ensures.rest c.reserve_head.ensures.same c.in-Ok.ensures.taken refl at (rw c.in-Ok.ensures.room at c.send_section.ensures)
+    head_sent c.args.self.now c.reserve_head.new.self c.send_head_section.new.self c.args.id head None c.args.fields.now c.args.fields.now c.args.place c.send_head_section.result c.requires (sym sent)
+    c.reserve_head.ensures.rest c.reserve_head.ensures.same c.in-Ok.ensures.taken refl at (rw c.in-Ok.ensures.room at c.send_head_section.ensures)

@@ -1,4 +1,4 @@
-use Rattle.h3_session.proofs.Carrying.{end_told, end_unfinished, end_waits}
+use Rattle.h3_session.proofs.Carrying.{end_is_there, end_told, end_unfinished, end_waits}
 use Rattle.std.proofs.Common.{refl, rules}
 use Rattle.h3_session.proofs.run.carrying.carry_end.Goals as goal
 
@@ -8,6 +8,7 @@ returns c =
       goes = end_told c.args.writer.now c.args.reader.now c.deliver_end.new.self c.args.id c.deliver_end.result c.told.result c.has_outgoing.result c.is_finished.result c.waiting.result
           c.has_outgoing.ensures (search rules) c.is_finished.ensures (search rules) c.waiting.ensures (search rules) c.deliver_end.ensures c.told.ensures;
       same = refl;
+      there = λ memory. end_is_there c.args.writer.now c.args.id c.waiting.result c.is_finished.result c.is_finished.ensures (search rules) c.waiting.ensures (search rules);
       lacks = λ memory. record { result = c.deliver_end.result; given_is = c.told.ensures; called = c.deliver_end.ensures };
     }
 
@@ -16,6 +17,7 @@ returns-then-not-is_finished c =
     record {
       goes = end_unfinished c.args.writer.now c.args.reader.now c.args.id c.has_outgoing.result c.is_finished.result c.has_outgoing.ensures (search rules) c.is_finished.ensures (search rules);
       same = refl;
+      there = λ memory. absurd (cc);
       lacks = λ memory. absurd (cc);
     }
 
@@ -24,5 +26,6 @@ returns-then-waiting-gt0 c =
     record {
       goes = end_waits c.args.writer.now c.args.reader.now c.args.id c.has_outgoing.result c.is_finished.result c.waiting.result c.has_outgoing.ensures (search rules) c.is_finished.ensures (search rules) c.waiting.ensures (search rules);
       same = refl;
+      there = λ memory. absurd (cc);
       lacks = λ memory. absurd (cc);
     }

@@ -8,4 +8,7 @@ returns c =
     let limited : c.limit_table.new.self ≡ encoder_state (record no_table { most_capacity = c.args.choices.encoder_table }) = c.limit_table.ensures no_table c.new-encoder.ensures in
     let chosen : c.count_acknowledgments.new.self ≡ encoder_state (record no_table { most_capacity = c.args.choices.encoder_table; counts_acknowledgments = c.args.choices.acknowledgments_counted }) =
     c.count_acknowledgments.ensures (record no_table { most_capacity = c.args.choices.encoder_table }) limited in
-    rw (chosen, c.new.ensures.items) refl
+    let economical : c.economize.new.self
+    ≡ encoder_state (record no_table { most_capacity = c.args.choices.encoder_table; counts_acknowledgments = c.args.choices.acknowledgments_counted; economical = c.args.choices.economical_table }) =
+    c.economize.ensures (record no_table { most_capacity = c.args.choices.encoder_table; counts_acknowledgments = c.args.choices.acknowledgments_counted }) chosen in
+    rw (economical, c.new.ensures.items) refl

@@ -1,0 +1,37 @@
+-- Which rule of well-formed messages a list breaks that an endpoint is to send, where it asks for strict messages: as the other side would judge it
+-- (RFC 9114, sections 4.1.2 and 4.2 to 4.5). One that asks for none sends any list.
+use Rattle.std.specs.Prelude.{ℕ, Bool, true, false, List, ◌∷◌, if◌then◌else◌, option_map, Option, Some, None}
+use Rattle.h3_field.specs.Field.{Field}
+use Rattle.h3_messages.specs.Messages.{violation_of_request, violation_of_response, violation_of_trailer}
+use Rattle.h3_messages.specs.declared.violation.Violation.{Violation}
+use Rattle.h3_proto.specs.Config.{is_enabled}
+use Rattle.h3_proto.specs.declared.stream.Side.{Side}
+use Rattle.h3_proto.specs.declared.stream.Side.TheVariants.{Client, Server}
+use Rattle.h3_connection.specs.StrictMessages.{malformation_by}
+use Rattle.h3_connection.specs.declared.event.Malformation.{Malformation}
+use Rattle.h3_connection.specs.declared.event.Refusal.{Refusal}
+use Rattle.h3_connection.specs.declared.event.Refusal.TheVariants as refusal
+use Rattle.h3_connection.specs.declared.setup.Announced.{Announced}
+
+-- The peer said that it takes requests of extended CONNECT (RFC 9220, section 3). A client sends :protocol behind that setting alone (RFC 8441,
+-- section 3), so not before the peer's settings came.
+abbrev pub peer_connects : Option (List (ℕ × ℕ)) → Bool
+peer_connects None = false
+peer_connects (Some pairs) = is_enabled 8 pairs
+
+-- a client sends heads of requests, and a server those of responses
+abbrev pub violation_of_own_head : Side → Option (List (ℕ × ℕ)) → List Field → Option Violation
+violation_of_own_head Client settings fields = violation_of_request (peer_connects settings) fields
+violation_of_own_head Server settings fields = violation_of_response fields
+
+abbrev pub broken_head : Side → Announced → Option (List (ℕ × ℕ)) → List Field → Option Malformation
+broken_head side own settings fields =
+    if own.choices.strict_messages then option_map malformation_by (violation_of_own_head side settings fields) else None
+
+abbrev pub broken_trailer : Announced → List Field → Option Malformation
+broken_trailer own fields = if own.choices.strict_messages then option_map malformation_by (violation_of_trailer fields) else None
+
+-- the rule that is broken refuses the list, and where none is the rules behind
+abbrev pub unless_malformed : Option Malformation → List (Bool × Refusal) → List (Bool × Refusal)
+unless_malformed None later = later
+unless_malformed (Some why) later = (true, refusal.Malformed why) ∷ later
