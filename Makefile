@@ -13,65 +13,65 @@ help: ## list the commands
 
 # one line where rt is not on the PATH
 need-rt:
-	@bash scripts/need.sh rt
+	@bash scripts/dev/need.sh rt
 
 run: need-rt ## run the program on examples/first.talk, or SCRIPT=file: the answers are printed (compiled without proof, once for the sources, where `make build` left none)
-	@python3 scripts/talk.py "$(SCRIPT)"
+	@python3 scripts/dev/talk.py "$(SCRIPT)"
 
-draw: need-rt ## draw what examples/first.talk, or SCRIPT=file, does, as a sequence diagram (Mermaid; scripts/draw.py SCRIPT --svg FILE: a picture)
-	@python3 scripts/draw.py "$(SCRIPT)"
+draw: need-rt ## draw what examples/first.talk, or SCRIPT=file, does, as a sequence diagram (Mermaid; scripts/dev/draw.py SCRIPT --svg FILE: a picture)
+	@python3 scripts/dev/draw.py "$(SCRIPT)"
 
 build: need-rt ## prove and build the program, and say where it lies
 	@cd crates/h3_talk && rt run < stdin > out.log 2>&1 || { cat out.log; rm -f out.log; exit 1; }; rm -f out.log
 	@echo "crates/h3_talk/out/h3_talk"
 
 lib-unproved: need-rt ## build the library for C without the proofs, in one or two minutes, for a first hour: build/c-unproved, marked as unproved
-	@bash scripts/lib-unproved.sh
+	@bash scripts/c/lib-unproved.sh
 
 lib: need-rt ## prove and build the library for C, C++, Go and Rust: libbeanwhile_h3.a, beanwhile/h3.h and the package files of pkg-config and CMake in build/c
-	@bash scripts/lib.sh
+	@bash scripts/c/lib.sh
 
 install: ## install what `make lib` left below PREFIX (/usr/local): lib/libbeanwhile_h3.a, include/beanwhile/h3.h, beanwhile-h3.pc; DESTDIR is honoured
-	@LIB="$(LIB)" DESTDIR="$(DESTDIR)" PREFIX="$(PREFIX)" bash scripts/install.sh
+	@LIB="$(LIB)" DESTDIR="$(DESTDIR)" PREFIX="$(PREFIX)" bash scripts/c/install.sh
 
 examples: ## build the examples in C, Go and Rust over the folder that `make lib` leaves, or LIB=build/c-unproved (one alone: make -C examples/rust)
-	@bash scripts/need.sh library "$(LIB)"
-	@bash scripts/packages.sh examples
+	@bash scripts/dev/need.sh library "$(LIB)"
+	@bash scripts/dev/packages.sh examples
 	@for language in c go rust; do $(MAKE) --no-print-directory -C examples/$$language LIB="$(abspath $(LIB))" || exit 1; done
 
 test-c: need-rt ## build the library, and run the C programs of tests/c over it, and the tests of the packages for Go and Rust
-	@bash scripts/test-c.sh
+	@bash scripts/c/test-c.sh
 
 test: need-rt ## prove every crate from nothing, try the edits of crates/*/refused but those that a reader judged, run the tests and the programs
-	@bash scripts/test.sh
+	@bash scripts/gate/test.sh
 
 refused: need-rt ## try all edits of crates/*/refused, or of CRATE=name, those that a reader judged too: run it before a contract changes
-	@python3 scripts/refused.py $(CRATE)
+	@python3 scripts/gate/refused.py $(CRATE)
 
 bench: need-rt ## print our figures beside nghttp3's and plain C's, measured in one run
-	@bash scripts/bench.sh
+	@bash scripts/bench/bench.sh
 
 bench-build: need-rt ## build what make bench measures, and measure nothing
-	@BUILD_ONLY=1 bash scripts/bench.sh
+	@BUILD_ONLY=1 bash scripts/bench/bench.sh
 
 bench-page: ## measure what make bench-build left, and write the tables of bench/RESULTS.md and docs/PERFORMANCE.md
-	@bash scripts/need.sh bench
-	@bash scripts/bench.sh page
+	@bash scripts/dev/need.sh bench
+	@bash scripts/bench/bench.sh page
 
 bench-exchange: need-rt ## of these the rows of whole exchanges alone, over the library for C
-	@bash scripts/bench.sh exchange
+	@bash scripts/bench/bench.sh exchange
 
 bench-long: ## print what a connection that lives long costs, EXCHANGES=1000000 on it, over the folder that `make lib` leaves, or LIB=build/c-unproved
-	@bash scripts/need.sh library "$(LIB)"
+	@bash scripts/dev/need.sh library "$(LIB)"
 	@rm -f bench/out/long && $(MAKE) --no-print-directory -s -C bench out/long FOLDER="$(abspath $(LIB))"
 	@bench/out/long $(EXCHANGES)
 
 interop: need-rt ## show that nghttp3 reads what we write and we what it writes, and that the examples talk with HTTP/3 peers over QUIC
-	@bash scripts/interop.sh
+	@bash scripts/interop/interop.sh
 
 upstream-root: ## make in build/trixie, once and as root, a root of Debian 13 with the Rust crate h3 and further peers, for `make interop`
 	@bash scripts/interop/upstream.sh root
 
 load: ## print what the example servers carry under load, beside gtlsserver and Caddy, over the folder that `make lib` leaves
-	@bash scripts/need.sh library "$(LIB)"
-	@LIB="$(LIB)" bash scripts/load.sh
+	@bash scripts/dev/need.sh library "$(LIB)"
+	@LIB="$(LIB)" bash scripts/bench/load.sh

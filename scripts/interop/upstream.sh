@@ -1,6 +1,6 @@
 #!/usr/bin/env bash
 # upstream.sh root: makes in build/trixie, once, a root of Debian 13 (as root; some 5 minutes, 1.5 GB) with its cargo, rustc and Rust crate h3 0.0.6, and with
-#   the peers of scripts/interop_peers.sh: curl, aioquic, nginx, haproxy, and the programs of ngtcp2. What a root that is there lacks is added.
+#   the peers of scripts/interop/interop_peers.sh: curl, aioquic, nginx, haproxy, and the programs of ngtcp2. What a root that is there lacks is added.
 # upstream.sh there: is the root there, with the Rust crate?
 # upstream.sh peers: is it there, with the peers?
 # upstream.sh: compares what h3 answers with what we do, over the same bytes (scripts/interop/upstream.py): lines 'ok NAME' and 'failed NAME'.
@@ -19,7 +19,7 @@ has_peers() { has usr/bin/curl usr/lib/python3/dist-packages/aioquic usr/sbin/ng
 
 make_root() {
   if has_crate && has_peers; then return; fi
-  bash scripts/packages.sh upstream
+  bash scripts/dev/packages.sh upstream
   [ "$(id -u)" -eq 0 ] || { echo "a root of Debian is made by root alone" >&2; return 1; }
   if [ ! -d "$root" ]; then
     rm -rf "$root.part"

@@ -4,7 +4,7 @@ import re
 import sys
 
 TOP = os.path.join(os.path.dirname(os.path.abspath(__file__)), "..", "..")
-sys.path.insert(0, os.path.join(TOP, "scripts"))
+sys.path.insert(0, os.path.join(TOP, "scripts", "gate"))
 import independent_qpack as qpack  # noqa: E402
 
 CAUSE = re.compile(r" by (.*)$")

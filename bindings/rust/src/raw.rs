@@ -1,4 +1,4 @@
-//! The exports of the library, as `beanwhile/h3.h` declares them. `scripts/c_header.py` of the repository compares the structs.
+//! The exports of the library, as `beanwhile/h3.h` declares them. `scripts/gate/c_header.py` of the repository compares the structs.
 
 /// The handle: one pointer that only the library reads.
 #[repr(C)]

@@ -1,0 +1,24 @@
+#!/usr/bin/env bash
+# library_folder.sh ARCHIVE FOLDER [unproved]: leaves in FOLDER what a program needs of the library for C: the archive as libbeanwhile_h3.a, the kit's
+# C shims of malloc and free as libbeanwhile_h3_shim.a, beanwhile/h3.h, and the package files of pkg-config and CMake (beanwhile-h3).
+set -euo pipefail
+cd "$(dirname "$0")/../.."
+archive=$1
+folder=$2
+proved=${3:-}
+
+rm -rf "$folder"
+mkdir -p "$folder/beanwhile"
+cp "$archive" "$folder/libbeanwhile_h3.a"
+cp "$(dirname "$(rt doc)")/c/liblibc_c.a" "$folder/libbeanwhile_h3_shim.a"
+cp include/h3.h "$folder/beanwhile/h3.h"
+for kind in pc cmake; do
+  bash scripts/c/package_file.sh "$kind" "$folder" . . $proved
+done
+if [ "$proved" = unproved ]; then
+  cat > "$folder/UNPROVED" <<END
+This library was built without its proofs, from commit $(git describe --always --dirty 2>/dev/null || echo unknown). It is for a first hour: \`make lib\` proves the
+same sources, and builds the library that programs should stand on.
+END
+fi
+echo "$folder: $(ls "$folder" | paste -sd' ')"

@@ -1,0 +1,100 @@
+#!/usr/bin/env bash
+# test-bindings.sh FOLDER: the packages for Go and Rust (bindings) over the library in FOLDER, by the machine's go and cargo or rustc, with no registry: their tests, and
+# a program that stands outside and imports them. One line 'ok NAME' or 'failed NAME' each; a language that the machine lacks is left out, with a line that says so.
+set -uo pipefail
+cd "$(dirname "$0")/../.."
+folder=$(realpath "$1")
+work=$(mktemp -d)
+trap 'chmod -R u+w "$work" && rm -rf "$work"' EXIT
+bad=0
+export PKG_CONFIG_PATH=$folder
+
+check() { # NAME COMMAND..
+  local name=$1
+  shift
+  if "$@" > "$work/log" 2>&1; then
+    echo "ok $name"
+  else
+    echo "failed $name: $(tail -n 5 "$work/log" | tr '\n' ' ')"
+    bad=1
+  fi
+}
+
+go_package() {
+  export GOPROXY=off GOFLAGS=-mod=mod GOCACHE=${GOCACHE:-$work/go}
+  (cd bindings/go && test -z "$(gofmt -l .)" && go vet . && go test -count=1 .)
+}
+
+# a module of its own, which takes the package from its folder
+go_caller() {
+  mkdir -p "$work/caller"
+  cat > "$work/caller/go.mod" <<END
+module caller
+
+go 1.19
+
+require beanwhile/h3 v1.0.0
+
+replace beanwhile/h3 => $PWD/bindings/go
+END
+  cat > "$work/caller/main.go" <<'END'
+package main
+
+import "beanwhile/h3"
+
+func main() {
+	endpoint, err := h3.New(h3.DefaultConfig(false))
+	if err != nil {
+		panic(err)
+	}
+	defer endpoint.Close()
+	if id, err := endpoint.NextRequestID(); id != 0 || err != nil {
+		panic(err)
+	}
+}
+END
+  (cd "$work/caller" && go run .)
+}
+
+rust_crate() {
+  (cd bindings/rust && cargo test --offline --quiet --target-dir "$work/target")
+}
+
+# a crate of its own, which takes ours from its folder
+rust_caller() {
+  mkdir -p "$work/crate/src"
+  cat > "$work/crate/Cargo.toml" <<END
+[package]
+name = "caller"
+version = "1.0.0"
+edition = "2021"
+
+[dependencies]
+beanwhile-h3 = { path = "$PWD/bindings/rust" }
+END
+  cat > "$work/crate/src/main.rs" <<'END'
+use beanwhile_h3::{Config, Endpoint, Error};
+
+fn main() -> Result<(), Error> {
+    let id = Endpoint::new(&Config::client())?.next_request_id()?;
+    assert_eq!(id, 0);
+    Ok(())
+}
+END
+  (cd "$work/crate" && cargo run --offline --quiet --target-dir "$work/target")
+}
+
+command -v pkg-config > /dev/null || { echo "left out: bindings, which want pkg-config" >&2; exit 0; }
+if command -v go > /dev/null; then
+  check "bindings/go: its tests" go_package
+  check "bindings/go: a module that imports it" go_caller
+else
+  echo "left out: bindings/go, which wants go (Debian: apt-get install golang-go)" >&2
+fi
+if command -v cargo > /dev/null; then
+  check "bindings/rust: its tests" rust_crate
+  check "bindings/rust: a crate that depends on it" rust_caller
+else
+  echo "left out: bindings/rust, which wants cargo (Debian: apt-get install cargo)" >&2
+fi
+exit "$bad"

@@ -1,0 +1,104 @@
+#!/usr/bin/env python3
+"""The list of crates, and the graph of docs/ARCHITECTURE.md.
+
+    python3 scripts/gate/crates.py           compares: one line 'ok ..' or 'failed ..' for each of these
+    python3 scripts/gate/crates.py --write   takes names out of crates.txt that are not used, and writes the graph of the page anew
+
+- crates.txt has each crate behind those that it names.
+- A crate's line has no name that its sources, definitions and proofs do not use.
+- The graph of the page is that of crates.txt, without an edge where a longer way leads there too."""
+import os
+import re
+import sys
+
+ROOT = os.path.dirname(os.path.dirname(os.path.dirname(os.path.realpath(__file__))))
+PAGE = f"{ROOT}/docs/ARCHITECTURE.md"
+GRAPH = re.compile(r"(<!-- scripts/gate/crates.py writes this graph -->\n)```mermaid\n.*?```\n", re.S)
+
+
+def read(path):
+    with open(path, encoding="utf-8", errors="replace") as file:
+        return file.read()
+
+
+def listed():
+    """the crates in the order of crates.txt, each with the names of its line"""
+    lines = (line.split("#")[0] for line in read(f"{ROOT}/crates.txt").split("\n"))
+    return {line.split(":")[0].split()[0]: line.split(":")[1].split() for line in lines if ":" in line}
+
+
+def out_of_order(crates):
+    seen = set()
+    for name, below in crates.items():
+        yield from (f"{name} stands before {it}" for it in below if it in crates and it not in seen)
+        seen.add(name)
+
+
+def words_of(name):
+    texts = []
+    for part in ("src", "specs", "proofs"):
+        for at, _, files in os.walk(f"{ROOT}/crates/{name}/{part}"):
+            texts += [read(os.path.join(at, it)) for it in files]
+    return set(re.findall(r"\w+", "\n".join(texts)))
+
+
+def unused(crates):
+    for name, below in crates.items():
+        words = words_of(name)
+        yield from (f"{name} does not use {it}" for it in below if it not in words)
+
+
+def drop_unused():
+    """writes crates.txt without the names that a crate does not use"""
+    lines = read(f"{ROOT}/crates.txt").split("\n")
+    for at, line in enumerate(lines):
+        head, mark, names = line.partition(":")
+        if mark and not line.startswith("#"):
+            words = words_of(head.split()[0])
+            lines[at] = head + mark + "".join(f" {it}" for it in names.split() if it in words)
+    with open(f"{ROOT}/crates.txt", "w", encoding="utf-8") as file:
+        file.write("\n".join(lines))
+
+
+def all_below(crates, name):
+    found = set()
+    for it in crates.get(name, []):
+        if it in crates:
+            found |= {it} | all_below(crates, it)
+    return found
+
+
+def graph(crates):
+    lines = ["graph BT"]
+    for name in crates:
+        own = [it for it in crates[name] if it in crates]
+        further = set().union(*(all_below(crates, it) for it in own)) if own else set()
+        lines += [f"    {name} --> {it}" for it in own if it not in further]
+    return "```mermaid\n" + "\n".join(lines) + "\n```\n"
+
+
+def say(wrong, good, bad):
+    for it in wrong:
+        print(f"failed {bad}: {it}")
+    if not wrong:
+        print(f"ok {good}")
+    return not wrong
+
+
+def main():
+    if sys.argv[1:] == ["--write"]:
+        drop_unused()
+    crates, page = listed(), read(PAGE)
+    mended = GRAPH.sub(lambda found: found[1] + graph(crates), page)
+    if sys.argv[1:] == ["--write"]:
+        with open(PAGE, "w", encoding="utf-8") as file:
+            file.write(mended)
+        return
+    fine = say(list(out_of_order(crates)), f"crates.txt: {len(crates)} crates, each behind those that it names", "crates.txt")
+    fine &= say(list(unused(crates)), "crates.txt: each name of a line is used", "crates.txt")
+    stale = [] if GRAPH.search(page) and mended == page else ["not that of crates.txt (python3 scripts/gate/crates.py --write)"]
+    fine &= say(stale, "docs/ARCHITECTURE.md: its graph is that of crates.txt", "docs/ARCHITECTURE.md, the graph")
+    sys.exit(0 if fine else 1)
+
+
+main()
