@@ -31,7 +31,7 @@ lib-unproved: need-rt ## build the library for C without the proofs, in one or t
 lib: need-rt ## prove and build the library for C, C++, Go and Rust: libbeanwhile_h3.a, beanwhile/h3.h and the package files of pkg-config and CMake in build/c
 	@bash scripts/c/lib.sh
 
-install: ## install what `make lib` left below PREFIX (/usr/local): lib/libbeanwhile_h3.a, include/beanwhile/h3.h, beanwhile-h3.pc; DESTDIR is honoured
+install: ## install what `make lib` left below PREFIX (/usr/local): lib/libbeanwhile_h3.a and .so.1, include/beanwhile/h3.h, beanwhile-h3.pc; DESTDIR is honoured
 	@LIB="$(LIB)" DESTDIR="$(DESTDIR)" PREFIX="$(PREFIX)" bash scripts/c/install.sh
 
 examples: ## build the examples in C, Go and Rust over the folder that `make lib` leaves, or LIB=build/c-unproved (one alone: make -C examples/rust)

@@ -1,7 +1,7 @@
 #!/usr/bin/env bash
 # Installs what `make lib` left in build/c (or in the folder LIB, where it is a proved library) below PREFIX (/usr/local), or below DESTDIR/PREFIX: the
-# two archives in lib, beanwhile/h3.h in include, beanwhile-h3.pc in lib/pkgconfig, and CMake's package files in lib/cmake/beanwhile-h3. All have names
-# of their own: other projects have a libh3, an h3.h and an h3.pc.
+# two archives and the shared library in lib, beanwhile/h3.h in include, the package files of pkg-config in lib/pkgconfig, and those of CMake in
+# lib/cmake/beanwhile-h3. All have names of their own: other projects have a libh3, an h3.h and an h3.pc.
 set -euo pipefail
 cd "$(dirname "$0")/../.."
 lib_folder=${LIB:-build/c}
@@ -12,9 +12,11 @@ if [ -e "$lib_folder/UNPROVED" ]; then
 fi
 
 to=${DESTDIR:-}${PREFIX:-/usr/local}
-install -d "$to/lib/pkgconfig" "$to/include/beanwhile"
+install -d "$to/lib/pkgconfig" "$to/lib/beanwhile-h3" "$to/include/beanwhile"
 install -m 644 "$lib_folder/libbeanwhile_h3.a" "$lib_folder/libbeanwhile_h3_shim.a" "$to/lib"
+install -m 755 "$lib_folder"/libbeanwhile_h3.so.* "$to/lib"
+cp -P "$lib_folder/beanwhile-h3/libbeanwhile_h3.so" "$to/lib/beanwhile-h3"
 install -m 644 "$lib_folder/beanwhile/h3.h" "$to/include/beanwhile"
 bash scripts/c/package_file.sh pc "$to/lib/pkgconfig" .. ../../include
 bash scripts/c/package_file.sh cmake "$to/lib/cmake/beanwhile-h3" ../.. ../../../include
-echo "installed in $to: lib/libbeanwhile_h3.a, include/beanwhile/h3.h, lib/pkgconfig/beanwhile-h3.pc, lib/cmake/beanwhile-h3"
+echo "installed in $to: lib/libbeanwhile_h3.a, lib/libbeanwhile_h3.so.1, include/beanwhile/h3.h, lib/pkgconfig/beanwhile-h3.pc, lib/cmake/beanwhile-h3"

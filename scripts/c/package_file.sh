@@ -1,6 +1,6 @@
 #!/usr/bin/env bash
-# package_file.sh pc|cmake FOLDER LIBRARIES HEADERS [unproved]: writes the package file for pkg-config or for CMake into FOLDER, for libraries and a header
-# that lie in the folders LIBRARIES and HEADERS (beanwhile/h3.h is below it), given from FOLDER. It names no absolute path, so all of it may be moved.
+# package_file.sh pc|cmake FOLDER LIBRARIES HEADERS [unproved]: writes the package files for pkg-config or for CMake into FOLDER, for libraries and a header
+# that lie in the folders LIBRARIES and HEADERS (beanwhile/h3.h is below it), given from FOLDER. They name no absolute path, so all of it may be moved.
 # Programs may write <beanwhile/h3.h> or <h3.h>. The version is that of the header.
 set -euo pipefail
 kind=$1
@@ -19,22 +19,28 @@ if [ "${5:-}" = unproved ]; then
   unproved=TRUE
 fi
 
-write_pc() {
-  cat > "$folder/beanwhile-h3.pc" <<END
+# a package of pkg-config: its name, and what it links with
+pc_of() {
+  cat > "$folder/$1.pc" <<END
 libdir=\${pcfiledir}$libraries
 includedir=\${pcfiledir}$headers
 
-Name: beanwhile-h3
+Name: $1
 Description: $description
 Version: $version$suffix
 Cflags: -I\${includedir} -I\${includedir}/beanwhile
-Libs: -L\${libdir} -lbeanwhile_h3 -lbeanwhile_h3_shim
+Libs: $2
 END
+}
+
+write_pc() {
+  pc_of beanwhile-h3 '-L${libdir} -lbeanwhile_h3 -lbeanwhile_h3_shim'
+  pc_of beanwhile-h3-shared '-L${libdir}/beanwhile-h3 -lbeanwhile_h3'
 }
 
 write_cmake() {
   cat > "$folder/beanwhile-h3-config.cmake" <<END
-# find_package(beanwhile-h3 CONFIG) gives the target beanwhile::h3
+# find_package(beanwhile-h3 CONFIG) gives the targets beanwhile::h3, the archive, and beanwhile::h3_shared, the shared library
 set(beanwhile-h3_UNPROVED $unproved)
 if(beanwhile-h3_UNPROVED)
   message(STATUS "beanwhile-h3: built without its proofs")
@@ -45,6 +51,13 @@ if(NOT TARGET beanwhile::h3)
     IMPORTED_LOCATION "\${CMAKE_CURRENT_LIST_DIR}$libraries/libbeanwhile_h3.a"
     INTERFACE_INCLUDE_DIRECTORIES "\${CMAKE_CURRENT_LIST_DIR}$headers;\${CMAKE_CURRENT_LIST_DIR}$headers/beanwhile"
     INTERFACE_LINK_LIBRARIES "\${CMAKE_CURRENT_LIST_DIR}$libraries/libbeanwhile_h3_shim.a")
+endif()
+if(NOT TARGET beanwhile::h3_shared)
+  add_library(beanwhile::h3_shared SHARED IMPORTED)
+  set_target_properties(beanwhile::h3_shared PROPERTIES
+    IMPORTED_LOCATION "\${CMAKE_CURRENT_LIST_DIR}$libraries/libbeanwhile_h3.so.${version%%.*}"
+    IMPORTED_SONAME "libbeanwhile_h3.so.${version%%.*}"
+    INTERFACE_INCLUDE_DIRECTORIES "\${CMAKE_CURRENT_LIST_DIR}$headers;\${CMAKE_CURRENT_LIST_DIR}$headers/beanwhile")
 endif()
 END
   cat > "$folder/beanwhile-h3-config-version.cmake" <<END

@@ -20,13 +20,25 @@ check() { # NAME COMMAND..
   fi
 }
 
+# does the program stand on the shared library (1), or not (0)? By the name that a library is looked for by
+is_shared() {
+  [ "$(readelf -d "$1" | grep -c 'NEEDED.*libbeanwhile_h3')" -eq "$2" ]
+}
+
 by_pkg_config() { # FOLDER of the package file
   local flags
   flags=$(PKG_CONFIG_PATH=$1 pkg-config --cflags --libs beanwhile-h3) &&
-    "${CC:-cc}" -std=c11 -o "$work/program" tests/c/in_memory.c $flags && "$work/program"
+    "${CC:-cc}" -std=c11 -o "$work/program" tests/c/in_memory.c $flags && "$work/program" && is_shared "$work/program" 0
 }
 
-by_cmake() { # FOLDER that CMake looks in
+shared_by_pkg_config() { # FOLDER of the package file
+  local flags folder
+  flags=$(PKG_CONFIG_PATH=$1 pkg-config --cflags --libs beanwhile-h3-shared) &&
+    folder=$(PKG_CONFIG_PATH=$1 pkg-config --variable=libdir beanwhile-h3-shared) &&
+    "${CC:-cc}" -std=c11 -o "$work/program" tests/c/in_memory.c $flags -Wl,-rpath,"$folder" && "$work/program" && is_shared "$work/program" 1
+}
+
+by_cmake() { # FOLDER that CMake looks in, and h3 or h3_shared
   rm -rf "$work/cmake"
   mkdir -p "$work/cmake"
   cat > "$work/cmake/CMakeLists.txt" <<END
@@ -34,14 +46,21 @@ cmake_minimum_required(VERSION 3.10)
 project(program C)
 find_package(beanwhile-h3 1.0 CONFIG REQUIRED)
 add_executable(program "$PWD/tests/c/in_memory.c")
-target_link_libraries(program PRIVATE beanwhile::h3)
+target_link_libraries(program PRIVATE beanwhile::$2)
 END
-  cmake -S "$work/cmake" -B "$work/cmake/out" "-DCMAKE_PREFIX_PATH=$1" && cmake --build "$work/cmake/out" && "$work/cmake/out/program"
+  cmake -S "$work/cmake" -B "$work/cmake/out" "-DCMAKE_PREFIX_PATH=$1" && cmake --build "$work/cmake/out" && "$work/cmake/out/program" &&
+    is_shared "$work/cmake/out/program" "$([ "$2" = h3 ] && echo 0 || echo 1)"
 }
 
 found() { # NAME, FOLDER of the package file, FOLDER that CMake looks in
-  command -v pkg-config > /dev/null && check "$1 by pkg-config" by_pkg_config "$2"
-  command -v cmake > /dev/null && check "$1 by CMake" by_cmake "$3"
+  if command -v pkg-config > /dev/null; then
+    check "$1 by pkg-config" by_pkg_config "$2"
+    check "$1 by pkg-config, shared" shared_by_pkg_config "$2"
+  fi
+  if command -v cmake > /dev/null; then
+    check "$1 by CMake" by_cmake "$3" h3
+    check "$1 by CMake, shared" by_cmake "$3" h3_shared
+  fi
 }
 
 found "library in ${folder##*/}" "$folder" "$folder"

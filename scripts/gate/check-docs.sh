@@ -21,7 +21,7 @@ names() {
 }
 
 bad=0
-for page in docs/RFC.md docs/MODEL.md docs/model/*.md docs/ARCHITECTURE.md; do
+for page in docs/RFC.md docs/STATES.md docs/MODEL.md docs/model/*.md docs/ARCHITECTURE.md; do
   missing=$(comm -23 <(names "$page") "$words" | grep -vxE "specs|crates|h3_session" | tr '\n' ' ')
   if [ -z "$missing" ]; then
     echo "ok $page: each name of it stands in the crates"
