@@ -40,7 +40,7 @@ write_pc() {
 
 write_cmake() {
   cat > "$folder/beanwhile-h3-config.cmake" <<END
-# find_package(beanwhile-h3 CONFIG) gives the targets beanwhile::h3, the archive, and beanwhile::h3_shared, the shared library
+# find_package(beanwhile-h3 CONFIG) gives the targets beanwhile::h3, the archive, and beanwhile::shared, the shared library
 set(beanwhile-h3_UNPROVED $unproved)
 if(beanwhile-h3_UNPROVED)
   message(STATUS "beanwhile-h3: built without its proofs")
@@ -52,9 +52,9 @@ if(NOT TARGET beanwhile::h3)
     INTERFACE_INCLUDE_DIRECTORIES "\${CMAKE_CURRENT_LIST_DIR}$headers;\${CMAKE_CURRENT_LIST_DIR}$headers/beanwhile"
     INTERFACE_LINK_LIBRARIES "\${CMAKE_CURRENT_LIST_DIR}$libraries/libbeanwhile_h3_shim.a")
 endif()
-if(NOT TARGET beanwhile::h3_shared)
-  add_library(beanwhile::h3_shared SHARED IMPORTED)
-  set_target_properties(beanwhile::h3_shared PROPERTIES
+if(NOT TARGET beanwhile::shared)
+  add_library(beanwhile::shared SHARED IMPORTED)
+  set_target_properties(beanwhile::shared PROPERTIES
     IMPORTED_LOCATION "\${CMAKE_CURRENT_LIST_DIR}$libraries/libbeanwhile_h3.so.${version%%.*}"
     IMPORTED_SONAME "libbeanwhile_h3.so.${version%%.*}"
     INTERFACE_INCLUDE_DIRECTORIES "\${CMAKE_CURRENT_LIST_DIR}$headers;\${CMAKE_CURRENT_LIST_DIR}$headers/beanwhile")

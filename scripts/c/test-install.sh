@@ -38,7 +38,7 @@ shared_by_pkg_config() { # FOLDER of the package file
     "${CC:-cc}" -std=c11 -o "$work/program" tests/c/in_memory.c $flags -Wl,-rpath,"$folder" && "$work/program" && is_shared "$work/program" 1
 }
 
-by_cmake() { # FOLDER that CMake looks in, and h3 or h3_shared
+by_cmake() { # FOLDER that CMake looks in, and h3 or shared
   rm -rf "$work/cmake"
   mkdir -p "$work/cmake"
   cat > "$work/cmake/CMakeLists.txt" <<END
@@ -59,7 +59,7 @@ found() { # NAME, FOLDER of the package file, FOLDER that CMake looks in
   fi
   if command -v cmake > /dev/null; then
     check "$1 by CMake" by_cmake "$3" h3
-    check "$1 by CMake, shared" by_cmake "$3" h3_shared
+    check "$1 by CMake, shared" by_cmake "$3" shared
   fi
 }
 
