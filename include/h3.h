@@ -8,7 +8,7 @@
  *
  *   h3_endpoint e = H3_NONE_YET;                               // no endpoint
  *   h3_config c; h3_config_default(&c);                        // a client; c.server = 1 for a server
- *   if (h3_new(&e, &c, NULL)) return 1;
+ *   if (h3_new(&e, &c, NULL)) return 1;                        // send what waits now, as below: the settings on the control stream
  *   uint64_t id; h3_open_request(&e, &id, NULL);               // then: a head, a body, the end
  *   h3_field_size f[4] = {{7,3},{7,5},{10,9},{5,1}};           // sizes of names and values, all their bytes in one row
  *   h3_send_head(&e, id, f, 4, ":methodGET:schemehttps:authoritylocalhost:path/", 47, NULL);
