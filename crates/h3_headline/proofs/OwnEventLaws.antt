@@ -3,7 +3,7 @@
 use Rattle.h3_world.specs.declared.event.Answer.{Answer}
 use Rattle.h3_world.specs.Ends.{Ends, answered, end_at, was_offered, with_end, done}
 use Rattle.h3_world.specs.World.{World}
-use Rattle.std.proofs.Common.{◌≡◌, ◌*◌, length, refl, sym, subst, ℕ, Bool, true, ◌||◌, ap, ◌∙◌, ◌-◌, nat_lt, not, if◌then◌else◌, take, ◌&&◌, false}
+use Rattle.std.proofs.Common.{◌≡◌, ◌*◌, length, refl, sym, subst, ℕ, Bool, true, ◌||◌, ap, ◌∙◌, nat_lt, not, if◌then◌else◌, take, ◌&&◌, false}
 use Rattle.h3_proto.specs.declared.stream.Side.TheVariants.{Client, Server}
 use Rattle.h3_world.specs.declared.setup.Setup.{Setup}
 use Rattle.h3_world.specs.declared.event.Answer.TheVariants as answer

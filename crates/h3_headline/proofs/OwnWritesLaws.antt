@@ -2,7 +2,7 @@
 use Rattle.h3_world.specs.declared.setup.Setup.{Setup}
 use Rattle.h3_world.specs.Ends.{Ends}
 use Rattle.h3_world.specs.World.{World}
-use Rattle.std.proofs.Common.{ℕ, ◌≡◌, ◌-◌, ◌*◌, nat_lt, Bool, true, false, refl, sym, subst, not, ◌&&◌, if◌then◌else◌, ap, ◌∙◌, ◌||◌}
+use Rattle.std.proofs.Common.{ℕ, ◌≡◌, nat_lt, Bool, true, false, refl, sym, subst, not, ◌&&◌, if◌then◌else◌, ap, ◌∙◌, ◌||◌}
 use Rattle.h3_proto.specs.declared.stream.Side.{Side}
 use Rattle.h3_proto.specs.declared.stream.Side.TheVariants.{Client, Server}
 use Rattle.h3_world.specs.Delivering.{delivered_own, delivered_end, is_closed, delivered_reset}

@@ -1,5 +1,5 @@
 -- Over a whole run, what is handed out of a flow is a front of what is sent on it.
-use Rattle.std.proofs.Common.{ℕ, ◌-◌, List, false, [], refl, ◌∷◌, sym, subst, ◌≡◌, ap, Bool, true, None, ◌∙◌}
+use Rattle.std.proofs.Common.{ℕ, List, false, [], refl, ◌∷◌, sym, subst, ◌≡◌, ap, Bool, true, None, ◌∙◌}
 use Rattle.h3_proto.specs.declared.stream.Side.{Side}
 use Rattle.h3_world.specs.declared.setup.Setup.{Setup}
 use Rattle.h3_world.specs.declared.event.Event.{Event}

@@ -1,7 +1,7 @@
 -- What comes of a request stream, and what its receiver is after it.
-use Rattle.std.proofs.Common.{ℕ, ◌+◌, ◌-◌, true, if◌then◌else◌, Some, ◌≡◌, None, List, ◌++◌, false, Bool, [], drop, length, Option}
+use Rattle.std.proofs.Common.{ℕ, ◌+◌, true, if◌then◌else◌, Some, ◌≡◌, None, List, ◌++◌, false, Bool, [], drop, length, Option}
 use Rattle.h3_world.specs.Flow.{Flow, flow_bytes}
-use Rattle.std.specs.Prelude.{is_some, ◌==◌, not}
+use Rattle.std.specs.Prelude.{is_some, ◌==◌}
 use Rattle.h3_connection.specs.declared.event.StreamFault.{StreamFault}
 use Rattle.h3_proto.specs.declared.stream.Side.{Side}
 use Rattle.h3_connection.specs.Endpoint.{EndpointHistory, Own, bytes_waiting}
@@ -9,13 +9,12 @@ use Rattle.h3_connection.specs.OwnIds.{other}
 use Rattle.h3_connection.specs.StreamSets.{HaveDistinctIds, stream_at}
 use Rattle.h3_world.specs.declared.setup.Setup.{Setup}
 use Rattle.h3_world.specs.World.{World, party, Party}
-use Rattle.h3_world.specs.Streams.{flow, is_open, waiting}
+use Rattle.h3_world.specs.Streams.{flow, is_open}
 use Rattle.h3_world.specs.Order.{outgoing_of}
 use Rattle.h3_field.specs.Instruction.{DecoderInstruction}
 use Rattle.h3_proto.specs.declared.stream.Side.TheVariants.{Server}
 use Rattle.h3_connection.specs.Incoming.{nothing_came}
 use Rattle.h3_connection.specs.Outgoing.{nothing_sent, OwnPart, Outgoing}
-use Rattle.h3_connection.specs.Outgoing as sender
 use Rattle.h3_connection.specs.Shown as shown
 use Rattle.h3_world.specs.Flow as flows
 use Rattle.h3_connection.specs.declared.arrival.Arrival.TheVariants.{EndCame}

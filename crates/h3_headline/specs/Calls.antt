@@ -8,13 +8,10 @@ use Rattle.h3_world.specs.declared.setup.Setup.{Setup}
 use Rattle.h3_world.specs.Streams.{flow}
 use Rattle.h3_world.specs.World.{World, party, Party}
 use Rattle.h3_proto.specs.declared.stream.Side.TheVariants.{Client}
-use Rattle.h3_connection.specs.Sending.{does, encoded}
 use Rattle.h3_world.specs.declared.event.Answer.{Answer}
 use Rattle.h3_world.specs.Ends.{Ends, end_at, with_end}
-use Rattle.h3_world.specs.Machine as machine
-use Rattle.std.specs.Prelude.{not, unwrap_or}
+use Rattle.std.specs.Prelude.{unwrap_or}
 use Rattle.h3_connection.specs.Incoming.{Incoming}
-use Rattle.h3_connection.specs.Sending as sender
 use Rattle.h3_world.specs.Flow.{Flow, Section, Part, own_part}
 use Rattle.h3_connection.specs.Outgoing.{Outgoing, OwnPart, nothing_sent}
 use Rattle.h3_connection.specs.StreamSets.{set_stream}
@@ -27,10 +24,8 @@ use Rattle.h3_connection.specs.Sections.{instructions_for, encoded_section}
 use Rattle.h3_world.specs.Order.{is_end}
 use Rattle.h3_field.specs.Field.{Field}
 use Rattle.h3_qpack.specs.EncoderHistory.{EncoderHistory}
-use Rattle.h3_world.specs.Sending.{sent_section}
 use Rattle.h3_field.specs.Instruction.{DecoderInstruction}
 use Rattle.h3_connection.specs.Delivering.{opened_at}
-use Rattle.h3_world.specs.Refusals.{next_id}
 use Rattle.h3_headline.specs.Standing.{AreReadable, HasControlOf, HasDecoderStreamOf, HasEncoderStreamOf, IsReadable, IsWritable, ReceivesFlow, StandsAt}
 
 -- The end of a side and the other one stand in the world, and what was written and sent is what readers take.

@@ -29,7 +29,6 @@ use Rattle.h3_qpack.specs.WholeInstructions.{whole_in, rest_in, decoder_instruct
 use Rattle.h3_header.specs.Head as header
 use Rattle.h3_header.specs.HeadRead.{IsHead, head_of}
 use Rattle.h3_header.specs.Reads.{IsHeadOf}
-use Rattle.h3_world.specs.Flow.Part.{Head}
 use Rattle.h3_connection.specs.Sections.{instructions_for}
 
 -- What is cited of worlds: the contracts of `h3_world`'s `laws`, as premises.

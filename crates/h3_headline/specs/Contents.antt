@@ -1,5 +1,5 @@
 -- What a flow carries, what was handed out of it, and what one step or a whole run changes of both.
-use Rattle.std.proofs.Common.{List, [], ◌∷◌, Bool, Some, ℕ, ◌-◌, Option, ◌++◌, ◌≡◌, true, false, ◌+◌, length}
+use Rattle.std.proofs.Common.{List, [], ◌∷◌, Bool, Some, ℕ, Option, ◌++◌, ◌≡◌, true, false, ◌+◌, length}
 use Rattle.std.specs.Prelude.{map, flat_map, take, slice_get, ◌||◌, ◌&&◌, if◌then◌else◌}
 use Rattle.h3_world.specs.Flow.{Part, Flow}
 use Rattle.h3_world.specs.Flow.Part.{Interim, Head, Body, Trailer, End}
@@ -10,14 +10,11 @@ use Rattle.h3_world.specs.Streams.{flow}
 use Rattle.h3_world.specs.World.{World}
 use Rattle.h3_world.specs.declared.event.Answer.{Answer}
 use Rattle.h3_world.specs.declared.event.Answer.TheVariants as answer
-use Rattle.h3_world.specs.Delivering.{delivery}
 use Rattle.h3_connection.specs.Announcing.{section_of}
 use Rattle.h3_connection.specs.OwnIds.{other}
 use Rattle.h3_world.specs.declared.setup.Setup.{Setup}
 use Rattle.h3_world.specs.Setup.{announced_at}
 use Rattle.h3_world.specs.declared.event.Event.{Event}
-use Rattle.h3_world.specs.declared.event.Event.TheVariants as event
-use Rattle.h3_connection.specs.declared.event.Pull.TheVariants as pull
 use Rattle.h3_connection.specs.declared.event.Pull.{Pull}
 use Rattle.h3_world.specs.Sound.{IsSoundWorld}
 use Rattle.h3_headline.specs.Messages.{Content, at_reader, contents_of, ended_in, finished_in, has_finished, has_pulled_end, is_end_of, is_on, pulled, pulled_in, sent, sent_in}

@@ -1,5 +1,5 @@
 -- The decoder of an endpoint, by the session of its sender's direction.
-use Rattle.std.proofs.Common.{ℕ, ◌≡◌, ◌+◌, ◌^◌, ◌<◌, if◌then◌else◌, Bool, false, List, Some, ◌-◌, take, length}
+use Rattle.std.proofs.Common.{ℕ, ◌≡◌, ◌+◌, ◌^◌, ◌<◌, if◌then◌else◌, Bool, false, List, Some, take, length}
 use Rattle.h3_qpack.specs.EncoderHistory.{EncoderHistory, using_table}
 use Rattle.h3_qpack.specs.DecoderState.{DecoderState, announcing, decoder_after_all}
 use Rattle.h3_field.specs.Instruction.{EncoderInstruction}

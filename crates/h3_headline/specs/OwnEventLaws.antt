@@ -7,7 +7,7 @@ use Rattle.h3_connection.specs.OwnIds.{control_id, encoder_id, decoder_id, is_ow
 use Rattle.h3_world.specs.Streams.{is_open, flow, waiting}
 use Rattle.h3_world.specs.World.{World, party}
 use Rattle.std.specs.Prelude.{◌==◌}
-use Rattle.h3_connection.specs.Endpoint.{EndpointHistory, bytes_waiting}
+use Rattle.h3_connection.specs.Endpoint.{EndpointHistory}
 use Rattle.h3_connection.specs.StreamSets.{stream_at}
 use Rattle.h3_world.specs.declared.setup.Setup.{Setup}
 use Rattle.h3_world.specs.Order.{outgoing_of}

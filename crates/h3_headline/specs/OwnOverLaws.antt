@@ -34,7 +34,7 @@ use Rattle.h3_headline.specs.FlowLaws.{other-other}
 use Rattle.h3_headline.specs.LearningLaws.{still}
 use Rattle.h3_headline.specs.OwnDeliveredLaws.{control_delivered, decoder_delivered, encoder_delivered}
 use Rattle.h3_headline.specs.OwnMovesLaws.{controlling_stands, hearing_stands, listening_stands, writer_stands}
-use Rattle.h3_headline.specs.OwnStreams.{GoesOver, Takes, accepted, further_own, insertions_of, left_of, listened_to, party_of, read_of, writing}
+use Rattle.h3_headline.specs.OwnStreams.{GoesOver, Takes, further_own, insertions_of, left_of, listened_to, party_of, read_of, writing}
 use Rattle.h3_headline.specs.OwnWorldLaws.{advanced_control, advanced_decoder, advanced_encoder, insertions_listened, listened_writes, reader_after, replies_listened, settings_listened, streams_after, writer_after}
 use Rattle.h3_headline.specs.PeerStreams.{added_since, after_control, controlling, encoder_then, peer_by, replies_between, role_by, with_role}
 use Rattle.h3_headline.specs.Standing.{IsWritable, StandsAt, are_settings_there, came_on}

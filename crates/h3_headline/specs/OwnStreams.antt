@@ -11,7 +11,7 @@ use Rattle.h3_world.specs.declared.setup.Setup.{Setup}
 use Rattle.h3_qpack.specs.EncoderHistory.{encoder_after_all}
 use Rattle.h3_connection.specs.Control.{increment}
 use Rattle.h3_connection.specs.declared.setup.Limits.{Limits}
-use Rattle.h3_world.specs.Delivering.{having_learned, further, delivered_own}
+use Rattle.h3_world.specs.Delivering.{having_learned, delivered_own}
 use Rattle.h3_qpack.specs.WholeInstructions.{decoder_instructions_in, insertions_in}
 use Rattle.h3_world.specs.Setup.{announced_at}
 use Rattle.h3_connection.specs.Sending.{own_advanced, advance}
@@ -24,7 +24,6 @@ use Rattle.h3_connection.specs.declared.setup.Announced.{Announced}
 use Rattle.h3_connection.specs.Keeping.{arrives}
 use Rattle.h3_connection.specs.declared.arrival.Arrival.TheVariants.{BytesCame}
 use Rattle.h3_world.specs.declared.event.Answer.{Answer}
-use Rattle.h3_world.specs.declared.event.Answer.TheVariants as answer
 use Rattle.h3_world.specs.Ends.{Ends}
 use Rattle.h3_headline.specs.Standing.{AreReadable, HasControlOf, HasDecoderStreamOf, HasEncoderStreamOf, IsWritable, StandsAt, are_settings_there}
 

@@ -13,7 +13,7 @@ use Rattle.h3_world.specs.Ends.{Ends, answered, end_at, was_pulled, with_end}
 use Rattle.h3_world.specs.Headline.{Happens}
 use Rattle.h3_world.specs.Pulling.{Pulls, PausesExactly, settled, PullsNext, pull_unidirectional, pull_unopened}
 use Rattle.h3_world.specs.World.{World, party, Party, with_party}
-use Rattle.std.specs.Prelude.{MatchOption, not, ◌==◌}
+use Rattle.std.specs.Prelude.{MatchOption, ◌==◌}
 use Rattle.h3_world.specs.Came.{insertions_came}
 use Rattle.h3_world.specs.Order.{next_part, is_over}
 use Rattle.h3_world.specs.Pauses.{pause_before, pause_of, PauseAllowed, paused}

@@ -5,7 +5,6 @@ use Rattle.h3_connection.specs.declared.event.StreamFault.{StreamFault}
 use Rattle.std.specs.List.{flat_map}
 use Rattle.h3_world.specs.Flow.{Flow, Part, part_bytes}
 use Rattle.h3_connection.specs.Incoming.{Incoming}
-use Rattle.h3_connection.specs.declared.event.Pull.TheVariants as pull
 use Rattle.h3_world.specs.Order.{is_over}
 use Rattle.h3_headline.specs.Pulling.{GoesOn}
 use Rattle.h3_headline.specs.Standing.{ReadsFlow, ReceivesFlow, StandsBefore}

@@ -1,6 +1,6 @@
 -- What a pull of a request stream comes to, by where its receiver stands.
 use Rattle.std.proofs.Common.{◌≡◌, ℕ, [], Option, Some, None, false, ◌+◌, List, ◌++◌, length, drop, ◌-◌, take, ◌≤◌, ◌<◌, true, ◌^◌, if◌then◌else◌}
-use Rattle.h3_connection.specs.Pulling.{Pulled, acknowledgment, past_section, read_section, decoded}
+use Rattle.h3_connection.specs.Pulling.{Pulled, acknowledgment, past_section, read_section}
 use Rattle.h3_connection.specs.declared.event.Item.{Item}
 use Rattle.h3_connection.specs.declared.event.Pull.{Pull}
 use Rattle.h3_connection.specs.declared.event.Pull.TheVariants as pull
@@ -16,7 +16,6 @@ use Rattle.h3_world.specs.World.{Party}
 use Rattle.h3_world.specs.Sound.{IsSoundFlow}
 use Rattle.h3_world.specs.Flow.Part.{Body, Head, Interim, Trailer}
 use Rattle.h3_header.specs.Head as header
-use Rattle.h3_connection.specs.declared.event.Item.TheVariants as item
 use Rattle.h3_field.specs.Field.{section_size}
 use Rattle.h3_header.specs.ReadsBack.{ReadsBack}
 use Rattle.h3_wire.specs.Encoded.{frame_encoding}

@@ -10,12 +10,10 @@ use Rattle.h3_connection.specs.Keeping.{pulls}
 use Rattle.h3_connection.specs.declared.event.Pull.{Pull}
 use Rattle.h3_connection.specs.declared.event.Pull.TheVariants as pull
 use Rattle.h3_world.specs.declared.setup.Setup.{Setup}
-use Rattle.h3_world.specs.Pulling.{Pulls, PausesExactly, settled, pull_unidirectional, pull_unopened, fault_or}
+use Rattle.h3_world.specs.Pulling.{Pulls, PausesExactly, pull_unidirectional, pull_unopened, fault_or}
 use Rattle.std.specs.Prelude.{not, ◌==◌}
-use Rattle.h3_connection.specs.declared.event.Item.{Item}
 use Rattle.h3_connection.specs.declared.event.Item.TheVariants as item
 use Rattle.h3_connection.specs.declared.event.StreamFault.{StreamFault}
-use Rattle.h3_world.specs.Flow.Part.{End}
 use Rattle.h3_connection.specs.StreamSets.{Streams}
 use Rattle.h3_connection.specs.Unidirectional.{Unidirectional, Role, untold}
 use Rattle.h3_connection.specs.Endpoint.Kind.{Request, ServerOpened, OwnUnidirectional, PeerUnidirectional}

@@ -1,5 +1,5 @@
 -- How many streams of an endpoint wait, and how many of the world.
-use Rattle.std.proofs.Common.{ℕ, Bool, nat_lt, if◌then◌else◌, ◌≡◌, true, List, Some, ◌-◌, [], ◌∷◌}
+use Rattle.std.proofs.Common.{ℕ, Bool, nat_lt, if◌then◌else◌, ◌≡◌, true, List, Some, [], ◌∷◌}
 use Rattle.std.specs.Prelude.{◌&&◌, is_none, count_by, slice_get, ◌==◌}
 use Rattle.h3_proto.specs.declared.stream.Side.{Side}
 use Rattle.h3_world.specs.World.{Exchange}
