@@ -1,3 +1,12 @@
 mod Accepted
+mod ComesLaws
 mod Cuts
+mod DeliverEventLaws
+mod DeliverLaws
+mod EventLaws
+mod OwnEventLaws
+mod OwnStandsLaws
+mod OwnWritesLaws
+mod PulledAndSentLaws
+mod RunLaws
 mod Tables

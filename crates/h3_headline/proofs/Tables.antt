@@ -18,7 +18,7 @@ use Rattle.h3_world.specs.Setup.{IsMadeSetup, announced_at}
 use Rattle.h3_world.specs.Sound.{IsSoundWorld}
 use Rattle.h3_world.specs.World.{World, party}
 use Rattle.h3_headline.specs.AcceptedLaws.{accepted_front, replies_accepted}
-use Rattle.h3_headline.specs.CitedLaws.{StreamLaws}
+use Rattle.h3_headline.specs.Cited.{StreamLaws}
 use Rattle.h3_headline.specs.EncoderStreamLaws.{instructions_read}
 use Rattle.h3_headline.specs.FlowLaws.{other-other}
 use Rattle.h3_headline.specs.OwnOverLaws.{party_sound}

@@ -1,26 +1,27 @@
 -- No instruction of either side is refused: what a session has under way fits what both ends have.
-use Rattle.std.proofs.Common.{◌≡◌, ℕ, ◌+◌, ◌^◌, ◌<◌, ◌≤◌, nat_le, nat_lt, not, Bool, true, false, if◌then◌else◌, List, [], ◌∷◌, ◌++◌, length, Option, Some, None, refl, sym, ap, ◌∙◌, subst, arith}
-use Rattle.std.specs.Prelude.{◌==◌, ◌||◌, ◌&&◌, count_by}
-use Rattle.std.proofs.lemmas.Bool.{and_parts}
-use Rattle.std.proofs.lemmas.Grind.{common_steps}
-use Rattle.std.proofs.lemmas.List.Sums.{sum_by-cons}
-use Rattle.h3_field.specs.Field.{Field}
-use Rattle.h3_field.specs.Instruction.{EncoderInstruction, DecoderInstruction}
-use Rattle.h3_field.specs.Instruction.EncoderInstruction.{SetCapacity, InsertWithStaticName, InsertWithEntryName, InsertLiteral, Duplicate}
-use Rattle.h3_field.specs.Instruction.DecoderInstruction.{Acknowledge, CancelStream, Increment}
-use Rattle.h3_qpack.specs.DecoderState.{DecoderState, greatest_capacity, insertion_of, inserting, decoder_after, decoder_after_all}
-use Rattle.h3_qpack.specs.EncoderHistory.{EncoderHistory, using_table, encoder_after, encoder_after_all, is_refused}
-use Rattle.h3_qpack.specs.Instructions.{AreAccepted}
+use Rattle.std.proofs.Common.{◌+◌, List, [], ◌∷◌, ◌++◌, refl, subst, ◌≡◌, ℕ, ◌<◌, ◌≤◌, nat_lt, not, Bool, true, false, length, ap, arith, sym, ◌∙◌, None, Option, Some, ◌^◌, if◌then◌else◌, nat_le}
 use Rattle.h3_qpack.specs.Schedule.{SessionEvent, SessionStep, SessionRun, beginning}
-use Rattle.h3_qpack.specs.Schedule.SessionEvent.{DecoderInstructionRead}
 use Rattle.h3_qpack.specs.Session.{Session, IsSound, AreTold, increments, after_decoder_instruction}
-use Rattle.h3_table.specs.TableState.{has_room, with_entry, with_capacity}
-use Rattle.h3_qpack.specs.WholeInstructions.{is_insertion}
+use Rattle.std.specs.Prelude.{◌==◌, ◌||◌, ◌&&◌, count_by}
+use Rattle.std.proofs.lemmas.Grind.{common_steps}
+use Rattle.h3_field.specs.Instruction.{DecoderInstruction, EncoderInstruction}
+use Rattle.h3_field.specs.Instruction.DecoderInstruction.{Acknowledge, CancelStream, Increment}
+use Rattle.h3_qpack.specs.EncoderHistory.{is_refused, EncoderHistory, encoder_after}
+use Rattle.h3_qpack.specs.Instructions.{AreAccepted}
+use Rattle.h3_qpack.specs.Schedule.SessionEvent.{DecoderInstructionRead}
 use Rattle.h3_proto.specs.declared.stream.Side.{Side}
 use Rattle.h3_world.specs.declared.setup.Setup.{Setup}
 use Rattle.h3_world.specs.Following.{HasSession, replies_left}
 use Rattle.h3_world.specs.World.{World, party}
-use Rattle.h3_headline.specs.CitedLaws.{StreamLaws}
+use Rattle.h3_qpack.specs.DecoderState.{decoder_after_all, DecoderState, decoder_after, inserting, greatest_capacity, insertion_of}
+use Rattle.std.proofs.lemmas.Bool.{and_parts}
+use Rattle.h3_field.specs.Field.{Field}
+use Rattle.h3_table.specs.TableState.{has_room, with_entry, with_capacity}
+use Rattle.h3_field.specs.Instruction.EncoderInstruction.{SetCapacity, InsertWithStaticName, InsertWithEntryName, InsertLiteral, Duplicate}
+use Rattle.std.proofs.lemmas.List.Sums.{sum_by-cons}
+use Rattle.h3_qpack.specs.WholeInstructions.{is_insertion}
+use Rattle.h3_headline.specs.Cited.{StreamLaws}
+use Rattle.h3_headline.specs.Decoding.{Counts, counted, limited}
 
 -- a run with one more event
 pub run_then : (start mid new : Session) (events : List SessionEvent) (event : SessionEvent) → SessionRun start events mid → SessionStep mid event new → SessionRun start (events ++ event ∷ []) new
@@ -59,10 +60,6 @@ pub accepted_front : (s : EncoderHistory) (is js : List DecoderInstruction) → 
 accepted_front s [] js h = tt
 accepted_front s (i ∷ is) js h = (h.0, accepted_front (encoder_after s i) is js h.1)
 
--- The limits of an encoder play no part in what it refuses.
-abbrev pub limited : EncoderHistory → ℕ → ℕ → EncoderHistory
-limited s capacity limit = using_table s capacity limit
-
 after_limited : (s : EncoderHistory) (capacity limit : ℕ) (i : DecoderInstruction) → encoder_after (limited s capacity limit) i ≡ limited (encoder_after s i) capacity limit
 after_limited s capacity limit (Acknowledge stream) = refl
 after_limited s capacity limit (CancelStream stream) = refl
@@ -78,10 +75,6 @@ accepted_limited s capacity limit [] h = tt
 accepted_limited s capacity limit (i ∷ is) h =
     (refused_limited s capacity limit i ∙ h.0, subst (λ x. AreAccepted x is) (sym (after_limited s capacity limit i)) (accepted_limited (encoder_after s i) capacity limit is h.1))
 
-pub after_all_append : (s : EncoderHistory) (is js : List DecoderInstruction) → encoder_after_all s (is ++ js) ≡ encoder_after_all (encoder_after_all s is) js
-after_all_append s [] js = refl
-after_all_append s (i ∷ is) js = after_all_append (encoder_after s i) is js
-
 nothing_after : (is : List EncoderInstruction) → decoder_after_all None is ≡ None
 nothing_after [] = refl
 nothing_after (i ∷ is) = refl
@@ -90,11 +83,6 @@ pub decoder_after_append : (r : Option DecoderState) (is js : List EncoderInstru
 decoder_after_append r [] js = refl
 decoder_after_append None (i ∷ is) js = sym (nothing_after js)
 decoder_after_append (Some r) (i ∷ is) js = decoder_after_append (decoder_after r i) is js
-
--- A decoder counts the insertions that it reads.
-pub record Counts (r new : DecoderState) (added : ℕ) : Type 0 where
-  pub sum : new.table.inserted ≡ r.table.inserted + added
-  pub bound : r.table.inserted < 2 ^ 62 → new.table.inserted < 2 ^ 62
 
 less_of : (a b : ℕ) → nat_lt a b ≡ true → a < b
 less_of a b e = grind (arith, common_steps, e)
@@ -121,9 +109,6 @@ counts_none r new capacity e = by_test (nat_le capacity (greatest_capacity r)) e
         let is : r.table.inserted ≡ new.table.inserted = ap (λ (x : DecoderState). x.table.inserted) (some_same (record r { table = with_capacity r.table capacity }) new e) in
         record { sum = omega (arith, is); bound = λ h. omega (arith, is, h) }
     by_test false e = absurd (cc)
-
-abbrev pub counted : EncoderInstruction → ℕ
-counted i = if is_insertion i then 1 else 0
 
 counts_instruction : (r new : DecoderState) (i : EncoderInstruction) → decoder_after r i ≡ Some new → Counts r new (counted i)
 counts_instruction r new (SetCapacity capacity) e = counts_none r new capacity e

@@ -2,25 +2,16 @@
 use Rattle.std.proofs.Common.{sym, subst}
 use Rattle.h3_world.specs.declared.setup.Setup.{Setup}
 use Rattle.h3_world.specs.declared.event.Event.{Event}
-use Rattle.h3_world.specs.declared.event.Answer.{Answer}
 use Rattle.h3_world.specs.Ends.{Ends, answered}
 use Rattle.h3_world.specs.Headline.{Happens}
 use Rattle.h3_world.specs.Machine.{served}
 use Rattle.h3_world.specs.Sendable.{IsSendable}
-use Rattle.h3_world.specs.Sound.{IsSoundWorld}
-use Rattle.h3_world.specs.Step.{Step, IsExact}
-use Rattle.h3_world.specs.World.{World, empty_world}
+use Rattle.h3_world.specs.World.{World}
+use Rattle.h3_headline.specs.Cited.{WorldLaws}
 use Rattle.h3_headline.specs.FewLaws.{few_after}
-use Rattle.h3_headline.specs.OwnEventLaws.{AnswersAlike}
-use Rattle.h3_headline.specs.OwnWritesLaws.{KeepsWriting}
-use Rattle.h3_headline.specs.RunLaws.{StandsOn}
+use Rattle.h3_headline.specs.OwnStreams.{AnswersAlike, KeepsWriting}
 use Rattle.h3_headline.specs.Standing.{Stands}
-
--- What is cited of worlds: the contracts of `h3_world`'s `laws`, as premises.
-pub record WorldLaws : Type 0 where
-  pub begins : (setup : Setup) → IsSoundWorld setup (empty_world setup)
-  pub machine : (setup : Setup) (w : World) (e : Event) → IsSoundWorld setup w → Step setup w e (served setup w e).0 (served setup w e).1 × IsExact w e (served setup w e).0
-  pub both : (setup : Setup) (w new : World) (e : Event) (a : Answer) → IsSendable e → Step setup w e a new → IsExact w e a → IsSoundWorld setup w → Happens setup w e a new × IsSoundWorld setup new
+use Rattle.h3_headline.specs.Steps.{StandsOn}
 
 pub alike_stands : (laws : WorldLaws) (setup : Setup) (w : World) (ends : Ends) (e : Event) → IsSendable e → Stands setup w ends
     → AnswersAlike setup (answered ends e) (served setup w e) → KeepsWriting (served setup w e).1 → StandsOn setup w ends e

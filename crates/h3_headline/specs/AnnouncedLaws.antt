@@ -1,47 +1,35 @@
 -- What a side announces is what the other side keeps of it.
-use Rattle.std.proofs.Common.{◌≡◌, ℕ, ◌+◌, ◌*◌, ◌^◌, ◌<◌, ◌≤◌, ◌==◌, nat_le, nat_lt, not, Bool, true, false, if◌then◌else◌, List, [], ◌∷◌, ◌++◌, length, min, Result, Ok, Err, refl, sym, ap, ◌∙◌, subst, arith, length-append, append_assoc}
-use Rattle.std.specs.Prelude.{unwrap_or}
-use Rattle.std.proofs.lemmas.Bool.{ne_eqb}
+use Rattle.std.proofs.Common.{◌≡◌, Result, Ok, ℕ, ◌<◌, nat_le, false, arith, ◌≤◌, nat_lt, ◌+◌, ◌^◌, Bool, true, if◌then◌else◌, List, ◌++◌, Err, sym, [], ◌∷◌, refl, ap, ◌∙◌, ◌*◌, length, length-append, ◌==◌, not, min, subst, append_assoc}
 use Rattle.std.proofs.lemmas.Grind.{common_steps}
-use Rattle.std.specs.Int.{bytes_high_first}
-use Rattle.h3_coding.specs.Encodings.{encoding}
-use Rattle.h3_field.specs.Instruction.EncoderInstruction.{SetCapacity}
-use Rattle.h3_connection.specs.Control.{is_usable}
-use Rattle.h3_qpack.specs.Exchange as exchange
 use Rattle.h3_proto.specs.Config.{announced, grease_pairs, own_pairs, table_pairs}
-use Rattle.h3_proto.specs.Ids.{reserved}
-use Rattle.h3_proto.specs.Pairs.{payload_of}
-use Rattle.h3_proto.specs.ReceivedLaws.{announced_received_with_table}
-use Rattle.h3_proto.specs.Settings.{is_known, value_of, settings_of}
-use Rattle.h3_proto.specs.declared.config.Choices.{Choices}
 use Rattle.h3_proto.specs.declared.config.Config.{Config}
-use Rattle.h3_proto.specs.declared.config.Settings.{Settings}
 use Rattle.h3_proto.specs.declared.frame.SettingsError.{SettingsError}
 use Rattle.h3_proto.specs.declared.frame.SettingsError.TheVariants.{InvalidSettingValue}
-use Rattle.h3_proto.specs.declared.stream.Side.{Side}
-use Rattle.h3_proto.specs.declared.stream.Side.TheVariants.{Client, Server}
+use Rattle.h3_proto.specs.declared.config.Choices.{Choices}
 use Rattle.h3_connection.specs.Announcing.{with_limits}
 use Rattle.h3_connection.specs.declared.setup.Announced.{Announced}
-use Rattle.h3_connection.specs.declared.setup.Limits.{Limits}
 use Rattle.h3_connection.specs.declared.setup.NewError.{NewError}
 use Rattle.h3_connection.specs.declared.setup.NewError.TheVariants.{TableLimit, BlockedLimit}
-use Rattle.h3_world.specs.declared.setup.Setup.{Setup}
-use Rattle.h3_world.specs.Following.{opening}
 use Rattle.h3_world.specs.Setup.{IsMade, IsMadeSetup, announced_at}
+use Rattle.std.proofs.lemmas.Bool.{ne_eqb}
+use Rattle.h3_proto.specs.Ids.{reserved}
+use Rattle.h3_proto.specs.Settings.{is_known, value_of, settings_of}
+use Rattle.h3_proto.specs.declared.config.Settings.{Settings}
+use Rattle.std.specs.Int.{bytes_high_first}
+use Rattle.h3_coding.specs.Encodings.{encoding}
+use Rattle.h3_proto.specs.Pairs.{payload_of}
+use Rattle.h3_connection.specs.Control.{is_usable}
+use Rattle.h3_field.specs.Instruction.EncoderInstruction.{SetCapacity}
+use Rattle.h3_qpack.specs.Exchange as exchange
+use Rattle.h3_connection.specs.declared.setup.Limits.{Limits}
+use Rattle.h3_world.specs.Following.{opening}
+use Rattle.std.specs.Prelude.{unwrap_or}
+use Rattle.h3_proto.specs.ReceivedLaws.{announced_received_with_table}
+use Rattle.h3_proto.specs.declared.stream.Side.{Side}
+use Rattle.h3_proto.specs.declared.stream.Side.TheVariants.{Client, Server}
+use Rattle.h3_world.specs.declared.setup.Setup.{Setup}
+use Rattle.h3_headline.specs.PeerStreams.{Announces, Configured, Parts, WithLimits}
 use Rattle.h3_headline.specs.Standing.{with_meaning}
-
--- the parts of what is announced
-record Parts (a : Announced) : Type 0 where
-  pub send : Bool
-  pub grease : ℕ
-  pub own : Settings
-  pub config : Config
-  pub low : grease < 0x210842108421083
-  pub made : announced config grease ≡ Ok (grease_pairs send grease ++ own_pairs own)
-  pub own_is : config.settings ≡ own
-  pub settings : a.settings ≡ (grease_pairs send grease ++ own_pairs own) ++ table_pairs a.limits.table a.limits.blocked
-  pub table : a.limits.table < 2 ^ 30
-  pub blocked : a.limits.blocked < 2 ^ 16
 
 same_ok : {X E : Type 0} (x y : X) → ◌≡◌ {A = Result X E} (Ok x) (Ok y) → x ≡ y
 same_ok x y e = cc
@@ -51,10 +39,6 @@ not_above a b e = grind (arith, common_steps, e)
 
 not_below : (a b : ℕ) → nat_lt a b ≡ false → b ≤ a
 not_below a b e = grind (arith, common_steps, e)
-
--- the pairs of a configuration
-record Configured (c : Config) (grease : ℕ) (pairs : List (ℕ × ℕ)) : Type 0 where
-  pub are : pairs ≡ grease_pairs c.send_grease grease ++ own_pairs c.settings
 
 configured : (c : Config) (grease : ℕ) (pairs : List (ℕ × ℕ)) → announced c grease ≡ Ok pairs → Configured c grease pairs
 configured c grease pairs h = by_tests (nat_le (2 ^ 62) c.settings.max_field_section_size) (nat_le (2 ^ 62) c.settings.max_webtransport_sessions) h
@@ -67,11 +51,6 @@ configured c grease pairs h = by_tests (nat_le (2 ^ 62) c.settings.max_field_sec
     by_tests true many h = absurd (cc)
     by_tests false true h = absurd (cc)
     by_tests false false h = record { are = sym (same_ok (grease_pairs c.send_grease grease ++ own_pairs c.settings) pairs h) }
-
-record WithLimits (settings : Result (List (ℕ × ℕ)) SettingsError) (a : Announced) : Type 0 where
-  pub pairs : List (ℕ × ℕ)
-  pub is : settings ≡ Ok pairs
-  pub settings_are : a.settings ≡ pairs ++ table_pairs a.limits.table a.limits.blocked
 
 with_limits_of : (settings : Result (List (ℕ × ℕ)) SettingsError) (choices : Choices) (a : Announced) → with_limits settings a.limits choices ≡ Ok a → WithLimits settings a
 with_limits_of (Ok pairs) choices a h =
@@ -154,15 +133,6 @@ opening_same most limits h k = ap (λ b. if b then SetCapacity (min most limits.
     by_test : (b : Bool) → (if not b then SetCapacity (min most limits.table) ∷ [] else []) ≡ (if b then [] else SetCapacity (min most limits.table) ∷ [])
     by_test true = refl
     by_test false = refl
-
--- What the other side makes of the announced settings.
-pub record Announces (a : Announced) : Type 0 where
-  pub received : settings_of (payload_of a.settings) ≡ Ok (with_meaning a.settings)
-  pub small : length (payload_of a.settings) < 2 ^ 62
-  pub table : unwrap_or (value_of 1 (with_meaning a.settings)) 0 ≡ a.limits.table
-  pub blocked : unwrap_or (value_of 7 (with_meaning a.settings)) 0 ≡ a.limits.blocked
-  pub opening : (most : ℕ) → opening most a.limits ≡ exchange.opening (min most a.limits.table)
-  pub low : a.limits.table < 2 ^ 30
 
 pub announces : (a : Announced) → IsMade a → Announces a
 announces a made =

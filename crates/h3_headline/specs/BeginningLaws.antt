@@ -1,22 +1,23 @@
 -- Two new endpoints stand in the empty world.
-use Rattle.std.proofs.Common.{◌≡◌, ℕ, ◌+◌, [], Bool, true, false, None, refl, ap, ◌∙◌, arith}
+use Rattle.std.proofs.Common.{◌≡◌, Bool, true, false, refl, ℕ, arith, ap, ◌∙◌, ◌+◌, [], None}
+use Rattle.std.specs.Prelude.{◌&&◌, nat_lt, nat_le, length, if◌then◌else◌}
 use Rattle.std.proofs.lemmas.Grind.{common_steps}
-use Rattle.std.specs.Prelude.{◌&&◌, length, nat_le, nat_lt, if◌then◌else◌}
-use Rattle.std.specs.List.{AllByRecursion}
 use Rattle.h3_proto.specs.StreamIds.{is_request, index_of}
-use Rattle.h3_proto.specs.declared.stream.Side.{Side}
 use Rattle.h3_proto.specs.declared.stream.Side.TheVariants.{Client, Server}
-use Rattle.h3_connection.specs.Endpoint.{new_endpoint}
+use Rattle.h3_world.specs.declared.setup.Setup.{Setup}
+use Rattle.h3_world.specs.Streams.{is_open, exchange, flow}
+use Rattle.h3_world.specs.World.{empty_world, no_exchange}
+use Rattle.h3_proto.specs.declared.stream.Side.{Side}
+use Rattle.h3_world.specs.Setup.{announced_at}
 use Rattle.h3_connection.specs.OwnIds.{other}
 use Rattle.h3_connection.specs.PeerReading.{nothing_read}
-use Rattle.h3_world.specs.declared.setup.Setup.{Setup}
+use Rattle.h3_connection.specs.Endpoint.{new_endpoint}
+use Rattle.std.specs.List.{AllByRecursion}
 use Rattle.h3_world.specs.Ends.{new_ends}
-use Rattle.h3_world.specs.Setup.{announced_at}
 use Rattle.h3_world.specs.Sound.{IsSoundWorld}
-use Rattle.h3_world.specs.Streams.{flow, exchange, is_open}
-use Rattle.h3_world.specs.World.{empty_world, no_exchange}
-use Rattle.h3_headline.specs.Standing.{Stands, StandsAt, HasControl, IsReadable, are_settings_there, replies_unread}
-use Rattle.h3_headline.specs.ControlLaws.{length_settings, settings_frame_of}
+use Rattle.h3_headline.specs.ControlLaws.{length_settings}
+use Rattle.h3_headline.specs.PeerStreams.{settings_frame_of}
+use Rattle.h3_headline.specs.Standing.{HasControl, IsReadable, Stands, StandsAt, are_settings_there, replies_unread}
 
 and_false : (b : Bool) → (b && false) ≡ false
 and_false true = refl

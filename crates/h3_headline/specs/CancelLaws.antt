@@ -1,48 +1,47 @@
 -- A cancellation: what the ends answer, and where they stand.
-use Rattle.std.proofs.Common.{◌≡◌, ℕ, Bool, true, false, List, [], ◌∷◌, ◌++◌, refl, sym, ap, ◌∙◌, subst, if◌then◌else◌, Option, Some, None}
-use Rattle.std.specs.Prelude.{not, ◌||◌, ◌==◌, is_some, unwrap_or}
-use Rattle.std.specs.List.{AllByRecursion}
+use Rattle.std.proofs.Common.{◌≡◌, ℕ, true, List, sym, ap, ◌∙◌, if◌then◌else◌, Bool, false, [], ◌∷◌, refl, Option, Some, None, ◌++◌, subst}
+use Rattle.std.specs.Prelude.{◌==◌, not, ◌||◌, is_some, unwrap_or}
 use Rattle.h3_field.specs.Instruction.{DecoderInstruction}
-use Rattle.h3_field.specs.Instruction.DecoderInstruction.{CancelStream}
-use Rattle.h3_field.specs.InstructionAnswer.{IsReply}
 use Rattle.h3_proto.specs.declared.stream.Side.{Side}
+use Rattle.h3_connection.specs.OwnIds.{other, decoder_id}
+use Rattle.h3_world.specs.Flow.{Flow}
+use Rattle.h3_world.specs.Streams.{flow, with_flow, is_open}
+use Rattle.h3_world.specs.World.{World, party, with_party, Party}
 use Rattle.h3_connection.specs.Delivering.{incoming_at, give_up, given_up_by, cancellation, with_incoming}
 use Rattle.h3_connection.specs.Endpoint.{EndpointHistory, replied}
 use Rattle.h3_connection.specs.Incoming.{Incoming, nothing_came}
-use Rattle.h3_connection.specs.Incoming as incoming
-use Rattle.h3_connection.specs.OwnIds.{other, decoder_id}
 use Rattle.h3_connection.specs.Sending.{first_of}
-use Rattle.h3_connection.specs.Sending as sender
 use Rattle.h3_connection.specs.StreamSets.{stream_at, set_stream}
 use Rattle.h3_connection.specs.declared.event.Refusal.{Refusal}
 use Rattle.h3_connection.specs.declared.event.Refusal.TheVariants as refusal
-use Rattle.h3_connection.specs.declared.event.StreamFault.{StreamFault}
-use Rattle.h3_connection.specs.declared.event.StreamFault.TheVariants.{Canceled}
 use Rattle.h3_world.specs.declared.setup.Setup.{Setup}
+use Rattle.h3_world.specs.Order.{is_over}
+use Rattle.std.specs.List.{AllByRecursion}
+use Rattle.h3_connection.specs.declared.event.StreamFault.{StreamFault}
+use Rattle.h3_field.specs.Instruction.DecoderInstruction.{CancelStream}
+use Rattle.h3_field.specs.InstructionAnswer.{IsReply}
+use Rattle.h3_connection.specs.Incoming as incoming
+use Rattle.h3_connection.specs.Sending as sender
+use Rattle.h3_connection.specs.declared.event.StreamFault.TheVariants.{Canceled}
 use Rattle.h3_world.specs.declared.event.Event.TheVariants as event
 use Rattle.h3_world.specs.declared.event.Answer.TheVariants as answer
 use Rattle.h3_world.specs.Ends.{Ends, end_at, answered}
-use Rattle.h3_world.specs.Flow.{Flow}
 use Rattle.h3_world.specs.Machine.{served}
-use Rattle.h3_world.specs.Order.{is_over}
 use Rattle.h3_world.specs.Refusals.{is_critical, cancel_refusal}
 use Rattle.h3_world.specs.Sending.{given_up}
-use Rattle.h3_world.specs.Streams.{flow, with_flow, is_open}
-use Rattle.h3_world.specs.World.{World, Party, party, with_party}
-use Rattle.h3_headline.specs.ComingLaws.{incoming_there, incoming_none}
+use Rattle.h3_headline.specs.Arriving.{Receives, saying}
+use Rattle.h3_headline.specs.Calls.{Serves, saying_more}
+use Rattle.h3_headline.specs.ComingLaws.{incoming_none, incoming_there}
 use Rattle.h3_headline.specs.DeliverLaws.{sends_same}
 use Rattle.h3_headline.specs.FewLaws.{open_is_small}
-use Rattle.h3_headline.specs.FlowLaws.{same_number, same_both, open_there, there-with_party, flow-with_flow, flow-with_peer, flow-with_party, party-with_flow, party-with_party, party-with_other, is_open-own, is_open-peer_kept, is_open-with_party}
-use Rattle.h3_headline.specs.MovesLaws.{saying, Receives, receiver_stands, sender_stands}
+use Rattle.h3_headline.specs.FlowLaws.{flow-with_flow, flow-with_party, flow-with_peer, is_open-own, is_open-peer_kept, is_open-with_party, open_there, party-with_flow, party-with_other, party-with_party, same_both, same_number, there-with_party}
+use Rattle.h3_headline.specs.MovesLaws.{receiver_stands, sender_stands}
 use Rattle.h3_headline.specs.ReceivingLaws.{is_given_up}
-use Rattle.h3_headline.specs.SendingLaws.{both_of, Serves, does_on, call_agrees, goes_unclosed, not_refused, not_refused_open, flow_count}
+use Rattle.h3_headline.specs.SendingLaws.{both_of, call_agrees, does_on, flow_count, goes_unclosed, not_refused, not_refused_open}
 use Rattle.h3_headline.specs.SentLaws.{critical_agrees}
-use Rattle.h3_headline.specs.Standing.{HasDecoderStreamOf, ReceivesFlow, StandsAt, IsWritable, IsReadable, Stands, are_settings_there}
-use Rattle.h3_headline.specs.WritingLaws.{sound_party, hears, party_count}
+use Rattle.h3_headline.specs.Standing.{HasDecoderStreamOf, IsReadable, IsWritable, ReceivesFlow, Stands, StandsAt, are_settings_there}
 use Rattle.h3_headline.specs.WritesMoreLaws.{decoder_stream_more}
-
-abbrev saying_more : Party → List DecoderInstruction → Party
-saying_more p more = record p { own = record p.own { replies = p.own.replies ++ more } }
+use Rattle.h3_headline.specs.WritingLaws.{hears, party_count, sound_party}
 
 -- the worlds of a change of one flow to a side of which it has seen no more, and whose decoder wrote more
 pub flow_answered : (w : World) (side : Side) (id : ℕ) (more : List DecoderInstruction) (g : Flow) → is_open w side id ≡ true → g.seen ≡ (flow w (other side) id).seen

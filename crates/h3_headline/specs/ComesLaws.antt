@@ -1,47 +1,46 @@
 -- What comes on a request stream is taken by its reader, and both ends stand in the world after it.
-use Rattle.std.proofs.Common.{◌≡◌, ℕ, ◌<◌, ◌≤◌, ◌^◌, Bool, true, false, List, [], ◌∷◌, length, take, refl, sym, ap, ◌∙◌, subst, if◌then◌else◌, Option, Some, None}
+use Rattle.std.proofs.Common.{◌≡◌, ℕ, Bool, true, false, List, refl, sym, subst, if◌then◌else◌, [], ap, ◌∙◌, ◌∷◌, Option, Some, None, length, ◌<◌, ◌^◌}
 use Rattle.std.specs.Prelude.{◌==◌, ◌||◌, is_some, unwrap_or}
 use Rattle.std.specs.List.{AllByRecursion}
 use Rattle.h3_field.specs.Instruction.{DecoderInstruction}
-use Rattle.h3_field.specs.Instruction.DecoderInstruction.{CancelStream}
 use Rattle.h3_field.specs.InstructionAnswer.{IsReply}
 use Rattle.h3_proto.specs.declared.stream.Side.{Side}
-use Rattle.h3_connection.specs.Arrivals.{stream_of}
-use Rattle.h3_connection.specs.declared.arrival.Arrival.{Arrival}
-use Rattle.h3_connection.specs.declared.arrival.Arrival.TheVariants.{BytesCame, EndCame, ResetCame}
-use Rattle.h3_connection.specs.declared.event.Refusal.{Refusal}
-use Rattle.h3_connection.specs.declared.event.StreamFault.{StreamFault}
-use Rattle.h3_connection.specs.declared.event.StreamFault.TheVariants as stream_fault
-use Rattle.h3_connection.specs.Control.{Found}
-use Rattle.h3_connection.specs.Delivering.{opened, opened_at, incoming_at, with_incoming, given_up_once, cancellation, taken, delivery_refusal, bytes_at, end_at, reset_at}
-use Rattle.h3_connection.specs.Endpoint.{EndpointHistory, Own, replied, kind_of, bytes_waiting}
-use Rattle.h3_connection.specs.Endpoint.Kind.{Request}
-use Rattle.h3_connection.specs.Incoming.{Incoming, nothing_came}
-use Rattle.h3_connection.specs.Keeping.{arrives, arrives_behind, read_arrival}
+use Rattle.h3_connection.specs.Endpoint.{EndpointHistory, Own, replied, kind_of}
 use Rattle.h3_connection.specs.OwnIds.{other, decoder_id}
-use Rattle.h3_connection.specs.Sending.{advance}
-use Rattle.h3_connection.specs.StreamSets.{stream_at}
 use Rattle.h3_world.specs.declared.setup.Setup.{Setup}
-use Rattle.h3_world.specs.Delivering.{delivered_reset, reset_code}
 use Rattle.h3_world.specs.Flow.{Flow}
-use Rattle.h3_world.specs.Flow as flows
-use Rattle.h3_world.specs.Sending.{given_up}
-use Rattle.h3_world.specs.Sound.{IsSoundWorld}
 use Rattle.h3_world.specs.Streams.{flow, with_flow, is_open}
 use Rattle.h3_world.specs.World.{World, Party, party, with_party}
+use Rattle.h3_connection.specs.declared.arrival.Arrival.TheVariants.{EndCame, ResetCame, BytesCame}
+use Rattle.h3_world.specs.Sound.{IsSoundWorld}
+use Rattle.h3_field.specs.Instruction.DecoderInstruction.{CancelStream}
+use Rattle.h3_connection.specs.declared.event.StreamFault.{StreamFault}
+use Rattle.h3_connection.specs.declared.event.StreamFault.TheVariants as stream_fault
+use Rattle.h3_connection.specs.Delivering.{cancellation, opened, incoming_at, opened_at, with_incoming, given_up_once, taken, reset_at, bytes_at, end_at, delivery_refusal}
+use Rattle.h3_world.specs.Delivering.{delivered_reset, reset_code}
+use Rattle.h3_world.specs.Sending.{given_up}
+use Rattle.h3_connection.specs.Incoming.{nothing_came, Incoming}
+use Rattle.h3_connection.specs.StreamSets.{stream_at}
+use Rattle.h3_connection.specs.Arrivals.{stream_of}
+use Rattle.h3_connection.specs.declared.arrival.Arrival.{Arrival}
+use Rattle.h3_connection.specs.Endpoint.Kind.{Request}
+use Rattle.h3_connection.specs.Keeping.{read_arrival, arrives, arrives_behind}
+use Rattle.h3_connection.specs.declared.event.Refusal.{Refusal}
+use Rattle.h3_connection.specs.Control.{Found}
+use Rattle.h3_headline.specs.Arriving.{Comes, Receives, ended_flow, flow_given_up, found_none, losing, owning, reset_flow, saying}
+use Rattle.h3_headline.specs.Calls.{Both}
 use Rattle.h3_headline.specs.CancelLaws.{flow_answered}
-use Rattle.h3_headline.specs.ComingLaws.{incoming_there, incoming_none, is_unseen, kind_is, saying_nothing}
-use Rattle.h3_headline.specs.DeliverLaws.{owning, bytes_over, end_over, flow_received, goes_on}
-use Rattle.h3_headline.specs.FlowLaws.{IsThere, open_there, other-other}
-use Rattle.h3_headline.specs.MovesLaws.{saying, Receives}
+use Rattle.h3_headline.specs.ComingLaws.{incoming_none, incoming_there, is_unseen, kind_is, saying_nothing}
+use Rattle.h3_headline.specs.DeliverLaws.{end_over, flow_received, goes_on}
+use Rattle.h3_headline.specs.FlowLaws.{open_there, other-other}
 use Rattle.h3_headline.specs.OwnWritesLaws.{saying_writable}
-use Rattle.h3_headline.specs.ReceivingLaws.{come, ended_flow, reset_flow, flow_given_up}
 use Rattle.h3_headline.specs.ResetLaws.{reset_stands}
-use Rattle.h3_headline.specs.SendingLaws.{Both, flow_count}
-use Rattle.h3_headline.specs.Standing.{HasDecoderStreamOf, StandsAt, IsWritable, IsReadable, are_settings_there}
+use Rattle.h3_headline.specs.SendingLaws.{flow_count}
+use Rattle.h3_headline.specs.Standing.{HasDecoderStreamOf, IsReadable, IsWritable, StandsAt, are_settings_there}
+use Rattle.h3_headline.specs.Steps.{IsThere}
 use Rattle.h3_headline.specs.WaitingLaws.{self}
 use Rattle.h3_headline.specs.WritesMoreLaws.{decoder_stream_more}
-use Rattle.h3_headline.specs.WritingLaws.{sound_party, hears, party_count}
+use Rattle.h3_headline.specs.WritingLaws.{hears, party_count, sound_party}
 
 -- What was written and sent stays readable, where a flow to the side changes in its marks alone and its decoder writes more.
 pub received_both : (setup : Setup) (w v : World) (side : Side) (id : ℕ) (more : List DecoderInstruction) (g : Flow) (e f x y : EndpointHistory) → Both setup w side e f → Receives w v side id more g
@@ -59,27 +58,6 @@ received_both setup w v side id more g e f x y h r sent replies here there =
     by_id : (i : ℕ) (t : Bool) → (id == i) ≡ t → AllByRecursion (IsReadable side) (if t then g else flow w (other side) i).sent
     by_id i true same = subst (AllByRecursion (IsReadable side)) (sym sent) (h.sends_there id)
     by_id i false same = h.sends_there i
-
--- What comes is taken by the reader, behind which the writer stands as given.
-pub record Comes (setup : Setup) (w v : World) (side : Side) (er ew : EndpointHistory) (a : Arrival) : Type 0 where
-  pub after : EndpointHistory
-  pub arrived : arrives er a ≡ (None, after)
-  pub both : Both setup v side after ew
-  pub count : length v.exchanges ≡ length w.exchanges
-
--- Bytes come.
-pub bytes_comes : (setup : Setup) (w : World) (side : Side) (id count : ℕ) (er ew : EndpointHistory) → Both setup w side er ew → IsSoundWorld setup w → is_open w (other side) id ≡ true
-    → count ≤ flows.bytes_waiting (flow w (other side) id) → ((flow w (other side) id).ended || (flow w (other side) id).reset_came) ≡ false
-    → Comes setup w (with_flow w (other side) id (come (flow w (other side) id) count)) side er (advance ew id count) (BytesCame id (take count (bytes_waiting ew id)))
-bytes_comes setup w side id count er ew h sound sending fits goes =
-    let g = come (flow w (other side) id) count in
-    let c = bytes_over setup w side id count er ew h.here h.there sound sending fits goes in
-    record {
-      after = c.after;
-      arrived = c.arrived;
-      both = received_both setup w (with_flow w (other side) id g) side id [] g er ew c.after (advance ew id count) h (flow_received w side id g (open_there w (other side) id sending) refl) refl tt c.reader c.writer;
-      count = flow_count w (other side) id g;
-    }
 
 -- The end comes.
 pub end_comes_over : (setup : Setup) (w : World) (side : Side) (id : ℕ) (er ew : EndpointHistory) → Both setup w side er ew → IsSoundWorld setup w → is_open w (other side) id ≡ true
@@ -111,9 +89,6 @@ receives_then w u v side id more f g r s =
     one_set : {X : Type 0} (t : Bool) (a b c : X) → (if t then a else (if t then b else c)) ≡ (if t then a else c)
     one_set true a b c = refl
     one_set false a b c = refl
-
-abbrev losing : Flow → StreamFault → Flow
-losing f fault = record f { fault = Some fault; waits_for = 0 }
 
 reset_receives : (w : World) (side : Side) (id : ℕ) → is_open w (other side) id ≡ true
     → Receives w (delivered_reset w (other side) id) side id (cancellation id (flow w (other side) id).fault) (flow_given_up (flow w (other side) id) (stream_fault.Reset reset_code))
@@ -184,9 +159,6 @@ replied_is : (e : EndpointHistory) (id : ℕ) (o : Option Incoming) (i : Incomin
     → replied (with_incoming (opened_at e id o) id i) more ≡ record (with_incoming (opened_at e id o) id i) { own = saying e.own more }
 replied_is e id None i more = refl
 replied_is e id (Some x) i more = refl
-
-abbrev found_none : EndpointHistory → Option Refusal × EndpointHistory
-found_none e = (None, e)
 
 pub reset_comes_over : (setup : Setup) (w : World) (side : Side) (id : ℕ) (er ew : EndpointHistory) → Both setup w side er ew → IsSoundWorld setup w → is_open w (other side) id ≡ true → id < 2 ^ 62
     → ((flow w (other side) id).ended || (flow w (other side) id).reset_came) ≡ false

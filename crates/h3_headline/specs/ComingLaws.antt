@@ -1,29 +1,31 @@
 -- What comes on a request stream: its receiver stands in the world after it.
-use Rattle.std.proofs.Common.{◌≡◌, ℕ, zero, suc, ◌<◌, Bool, true, false, List, [], ◌∷◌, length, refl, sym, ap, ◌∙◌, subst, arith, nat_lt, if◌then◌else◌, Option, Some, None, append-nil}
+use Rattle.std.proofs.Common.{ℕ, zero, suc, ◌<◌, List, [], ◌∷◌, length, arith, sym, subst, if◌then◌else◌, ◌≡◌, false, ap, ◌∙◌, Bool, true, refl, nat_lt, Option, Some, None, append-nil}
 use Rattle.std.specs.List.{AllByRecursion}
-use Rattle.std.specs.Prelude.{◌||◌, ◌&&◌, not, slice_get, unwrap_or, flat_map}
-use Rattle.std.proofs.lemmas.Grind.{common_steps}
-use Rattle.h3_field.specs.Instruction.{DecoderInstruction}
-use Rattle.h3_proto.specs.StreamIds.{is_request, index_of}
+use Rattle.std.specs.Prelude.{slice_get, unwrap_or, ◌&&◌, not, flat_map, ◌||◌}
+use Rattle.h3_world.specs.World.{World, Exchange, no_exchange, party, Party}
+use Rattle.h3_world.specs.Streams.{exchange, flow, is_open}
+use Rattle.h3_world.specs.Sound.{IsSoundExchange, IsSoundFlow, IsSoundWorld}
+use Rattle.h3_proto.specs.StreamIds.{index_of, is_request}
 use Rattle.h3_proto.specs.declared.stream.Side.{Side}
 use Rattle.h3_proto.specs.declared.stream.Side.TheVariants.{Client, Server}
-use Rattle.h3_connection.specs.Delivering.{opened, opened_at, incoming_at, with_incoming, closed_refusal, request_refusal, refusal_at, delivery_refusal}
-use Rattle.h3_connection.specs.Endpoint.{EndpointHistory, Own, kind_of}
-use Rattle.h3_connection.specs.Endpoint.Kind.{Request}
+use Rattle.h3_world.specs.declared.setup.Setup.{Setup}
+use Rattle.h3_connection.specs.Outgoing.{nothing_sent}
+use Rattle.h3_world.specs.Flow.{Flow, Part, own_part, part_bytes, flow_bytes}
+use Rattle.h3_world.specs.Order.{outgoing_of, is_end, last_part}
+use Rattle.std.proofs.lemmas.Grind.{common_steps}
+use Rattle.h3_connection.specs.Delivering.{opened, closed_refusal, request_refusal, refusal_at, delivery_refusal, opened_at, incoming_at, with_incoming}
+use Rattle.h3_connection.specs.Endpoint.{EndpointHistory, kind_of, Own}
 use Rattle.h3_connection.specs.Incoming.{Incoming, nothing_came}
-use Rattle.h3_connection.specs.Outgoing.{OwnPart, Outgoing, nothing_sent}
 use Rattle.h3_connection.specs.OwnIds.{other}
 use Rattle.h3_connection.specs.StreamSets.{stream_at}
-use Rattle.h3_world.specs.declared.setup.Setup.{Setup}
-use Rattle.h3_world.specs.Flow.{Flow, Part, own_part, part_bytes, flow_bytes}
-use Rattle.h3_world.specs.World.{World, Exchange, Party, no_exchange, party}
-use Rattle.h3_world.specs.Streams.{exchange, flow, is_open}
-use Rattle.h3_world.specs.Order.{outgoing_of, is_end, last_part}
-use Rattle.h3_world.specs.Sound.{IsSoundFlow, IsSoundExchange, IsSoundWorld}
-use Rattle.h3_headline.specs.FlowLaws.{IsThere, there_open}
-use Rattle.h3_headline.specs.MovesLaws.{saying, Receives, receiver_stands, opening_stands}
+use Rattle.h3_connection.specs.Endpoint.Kind.{Request}
+use Rattle.h3_field.specs.Instruction.{DecoderInstruction}
+use Rattle.h3_headline.specs.Arriving.{IsUnseen, Receives, made, saying, with_replies}
+use Rattle.h3_headline.specs.FlowLaws.{there_open}
+use Rattle.h3_headline.specs.MovesLaws.{opening_stands, receiver_stands}
 use Rattle.h3_headline.specs.ReceivingLaws.{nothing_seen}
-use Rattle.h3_headline.specs.Standing.{ReceivesFlow, ReceivesAt, StandsAt}
+use Rattle.h3_headline.specs.Standing.{ReceivesAt, ReceivesFlow, StandsAt}
+use Rattle.h3_headline.specs.Steps.{IsThere}
 
 -- an exchange that is there is sound
 exchange_at : (w : World) (es : List Exchange) (n : ℕ) → AllByRecursion (IsSoundExchange w) es → n < length es → IsSoundExchange w (unwrap_or (slice_get es n) no_exchange)
@@ -39,16 +41,6 @@ sound_exchange w id h there =
 pub sound_flow : (setup : Setup) (w : World) (side : Side) (id : ℕ) → IsSoundWorld setup w → IsThere w id → IsSoundFlow (party w side) (flow w side id)
 sound_flow setup w Client id h there = (sound_exchange w id h.exchanges there).request
 sound_flow setup w Server id h there = (sound_exchange w id h.exchanges there).response
-
--- A stream that is not open at a side and that the other side has: the server's, of whose request it has seen nothing.
-pub record IsUnseen (w : World) (side : Side) (id : ℕ) : Type 0 where
-  pub server : side ≡ Server
-  pub unsent : outgoing_of (flow w side id) ≡ nothing_sent
-  pub unseen : (flow w (other side) id).seen ≡ false
-  pub kept : ReceivesFlow (flow w (other side) id) nothing_came
-
-abbrev made : List OwnPart → ℕ → Bool → Bool → Outgoing
-made parts taken finished reset = record { parts = parts; taken = taken; is_finished = finished; is_reset = reset; end_taken = false }
 
 sent_nothing : (p : Party) (g : Flow) → IsSoundFlow p g → g.sent ≡ [] → g.is_reset ≡ false → outgoing_of g ≡ nothing_sent
 sent_nothing p g sound none whole =
@@ -139,9 +131,6 @@ stands_after_coming setup w v side id more g e change h sound there r changes = 
         let u = is_unseen setup w side id sound there closed in
         opening_stands setup w v side id more g e (after (stream_at e.incoming id)) (change nothing_came) h r u.unsent (changes nothing_came u.kept)
         (ap after (incoming_none setup w side id e h closed))
-
-abbrev with_replies : Own → List DecoderInstruction → Own
-with_replies o replies = record o { replies = replies }
 
 -- with nothing said
 pub saying_nothing : (own : Own) → saying own [] ≡ own

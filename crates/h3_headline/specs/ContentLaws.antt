@@ -1,49 +1,17 @@
 -- What a flow carries, what was handed out of it, and what one step changes of both.
-use Rattle.std.proofs.Common.{◌≡◌, ◌⊎◌, inl, inr, ℕ, zero, suc, ◌-◌, ◌<◌, ◌≤◌, Bool, true, false, List, [], ◌∷◌, ◌++◌, length, refl, sym, ap, ◌∙◌, subst, arith, Option, Some, None, append-nil, append_assoc}
-use Rattle.std.specs.Prelude.{◌||◌, ◌&&◌, map, take, flat_map, slice_get, nat_lt}
-use Rattle.std.specs.List.{list_any}
-use Rattle.std.proofs.lemmas.Grind.{flat_map-append}
-use Rattle.std.proofs.lemmas.List.{map-append, take-append-le}
-use Rattle.std.proofs.lemmas.List.Folds.{list_any-append}
-use Rattle.h3_world.specs.Flow.{Flow, Part}
+use Rattle.std.proofs.Common.{◌≡◌, [], refl, Option, Some, None, ℕ, ◌-◌, List, ◌∷◌, ap, ◌++◌, ◌∙◌, zero, suc, append_assoc, sym, Bool, true, false, append-nil, ◌<◌, length, arith, ◌≤◌, ◌⊎◌, inl, inr, subst}
+use Rattle.h3_world.specs.Flow.{Part, Flow}
 use Rattle.h3_world.specs.Flow.Part.{Interim, Head, Body, Trailer, End}
-use Rattle.h3_world.specs.Order.{is_end, is_over, next_part}
-use Rattle.h3_world.specs.Sending.{appended}
+use Rattle.std.specs.Prelude.{map, take, slice_get, ◌||◌, ◌&&◌, nat_lt}
+use Rattle.std.proofs.lemmas.List.{map-append, take-append-le}
+use Rattle.h3_world.specs.Order.{is_over, is_end, next_part}
 use Rattle.h3_world.specs.Sound.{OutOfNext}
-use Rattle.h3_headline.specs.Messages.{Content, at_reader, IsFrontOf}
-use Rattle.h3_headline.specs.Messages.Content.{InterimFields, HeadFields, Byte, TrailerFields}
-
-abbrev pub part_contents : Part → List Content
-part_contents (Interim s) = InterimFields s.fields ∷ []
-part_contents (Head s) = HeadFields s.fields ∷ []
-part_contents (Body bytes own) = map Byte bytes
-part_contents (Trailer s) = TrailerFields s.fields ∷ []
-part_contents End = []
-
-abbrev pub contents : List Part → List Content
-contents parts = flat_map part_contents parts
-
-abbrev pub has_end : List Part → Bool
-has_end parts = list_any (λ p. is_end (Some p)) parts
-
--- a part as a reader with this limit takes it
-abbrev pub part_taken : ℕ → Part → List Content
-part_taken most part = map (at_reader most) (part_contents part)
-
-abbrev pub all_taken : ℕ → List Part → List Content
-all_taken most parts = flat_map (part_taken most) parts
-
--- so many bytes of a piece of the body
-abbrev pub piece_of : ℕ → Option Part → List Content
-piece_of n (Some (Body bytes own)) = map Byte (take n bytes)
-piece_of n _ = []
-
--- what was handed out of some parts, where so many of them and so many bytes of the next one are out
-abbrev pub handed_of : ℕ → List Part → ℕ → ℕ → List Content
-handed_of most parts n b = all_taken most (take n parts) ++ piece_of b (slice_get parts n)
-
-abbrev pub handed : ℕ → Flow → List Content
-handed most f = handed_of most f.sent f.parts_out f.body_out
+use Rattle.std.proofs.lemmas.Grind.{flat_map-append}
+use Rattle.std.proofs.lemmas.List.Folds.{list_any-append}
+use Rattle.h3_world.specs.Sending.{appended}
+use Rattle.h3_headline.specs.Contents.{HasSameParts, Moves, all_taken, contents, handed, handed_of, has_end, part_contents, part_taken, piece_of}
+use Rattle.h3_headline.specs.Messages.{Content, IsFrontOf, at_reader}
+use Rattle.h3_headline.specs.Messages.Content.{Byte}
 
 pub none_of_piece : (o : Option Part) → piece_of 0 o ≡ []
 none_of_piece None = refl
@@ -97,14 +65,6 @@ handed_front most (suc n) b (p ∷ ps) =
           ∙ ap (λ l. l ++ r.rest) (sym (append_assoc (part_taken most p) (all_taken most (take n ps)) (piece_of b (slice_get ps n))));
     }
 
--- What a step changes of a flow, as it is seen by a reader with this limit: what is sent, and whether the end; what is handed out, and
--- whether the end.
-pub record Moves (most : ℕ) (f g : Flow) (sending : List Content) (finishing : Bool) (handing : List Content) (ending : Bool) : Type 0 where
-  pub sent_is : contents g.sent ≡ contents f.sent ++ sending
-  pub end_is : has_end g.sent ≡ (has_end f.sent || finishing)
-  pub handed_is : handed most g ≡ handed most f ++ handing
-  pub over_is : (is_over f || ending) ≡ true → is_over g ≡ true
-
 or_assoc : (a b c : Bool) → ((a || b) || c) ≡ (a || (b || c))
 or_assoc true b c = refl
 or_assoc false b c = refl
@@ -129,12 +89,6 @@ moves_then most f g h s t a b p q c d first later =
       handed_is = later.handed_is ∙ ap (λ l. l ++ q) first.handed_is ∙ append_assoc (handed most f) p q;
       over_is = ends_then (is_over f) (is_over g) (is_over h) c d first.over_is later.over_is;
     }
-
--- The parts, and how many of them are out, are the same.
-pub record HasSameParts (f g : Flow) : Type 0 where
-  pub sent : g.sent ≡ f.sent
-  pub parts_out : g.parts_out ≡ f.parts_out
-  pub body_out : g.body_out ≡ f.body_out
 
 pub stays : (most : ℕ) (f g : Flow) (ending : Bool) → HasSameParts f g → (ending ≡ true → is_over f ≡ true) → Moves most f g [] false [] ending
 stays most f g ending same ends =

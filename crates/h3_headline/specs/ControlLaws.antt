@@ -1,41 +1,22 @@
 -- What an endpoint knows of the other side once so many bytes of its control stream came.
-use Rattle.std.proofs.Common.{◌≡◌, ℕ, zero, suc, ◌+◌, ◌-◌, ◌<◌, ◌≤◌, nat_le, Bool, true, false, if◌then◌else◌, List, [], ◌∷◌, ◌++◌, length, take, drop, flat_map, length-append, Some, None, refl, sym, ap, ◌∙◌, subst, arith}
-use Rattle.std.proofs.lemmas.Grind.{common_steps}
-use Rattle.std.proofs.lemmas.List.{take-append-le}
+use Rattle.std.proofs.Common.{◌≡◌, [], ◌∷◌, refl, ◌+◌, ◌-◌, ◌<◌, ◌++◌, length, length-append, ap, arith, ℕ, ◌≤◌, List, flat_map, nat_le, true, take, drop, None, sym, ◌∙◌, subst, zero, suc, false, Some, Bool}
 use Rattle.h3_coding.specs.Encodings.{encoding}
 use Rattle.h3_proto.specs.Pairs.{payload_of}
-use Rattle.h3_proto.specs.declared.stream.Side.{Side}
-use Rattle.h3_qpack.specs.WholeInstructions.{whole_in, rest_in}
-use Rattle.h3_wire.specs.Encoded.{frame_encoding}
-use Rattle.h3_connection.specs.Endpoint.{goaway_encoding}
-use Rattle.h3_connection.specs.Lasts.{last_id}
-use Rattle.h3_connection.specs.OwnIds.{other}
-use Rattle.h3_connection.specs.PeerReading.{Peer, PeerFound, with_unread, read_within, read_peer}
 use Rattle.h3_connection.specs.declared.setup.Announced.{Announced}
 use Rattle.h3_world.specs.OwnStreams.{settings_bytes}
-use Rattle.h3_headline.specs.AnnouncedLaws.{Announces}
-use Rattle.h3_headline.specs.ControlStreamLaws.{waits, settings_read, settings_wait, goaways_read, rest_unfinished, goaways_front, goaways_behind, last_of_none, less_of}
-use Rattle.h3_headline.specs.RoleLaws.{behind_type}
+use Rattle.h3_connection.specs.Endpoint.{goaway_encoding}
+use Rattle.h3_proto.specs.declared.stream.Side.{Side}
+use Rattle.h3_connection.specs.PeerReading.{Peer, with_unread, read_within, read_peer}
+use Rattle.std.proofs.lemmas.Grind.{common_steps}
+use Rattle.h3_qpack.specs.WholeInstructions.{whole_in, rest_in}
+use Rattle.h3_connection.specs.Lasts.{last_id}
+use Rattle.h3_connection.specs.OwnIds.{other}
+use Rattle.std.proofs.lemmas.List.{take-append-le}
+use Rattle.h3_headline.specs.ControlStreamLaws.{goaways_behind, goaways_front, goaways_read, last_of_none, less_of, rest_unfinished, settings_read, settings_wait, waits}
+use Rattle.h3_headline.specs.PeerStreams.{Announces, Reads, behind_type, new_bytes, no_fault, peer_by, settings_frame_of}
 use Rattle.h3_headline.specs.Standing.{AreGoaways, with_meaning}
-use Rattle.h3_headline.specs.UnitLaws.{goes_on, front_is, take_both, take_past, drop_past, none_whole}
+use Rattle.h3_headline.specs.UnitLaws.{drop_past, front_is, goes_on, none_whole, take_both, take_past}
 use Rattle.h3_headline.specs.WritesMoreLaws.{goaways_some, type_of_control}
-
--- the SETTINGS frame
-abbrev pub settings_frame_of : Announced → List ℕ
-settings_frame_of a = frame_encoding 4 (payload_of a.settings)
-
--- what is known of the writer, where its settings are there or not, after so many bytes
-abbrev pub peer_by : Announced → Bool → ℕ → List ℕ → Peer
-peer_by a there n goaways =
-    record {
-      unread = if there then rest_in goaway_encoding (n - length (settings_bytes a)) goaways else drop 1 (take n (settings_bytes a));
-      settings = if there then Some (with_meaning a.settings) else None;
-      goaways = take (whole_in goaway_encoding (n - length (settings_bytes a)) goaways) goaways;
-      most_pushes = None;
-    }
-
-abbrev no_fault : Peer → PeerFound
-no_fault p = (p, None)
 
 type_of_settings : encoding 4 ≡ 4 ∷ []
 unfolding encoding
@@ -60,17 +41,6 @@ peer_within side p bytes = refl
 
 fits_of : (a n : ℕ) → nat_le a n ≡ true → a ≤ n
 fits_of a n e = grind (arith, common_steps, e)
-
--- the settings were there before
-module _ (writer : Side) (a : Announced) (came count : ℕ) (gs : List ℕ) where
-  abbrev start : ℕ
-  start = length (settings_bytes a)
-
-  abbrev new_bytes : List ℕ
-  new_bytes = behind_type came count (settings_frame_of a ++ flat_map goaway_encoding gs)
-
-  abbrev Reads : Bool → Bool → Type 0
-  Reads b c = read_peer (other writer) (with_unread (peer_by a b came gs) ((peer_by a b came gs).unread ++ new_bytes)) ≡ no_fault (peer_by a c (came + count) gs)
 
 known_before : (writer : Side) (a : Announced) (came count : ℕ) (gs : List ℕ) → AreGoaways writer None gs → length (settings_bytes a) ≤ came → Reads writer a came count gs true true
 known_before writer a came count gs all fits =

@@ -1,32 +1,29 @@
 -- What came of a control stream is read as its settings and its GOAWAY frames.
-use Rattle.std.proofs.Common.{◌≡◌, ℕ, zero, suc, ◌-◌, ◌<◌, ◌≤◌, ◌^◌, lit<, nat_le, Bool, true, false, ◌||◌, if◌then◌else◌, List, [], ◌∷◌, ◌++◌, length, take, drop, flat_map, append-nil, append_assoc, length-append, Option, Some, None, refl, sym, ap, ◌∙◌, subst, arith}
-use Rattle.std.specs.Prelude.{slice_get}
-use Rattle.std.proofs.lemmas.Grind.{common_steps}
-use Rattle.h3_coding.specs.Encodings.{encoding}
-use Rattle.h3_proto.specs.Pairs.{payload_of}
-use Rattle.h3_proto.specs.declared.stream.Side.{Side}
-use Rattle.h3_qpack.specs.WholeInstructions.{rest_in}
-use Rattle.h3_wire.specs.Encoded.{frame_encoding}
-use Rattle.h3_wire.specs.EncodedLaws.{length-encoding, written_goaway, written_settings}
-use Rattle.h3_wire.specs.FrameLaws.{frame_at-nil}
-use Rattle.h3_wire.specs.Frames.{Whole, frame_at, settings_frame}
+use Rattle.std.proofs.Common.{◌≡◌, ℕ, ◌-◌, List, sym, subst, zero, suc, refl, ap, ◌∙◌, ◌++◌, Some, None, ◌<◌, lit<, length, take, ◌^◌, false, ◌||◌, if◌then◌else◌, [], ◌∷◌, length-append, arith, ◌≤◌, flat_map, append-nil, append_assoc, nat_le, Bool, true, Option, drop}
 use Rattle.h3_wire.specs.Known.{known}
 use Rattle.h3_wire.specs.KnownLaws.{IsKnown, known-other}
 use Rattle.h3_wire.specs.UnfinishedLaws.{IsUnfinishedFront, front_of_frame}
-use Rattle.h3_wire.specs.declared.proto.frame.Frame.{Frame}
 use Rattle.h3_wire.specs.declared.proto.frame.Frame.TheVariants as frame
+use Rattle.h3_proto.specs.declared.stream.Side.{Side}
+use Rattle.h3_wire.specs.Frames.{frame_at, Whole, settings_frame}
+use Rattle.h3_connection.specs.PeerReading.{Peer, with_unread, at_front, read_within, read_frame, unless_fault, PeerFound, is_above, is_no_goaway}
+use Rattle.h3_wire.specs.declared.proto.frame.Frame.{Frame}
 use Rattle.h3_wire.specs.declared.proto.frame.PayloadLen.{PayloadLen}
+use Rattle.h3_proto.specs.Pairs.{payload_of}
+use Rattle.h3_wire.specs.Encoded.{frame_encoding}
+use Rattle.h3_wire.specs.EncodedLaws.{written_settings, written_goaway, length-encoding}
+use Rattle.h3_connection.specs.declared.setup.Announced.{Announced}
 use Rattle.h3_connection.specs.Codes.{id_error}
 use Rattle.h3_connection.specs.Endpoint.{goaway_encoding}
 use Rattle.h3_connection.specs.Lasts.{last_id}
 use Rattle.h3_connection.specs.OwnIds.{other}
-use Rattle.h3_connection.specs.PeerReading.{Peer, PeerFound, with_unread, is_above, is_no_goaway, read_frame, unless_fault, at_front, read_within}
-use Rattle.h3_connection.specs.declared.setup.Announced.{Announced}
-use Rattle.h3_headline.specs.AnnouncedLaws.{Announces}
+use Rattle.std.specs.Prelude.{slice_get}
+use Rattle.h3_coding.specs.Encodings.{encoding}
+use Rattle.std.proofs.lemmas.Grind.{common_steps}
+use Rattle.h3_qpack.specs.WholeInstructions.{rest_in}
+use Rattle.h3_wire.specs.FrameLaws.{frame_at-nil}
+use Rattle.h3_headline.specs.PeerStreams.{Announces, having_read, last_of, no_fault}
 use Rattle.h3_headline.specs.Standing.{AreGoaways, with_meaning}
-
-abbrev no_fault : Peer → PeerFound
-no_fault p = (p, None)
 
 -- bytes that are no whole frame wait
 unfinished_known : (bytes : List ℕ) → IsUnfinishedFront bytes → known bytes ≡ bytes
@@ -82,9 +79,6 @@ last_is xs x =
     let e : length (xs ++ x ∷ []) - 1 ≡ length xs = omega (arith, length-append xs (x ∷ [])) in
     ap (λ n. slice_get (xs ++ x ∷ []) n) e ∙ last_more xs x
 
-abbrev having_read : Peer → List ℕ → List ℕ → Peer
-having_read p ids rest = record p { goaways = p.goaways ++ ids; unread = rest }
-
 -- **GOAWAY frames one behind the other, and what is no whole one.**
 pub goaways_read : (ids : List ℕ) (most : ℕ) (writer : Side) (p : Peer) (pairs : List (ℕ × ℕ)) (rest : List ℕ) → p.settings ≡ Some pairs → length ids ≤ most
     → AreGoaways writer (last_id p.goaways) ids → IsUnfinishedFront rest
@@ -115,11 +109,6 @@ rest_unfinished (id ∷ ids) n writer before g = by_test (nat_le (length (goaway
         → IsUnfinishedFront (if b then rest_in goaway_encoding (n - length (goaway_encoding id)) ids else take n (goaway_encoding id))
     by_test true e later = later
     by_test false e later = cut_unfinished id n g.0 (less_of (length (goaway_encoding id)) n e)
-
--- the last of some ids, or the one before them
-abbrev pub last_of : Option ℕ → List ℕ → Option ℕ
-last_of before [] = before
-last_of before (id ∷ ids) = last_of (Some id) ids
 
 last_of_some : (id : ℕ) (ids : List ℕ) → last_of (Some id) ids ≡ slice_get (id ∷ ids) (length ids)
 last_of_some id [] = refl

@@ -1,25 +1,23 @@
 -- What came of a decoder's stream is read as its instructions, and none is refused.
-use Rattle.std.proofs.Common.{◌≡◌, ℕ, ◌-◌, ◌≤◌, false, List, [], ◌∷◌, ◌++◌, length, take, drop, flat_map, refl, sym, ap, ◌∙◌, subst, arith, length-append}
-use Rattle.std.specs.List.{AllByRecursion}
-use Rattle.std.proofs.lemmas.List.{take-append-drop, drop-append-le}
+use Rattle.std.proofs.Common.{◌≡◌, List, [], ◌∷◌, ◌++◌, length, drop, refl, ℕ, ap, ◌∙◌, ◌-◌, ◌≤◌, sym, subst, arith, length-append, false, take, flat_map}
 use Rattle.h3_field.specs.Instruction.{DecoderInstruction, decoder_bytes}
-use Rattle.h3_field.specs.InstructionAnswer.{IsReply}
+use Rattle.h3_qpack.specs.WholeInstructions.{whole_in, decoder_instructions_in, rest_in}
+use Rattle.std.proofs.lemmas.List.{take-append-drop, drop-append-le}
 use Rattle.h3_qpack.specs.EncoderHistory.{EncoderHistory, encoder_after_all}
-use Rattle.h3_qpack.specs.Hearing.{listened, listen}
 use Rattle.h3_qpack.specs.Instructions.{AreAccepted}
-use Rattle.h3_qpack.specs.WholeInstructions.{whole_in, rest_in, decoder_instructions_in}
+use Rattle.std.specs.List.{AllByRecursion}
+use Rattle.h3_field.specs.InstructionAnswer.{IsReply}
+use Rattle.h3_qpack.specs.Hearing.{listened, listen}
 use Rattle.h3_headline.specs.AcceptedLaws.{accepted_front}
-use Rattle.h3_headline.specs.CitedLaws.{StreamLaws}
+use Rattle.h3_headline.specs.Cited.{StreamLaws}
 use Rattle.h3_headline.specs.EncoderStreamLaws.{all_dropped}
-use Rattle.h3_headline.specs.UnitLaws.{GoesOn, goes_on}
+use Rattle.h3_headline.specs.Parts.{GoesOn}
+use Rattle.h3_headline.specs.PeerStreams.{replies_between}
+use Rattle.h3_headline.specs.UnitLaws.{goes_on}
 
 drop_front : {X : Type 0} (xs ys : List X) → drop (length xs) (xs ++ ys) ≡ ys
 drop_front [] ys = refl
 drop_front (x ∷ xs) ys = drop_front xs ys
-
--- the instructions that are whole now and were not
-abbrev pub replies_between : ℕ → ℕ → List DecoderInstruction → List DecoderInstruction
-replies_between few many all = drop (length (decoder_instructions_in few all)) (decoder_instructions_in many all)
 
 between_are : (few many : ℕ) (all : List DecoderInstruction) → (g : GoesOn decoder_bytes few many all)
     → replies_between few many all ≡ decoder_instructions_in g.count (drop (whole_in decoder_bytes few all) all)

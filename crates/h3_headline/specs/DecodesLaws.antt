@@ -1,42 +1,28 @@
 -- What the decoder makes of the section that is next, by the session of its sender's direction.
-use Rattle.std.proofs.Common.{◌≡◌, ℕ, ◌+◌, Bool, true, false, List, [], ◌∷◌, drop, refl, sym, ap, ◌∙◌, if◌then◌else◌, Option, Some, None}
-use Rattle.std.specs.List.{AllByRecursion}
+use Rattle.std.proofs.Common.{◌≡◌, List, ◌∷◌, ℕ, Bool, true, false, [], refl, ap, ◌∙◌, if◌then◌else◌, Some, sym, None, ◌+◌, drop, Option}
+use Rattle.h3_world.specs.Following.{EncodedSection, undecoded, sections_on, as_encoded, sections_left, HasSession, sections_in}
 use Rattle.std.specs.Prelude.{◌==◌, map, filter, is_some, nat_le}
+use Rattle.h3_qpack.specs.Session.{UndecodedSection, oldest, is_canceled}
 use Rattle.h3_qpack.specs.DecodedSection.{Fields, Missing, decode_section}
 use Rattle.h3_qpack.specs.DecoderState.{DecoderState}
-use Rattle.h3_qpack.specs.Encodings.{IsWritten, IsDecoderAt, tried}
-use Rattle.h3_qpack.specs.Schedule.{SessionEvent, SessionRun, beginning}
-use Rattle.h3_qpack.specs.SectionEncoding.{encoded_section}
-use Rattle.h3_qpack.specs.Session.{Session, UndecodedSection, oldest, is_canceled}
+use Rattle.h3_qpack.specs.Encodings.{IsWritten, IsDecoderAt}
 use Rattle.h3_proto.specs.declared.stream.Side.{Side}
-use Rattle.h3_connection.specs.declared.setup.Announced.{Announced}
 use Rattle.h3_world.specs.declared.setup.Setup.{Setup}
-use Rattle.h3_world.specs.Flow.{Flow, Part, Section}
-use Rattle.h3_world.specs.Flow.Part.{Interim, Head, Body, Trailer, End}
-use Rattle.h3_world.specs.World.{World, Party, party}
+use Rattle.h3_world.specs.Flow.{Section, Part, Flow}
+use Rattle.h3_world.specs.World.{World, party, Party}
 use Rattle.h3_world.specs.Came.{insertions_came}
-use Rattle.h3_world.specs.Following.{EncodedSection, as_encoded, sections_in, sections_left, undecoded, sections_on, HasSession}
+use Rattle.h3_world.specs.Streams.{flow}
+use Rattle.h3_connection.specs.declared.setup.Announced.{Announced}
+use Rattle.h3_world.specs.Flow.Part.{Interim, Head, Body, Trailer, End}
 use Rattle.h3_world.specs.Order.{next_part}
 use Rattle.h3_world.specs.Sound.{IsSoundFlow}
-use Rattle.h3_world.specs.Streams.{flow}
+use Rattle.std.specs.List.{AllByRecursion}
+use Rattle.h3_headline.specs.Cited.{ListsAreTheirValue}
+use Rattle.h3_headline.specs.Decoding.{IsOldest, SectionsHaveValues}
 use Rattle.h3_headline.specs.FlowLaws.{same_number}
 use Rattle.h3_headline.specs.PartLaws.{part_at, part_is}
-use Rattle.h3_headline.specs.PulledPartLaws.{DecodesNext, IsReadableNext}
-use Rattle.h3_headline.specs.PulledSectionLaws.{ListsAreTheirValue, tried_as}
+use Rattle.h3_headline.specs.Pulling.{DecodesNext, IsReadableNext, tried_as}
 use Rattle.h3_headline.specs.Standing.{IsReadable}
-
--- the law of h3_qpack on what a decoder makes of a section whenever it is tried
-abbrev pub SectionsHaveValues : Type 0
-SectionsHaveValues =
-    (counts : Bool) (most announced limit other : ℕ) (events : List SessionEvent) (s : Session) (b : UndecodedSection) (r : DecoderState) → SessionRun (beginning counts most announced limit) events s → IsDecoderAt other s r →
-    oldest b.stream s.sections ≡ Some b → is_canceled s b.stream ≡ false → IsWritten s b → decode_section r (encoded_section b.encoder b.fields) ≡ tried s b
-
--- the first of the sections on a stream is its oldest one
-pub record IsOldest (id : ℕ) (first : EncodedSection) (sections : List UndecodedSection) : Type 0 where
-  pub b : UndecodedSection
-  pub oldest_is : oldest id sections ≡ Some b
-  pub stream : b.stream ≡ id
-  pub is : undecoded b ≡ first
 
 first_of : (x y : EncodedSection) (xs ys : List EncodedSection) → ◌≡◌ {A = List EncodedSection} (x ∷ xs) (y ∷ ys) → x ≡ y
 first_of x y xs ys e = cc

@@ -1,36 +1,36 @@
 -- Bytes, the end or the reset of a request stream go over: both endpoints answer as the world and stand in it after that.
-use Rattle.std.proofs.Common.{◌≡◌, ℕ, ◌-◌, ◌≤◌, Bool, true, false, List, [], ◌∷◌, ◌++◌, length, take, drop, refl, sym, ap, ◌∙◌, subst, arith, if◌then◌else◌, Option, Some, None, append-nil}
-use Rattle.std.specs.Prelude.{◌==◌, ◌||◌, flat_map, is_some}
-use Rattle.std.proofs.lemmas.Grind.{common_steps, flat_map-append}
+use Rattle.std.proofs.Common.{◌≡◌, ◌-◌, List, [], ◌∷◌, ◌++◌, refl, ap, ◌∙◌, append-nil, Bool, true, false, length, drop, if◌then◌else◌, ℕ, Option, Some, None, arith, sym, subst}
+use Rattle.std.specs.Prelude.{flat_map, ◌||◌, is_some, ◌==◌}
+use Rattle.std.proofs.lemmas.Grind.{flat_map-append, common_steps}
+use Rattle.h3_connection.specs.Outgoing as sender
+use Rattle.h3_world.specs.Flow.{Part, own_part, part_bytes, Flow, flow_bytes}
+use Rattle.h3_world.specs.Flow.Part.{Interim, Head, Body, Trailer, End}
 use Rattle.std.proofs.lemmas.List.{length-drop}
+use Rattle.h3_connection.specs.Endpoint.{bytes_waiting, EndpointHistory, own_waiting, Own}
+use Rattle.h3_world.specs.Flow as flows
 use Rattle.h3_proto.specs.declared.stream.Side.{Side}
+use Rattle.h3_connection.specs.Delivering.{opened, delivery_refusal, taken, closed_refusal, opened_at, with_incoming, incoming_at, with_end, end_at}
+use Rattle.h3_connection.specs.Outgoing.{Outgoing}
+use Rattle.h3_connection.specs.StreamSets.{stream_at, set_stream}
+use Rattle.h3_world.specs.declared.setup.Setup.{Setup}
+use Rattle.h3_world.specs.World.{World, party}
+use Rattle.h3_world.specs.Streams.{flow, is_open, has_outgoing, waiting, with_flow}
+use Rattle.h3_world.specs.Order.{outgoing_of}
+use Rattle.h3_connection.specs.OwnIds.{is_own, control_id, encoder_id, decoder_id, other}
+use Rattle.h3_connection.specs.Shown as shown
 use Rattle.h3_connection.specs.Arrivals.{stream_of}
 use Rattle.h3_connection.specs.declared.arrival.Arrival.{Arrival}
-use Rattle.h3_connection.specs.declared.arrival.Arrival.TheVariants.{BytesCame, EndCame}
-use Rattle.h3_connection.specs.Delivering.{opened, opened_at, incoming_at, with_incoming, closed_refusal, delivery_refusal, taken, kept, with_end, bytes_at, end_at}
-use Rattle.h3_connection.specs.Endpoint.{EndpointHistory, Own, bytes_waiting, own_waiting}
-use Rattle.h3_connection.specs.Incoming.{Incoming}
 use Rattle.h3_connection.specs.Keeping.{arrives, arrives_behind, read_arrival}
-use Rattle.h3_connection.specs.Outgoing.{Outgoing, OwnPart}
-use Rattle.h3_connection.specs.Outgoing as sender
-use Rattle.h3_connection.specs.OwnIds.{other, control_id, encoder_id, decoder_id, is_own}
-use Rattle.h3_connection.specs.Sending.{advance, advance_at}
-use Rattle.h3_connection.specs.Shown as shown
-use Rattle.h3_connection.specs.StreamSets.{stream_at, set_stream}
-use Rattle.h3_connection.specs.declared.event.Refusal.TheVariants as refusal
-use Rattle.h3_world.specs.declared.setup.Setup.{Setup}
-use Rattle.h3_world.specs.Flow.{Flow, Part, own_part, part_bytes, flow_bytes}
-use Rattle.h3_world.specs.Flow.Part.{Interim, Head, Body, Trailer, End}
-use Rattle.h3_world.specs.Flow as flows
-use Rattle.h3_world.specs.World.{World, Party, party}
-use Rattle.h3_world.specs.Streams.{flow, with_flow, is_open, has_outgoing, waiting}
-use Rattle.h3_world.specs.Order.{outgoing_of}
 use Rattle.h3_world.specs.Sound.{IsSoundWorld}
-use Rattle.h3_headline.specs.FlowLaws.{IsThere, same_number, open_there, other-other, flow-with_flow, flow-with_peer, party-with_flow, is_open-own, is_open-peer}
-use Rattle.h3_headline.specs.MovesLaws.{saying, set_at, Receives, sender_stands}
-use Rattle.h3_headline.specs.ReceivingLaws.{come, bytes_come, ended_flow, end_comes}
-use Rattle.h3_headline.specs.ComingLaws.{kind_is, coming_refusal, stands_after_coming, saying_nothing}
+use Rattle.h3_connection.specs.Incoming.{Incoming}
+use Rattle.h3_connection.specs.declared.arrival.Arrival.TheVariants.{EndCame}
+use Rattle.h3_headline.specs.Arriving.{EndComes, Receives, Sends, ended_flow, left_to_send, owning, saying, with_own}
+use Rattle.h3_headline.specs.ComingLaws.{coming_refusal, kind_is, saying_nothing, stands_after_coming}
+use Rattle.h3_headline.specs.FlowLaws.{flow-with_flow, flow-with_peer, is_open-own, is_open-peer, open_there, other-other, party-with_flow, same_number}
+use Rattle.h3_headline.specs.MovesLaws.{sender_stands, set_at}
+use Rattle.h3_headline.specs.ReceivingLaws.{end_comes}
 use Rattle.h3_headline.specs.Standing.{HasDecoderStreamOf, StandsAt}
+use Rattle.h3_headline.specs.Steps.{IsThere}
 
 -- the bytes of the parts are those that the sender's endpoint has
 pub sent_bytes : (parts : List Part) → flat_map sender.part_bytes (flat_map own_part parts) ≡ flat_map part_bytes parts
@@ -46,21 +46,12 @@ sent_bytes (part ∷ parts) =
     one (Trailer s) = append-nil (part_bytes (Trailer s))
     one End = refl
 
-abbrev pub left_to_send : Flow → List ℕ
-left_to_send f = if f.is_reset then [] else drop f.delivered (flow_bytes f)
-
 pub left_length : (f : Flow) → length (left_to_send f) ≡ flows.bytes_waiting f
 left_length f = by_reset f.is_reset
   where
     by_reset : (b : Bool) → length (if b then [] else drop f.delivered (flow_bytes f)) ≡ (if b then 0 else length (flow_bytes f) - f.delivered)
     by_reset true = refl
     by_reset false = length-drop f.delivered (flow_bytes f)
-
--- What the sender of an open stream has of it.
-pub record Sends (setup : Setup) (w : World) (side : Side) (id : ℕ) (e : EndpointHistory) : Type 0 where
-  pub stream : stream_at e.outgoing id ≡ Some (outgoing_of (flow w side id))
-  pub left : bytes_waiting e id ≡ left_to_send (flow w side id)
-  pub waits : shown.waiting e id ≡ flows.bytes_waiting (flow w side id)
 
 pub sends_at : (setup : Setup) (w : World) (side : Side) (id : ℕ) (e : EndpointHistory) → StandsAt setup w side e → is_open w side id ≡ true → Sends setup w side id e
 sends_at setup w side id e h opened =
@@ -90,9 +81,6 @@ waiting_is setup w side id off =
     let last = or_false (id == control_id side || id == encoder_id side) (id == decoder_id side) off in
     let two = or_false (id == control_id side) (id == encoder_id side) last.0 in
     rw (two.0, two.1, last.1) refl
-
-abbrev pub owning : Party → Own → Party
-owning p own = record p { own = own }
 
 -- The worlds of a change of one flow to a side.
 pub flow_received : (w : World) (side : Side) (id : ℕ) (g : Flow) → IsThere w id → g.seen ≡ true → Receives w (with_flow w (other side) id g) side id [] g
@@ -130,23 +118,9 @@ sends_same setup w side id g e h same i = h.outgoing i ∙ ap (λ o. if is_open 
     by_id true at = ap (λ j. outgoing_of (flow w side j)) (sym (same_number id i at)) ∙ sym same
     by_id false at = refl
 
--- Bytes came.
-pub record BytesCome (setup : Setup) (v : World) (side : Side) (id : ℕ) (count : ℕ) (er ew : EndpointHistory) : Type 0 where
-  pub after : EndpointHistory
-  pub arrived : arrives er (BytesCame id (take count (bytes_waiting ew id))) ≡ (None, after)
-  pub reader : StandsAt setup v side after
-  pub writer : StandsAt setup v (other side) (advance ew id count)
-
-taken_none : (setup : Setup) (w : World) (side : Side) (e : EndpointHistory) (a : Arrival) → StandsAt setup w side e
+pub taken_none : (setup : Setup) (w : World) (side : Side) (e : EndpointHistory) (a : Arrival) → StandsAt setup w side e
     → arrives e a ≡ taken None (delivery_refusal e (stream_of a)) e (read_arrival e a)
 taken_none setup w side e a h = ap (λ k. arrives_behind k e a) h.nothing_kept ∙ ap (λ c. taken c (delivery_refusal e (stream_of a)) e (read_arrival e a)) h.no_fault
-
--- **What comes behind the end or the reset is refused, with nothing changed.**
-pub after_end : (setup : Setup) (w : World) (side : Side) (id : ℕ) (e : EndpointHistory) (a : Arrival) → StandsAt setup w side e → IsSoundWorld setup w → IsThere w id → stream_of a ≡ id
-    → ((flow w (other side) id).ended || (flow w (other side) id).reset_came) ≡ true → arrives e a ≡ (Some refusal.AfterEnd, e)
-after_end setup w side id e a h sound there of closed =
-    taken_none setup w side e a h
-    ∙ ap (λ r. taken None r e (read_arrival e a)) (ap (delivery_refusal e) of ∙ coming_refusal setup w side id e h sound there ∙ ap closed_refusal closed)
 
 -- else it is taken
 pub goes_on : (setup : Setup) (w : World) (side : Side) (id : ℕ) (e : EndpointHistory) (a : Arrival) → StandsAt setup w side e → IsSoundWorld setup w → IsThere w id → stream_of a ≡ id
@@ -155,53 +129,14 @@ goes_on setup w side id e a h sound there of open_still =
     taken_none setup w side e a h
     ∙ ap (λ r. taken None r e (read_arrival e a)) (ap (delivery_refusal e) of ∙ coming_refusal setup w side id e h sound there ∙ ap closed_refusal open_still)
 
-abbrev with_own : EndpointHistory → Own → EndpointHistory
-with_own e own = record e { own = own }
-
-silent_own : (e : EndpointHistory) (streams : EndpointHistory) → streams ≡ record streams { own = e.own } → record streams { own = saying e.own [] } ≡ streams
+pub silent_own : (e : EndpointHistory) (streams : EndpointHistory) → streams ≡ record streams { own = e.own } → record streams { own = saying e.own [] } ≡ streams
 silent_own e streams same = ap (λ (o : Own). with_own streams o) (saying_nothing e.own) ∙ sym same
 
 -- opening a stream writes nothing
-opened_own : (e : EndpointHistory) (id : ℕ) (o : Option Incoming) (j : Incoming)
+pub opened_own : (e : EndpointHistory) (id : ℕ) (o : Option Incoming) (j : Incoming)
     → with_incoming (opened_at e id o) id j ≡ record (with_incoming (opened_at e id o) id j) { own = e.own }
 opened_own e id None j = refl
 opened_own e id (Some i) j = refl
-
-pub bytes_over : (setup : Setup) (w : World) (side : Side) (id count : ℕ) (er ew : EndpointHistory) → StandsAt setup w side er → StandsAt setup w (other side) ew → IsSoundWorld setup w
-    → is_open w (other side) id ≡ true → count ≤ flows.bytes_waiting (flow w (other side) id) → ((flow w (other side) id).ended || (flow w (other side) id).reset_came) ≡ false
-    → BytesCome setup (with_flow w (other side) id (come (flow w (other side) id) count)) side id count er ew
-bytes_over setup w side id count er ew hr hw sound sending fits goes =
-    let f = flow w (other side) id in
-    let v = with_flow w (other side) id (come f count) in
-    let there = open_there w (other side) id sending in
-    let s = sends_at setup w (other side) id ew hw sending in
-    let bytes = take count (bytes_waiting ew id) in
-    let r = flow_received w side id (come f count) there refl in
-    let is : bytes ≡ take count (drop f.delivered (flow_bytes f)) = ap (take count) s.left ∙ by_reset f.is_reset (subst (λ n. count ≤ n) refl fits) in
-    let new = with_incoming (opened er id) id (kept (incoming_at er id) bytes) in
-    let stands = stands_after_coming setup w v side id [] (come f count) er (λ i. kept i bytes) hr sound there r (λ i k. bytes_come f i bytes count k is) in
-    record {
-      after = new;
-      arrived = goes_on setup w side id er (BytesCame id bytes) hr sound there refl goes ∙ ap (λ k. taken None None er (bytes_at er id bytes k)) (kind_is er.side id there.request);
-      reader = subst (StandsAt setup v side) (silent_own er new (opened_own er id (stream_at er.incoming id) (kept (incoming_at er id) bytes))) stands;
-      writer =
-          sender_stands setup w v side id [] (come f count) ew (advance ew id count) (set_stream ew.outgoing id (outgoing_of (come f count))) hw r (ap (advance_at ew id count) s.stream)
-          (still_heard setup w side ew hw) (sends_set setup w (other side) id (come f count) ew hw sending);
-    }
-  where
-    by_reset : (b : Bool) → count ≤ (if b then 0 else length (flow_bytes (flow w (other side) id)) - (flow w (other side) id).delivered)
-        → take count (if b then [] else drop (flow w (other side) id).delivered (flow_bytes (flow w (other side) id))) ≡ take count (drop (flow w (other side) id).delivered (flow_bytes (flow w (other side) id)))
-    by_reset true few =
-        let none : count ≡ 0 = omega (arith, few) in
-        ap (λ n. take n []) none ∙ sym (ap (λ n. take n (drop (flow w (other side) id).delivered (flow_bytes (flow w (other side) id)))) none)
-    by_reset false few = refl
-
--- The end came.
-pub record EndComes (setup : Setup) (v : World) (side : Side) (id : ℕ) (er ew : EndpointHistory) : Type 0 where
-  pub after : EndpointHistory
-  pub arrived : arrives er (EndCame id) ≡ (None, after)
-  pub reader : StandsAt setup v side after
-  pub writer : StandsAt setup v (other side) ew
 
 pub end_over : (setup : Setup) (w : World) (side : Side) (id : ℕ) (er ew : EndpointHistory) → StandsAt setup w side er → StandsAt setup w (other side) ew → IsSoundWorld setup w
     → is_open w (other side) id ≡ true → ((flow w (other side) id).ended || (flow w (other side) id).reset_came) ≡ false

@@ -1,27 +1,27 @@
 -- What came of an encoder's stream is read as its instructions, and none is refused.
-use Rattle.std.proofs.Common.{◌≡◌, inl, inr, ℕ, zero, suc, ◌-◌, ◌≤◌, Bool, true, false, if◌then◌else◌, List, [], ◌∷◌, ◌++◌, length, min, take, drop, flat_map, Some, refl, sym, ap, ◌∙◌, subst, arith}
-use Rattle.std.specs.List.{AllByRecursion}
+use Rattle.std.proofs.Common.{ℕ, zero, suc, [], take, refl, ◌≡◌, ◌≤◌, Some, arith, min, inl, inr, ◌-◌, length, sym, ap, ◌∙◌, subst, true, if◌then◌else◌, ◌++◌, Bool, false, List, ◌∷◌, drop, flat_map}
+use Rattle.h3_qpack.specs.DecoderState.{announcing, DecoderState, decoder_after_all}
+use Rattle.h3_qpack.specs.TableHistory.{IsReadAs, table_after_all, table_of}
 use Rattle.std.proofs.lemmas.Grind.{common_steps}
 use Rattle.std.proofs.lemmas.List.{nil_from_length}
-use Rattle.h3_field.specs.Instruction.{EncoderInstruction, encoder_bytes}
-use Rattle.h3_qpack.specs.DecoderState.{DecoderState, announcing, decoder_after_all}
-use Rattle.h3_qpack.specs.Encodings.{IsWrittenInstruction}
-use Rattle.h3_qpack.specs.Exchange as exchange
-use Rattle.h3_qpack.specs.Hearing.{heard, hear}
 use Rattle.h3_qpack.specs.Session.{Session}
-use Rattle.h3_qpack.specs.TableHistory.{IsReadAs, table_after_all, table_of}
-use Rattle.h3_qpack.specs.WholeInstructions.{whole_in, rest_in}
+use Rattle.h3_world.specs.Following.{HasCapacity, HasSession, opening, limits_for}
+use Rattle.h3_qpack.specs.Exchange as exchange
 use Rattle.h3_proto.specs.declared.stream.Side.{Side}
 use Rattle.h3_connection.specs.OwnIds.{other}
 use Rattle.h3_world.specs.declared.setup.Setup.{Setup}
 use Rattle.h3_world.specs.Came.{settings_came}
-use Rattle.h3_world.specs.Following.{HasCapacity, HasSession, opening, limits_for}
 use Rattle.h3_world.specs.Setup.{IsMadeSetup, announced_at}
-use Rattle.h3_world.specs.Sound.{IsSoundParty}
 use Rattle.h3_world.specs.World.{World, party}
+use Rattle.h3_world.specs.Sound.{IsSoundParty}
+use Rattle.std.specs.List.{AllByRecursion}
+use Rattle.h3_field.specs.Instruction.{EncoderInstruction, encoder_bytes}
+use Rattle.h3_qpack.specs.Encodings.{IsWrittenInstruction}
+use Rattle.h3_qpack.specs.Hearing.{heard, hear}
+use Rattle.h3_qpack.specs.WholeInstructions.{whole_in, rest_in}
 use Rattle.h3_headline.specs.AcceptedLaws.{decoder_after_append}
 use Rattle.h3_headline.specs.AnnouncedLaws.{announces_at}
-use Rattle.h3_headline.specs.CitedLaws.{IsRead, StreamLaws}
+use Rattle.h3_headline.specs.Cited.{IsRead, StreamLaws}
 use Rattle.h3_headline.specs.UnitLaws.{goes_on}
 
 nothing_read : (capacity k : ℕ) → IsRead capacity (take k [])

@@ -1,43 +1,44 @@
 -- The ids of request streams stay below 2^62 (RFC 9000, section 2.1): one more is opened only where its id is.
-use Rattle.std.proofs.Common.{◌≡◌, ℕ, ◌+◌, ◌*◌, ◌<◌, ◌≤◌, ◌^◌, Bool, true, false, if◌then◌else◌, List, [], ◌∷◌, length, Option, Some, None, refl, sym, ◌∙◌, subst, arith}
-use Rattle.std.specs.Prelude.{not, ◌||◌, ◌%◌, nat_le, nat_lt, is_some}
-use Rattle.std.proofs.Math.Nat.{div-add-mod}
+use Rattle.std.proofs.Common.{◌≡◌, ℕ, ◌*◌, ◌<◌, ◌^◌, Bool, true, false, if◌then◌else◌, Some, None, refl, arith, Option, length, ◌+◌, ◌≤◌, sym, subst, ◌∙◌, List, [], ◌∷◌}
+use Rattle.std.specs.Prelude.{nat_le, not, is_some, ◌||◌, nat_lt, ◌%◌}
 use Rattle.std.proofs.lemmas.Grind.{common_steps}
+use Rattle.h3_connection.specs.declared.event.Refusal.TheVariants as refusal
+use Rattle.h3_world.specs.Sending.{opened, sent_body, given_up, sent_head, sent_trailer, finished, cut_off, with_goaway}
+use Rattle.h3_connection.specs.Sending.{going_away}
+use Rattle.h3_connection.specs.declared.event.Refusal.{Refusal}
 use Rattle.h3_proto.specs.declared.stream.Side.{Side}
-use Rattle.h3_connection.specs.Announcing.{section_of}
 use Rattle.h3_connection.specs.Lasts.{last_id}
 use Rattle.h3_connection.specs.OwnIds.{other, is_own}
 use Rattle.h3_connection.specs.Pulling.{is_client}
-use Rattle.h3_connection.specs.Sending.{going_away}
+use Rattle.h3_world.specs.declared.setup.Setup.{Setup}
+use Rattle.h3_world.specs.Came.{goaways_came, insertions_came}
+use Rattle.h3_world.specs.Refusals.{next_id, open_refusal, head_refusal, body_refusal, trailer_refusal, finish_refusal, reset_refusal, cancel_refusal, goaway_refusal}
+use Rattle.h3_world.specs.World.{World, Party, with_party, party}
+use Rattle.h3_world.specs.declared.event.Answer.{Answer}
+use Rattle.h3_world.specs.Machine.{done, count_waited_for, pull_next, pull_settled, item_there, served}
+use Rattle.h3_world.specs.Flow.{Flow}
+use Rattle.h3_world.specs.Streams.{with_flow, flow, has_outgoing, waiting, is_open}
+use Rattle.h3_connection.specs.declared.event.StreamFault.{StreamFault}
+use Rattle.h3_world.specs.Delivering.{further, having_listened, delivered_own, delivered_message, delivered, delivered_reset, reset_code, is_closed, may_end, delivered_end}
+use Rattle.h3_connection.specs.declared.event.StreamFault.TheVariants as stream_fault
 use Rattle.h3_connection.specs.declared.event.Item.{Item}
 use Rattle.h3_connection.specs.declared.event.Pull.{Pull}
-use Rattle.h3_connection.specs.declared.event.Refusal.{Refusal}
-use Rattle.h3_connection.specs.declared.event.Refusal.TheVariants as refusal
-use Rattle.h3_connection.specs.declared.event.StreamFault.{StreamFault}
-use Rattle.h3_connection.specs.declared.event.StreamFault.TheVariants as stream_fault
-use Rattle.h3_world.specs.declared.setup.Setup.{Setup}
+use Rattle.h3_world.specs.Items.{handed_out}
+use Rattle.h3_world.specs.Pauses.{paused, pause_before}
+use Rattle.h3_connection.specs.Announcing.{section_of}
 use Rattle.h3_world.specs.declared.event.Event.{Event}
 use Rattle.h3_world.specs.declared.event.Event.TheVariants as event
-use Rattle.h3_world.specs.declared.event.Answer.{Answer}
 use Rattle.h3_world.specs.declared.event.Answer.TheVariants as answer
-use Rattle.h3_world.specs.Came.{goaways_came, insertions_came}
-use Rattle.h3_world.specs.Delivering.{further, having_listened, delivered_own, delivered_message, delivered, is_closed, may_end, delivered_end, delivered_reset, reset_code}
-use Rattle.h3_world.specs.Ends.{Ends}
-use Rattle.h3_world.specs.Flow.{Flow}
-use Rattle.h3_world.specs.Items.{handed_out}
-use Rattle.h3_world.specs.Machine.{done, item_there, count_waited_for, pull_next, pull_settled, served}
 use Rattle.h3_world.specs.Order.{next_part}
-use Rattle.h3_world.specs.Pauses.{pause_before, paused}
 use Rattle.h3_world.specs.Pulling.{settled}
-use Rattle.h3_world.specs.Refusals.{next_id, open_refusal, head_refusal, body_refusal, trailer_refusal, finish_refusal, reset_refusal, cancel_refusal, goaway_refusal}
-use Rattle.h3_world.specs.Sending.{opened, sent_head, sent_trailer, sent_body, finished, cut_off, given_up, with_goaway}
 use Rattle.h3_world.specs.Setup.{announced_at}
-use Rattle.h3_world.specs.Streams.{flow, with_flow, is_open, has_outgoing, waiting}
-use Rattle.h3_world.specs.World.{World, Party, party, with_party}
-use Rattle.h3_headline.specs.FlowLaws.{same_number, open_there}
+use Rattle.std.proofs.Math.Nat.{div-add-mod}
+use Rattle.h3_world.specs.Ends.{Ends}
+use Rattle.h3_headline.specs.FlowLaws.{open_there, same_number}
 use Rattle.h3_headline.specs.OpeningLaws.{one_more}
 use Rattle.h3_headline.specs.SendingLaws.{flow_count}
 use Rattle.h3_headline.specs.Standing.{Stands}
+use Rattle.h3_headline.specs.Steps.{Few, Keeps}
 use Rattle.h3_headline.specs.WritingLaws.{party_count}
 
 -- one more stream is opened below 2^62
@@ -68,13 +69,6 @@ few_opened w h = rw (one_more w) (sum (length w.exchanges) h)
   where
     sum : (n : ℕ) → 4 * n < 2 ^ 62 → 4 * (n + 1) ≤ 2 ^ 62
     sum n less = omega (arith, less)
-
--- All else keeps as many.
-abbrev Keeps : World → World → Type 0
-Keeps w v = length v.exchanges ≡ length w.exchanges
-
-abbrev Few : World → Type 0
-Few w = 4 * length w.exchanges ≤ 2 ^ 62
 
 pub few_kept : (w v : World) → Few w → Keeps w v → Few v
 few_kept w v h same = subst (λ n. 4 * n ≤ 2 ^ 62) (sym same) h

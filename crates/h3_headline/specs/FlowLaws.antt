@@ -1,15 +1,16 @@
 -- What the flows, the parties and the open streams of a world are after a flow or a party was changed.
-use Rattle.std.proofs.Common.{◌≡◌, ℕ, zero, suc, ◌<◌, Bool, true, false, List, [], ◌∷◌, length, refl, sym, ap, ◌∙◌, arith, Some, nat_lt}
-use Rattle.std.specs.Prelude.{◌%◌, ◌&&◌, slice_get, slice_set, unwrap_or, ◌==◌, if◌then◌else◌}
-use Rattle.std.proofs.Math.Nat.{div-add-mod}
+use Rattle.std.proofs.Common.{◌≡◌, ℕ, zero, suc, ◌<◌, List, [], ◌∷◌, length, refl, arith, Some, false, true, Bool, sym, ap, ◌∙◌, nat_lt}
+use Rattle.std.specs.Prelude.{slice_get, slice_set, ◌==◌, ◌%◌, unwrap_or, if◌then◌else◌, ◌&&◌}
 use Rattle.std.proofs.lemmas.Grind.{common_steps}
+use Rattle.std.proofs.Math.Nat.{div-add-mod}
 use Rattle.h3_proto.specs.StreamIds.{is_request, index_of}
+use Rattle.h3_world.specs.World.{World, Exchange, no_exchange, party, Party, with_party}
+use Rattle.h3_world.specs.Streams.{exchange, with_exchange, flow, with_flow, is_open}
 use Rattle.h3_proto.specs.declared.stream.Side.{Side}
 use Rattle.h3_proto.specs.declared.stream.Side.TheVariants.{Client, Server}
 use Rattle.h3_connection.specs.OwnIds.{other}
 use Rattle.h3_world.specs.Flow.{Flow}
-use Rattle.h3_world.specs.World.{World, Exchange, Party, no_exchange, party, with_party}
-use Rattle.h3_world.specs.Streams.{exchange, with_exchange, flow, with_flow, is_open}
+use Rattle.h3_headline.specs.Steps.{IsThere}
 
 pub set_here : {X : Type 0} (xs : List X) (n : ℕ) (x : X) → n < length xs → slice_get (slice_set xs n x) n ≡ Some x
 set_here [] n x h = absurd (omega (arith, h))
@@ -47,11 +48,6 @@ places_differ id i r q e = by_test (index_of id == index_of i) refl
     by_test : (t : Bool) → (index_of id == index_of i) ≡ t → t ≡ false
     by_test true h = absurd (clash (same (same_number (index_of id) (index_of i) h)))
     by_test false h = refl
-
--- The id is a request stream that was opened.
-pub record IsThere (w : World) (id : ℕ) : Type 0 where
-  pub request : is_request id ≡ true
-  pub place : index_of id < length w.exchanges
 
 pub exchange-with_exchange : (w : World) (id i : ℕ) (e : Exchange) → IsThere w id → exchange (with_exchange w id e) i ≡ (if id == i then e else exchange w i)
 exchange-with_exchange w id i e there = by_id (id == i) refl

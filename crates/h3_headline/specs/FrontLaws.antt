@@ -1,32 +1,29 @@
 -- What a receiver finds at the front of what it has not read.
-use Rattle.std.proofs.Common.{◌≡◌, ℕ, zero, suc, ◌+◌, ◌-◌, ◌≤◌, ◌<◌, ◌^◌, lit<, Bool, true, false, List, [], ◌∷◌, ◌++◌, length, take, drop, refl, sym, ap, ◌∙◌, subst, arith, nat_lt, if◌then◌else◌, length-append, take-append-drop}
-use Rattle.std.specs.List.{AllByRecursion, concat}
-use Rattle.std.specs.Prelude.{◌&&◌}
-use Rattle.std.proofs.lemmas.Grind.{common_steps}
-use Rattle.std.proofs.lemmas.List.{take_at, drop_at, take-append-le, drop-append-le, length-drop}
-use Rattle.h3_wire.specs.Encoded.{head_encoding, frame_encoding}
-use Rattle.h3_wire.specs.EncodedLaws.{written_head}
-use Rattle.h3_wire.specs.Frames.{Front, Whole, Unfinished, frame_at}
+use Rattle.std.proofs.Common.{◌≡◌, ℕ, ◌+◌, ◌-◌, ◌≤◌, List, ◌++◌, length, take, refl, sym, ap, ◌∙◌, drop, take-append-drop, arith, length-append, Bool, subst, true, false, [], ◌∷◌, if◌then◌else◌, zero, suc, ◌<◌, nat_lt, ◌^◌, lit<}
+use Rattle.std.proofs.lemmas.List.{take_at, take-append-le, drop_at, drop-append-le, length-drop}
+use Rattle.h3_wire.specs.Frames.{Front, frame_at, Whole, Unfinished}
 use Rattle.h3_wire.specs.Known.{known}
 use Rattle.h3_wire.specs.KnownLaws.{IsKnown, known-other}
-use Rattle.h3_wire.specs.Pieces.{without}
-use Rattle.h3_wire.specs.PieceLaws.{without-none, concat-without}
-use Rattle.h3_wire.specs.UnfinishedLaws.{IsUnfinishedFront, front_of_frame, front_of_head}
+use Rattle.h3_wire.specs.declared.proto.frame.Frame.TheVariants as frame
+use Rattle.h3_connection.specs.Skipping.{skip_front, skipped, is_empty_data, skipped_within}
+use Rattle.std.specs.Prelude.{◌&&◌}
 use Rattle.h3_wire.specs.declared.proto.frame.PayloadLen.{PayloadLen}
 use Rattle.h3_wire.specs.declared.proto.frame.Frame.{Frame}
-use Rattle.h3_wire.specs.declared.proto.frame.Frame.TheVariants as frame
+use Rattle.std.specs.List.{concat, AllByRecursion}
+use Rattle.h3_wire.specs.Pieces.{without}
+use Rattle.h3_wire.specs.PieceLaws.{without-none, concat-without}
 use Rattle.h3_connection.specs.Incoming.{Incoming}
 use Rattle.h3_connection.specs.Pulling.{left_with}
-use Rattle.h3_connection.specs.Skipping.{is_empty_data, skip_front, skipped_within, skipped}
+use Rattle.std.proofs.lemmas.Grind.{common_steps}
+use Rattle.h3_wire.specs.Encoded.{frame_encoding, head_encoding}
+use Rattle.h3_wire.specs.UnfinishedLaws.{IsUnfinishedFront, front_of_frame, front_of_head}
+use Rattle.h3_wire.specs.EncodedLaws.{written_head}
+use Rattle.h3_headline.specs.Pulling.{IsLonger, with_unread}
 use Rattle.h3_headline.specs.Standing.{HasBytes}
 
 -- Of two lists that are equal with what follows them the shorter is the front of the longer.
 pub short_front : (some more front rest : List ℕ) → some ++ more ≡ front ++ rest → length some ≤ length front → some ≡ take (length some) front
 short_front some more front rest e h = sym (take_at some more (length some) refl) ∙ ap (take (length some)) e ∙ take-append-le (length some) front rest h
-
-pub record IsLonger (some more front rest : List ℕ) : Type 0 where
-  pub front_is : some ≡ front ++ drop (length front) some
-  pub rest_is : drop (length front) some ++ more ≡ rest
 
 pub long_front : (some more front rest : List ℕ) → some ++ more ≡ front ++ rest → length front ≤ length some → IsLonger some more front rest
 long_front some more front rest e h =
@@ -71,10 +68,6 @@ pub skipped_none : (in_body : Bool) → skipped in_body [] ≡ []
 unfolding skipped
 skipped_none in_body = refl
 
--- all bytes are left
-abbrev with_unread : Incoming → List (List ℕ) → Incoming
-with_unread i pieces = record i { unread = pieces }
-
 pub left_all : (i : Incoming) → left_with i (concat i.unread) ≡ i
 left_all i =
     let none : length (concat i.unread) - length (concat i.unread) ≡ 0 = omega arith in
@@ -101,11 +94,6 @@ without_pieces (suc n) (p ∷ pieces) h = by_test (without_pieces (suc n - lengt
         → AllByRecursion HasBytes (if b then drop (suc n) p ∷ pieces else without (suc n - length p) pieces)
     by_test later true e = (omega (arith, below (suc n) (length p) e, length-drop (suc n) p), h.1)
     by_test later false e = later
-
--- no bytes come of pieces with bytes: there are none
-pub no_pieces : (pieces : List (List ℕ)) → AllByRecursion HasBytes pieces → concat pieces ≡ [] → pieces ≡ []
-no_pieces [] h e = refl
-no_pieces (p ∷ pieces) h e = absurd (omega (arith, h.0, ap length e, length-append p (concat pieces)))
 
 -- What bytes are the front of a frame that is not whole: none, or an unfinished one.
 pub unfinished_section : (section unread : List ℕ) → length section < 2 ^ 62 → length unread < length (frame_encoding 1 section) → unread ≡ take (length unread) (frame_encoding 1 section)

@@ -1,22 +1,23 @@
 -- What one item hands out of a flow.
-use Rattle.std.proofs.Common.{◌≡◌, ◌⊎◌, inl, inr, ℕ, zero, suc, ◌+◌, ◌-◌, ◌<◌, ◌≤◌, Bool, true, false, List, [], ◌∷◌, ◌++◌, length, refl, sym, ap, ◌∙◌, subst, arith, Option, Some, None, append-nil, append_assoc}
-use Rattle.std.specs.Prelude.{◌||◌, ◌&&◌, ◌==◌, map, take, drop, slice_get, unwrap_or, nat_lt, if◌then◌else◌}
+use Rattle.std.proofs.Common.{◌≡◌, ℕ, zero, suc, ◌+◌, ◌-◌, List, [], ◌∷◌, ◌++◌, ap, ◌∙◌, arith, Some, Bool, true, false, refl, sym, append-nil, append_assoc, ◌≤◌, ◌<◌, length, ◌⊎◌, inl, inr, subst, Option, None}
+use Rattle.std.specs.Prelude.{take, slice_get, unwrap_or, ◌||◌, ◌&&◌, nat_lt, if◌then◌else◌, drop, ◌==◌, map}
+use Rattle.h3_world.specs.Flow.{Part, Flow}
 use Rattle.std.proofs.lemmas.Grind.{common_steps, flat_map-append}
-use Rattle.std.proofs.lemmas.List.{map-append}
+use Rattle.h3_world.specs.Order.{next_part, is_end, is_over}
 use Rattle.h3_field.specs.Field.{Field, section_size}
 use Rattle.h3_header.specs.Head.{Head as Fields, head_fields}
 use Rattle.h3_header.specs.Reads.{head_of_fields}
 use Rattle.h3_connection.specs.declared.event.Item.{Item}
 use Rattle.h3_connection.specs.declared.event.Item.TheVariants as item
-use Rattle.h3_world.specs.Flow.{Flow, Part}
 use Rattle.h3_world.specs.Flow.Part.{Interim, Head, Body, Trailer, End}
-use Rattle.h3_world.specs.Items.{HasCome, IsSectionItem, after_item, after_piece}
-use Rattle.h3_world.specs.Order.{is_end, is_over, next_part}
+use Rattle.h3_world.specs.Items.{IsSectionItem, after_piece, HasCome, after_item}
+use Rattle.std.proofs.lemmas.List.{map-append}
 use Rattle.h3_world.specs.Sound.{OutOfNext}
+use Rattle.h3_headline.specs.ContentLaws.{bytes_taken, none_of_piece}
+use Rattle.h3_headline.specs.Contents.{Moves, all_taken, contents, handed, handed_of, has_end, part_taken, piece_of}
 use Rattle.h3_headline.specs.FlowLaws.{same_number}
-use Rattle.h3_headline.specs.Messages.{Content, item_contents, is_end_item, within}
-use Rattle.h3_headline.specs.Messages.Content.{InterimFields, HeadFields, Byte, TrailerFields, TooLarge}
-use Rattle.h3_headline.specs.ContentLaws.{contents, has_end, part_taken, all_taken, piece_of, handed, handed_of, none_of_piece, bytes_taken, Moves}
+use Rattle.h3_headline.specs.Messages.{Content, is_end_item, item_contents, within}
+use Rattle.h3_headline.specs.Messages.Content.{Byte, HeadFields, InterimFields, TooLarge, TrailerFields}
 
 -- the next of some parts
 take_next : (parts : List Part) (n : ℕ) (part : Part) → slice_get parts n ≡ Some part → take (n + 1) parts ≡ take n parts ++ part ∷ []

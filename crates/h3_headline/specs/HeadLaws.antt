@@ -1,85 +1,61 @@
 -- A head and a trailer: what the ends answer, and where they stand.
-use Rattle.std.proofs.Common.{◌≡◌, ℕ, Bool, true, false, List, [], ◌∷◌, ◌++◌, refl, sym, ap, ◌∙◌, subst, if◌then◌else◌, Option, Some, None}
-use Rattle.std.specs.Prelude.{not, ◌&&◌, ◌||◌, is_some, option_map, unwrap_or}
+use Rattle.std.proofs.Common.{List, [], ◌∷◌, ◌++◌, ◌≡◌, ℕ, true, false, refl, sym, ap, ◌∙◌, subst, Bool, if◌then◌else◌, Some, None, Option}
 use Rattle.std.specs.List.{AllByRecursion}
-use Rattle.http_uri.specs.Grammar.{or_slash}
 use Rattle.h3_field.specs.Field.{Field, section_size}
-use Rattle.h3_header.specs.Head.{Head as Fields, head_fields, has_pseudo}
-use Rattle.h3_header.specs.Reads.{head_of_fields}
-use Rattle.h3_header.specs.ReadsBack.{as_read}
-use Rattle.h3_messages.specs.Messages.{violation_of_trailer}
 use Rattle.h3_proto.specs.declared.stream.Side.{Side}
-use Rattle.h3_proto.specs.declared.stream.Side.TheVariants.{Client, Server}
-use Rattle.h3_qpack.specs.EncoderHistory.{EncoderHistory}
 use Rattle.h3_qpack.specs.Encodings.{IsWrittenInstruction}
-use Rattle.h3_qpack.specs.SectionEncoding as section
-use Rattle.h3_connection.specs.Endpoint.{EndpointHistory, Own}
-use Rattle.h3_connection.specs.Outgoing.{Outgoing, OwnPart, nothing_sent, takes_head, takes_body, is_unsent, last_is_trailer}
-use Rattle.h3_connection.specs.Outgoing.OwnPart.{OwnInterim, OwnHead, OwnTrailer}
+use Rattle.h3_connection.specs.Endpoint.{Own, EndpointHistory}
+use Rattle.h3_connection.specs.Outgoing.{OwnPart, takes_head, is_unsent, takes_body, last_is_trailer}
 use Rattle.h3_connection.specs.OwnIds.{other, encoder_id}
-use Rattle.h3_connection.specs.Pulling.{is_client, is_for, is_interim}
 use Rattle.h3_connection.specs.Sections.{encoded_section, instructions_for}
-use Rattle.h3_connection.specs.Sending.{first_of, is_too_large, outgoing_at, appended as part_appended, counted, encoded, head_part, fields_cost, asked, awaiting_at, does}
-use Rattle.h3_connection.specs.Sending as sender
-use Rattle.h3_connection.specs.StreamSets.{stream_at, set_stream}
+use Rattle.h3_connection.specs.Sending.{appended as part_appended, counted, encoded, fields_cost, is_too_large, asked, awaiting_at, first_of, head_part, does}
+use Rattle.h3_connection.specs.StreamSets.{stream_at}
+use Rattle.h3_world.specs.declared.setup.Setup.{Setup}
+use Rattle.h3_world.specs.declared.event.Answer.TheVariants as answer
+use Rattle.h3_world.specs.Ends.{Ends, end_at, answered}
+use Rattle.h3_world.specs.Flow.{Flow, Section, Part}
+use Rattle.h3_world.specs.Order.{outgoing_of}
+use Rattle.h3_world.specs.Sending.{appended, having_encoded, section_sent, sent_section, sent_head, sent_trailer}
+use Rattle.h3_world.specs.Streams.{flow, is_open}
+use Rattle.h3_world.specs.World.{World, party, with_party}
+use Rattle.h3_world.specs.Came.{settings_known}
+use Rattle.h3_world.specs.Setup.{announced_at, IsPlain}
+use Rattle.std.specs.Prelude.{option_map, not, ◌&&◌, is_some, ◌||◌}
 use Rattle.h3_connection.specs.StrictMessages.{malformation_by}
-use Rattle.h3_connection.specs.StrictSending.{broken_head, broken_trailer, unless_malformed, violation_of_own_head}
+use Rattle.h3_connection.specs.StrictSending.{broken_head, violation_of_own_head, broken_trailer, unless_malformed}
 use Rattle.h3_connection.specs.declared.event.Malformation.{Malformation}
 use Rattle.h3_connection.specs.declared.setup.Announced.{Announced}
+use Rattle.h3_messages.specs.Messages.{violation_of_trailer}
+use Rattle.h3_header.specs.Head.{Head as Fields, head_fields, has_pseudo}
+use Rattle.h3_proto.specs.declared.stream.Side.TheVariants.{Client, Server}
+use Rattle.h3_connection.specs.Pulling.{is_client, is_for, is_interim}
+use Rattle.h3_header.specs.ReadsBack.{as_read}
+use Rattle.h3_messages.specs.Content.{awaited_by}
+use Rattle.h3_header.specs.Reads.{head_of_fields}
+use Rattle.h3_connection.specs.Outgoing.OwnPart.{OwnInterim, OwnHead, OwnTrailer}
+use Rattle.h3_connection.specs.Sending as sender
 use Rattle.h3_connection.specs.declared.event.Refusal.TheVariants as refusal
-use Rattle.h3_world.specs.declared.setup.Setup.{Setup}
 use Rattle.h3_world.specs.declared.event.Event.TheVariants as event
-use Rattle.h3_world.specs.declared.event.Answer.TheVariants as answer
-use Rattle.h3_world.specs.Came.{settings_known}
-use Rattle.h3_world.specs.Ends.{Ends, end_at, answered}
 use Rattle.h3_world.specs.Ends as ends_of
-use Rattle.h3_world.specs.Flow.{Flow, Section, Part, own_part}
 use Rattle.h3_world.specs.Flow.Part.{Interim, Head, Trailer}
 use Rattle.h3_world.specs.Machine.{served}
-use Rattle.h3_world.specs.Order.{outgoing_of, is_end}
 use Rattle.h3_world.specs.Refusals.{head_refusal, trailer_refusal}
-use Rattle.h3_world.specs.Sending.{appended, having_encoded, section_sent, sent_section, sent_head, sent_trailer}
-use Rattle.h3_world.specs.Setup.{IsPlain, announced_at}
-use Rattle.h3_world.specs.Streams.{flow, is_open}
-use Rattle.h3_world.specs.World.{World, Party, party, with_party}
+use Rattle.http_uri.specs.Grammar.{or_slash}
+use Rattle.h3_headline.specs.Calls.{Both, Does, Extends, Hears, IsOfSection, IsWritableHead, Serves, writing_to, written}
 use Rattle.h3_headline.specs.ComingLaws.{sound_flow}
 use Rattle.h3_headline.specs.DeliverLaws.{sends_at}
-use Rattle.h3_headline.specs.FlowLaws.{open_there, flow-with_party, is_open-with_party}
-use Rattle.h3_headline.specs.SendingLaws.{Both, both_of, Serves, Does, does_on, call_agrees, refusal_agrees, not_refused, not_refused_open, Extends, flow_extended, flow_count}
+use Rattle.h3_headline.specs.FlowLaws.{flow-with_party, is_open-with_party, open_there}
+use Rattle.h3_headline.specs.SendingLaws.{both_of, call_agrees, does_on, flow_count, flow_extended, not_refused, not_refused_open, refusal_agrees}
 use Rattle.h3_headline.specs.SentLaws.{open_parts, with_body}
 use Rattle.h3_headline.specs.SentPartLaws.{part_extends, sends_part}
 use Rattle.h3_headline.specs.SettingsLaws.{too_large_with_meaning}
-use Rattle.h3_headline.specs.Standing.{StandsAt, IsWritable, IsReadable, Stands, are_settings_there, with_meaning}
+use Rattle.h3_headline.specs.Standing.{IsReadable, IsWritable, Stands, StandsAt, are_settings_there, with_meaning}
 use Rattle.h3_headline.specs.WritesMoreLaws.{encoder_stream_more}
-use Rattle.h3_headline.specs.WritingLaws.{Hears, hears, party_writes, party_count, sound_party}
-use Rattle.h3_messages.specs.Content.{awaited_by}
-
--- A section that may be sent: its fields are read as its head, and the instructions for it can be written.
-pub record IsWritableHead (w : World) (side : Side) (id : ℕ) (head : Fields) : Type 0 where
-  pub read_as : head_of_fields (head_fields head) ≡ as_read head
-  pub instructions : AllByRecursion IsWrittenInstruction (instructions_for (party w side).encoder id (head_fields head))
-
--- a part that carries a section, and the part that its sender's endpoint keeps of it
-pub record IsOfSection (kind : Section → Part) (own : List ℕ → OwnPart) : Type 0 where
-  pub wrote : (s : Section) → own_part (kind s) ≡ own s.encoded ∷ []
-  pub more : (s : Section) → is_end (Some (kind s)) ≡ false
+use Rattle.h3_headline.specs.WritingLaws.{hears, party_count, party_writes, sound_party}
 
 all_joined : {X : Type 0} (P : X → Type 0) (xs ys : List X) → AllByRecursion P xs → AllByRecursion P ys → AllByRecursion P (xs ++ ys)
 all_joined P [] ys h k = k
 all_joined P (x ∷ xs) ys h k = (h.0, all_joined P xs ys h.1 k)
-
--- the endpoint that wrote a section, by what it wrote before
-abbrev written : EndpointHistory → (List ℕ → OwnPart) → ℕ → List Field → ℕ → Own → EncoderHistory → Option Outgoing → EndpointHistory
-written e own id fields n o s stream =
-    record e {
-      encoder = section.sent_section s id fields;
-      own = record o { instructions = o.instructions ++ instructions_for s id fields };
-      outgoing = set_stream e.outgoing id (record (unwrap_or stream nothing_sent) { parts = (unwrap_or stream nothing_sent).parts ++ own (encoded_section s id fields) ∷ [] });
-      sent = n;
-    }
-
-abbrev writing_to : EndpointHistory → ℕ → Party → ℕ → Outgoing → EndpointHistory
-writing_to e id p n o = record e { encoder = p.encoder; own = p.own; outgoing = set_stream e.outgoing id o; sent = n }
 
 -- **A section goes out.**
 section_does : (setup : Setup) (w : World) (ends : Ends) (side : Side) (id : ℕ) (fields : List Field) (kind : Section → Part) (own : List ℕ → OwnPart) → Stands setup w ends → IsOfSection kind own

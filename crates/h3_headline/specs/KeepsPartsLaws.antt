@@ -1,27 +1,27 @@
 -- Events that change no message: no part is sent, and none is handed out.
-use Rattle.std.proofs.Common.{◌≡◌, ℕ, Bool, true, false, not, [], ◌∷◌, ◌++◌, ◌+◌, refl, sym, ap, ◌∙◌, subst, arith, Some}
-use Rattle.std.specs.Prelude.{◌&&◌, ◌||◌, ◌==◌, nat_lt, if◌then◌else◌, is_some}
-use Rattle.std.proofs.lemmas.Grind.{common_steps}
-use Rattle.h3_field.specs.Instruction.DecoderInstruction.{CancelStream}
-use Rattle.h3_proto.specs.StreamIds.{index_of}
+use Rattle.std.proofs.Common.{◌≡◌, ℕ, true, sym, ap, arith, refl, ◌∙◌, subst, Bool, false, [], ◌∷◌, ◌++◌, ◌+◌, Some, not}
+use Rattle.std.specs.Prelude.{if◌then◌else◌, ◌||◌, nat_lt, ◌&&◌, ◌==◌, is_some}
 use Rattle.h3_proto.specs.declared.stream.Side.{Side}
 use Rattle.h3_proto.specs.declared.stream.Side.TheVariants.{Client, Server}
-use Rattle.h3_connection.specs.OwnIds.{other, is_own}
-use Rattle.h3_connection.specs.declared.event.Refusal.TheVariants as refusal
-use Rattle.h3_connection.specs.declared.event.StreamFault.{StreamFault}
-use Rattle.h3_connection.specs.declared.event.StreamFault.TheVariants as stream_fault
-use Rattle.h3_world.specs.declared.setup.Setup.{Setup}
-use Rattle.h3_world.specs.declared.event.Answer.{Answer}
-use Rattle.h3_world.specs.declared.event.Answer.TheVariants as answer
-use Rattle.h3_world.specs.Delivering.{delivered_own, delivered_message, delivery, is_closed, may_end, delivered_end, end_delivery, delivered_reset, reset_delivery, reset_code, further, having_listened}
 use Rattle.h3_world.specs.Flow.{Flow}
-use Rattle.h3_world.specs.Order.{is_finished}
+use Rattle.h3_world.specs.Streams.{flow, with_flow, exchange, is_open, has_outgoing, waiting}
+use Rattle.h3_world.specs.World.{World, Party, with_party, party}
+use Rattle.h3_proto.specs.StreamIds.{index_of}
+use Rattle.h3_field.specs.Instruction.DecoderInstruction.{CancelStream}
+use Rattle.h3_connection.specs.OwnIds.{other, is_own}
+use Rattle.h3_connection.specs.declared.event.StreamFault.{StreamFault}
 use Rattle.h3_world.specs.Sending.{given_up}
-use Rattle.h3_world.specs.Streams.{exchange, flow, with_flow, is_open, has_outgoing, waiting}
-use Rattle.h3_world.specs.World.{World, Party, party, with_party}
-use Rattle.h3_headline.specs.FlowLaws.{IsThere, set_length, same_number, flow-with_flow, flow-with_other, flow-with_party, there-with_party, and_first, open_there}
+use Rattle.std.proofs.lemmas.Grind.{common_steps}
+use Rattle.h3_world.specs.declared.setup.Setup.{Setup}
+use Rattle.h3_world.specs.Delivering.{delivered_own, further, having_listened, delivered_message, delivery, is_closed, may_end, delivered_end, end_delivery, delivered_reset, reset_delivery, reset_code}
+use Rattle.h3_connection.specs.declared.event.Refusal.TheVariants as refusal
+use Rattle.h3_world.specs.declared.event.Answer.TheVariants as answer
+use Rattle.h3_world.specs.Order.{is_finished}
+use Rattle.h3_connection.specs.declared.event.StreamFault.TheVariants as stream_fault
+use Rattle.h3_headline.specs.Contents.{HasSameParts, KeepsAfter, KeepsParts}
+use Rattle.h3_headline.specs.FlowLaws.{and_first, flow-with_flow, flow-with_other, flow-with_party, open_there, same_number, set_length, there-with_party}
 use Rattle.h3_headline.specs.Messages.{is_on}
-use Rattle.h3_headline.specs.ContentLaws.{HasSameParts}
+use Rattle.h3_headline.specs.Steps.{IsThere}
 
 -- the flow that changes, and all others
 pub flow_at : (w : World) (s writer : Side) (i id : ℕ) (f : Flow) → IsThere w i → flow (with_flow w s i f) writer id ≡ (if is_on writer id s i then f else flow w writer id)
@@ -39,10 +39,6 @@ same_flow w Server Client i id e = cc
 there_with_flow : (w : World) (s : Side) (i : ℕ) (f : Flow) → IsThere w i → IsThere (with_flow w s i f) i
 there_with_flow w Client i f h = record { request = h.request; place = omega (arith, h.place, set_length w.exchanges (index_of i) (record (exchange w i) { request = f })) }
 there_with_flow w Server i f h = record { request = h.request; place = omega (arith, h.place, set_length w.exchanges (index_of i) (record (exchange w i) { response = f })) }
-
--- No flow's parts change, nor how many are out.
-abbrev pub KeepsParts : World → World → Type 0
-KeepsParts w new = (writer : Side) (id : ℕ) → HasSameParts (flow w writer id) (flow new writer id)
 
 pub keeps_same : (w : World) → KeepsParts w w
 keeps_same w writer id = record { sent = refl; parts_out = refl; body_out = refl }
@@ -74,10 +70,6 @@ keeps_given_up w receiver i fault there =
     keeps_then w v (with_flow v (other receiver) i g) (keeps_with_party w receiver q)
     (keeps_with_flow v (other receiver) i g (there-with_party w receiver q i there)
     (subst (λ f. HasSameParts f g) (sym (flow-with_party w receiver (other receiver) q i)) (record { sent = refl; parts_out = refl; body_out = refl })))
-
--- A delivery, by its answer and the world after it.
-abbrev KeepsAfter : World → Answer × World → Type 0
-KeepsAfter w next = KeepsParts w next.1
 
 differ : true ≡ false → ⊥
 differ h = grind (arith, common_steps, h)

@@ -1,71 +1,39 @@
 -- What an endpoint makes of further bytes of the other side's control stream: once the settings came, it uses the table where they
 -- allow it, and reads what the other side's decoder said before.
-use Rattle.std.proofs.Common.{◌≡◌, ℕ, ◌+◌, ◌-◌, ◌<◌, ◌≤◌, nat_le, Bool, true, false, if◌then◌else◌, List, [], ◌∷◌, ◌++◌, length, min, take, drop, flat_map, append-nil, Option, Some, None, refl, sym, ap, ◌∙◌, subst, arith}
-use Rattle.std.specs.Prelude.{◌==◌, is_some, unwrap_or}
-use Rattle.std.specs.List.{AllByRecursion}
-use Rattle.std.proofs.lemmas.Grind.{common_steps}
+use Rattle.std.proofs.Common.{◌≡◌, ◌+◌, Bool, true, false, if◌then◌else◌, [], ◌∷◌, ◌++◌, min, refl, ap, ◌∙◌, ℕ, ◌-◌, List, drop, sym, subst, take, flat_map, append-nil, Option, Some, None, nat_le, length, ◌<◌, arith, ◌≤◌}
+use Rattle.std.specs.Prelude.{unwrap_or, is_some, ◌==◌}
+use Rattle.h3_field.specs.Instruction.EncoderInstruction.{SetCapacity}
+use Rattle.h3_proto.specs.Settings.{value_of}
+use Rattle.h3_qpack.specs.EncoderHistory.{using_table, EncoderHistory, encoder_after_all}
+use Rattle.h3_connection.specs.Control.{with_table, learned, listened_to, read_decoder, after_peer, read_control}
+use Rattle.h3_connection.specs.Endpoint.{EndpointHistory, goaway_encoding, is_second}
+use Rattle.h3_connection.specs.declared.setup.Announced.{Announced}
+use Rattle.h3_world.specs.Setup.{has_table, announced_at}
 use Rattle.std.proofs.lemmas.List.{take-append-drop}
 use Rattle.h3_field.specs.Instruction.{DecoderInstruction, decoder_bytes}
-use Rattle.h3_field.specs.Instruction.EncoderInstruction.{SetCapacity}
-use Rattle.h3_field.specs.InstructionAnswer.{IsReply}
-use Rattle.h3_proto.specs.Settings.{value_of}
-use Rattle.h3_qpack.specs.EncoderHistory.{EncoderHistory, using_table, encoder_after_all}
-use Rattle.h3_qpack.specs.Hearing.{listened, listen}
 use Rattle.h3_qpack.specs.Instructions.{AreAccepted}
-use Rattle.h3_qpack.specs.WholeInstructions.{whole_in, rest_in, decoder_instructions_in}
+use Rattle.h3_qpack.specs.WholeInstructions.{whole_in, decoder_instructions_in, rest_in}
+use Rattle.h3_connection.specs.declared.setup.Limits.{Limits}
+use Rattle.std.specs.List.{AllByRecursion}
+use Rattle.h3_field.specs.InstructionAnswer.{IsReply}
+use Rattle.h3_qpack.specs.Hearing.{listened, listen}
 use Rattle.h3_proto.specs.declared.stream.Side.{Side}
-use Rattle.h3_connection.specs.Control.{Found, is_usable, with_table, learned, if_learned, then_decoder, after_peer, listened_to, read_decoder, read_control}
-use Rattle.h3_connection.specs.Delivering.{heard_as, unless_second, with_unidirectional}
-use Rattle.h3_connection.specs.Endpoint.{EndpointHistory, Own, goaway_encoding, is_second}
 use Rattle.h3_connection.specs.OwnIds.{other, control_id}
 use Rattle.h3_connection.specs.PeerReading.{Peer, with_unread, read_peer}
 use Rattle.h3_connection.specs.Unidirectional.{Unidirectional}
-use Rattle.h3_connection.specs.Unidirectional.Role.{Untold, Control}
-use Rattle.h3_connection.specs.declared.setup.Announced.{Announced}
-use Rattle.h3_connection.specs.declared.setup.Limits.{Limits}
 use Rattle.h3_world.specs.declared.setup.Setup.{Setup}
 use Rattle.h3_world.specs.OwnStreams.{settings_bytes}
-use Rattle.h3_world.specs.Setup.{announced_at, has_table}
+use Rattle.std.proofs.lemmas.Grind.{common_steps}
+use Rattle.h3_connection.specs.Delivering.{heard_as, unless_second, with_unidirectional}
+use Rattle.h3_connection.specs.Unidirectional.Role.{Untold, Control}
 use Rattle.h3_headline.specs.AcceptedLaws.{accepted_front, accepted_limited}
-use Rattle.h3_headline.specs.AnnouncedLaws.{Announces}
-use Rattle.h3_headline.specs.CitedLaws.{StreamLaws}
-use Rattle.h3_headline.specs.ControlLaws.{settings_frame_of, peer_by, peer_came, length_settings}
+use Rattle.h3_headline.specs.Cited.{StreamLaws}
+use Rattle.h3_headline.specs.ControlLaws.{length_settings, peer_came}
 use Rattle.h3_headline.specs.FlowLaws.{other-other}
 use Rattle.h3_headline.specs.ListeningLaws.{no_sum, no_sum_too}
-use Rattle.h3_headline.specs.RoleLaws.{role_by, behind_type, with_role, is_first}
-use Rattle.h3_headline.specs.Standing.{AreGoaways, HasControl, came_on, replies_unread, with_meaning}
-
--- an encoder that learns such limits, and what it writes
-abbrev pub learned_encoder : Limits → EncoderHistory → EncoderHistory
-learned_encoder limits s = if has_table s.most_capacity limits then using_table s limits.table limits.blocked else s
-
-abbrev pub learned_own : ℕ → Limits → Own → Own
-learned_own most limits own = if has_table most limits then record own { instructions = own.instructions ++ SetCapacity (min most limits.table) ∷ [] } else own
-
--- the endpoint that knows them now
-abbrev pub knowing : EndpointHistory → Limits → EndpointHistory
-knowing e limits = record e { encoder = learned_encoder limits e.encoder; own = learned_own e.encoder.most_capacity limits e.own }
-
--- and that has read what the other side's decoder said
-abbrev pub learning : EndpointHistory → Limits → ℕ → List DecoderInstruction → EndpointHistory
-learning e limits came replies =
-    record e {
-      encoder = encoder_after_all (learned_encoder limits e.encoder) (decoder_instructions_in (came - 1) replies);
-      own = learned_own e.encoder.most_capacity limits e.own;
-      decoder_unread = rest_in decoder_bytes (came - 1) replies;
-    }
-
--- only where the settings come now
-abbrev pub after_control : Bool → Bool → EndpointHistory → Limits → ℕ → List DecoderInstruction → EndpointHistory
-after_control false true e limits came replies = learning e limits came replies
-after_control false false e limits came replies = e
-after_control true c e limits came replies = e
-
-abbrev without_fault : EndpointHistory → Found
-without_fault e = (e, None)
-
-abbrev limited_by : EndpointHistory → ℕ → ℕ → EndpointHistory
-limited_by e capacity blocked = if is_usable e.encoder.most_capacity capacity blocked then with_table e capacity blocked else e
+use Rattle.h3_headline.specs.PeerStreams.{Announces, MayListen, after_control, behind_type, controlling, knowing, learned_encoder, limited_by, peer_by, peer_of, role_by, settings_frame_of, settled, with_role, without_fault}
+use Rattle.h3_headline.specs.RoleLaws.{is_first}
+use Rattle.h3_headline.specs.Standing.{HasControl, came_on, replies_unread, with_meaning}
 
 knows_limits : (e : EndpointHistory) (a : Announced) → Announces a → learned e (with_meaning a.settings) ≡ knowing e a.limits
 knows_limits e a h =
@@ -89,9 +57,6 @@ learned_accepted s limits n replies h = by_test (has_table s.most_capacity limit
     by_test true = accepted_limited s limits.table limits.blocked (decoder_instructions_in n replies) front
     by_test false = front
 
-abbrev settled : Option (List (ℕ × ℕ)) → Option (List (ℕ × ℕ)) → EndpointHistory → Found
-settled before after e = then_decoder before after (if_learned before after e) None
-
 settles : (laws : StreamLaws) (a : Announced) (x : EndpointHistory) (before : Option (List (ℕ × ℕ))) (b c : Bool) (came : ℕ) (replies : List DecoderInstruction) → Announces a
     → before ≡ (if b then Some (with_meaning a.settings) else None) → x.peer.settings ≡ (if c then Some (with_meaning a.settings) else None)
     → x.decoder_unread ≡ replies_unread b came replies → AllByRecursion IsReply replies → (b ≡ false → AreAccepted x.encoder replies) → (b ≡ true → c ≡ true)
@@ -111,13 +76,6 @@ settles laws a x before false true came replies h was now left written accepted 
     ∙ ap (λ s. if is_some s then listened_to y (listen y.encoder (x.decoder_unread ++ [])) else without_fault (record y { decoder_unread = x.decoder_unread ++ [] })) now
     ∙ ap (listened_to y) reads
 
--- the endpoint after bytes of the control stream, but for what it learns
-abbrev pub controlling : EndpointHistory → ℕ → Unidirectional → Option ℕ → Peer → EndpointHistory
-controlling e id o on peer = record (with_unidirectional e id o) { control_on = on; peer = peer }
-
-abbrev peer_of : List ℕ → Option (List (ℕ × ℕ)) → List ℕ → Option ℕ → Peer
-peer_of unread settings goaways most_pushes = record { unread = unread; settings = settings; goaways = goaways; most_pushes = most_pushes }
-
 -- what it knows, as a value
 pub peer_is : (setup : Setup) (side : Side) (came : ℕ) (gs : List ℕ) (stream : Option Unidirectional) (on : Option ℕ) (peer : Peer) → HasControl setup side came gs stream on peer
     → peer ≡ peer_by (announced_at setup (other side)) (nat_le (length (settings_bytes (announced_at setup (other side)))) came) came gs
@@ -133,15 +91,6 @@ never a n h k = grind (arith, common_steps, h, k)
 
 pub still : (a n m : ℕ) → nat_le a n ≡ true → n ≤ m → nat_le a m ≡ true
 still a n m e h = grind (arith, common_steps, e, h)
-
--- What is said of the endpoint before.
-pub record MayListen (setup : Setup) (side : Side) (e : EndpointHistory) (came : ℕ) (gs : List ℕ) (replies_came : ℕ) (replies : List DecoderInstruction) : Type 0 where
-  pub side_is : e.side ≡ side
-  pub announces : Announces (announced_at setup (other side))
-  pub goaways : AreGoaways (other side) None gs
-  pub left : e.decoder_unread ≡ replies_unread (nat_le (length (settings_bytes (announced_at setup (other side)))) came) replies_came replies
-  pub written : AllByRecursion IsReply replies
-  pub accepted : nat_le (length (settings_bytes (announced_at setup (other side)))) came ≡ false → AreAccepted e.encoder replies
 
 -- **Further bytes of the control stream.**
 pub control_came : (laws : StreamLaws) (setup : Setup) (side : Side) (e : EndpointHistory) (came count : ℕ) (gs : List ℕ) (replies_came : ℕ) (replies : List DecoderInstruction) (stream : Option Unidirectional)

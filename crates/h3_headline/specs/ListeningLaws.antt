@@ -1,32 +1,31 @@
 -- What an endpoint makes of further bytes of the other side's encoder and decoder streams.
-use Rattle.std.proofs.Common.{◌≡◌, ℕ, ◌+◌, ◌-◌, ◌≤◌, Bool, true, false, if◌then◌else◌, List, [], ◌∷◌, ◌++◌, length, take, drop, flat_map, append-nil, Option, Some, None, refl, sym, ap, ◌∙◌, arith}
+use Rattle.std.proofs.Common.{◌≡◌, ℕ, ◌+◌, ◌-◌, true, arith, Some, ◌≤◌, false, List, ◌++◌, take, flat_map, Option, ap, ◌∙◌, Bool, if◌then◌else◌, [], append-nil, None, refl, sym, ◌∷◌, length, drop}
 use Rattle.std.specs.Prelude.{◌==◌, is_some}
-use Rattle.std.specs.List.{AllByRecursion}
 use Rattle.std.proofs.lemmas.Grind.{common_steps}
+use Rattle.std.specs.List.{AllByRecursion}
 use Rattle.h3_field.specs.Instruction.{EncoderInstruction, encoder_bytes, DecoderInstruction, decoder_bytes}
-use Rattle.h3_field.specs.InstructionAnswer.{IsReply}
-use Rattle.h3_qpack.specs.DecoderState.{DecoderState, announcing, decoder_after_all}
-use Rattle.h3_qpack.specs.EncoderHistory.{EncoderHistory, encoder_after_all}
 use Rattle.h3_qpack.specs.Encodings.{IsWrittenInstruction}
-use Rattle.h3_qpack.specs.Hearing.{Heard, heard, hear, listened, listen}
-use Rattle.h3_qpack.specs.Instructions.{AreAccepted}
+use Rattle.h3_qpack.specs.Hearing.{heard, hear, listened, listen}
 use Rattle.h3_qpack.specs.WholeInstructions.{whole_in, rest_in}
 use Rattle.h3_proto.specs.declared.stream.Side.{Side}
-use Rattle.h3_connection.specs.Codes.{encoder_stream_error}
-use Rattle.h3_connection.specs.Control.{Found, increment, listened_to, read_encoder, read_decoder}
+use Rattle.h3_connection.specs.Control.{increment, read_encoder, listened_to, read_decoder}
 use Rattle.h3_connection.specs.Delivering.{heard_as, unless_second, with_unidirectional}
-use Rattle.h3_connection.specs.Endpoint.{EndpointHistory, is_second, replied}
-use Rattle.h3_connection.specs.Listeners.{Decoding, after_hearing, fault_if, insertions_heard}
+use Rattle.h3_connection.specs.Endpoint.{EndpointHistory, is_second}
 use Rattle.h3_connection.specs.OwnIds.{other, encoder_id, decoder_id}
 use Rattle.h3_connection.specs.Unidirectional.{Unidirectional}
-use Rattle.h3_connection.specs.Unidirectional.Role.{Untold, Encoder, Decoder}
+use Rattle.h3_connection.specs.Unidirectional.Role.{Encoder, Untold, Decoder}
 use Rattle.h3_world.specs.declared.setup.Setup.{Setup}
 use Rattle.h3_world.specs.Setup.{announced_at}
-use Rattle.h3_headline.specs.CitedLaws.{IsRead, StreamLaws}
-use Rattle.h3_headline.specs.DecoderStreamLaws.{replies_between, listened_on}
+use Rattle.h3_qpack.specs.DecoderState.{DecoderState, announcing, decoder_after_all}
+use Rattle.h3_field.specs.InstructionAnswer.{IsReply}
+use Rattle.h3_qpack.specs.EncoderHistory.{encoder_after_all, EncoderHistory}
+use Rattle.h3_qpack.specs.Instructions.{AreAccepted}
+use Rattle.h3_headline.specs.Cited.{IsRead, StreamLaws}
+use Rattle.h3_headline.specs.DecoderStreamLaws.{listened_on}
 use Rattle.h3_headline.specs.EncoderStreamLaws.{heard_on}
-use Rattle.h3_headline.specs.RoleLaws.{role_by, behind_type, with_role, is_first}
-use Rattle.h3_headline.specs.Standing.{HasEncoderStream, HasDecoderStream, came_on, replies_unread}
+use Rattle.h3_headline.specs.PeerStreams.{added_since, behind_type, decoding_of, encoder_then, hearing, listening, read_as, replies_between, role_by, with_role, without_fault}
+use Rattle.h3_headline.specs.RoleLaws.{is_first}
+use Rattle.h3_headline.specs.Standing.{HasDecoderStream, HasEncoderStream, came_on, replies_unread}
 use Rattle.h3_headline.specs.UnitLaws.{take_both}
 
 -- a sum of 0 is of 0 and 0
@@ -38,26 +37,6 @@ no_sum_too a b e = grind (arith, common_steps, e)
 
 some_same : {X : Type 0} (x y : X) → Some x ≡ Some y → x ≡ y
 some_same x y e = cc
-
-abbrev without_fault : EndpointHistory → Found
-without_fault e = (e, None)
-
--- what is kept of an encoder stream
-abbrev pub decoding_of : DecoderState → List ℕ → Decoding
-decoding_of decoder unread = record { decoder = decoder; unread = unread }
-
--- the endpoint after bytes of the other side's encoder stream
-abbrev pub hearing : EndpointHistory → ℕ → Unidirectional → Option ℕ → Decoding → List DecoderInstruction → EndpointHistory
-hearing e id o on decoding replies =
-    record (with_unidirectional e id o) { encoder_on = on; decoding = decoding; own = record e.own { replies = e.own.replies ++ replies } }
-
--- the number of insertions that a decoder has read since
-abbrev pub added_since : DecoderState → DecoderState → ℕ
-added_since before after = after.table.inserted - before.table.inserted
-
--- what the whole reading gives
-abbrev read_as : EndpointHistory → Heard → Found
-read_as e h = (replied (record e { decoding = after_hearing h }) (increment (insertions_heard e.decoding h)), fault_if h.is_bad encoder_stream_error)
 
 encoder_read : (laws : StreamLaws) (setup : Setup) (side : Side) (e : EndpointHistory) (o : Unidirectional) (came count : ℕ) (is : List EncoderInstruction) (stream : Option Unidirectional)
     → HasEncoderStream setup side came is stream e.encoder_on e.decoding → AllByRecursion IsWrittenInstruction is
@@ -113,14 +92,6 @@ encoder_came laws setup side e came count is stream h written after = by_test (c
         ∙ ap (λ x. without_fault (hearing e id o x e.decoding (increment (added_since e.decoding.decoder after.decoder)))) on
         ∙ ap (λ x. without_fault (hearing e id o None (decoding_of x e.decoding.unread) (increment (added_since e.decoding.decoder after.decoder)))) decoder
         ∙ ap (λ x. without_fault (hearing e id o None (decoding_of after.decoder x) (increment (added_since e.decoding.decoder after.decoder)))) left
-
--- the endpoint after bytes of the other side's decoder stream
-abbrev pub listening : EndpointHistory → ℕ → Unidirectional → Option ℕ → EncoderHistory → List ℕ → EndpointHistory
-listening e id o on encoder unread = record (with_unidirectional e id o) { decoder_on = on; encoder = encoder; decoder_unread = unread }
-
--- the encoder after them: it reads nothing before it knows the settings
-abbrev pub encoder_then : Bool → EncoderHistory → ℕ → ℕ → List DecoderInstruction → EncoderHistory
-encoder_then knows s few many replies = if knows then encoder_after_all s (replies_between few many replies) else s
 
 decoder_read : (laws : StreamLaws) (side : Side) (knows : Bool) (e : EndpointHistory) (o : Unidirectional) (came count : ℕ) (is : List DecoderInstruction) (stream : Option Unidirectional)
     → is_some e.peer.settings ≡ knows → HasDecoderStream side knows came is stream e.decoder_on e.decoder_unread → AllByRecursion IsReply is

@@ -1,17 +1,17 @@
 -- What a side sent on a request stream, and what the other side was handed out of it, by the events and their answers alone.
-use Rattle.std.specs.Prelude.{◌≡◌, ℕ, Bool, true, false, ◌&&◌, ◌||◌, List, [], ◌∷◌, ◌++◌, map, ◌==◌, nat_lt, if◌then◌else◌}
+use Rattle.std.specs.Prelude.{ℕ, List, Bool, false, ◌==◌, [], true, if◌then◌else◌, ◌∷◌, map, ◌&&◌, ◌++◌, ◌||◌, nat_lt, ◌≡◌}
 use Rattle.h3_field.specs.Field.{Field, section_size}
-use Rattle.h3_header.specs.Head.{Head as Fields, head_fields}
-use Rattle.h3_proto.specs.declared.stream.Side.{Side}
-use Rattle.h3_proto.specs.declared.stream.Side.TheVariants.{Client, Server}
-use Rattle.h3_connection.specs.Pulling.{is_interim}
 use Rattle.h3_connection.specs.declared.event.Item.{Item}
 use Rattle.h3_connection.specs.declared.event.Item.TheVariants as item
-use Rattle.h3_connection.specs.declared.event.Pull.TheVariants as pull
-use Rattle.h3_world.specs.declared.event.Event.{Event}
-use Rattle.h3_world.specs.declared.event.Event.TheVariants as event
+use Rattle.h3_proto.specs.declared.stream.Side.{Side}
+use Rattle.h3_proto.specs.declared.stream.Side.TheVariants.{Client, Server}
 use Rattle.h3_world.specs.declared.event.Answer.{Answer}
 use Rattle.h3_world.specs.declared.event.Answer.TheVariants as answer
+use Rattle.h3_header.specs.Head.{Head as Fields, head_fields}
+use Rattle.h3_connection.specs.Pulling.{is_interim}
+use Rattle.h3_world.specs.declared.event.Event.{Event}
+use Rattle.h3_world.specs.declared.event.Event.TheVariants as event
+use Rattle.h3_connection.specs.declared.event.Pull.TheVariants as pull
 
 -- What a message carries, in order (RFC 9114, section 4.1). A body is its bytes, since it is handed out in any pieces.
 pub data Content : Type 0 where

@@ -1,61 +1,54 @@
 -- What each event changes of each flow of a world.
-use Rattle.std.proofs.Common.{◌≡◌, ℕ, Bool, true, false, not, List, [], ◌∷◌, ◌++◌, ◌+◌, length, refl, sym, ap, ◌∙◌, subst, arith, Option, Some, None, MatchOption}
-use Rattle.std.specs.Prelude.{◌&&◌, ◌||◌, map, if◌then◌else◌, is_some}
+use Rattle.std.proofs.Common.{◌≡◌, true, false, arith, ℕ, [], refl, sym, subst, Option, Some, None, Bool, not, List, ◌∷◌, ap, ◌∙◌, ◌+◌, length, ◌++◌, MatchOption}
 use Rattle.std.proofs.lemmas.Grind.{common_steps}
+use Rattle.h3_world.specs.Flow.{Flow, Part, Section, flow_bytes}
+use Rattle.h3_proto.specs.declared.stream.Side.{Side}
+use Rattle.h3_world.specs.declared.setup.Setup.{Setup}
+use Rattle.h3_world.specs.Streams.{flow, with_flow, is_open}
+use Rattle.h3_world.specs.World.{World, Party, with_party, party}
+use Rattle.h3_connection.specs.declared.event.Refusal.{Refusal}
+use Rattle.h3_world.specs.declared.event.Answer.{Answer}
+use Rattle.h3_world.specs.declared.event.Answer.TheVariants as answer
+use Rattle.h3_world.specs.Step.{Does, Step}
+use Rattle.h3_connection.specs.Sending.{first_of, is_too_large}
+use Rattle.h3_connection.specs.declared.event.Refusal.TheVariants as refusal
+use Rattle.std.specs.Prelude.{if◌then◌else◌, map, ◌||◌, is_some}
+use Rattle.h3_world.specs.Order.{is_end, outgoing_of, is_sent_off, is_over, next_part}
+use Rattle.h3_world.specs.Sending.{appended, finished, having_encoded, section_sent, sent_head, sent_body, sent_trailer, cut_off, given_up, opened, with_goaway}
+use Rattle.h3_world.specs.Sound.{IsSoundWorld}
+use Rattle.h3_world.specs.Flow.Part.{End, Interim, Head, Body, Trailer}
 use Rattle.h3_field.specs.Field.{section_size}
 use Rattle.h3_header.specs.Head.{Head as Fields, head_fields, has_pseudo}
-use Rattle.h3_wire.specs.Encoded.{frame_encoding}
-use Rattle.h3_proto.specs.declared.stream.Side.{Side}
-use Rattle.h3_proto.specs.declared.stream.Side.TheVariants.{Client, Server}
-use Rattle.h3_connection.specs.Announcing.{section_of}
 use Rattle.h3_connection.specs.Outgoing.{takes_head, takes_body, takes_end}
 use Rattle.h3_connection.specs.OwnIds.{other}
 use Rattle.h3_connection.specs.Pulling.{is_for, is_interim}
-use Rattle.h3_connection.specs.Sending.{first_of, is_too_large}
-use Rattle.h3_connection.specs.declared.event.Item.{Item}
-use Rattle.h3_connection.specs.declared.event.Pull.{Pull}
-use Rattle.h3_connection.specs.declared.event.Pull.TheVariants as pull
-use Rattle.h3_connection.specs.declared.event.Refusal.{Refusal}
-use Rattle.h3_connection.specs.declared.event.Refusal.TheVariants as refusal
-use Rattle.h3_connection.specs.declared.event.StreamFault.TheVariants.{Canceled}
-use Rattle.h3_world.specs.declared.setup.Setup.{Setup}
-use Rattle.h3_world.specs.declared.event.Event.{Event}
 use Rattle.h3_world.specs.declared.event.Event.TheVariants as event
-use Rattle.h3_world.specs.declared.event.Answer.{Answer}
-use Rattle.h3_world.specs.declared.event.Answer.TheVariants as answer
 use Rattle.h3_world.specs.Came.{settings_known}
-use Rattle.h3_world.specs.Delivering.{delivery, end_delivery, reset_delivery}
-use Rattle.h3_world.specs.Flow.{Flow, Part, Section, flow_bytes}
-use Rattle.h3_world.specs.Flow.Part.{Interim, Head, Body, Trailer, End}
+use Rattle.h3_world.specs.Refusals.{head_refusal, body_refusal, trailer_refusal, finish_refusal, is_critical, reset_refusal, cancel_refusal, next_id, open_refusal, goaway_refusal}
+use Rattle.h3_wire.specs.Encoded.{frame_encoding}
+use Rattle.h3_connection.specs.declared.event.StreamFault.TheVariants.{Canceled}
+use Rattle.h3_proto.specs.declared.stream.Side.TheVariants.{Client, Server}
+use Rattle.h3_connection.specs.Announcing.{section_of}
+use Rattle.h3_connection.specs.declared.event.Item.{Item}
+use Rattle.h3_connection.specs.declared.event.Pull.TheVariants as pull
 use Rattle.h3_world.specs.Items.{HasCome, handed_out, acknowledgment_of, after_item}
-use Rattle.h3_world.specs.Order.{is_end, is_over, is_sent_off, next_part, outgoing_of}
+use Rattle.h3_world.specs.Setup.{announced_at}
+use Rattle.h3_connection.specs.declared.event.Pull.{Pull}
 use Rattle.h3_world.specs.Pauses.{paused}
 use Rattle.h3_world.specs.Pulling.{settled, PullsNext}
-use Rattle.h3_world.specs.Refusals.{next_id, is_critical, open_refusal, head_refusal, body_refusal, trailer_refusal, finish_refusal, reset_refusal, cancel_refusal, goaway_refusal}
-use Rattle.h3_world.specs.Sending.{appended, opened, having_encoded, section_sent, sent_head, sent_body, sent_trailer, finished, cut_off, given_up, with_goaway}
-use Rattle.h3_world.specs.Setup.{announced_at}
-use Rattle.h3_world.specs.Sound.{IsSoundWorld}
-use Rattle.h3_world.specs.Step.{Does, Step}
-use Rattle.h3_world.specs.Streams.{flow, with_flow, is_open}
-use Rattle.h3_world.specs.World.{World, Party, party, with_party}
+use Rattle.h3_world.specs.Delivering.{delivery, end_delivery, reset_delivery}
+use Rattle.h3_world.specs.declared.event.Event.{Event}
 use Rattle.h3_headline.specs.ComingLaws.{sound_flow}
-use Rattle.h3_headline.specs.FlowLaws.{IsThere, flow-with_party, there-with_party, open_there, same_both}
-use Rattle.h3_headline.specs.OpeningLaws.{flow_opened}
-use Rattle.h3_headline.specs.Messages.{Content, head_content, is_on, contents_of, is_end_of, sent_in, finished_in, pulled_in, ended_in}
-use Rattle.h3_headline.specs.Messages.Content.{InterimFields, HeadFields, Byte, TrailerFields}
-use Rattle.h3_headline.specs.ContentLaws.{part_contents, HasSameParts, Moves, grows, stays}
+use Rattle.h3_headline.specs.ContentLaws.{grows, stays}
+use Rattle.h3_headline.specs.Contents.{Goes, HasSameParts, KeepsParts, Moves, MovesBy, PullMoves, limit_of_reader, part_contents}
+use Rattle.h3_headline.specs.FlowLaws.{flow-with_party, open_there, same_both, there-with_party}
 use Rattle.h3_headline.specs.HandingLaws.{hands}
-use Rattle.h3_headline.specs.KeepsPartsLaws.{flow_at, same_flow, KeepsParts, keeps_same, keeps_flows, keeps_with_party, keeps_with_flow, keeps_given_up, keeps_delivery, keeps_end, keeps_reset}
-use Rattle.h3_headline.specs.SettledLaws.{settled_says, settled_none}
-
--- the limit of who reads what the side writes
-abbrev pub limit_of_reader : Setup → Side → ℕ
-limit_of_reader setup writer = section_of (announced_at setup (other writer))
-
--- the change of a flow by an event and its answer
-abbrev pub MovesBy : Setup → World → Event → Side → ℕ → Answer → World → Type 0
-MovesBy setup w e writer id a new =
-    Moves (limit_of_reader setup writer) (flow w writer id) (flow new writer id) (sent_in writer id e a) (finished_in writer id e a) (pulled_in (other writer) id e a) (ended_in (other writer) id e a)
+use Rattle.h3_headline.specs.KeepsPartsLaws.{flow_at, keeps_delivery, keeps_end, keeps_flows, keeps_given_up, keeps_reset, keeps_same, keeps_with_flow, keeps_with_party, same_flow}
+use Rattle.h3_headline.specs.Messages.{Content, contents_of, head_content, is_end_of, is_on}
+use Rattle.h3_headline.specs.Messages.Content.{Byte, HeadFields, InterimFields, TrailerFields}
+use Rattle.h3_headline.specs.OpeningLaws.{flow_opened}
+use Rattle.h3_headline.specs.SettledLaws.{settled_none, settled_says}
+use Rattle.h3_headline.specs.Steps.{IsThere}
 
 differ : false ≡ true → ⊥
 differ h = grind (arith, common_steps, h)
@@ -196,10 +189,6 @@ reader_is Client Server id i e = refl
 reader_is Server Client id i e = refl
 reader_is Server Server id i e = cc
 
--- what a pull changes, where it is on the stream
-abbrev PullMoves : ℕ → Flow → Flow → Bool → Answer → Type 0
-PullMoves most f g on a = Moves most f g [] false (if on then contents_of a else []) (on && is_end_of a)
-
 item_moves : (setup : Setup) (w : World) (side : Side) (i : ℕ) (it : Item) (writer : Side) (id : ℕ) → IsSoundWorld setup w → IsThere w i → is_over (flow w (other side) i) ≡ false
     → HasCome (section_of (announced_at setup side)) (flow w (other side) i) (next_part (flow w (other side) i)) it
     → PullMoves (limit_of_reader setup writer) (flow w writer id) (flow (handed_out w side i it) writer id) (is_on writer id (other side) i) (answer.Pulled (pull.Item it))
@@ -247,9 +236,6 @@ nothing_moves most w new side i q writer id keeps none ends = by_on (is_on write
 
 pauses : (w : World) (side : Side) (i count : ℕ) → IsThere w i → KeepsParts w (paused w side i count)
 pauses w side i count there = keeps_with_flow w (other side) i (record (flow w (other side) i) { waits_for = count }) there (record { sent = refl; parts_out = refl; body_out = refl })
-
-abbrev Goes : Setup → World → Side → ℕ → Side → ℕ → Pull → World → Type 0
-Goes setup w side i writer id q v = PullMoves (limit_of_reader setup writer) (flow w writer id) (flow v writer id) (is_on writer id (other side) i) (answer.Pulled q)
 
 pull_moves : (setup : Setup) (w new : World) (side : Side) (i : ℕ) (p : Pull) (writer : Side) (id : ℕ) → IsSoundWorld setup w → Step setup w (event.Pull side i) (answer.Pulled p) new
     → PullMoves (limit_of_reader setup writer) (flow w writer id) (flow new writer id) (is_on writer id (other side) i) (answer.Pulled p)

@@ -1,21 +1,22 @@
 -- Both endpoints stand in a world in which one request stream got further towards a side.
-use Rattle.std.proofs.Common.{◌≡◌, ℕ, Bool, true, false, List, ◌++◌, refl, sym, ap, ◌∙◌, subst, if◌then◌else◌, Some, None}
+use Rattle.std.proofs.Common.{◌≡◌, ℕ, Bool, true, false, refl, sym, ap, ◌∙◌, if◌then◌else◌, Some, subst, List, None}
 use Rattle.std.specs.Prelude.{◌==◌}
-use Rattle.h3_field.specs.Instruction.{DecoderInstruction}
+use Rattle.h3_connection.specs.StreamSets.{Streams, stream_at, set_stream}
+use Rattle.h3_connection.specs.StreamSetLaws.{set-here, set-other, set-distinct}
 use Rattle.h3_proto.specs.declared.stream.Side.{Side}
 use Rattle.h3_connection.specs.Endpoint.{EndpointHistory, Own}
-use Rattle.h3_connection.specs.Incoming.{Incoming, nothing_came}
-use Rattle.h3_connection.specs.Outgoing.{Outgoing, nothing_sent}
 use Rattle.h3_connection.specs.OwnIds.{other}
-use Rattle.h3_connection.specs.StreamSets.{Streams, HaveDistinctIds, stream_at, set_stream}
-use Rattle.h3_connection.specs.StreamSetLaws.{set-here, set-other, set-distinct}
 use Rattle.h3_world.specs.declared.setup.Setup.{Setup}
-use Rattle.h3_world.specs.Flow.{Flow}
 use Rattle.h3_world.specs.World.{World, party}
-use Rattle.h3_world.specs.Streams.{flow, is_open}
+use Rattle.h3_world.specs.Streams.{is_open, flow}
+use Rattle.h3_field.specs.Instruction.{DecoderInstruction}
+use Rattle.h3_connection.specs.Incoming.{Incoming, nothing_came}
+use Rattle.h3_world.specs.Flow.{Flow}
 use Rattle.h3_world.specs.Order.{outgoing_of}
-use Rattle.h3_headline.specs.FlowLaws.{same_number, other-other}
-use Rattle.h3_headline.specs.Standing.{HasControlOf, HasEncoderStreamOf, HasDecoderStreamOf, ReceivesFlow, ReceivesAt, StandsAt}
+use Rattle.h3_connection.specs.Outgoing.{nothing_sent, Outgoing}
+use Rattle.h3_headline.specs.Arriving.{Moves, Receives, saying}
+use Rattle.h3_headline.specs.FlowLaws.{other-other, same_number}
+use Rattle.h3_headline.specs.Standing.{HasControlOf, HasDecoderStreamOf, HasEncoderStreamOf, ReceivesAt, ReceivesFlow, StandsAt}
 
 -- the stream under an id after one was set
 pub set_at : {X : Type 0} (streams : Streams X) (id i : ℕ) (x : X) → stream_at (set_stream streams id x) i ≡ (if id == i then Some x else stream_at streams i)
@@ -24,19 +25,6 @@ set_at streams id i x = by_id (id == i) refl
     by_id : (t : Bool) → (id == i) ≡ t → stream_at (set_stream streams id x) i ≡ (if t then Some x else stream_at streams i)
     by_id true e = ap (λ j. stream_at (set_stream streams id x) j) (sym (same_number id i e)) ∙ set-here streams id x
     by_id false e = set-other streams id i x e
-
--- An endpoint that differs in its request streams, its encoder and what it wrote stands where what it has of the other side's own
--- streams is as before.
-pub record Moves (setup : Setup) (v : World) (side : Side) (e f : EndpointHistory) : Type 0 where
-  pub same : f ≡ record e { incoming = f.incoming; outgoing = f.outgoing; own = f.own; encoder = f.encoder; sent = f.sent; next_id = f.next_id }
-  pub own : f.own ≡ (party v side).own
-  pub encoder : f.encoder ≡ (party v side).encoder
-  pub control : HasControlOf setup side (party v (other side)).own e
-  pub encoder_stream : HasEncoderStreamOf setup side (party v (other side)).own e
-  pub decoder_stream : HasDecoderStreamOf setup side (party v (other side)).own e
-  pub outgoing : (id : ℕ) → stream_at f.outgoing id ≡ (if is_open v side id then Some (outgoing_of (flow v side id)) else None)
-  pub incoming : (id : ℕ) → ReceivesAt (is_open v side id) (flow v (other side) id) (stream_at f.incoming id)
-  pub distinct : HaveDistinctIds f.incoming
 
 pub stands_moved : (setup : Setup) (w v : World) (side : Side) (e f : EndpointHistory) → StandsAt setup w side e → Moves setup v side e f → StandsAt setup v side f
 stands_moved setup w v side e f h m =
@@ -55,19 +43,6 @@ stands_moved setup w v side e f h m =
       incoming = m.incoming;
       distinct = m.distinct;
     }
-
--- what a side wrote, where its decoder writes more
-abbrev pub saying : Own → List DecoderInstruction → Own
-saying own more = record own { replies = own.replies ++ more }
-
--- The worlds differ in what the side receives on one stream, which is open to it then, and in what its decoder wrote.
-pub record Receives (w v : World) (side : Side) (id : ℕ) (more : List DecoderInstruction) (g : Flow) : Type 0 where
-  pub here : party v side ≡ record (party w side) { own = saying (party w side).own more }
-  pub there : party v (other side) ≡ party w (other side)
-  pub to_it : (i : ℕ) → flow v (other side) i ≡ (if id == i then g else flow w (other side) i)
-  pub from_it : (i : ℕ) → flow v side i ≡ flow w side i
-  pub open_here : (i : ℕ) → is_open v side i ≡ (if id == i then true else is_open w side i)
-  pub open_there : (i : ℕ) → is_open v (other side) i ≡ is_open w (other side) i
 
 -- what was open to it stays so
 stays_open : (w : World) (side : Side) (id i : ℕ) → is_open w side id ≡ true → (if id == i then true else is_open w side i) ≡ is_open w side i

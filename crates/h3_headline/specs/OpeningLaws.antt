@@ -1,40 +1,41 @@
 -- A new request stream: what the ends answer, and where they stand.
-use Rattle.std.proofs.Common.{◌≡◌, ℕ, zero, suc, ◌+◌, ◌*◌, ◌^◌, ◌<◌, ◌≤◌, Bool, true, false, List, [], ◌∷◌, ◌++◌, length, refl, sym, ap, ◌∙◌, subst, arith, if◌then◌else◌, Option, Some, None, nat_lt, length-append}
-use Rattle.std.specs.Prelude.{not, ◌&&◌, ◌%◌, ◌/◌, ◌==◌, nat_le, slice_get, unwrap_or}
-use Rattle.std.specs.List.{AllByRecursion}
-use Rattle.std.proofs.Math.Nat.{div-add-mod}
-use Rattle.std.proofs.lemmas.Grind.{common_steps}
+use Rattle.std.proofs.Common.{◌≡◌, ℕ, zero, suc, ◌+◌, List, [], ◌∷◌, ◌++◌, refl, ◌≤◌, length, arith, ap, if◌then◌else◌, ◌*◌, true, ◌∙◌, length-append, ◌<◌, Bool, false, nat_lt, sym, subst, Some, None, ◌^◌, Option}
+use Rattle.std.specs.Prelude.{slice_get, unwrap_or, not, ◌/◌, ◌%◌, ◌==◌, ◌&&◌, nat_le}
+use Rattle.h3_world.specs.World.{Exchange, no_exchange, World}
 use Rattle.h3_proto.specs.StreamIds.{is_request, index_of}
+use Rattle.h3_world.specs.Sending.{opened}
+use Rattle.h3_world.specs.Streams.{exchange, flow, is_open}
 use Rattle.h3_proto.specs.declared.stream.Side.{Side}
 use Rattle.h3_proto.specs.declared.stream.Side.TheVariants.{Client, Server}
-use Rattle.h3_connection.specs.Delivering.{opened_at}
-use Rattle.h3_connection.specs.Endpoint.{EndpointHistory}
+use Rattle.std.proofs.Math.Nat.{div-add-mod}
+use Rattle.h3_world.specs.Refusals.{next_id, open_refusal}
+use Rattle.std.proofs.lemmas.Grind.{common_steps}
 use Rattle.h3_connection.specs.Incoming.{nothing_came}
-use Rattle.h3_connection.specs.Lasts.{last_id}
+use Rattle.h3_world.specs.Flow.{unused, Flow}
+use Rattle.h3_connection.specs.Endpoint.{EndpointHistory}
 use Rattle.h3_connection.specs.Outgoing.{nothing_sent}
+use Rattle.h3_connection.specs.StreamSets.{stream_at, set_stream}
+use Rattle.h3_connection.specs.StreamSetLaws.{set-distinct}
+use Rattle.h3_world.specs.declared.setup.Setup.{Setup}
+use Rattle.h3_world.specs.Order.{outgoing_of}
+use Rattle.h3_connection.specs.Lasts.{last_id}
 use Rattle.h3_connection.specs.Pulling.{is_client}
 use Rattle.h3_connection.specs.Sending.{going_away}
 use Rattle.h3_connection.specs.Sending as sender
-use Rattle.h3_connection.specs.StreamSets.{stream_at, set_stream}
-use Rattle.h3_connection.specs.StreamSetLaws.{set-distinct}
-use Rattle.h3_connection.specs.declared.event.Refusal.{Refusal}
 use Rattle.h3_connection.specs.declared.event.Refusal.TheVariants as refusal
-use Rattle.h3_world.specs.declared.setup.Setup.{Setup}
-use Rattle.h3_world.specs.declared.event.Event.TheVariants as event
-use Rattle.h3_world.specs.declared.event.Answer.TheVariants as answer
 use Rattle.h3_world.specs.Came.{goaways_came}
 use Rattle.h3_world.specs.Ends.{Ends, end_at, answered}
-use Rattle.h3_world.specs.Flow.{Flow, unused}
+use Rattle.std.specs.List.{AllByRecursion}
+use Rattle.h3_connection.specs.Delivering.{opened_at}
+use Rattle.h3_connection.specs.declared.event.Refusal.{Refusal}
+use Rattle.h3_world.specs.declared.event.Event.TheVariants as event
+use Rattle.h3_world.specs.declared.event.Answer.TheVariants as answer
 use Rattle.h3_world.specs.Machine.{served}
-use Rattle.h3_world.specs.Order.{outgoing_of}
-use Rattle.h3_world.specs.Refusals.{next_id, open_refusal}
-use Rattle.h3_world.specs.Sending.{opened}
-use Rattle.h3_world.specs.Streams.{exchange, flow, is_open}
-use Rattle.h3_world.specs.World.{World, Exchange, no_exchange}
+use Rattle.h3_headline.specs.Calls.{Serves, with_new}
 use Rattle.h3_headline.specs.FlowLaws.{same_number}
 use Rattle.h3_headline.specs.MovesLaws.{set_at, stands_moved}
-use Rattle.h3_headline.specs.SendingLaws.{Serves, call_agrees, goes_unclosed}
-use Rattle.h3_headline.specs.Standing.{ReceivesFlow, ReceivesAt, IsReadable, StandsAt, Stands}
+use Rattle.h3_headline.specs.SendingLaws.{call_agrees, goes_unclosed}
+use Rattle.h3_headline.specs.Standing.{IsReadable, ReceivesAt, ReceivesFlow, Stands, StandsAt}
 
 get_default : (es : List Exchange) (n : ℕ) → unwrap_or (slice_get (es ++ no_exchange ∷ []) n) no_exchange ≡ unwrap_or (slice_get es n) no_exchange
 get_default [] zero = refl
@@ -141,9 +142,6 @@ unused_kept =
       reads = λ alive. record { unread = (refl, refl); waits = refl; pieces = tt; place = refl; content = refl };
       given_up = λ lost. record { unread = refl; section = refl; waits = refl };
     }
-
-abbrev with_new : EndpointHistory → ℕ → EndpointHistory
-with_new e id = record (opened_at e id None) { next_id = id + 4 }
 
 opener_stands : (setup : Setup) (w : World) (e : EndpointHistory) → StandsAt setup w Client e → StandsAt setup (opened w) Client (with_new e (next_id w))
 opener_stands setup w e h =

@@ -1,44 +1,34 @@
 -- Bytes of an own stream come at the other side's endpoint: no refusal, and what it is after them.
-use Rattle.std.proofs.Common.{◌≡◌, ℕ, ◌+◌, ◌-◌, nat_le, Bool, true, List, [], ◌++◌, length, take, drop, flat_map, append_assoc, Option, None, ap, ◌∙◌}
-use Rattle.std.specs.Prelude.{is_some}
+use Rattle.std.proofs.Common.{◌≡◌, ℕ, List, [], ap, ◌+◌, ◌-◌, ◌++◌, take, drop, flat_map, ◌∙◌, Bool, true, nat_le, length, append_assoc}
+use Rattle.h3_connection.specs.declared.arrival.Arrival.TheVariants.{BytesCame}
+use Rattle.h3_connection.specs.Delivering.{deliver, bytes_at}
+use Rattle.h3_connection.specs.Endpoint.{EndpointHistory, kind_of, goaway_encoding}
+use Rattle.h3_connection.specs.Keeping.{arrives, arrives_behind}
 use Rattle.std.specs.List.{AllByRecursion}
 use Rattle.h3_coding.specs.Encodings.{encoding}
 use Rattle.h3_field.specs.Instruction.{EncoderInstruction, encoder_bytes, DecoderInstruction, decoder_bytes}
-use Rattle.h3_field.specs.InstructionAnswer.{IsReply}
 use Rattle.h3_qpack.specs.Encodings.{IsWrittenInstruction}
-use Rattle.h3_qpack.specs.Instructions.{AreAccepted}
 use Rattle.h3_qpack.specs.WholeInstructions.{whole_in, rest_in}
 use Rattle.h3_proto.specs.declared.stream.Side.{Side}
-use Rattle.h3_connection.specs.declared.arrival.Arrival.TheVariants.{BytesCame}
 use Rattle.h3_connection.specs.Control.{increment}
-use Rattle.h3_connection.specs.Delivering.{bytes_at, deliver}
-use Rattle.h3_connection.specs.Endpoint.{EndpointHistory, goaway_encoding, kind_of}
 use Rattle.h3_connection.specs.Endpoint.Kind.{PeerUnidirectional}
-use Rattle.h3_connection.specs.Keeping.{arrives, arrives_behind}
-use Rattle.h3_connection.specs.OwnIds.{other, control_id, encoder_id, decoder_id}
+use Rattle.h3_connection.specs.OwnIds.{other, encoder_id, decoder_id, control_id}
 use Rattle.h3_connection.specs.StreamSets.{stream_at}
-use Rattle.h3_connection.specs.Unidirectional.Role.{Control, Encoder, Decoder}
-use Rattle.h3_connection.specs.declared.event.Refusal.{Refusal}
+use Rattle.h3_connection.specs.Unidirectional.Role.{Encoder, Decoder, Control}
 use Rattle.h3_world.specs.declared.setup.Setup.{Setup}
-use Rattle.h3_world.specs.OwnStreams.{settings_bytes}
 use Rattle.h3_world.specs.Setup.{announced_at}
-use Rattle.h3_headline.specs.CitedLaws.{IsRead, StreamLaws}
-use Rattle.h3_headline.specs.ControlLaws.{settings_frame_of, peer_by}
-use Rattle.h3_headline.specs.DecoderStreamLaws.{replies_between}
-use Rattle.h3_headline.specs.LearningLaws.{MayListen, after_control, controlling, control_came}
-use Rattle.h3_headline.specs.ListeningLaws.{hearing, listening, decoding_of, added_since, encoder_then, encoder_came, decoder_came}
-use Rattle.h3_headline.specs.RoleLaws.{role_by, with_role, typed_control, typed_encoder, typed_decoder, heard_typed, delivered_typed, kind_of_control, kind_of_encoder, kind_of_decoder}
-use Rattle.h3_headline.specs.Standing.{HasControl, HasEncoderStream, HasDecoderStream, came_on, replies_unread}
-use Rattle.h3_headline.specs.WritesMoreLaws.{type_of_control, type_of_encoder, type_of_decoder}
-
--- An endpoint that takes what comes: it has no fault, and keeps nothing.
-pub record Takes (side : Side) (e : EndpointHistory) : Type 0 where
-  pub side_is : e.side ≡ side
-  pub no_fault : e.closed ≡ None
-  pub nothing_kept : e.kept ≡ []
-
-abbrev pub accepted : EndpointHistory → Option Refusal × EndpointHistory
-accepted e = (None, e)
+use Rattle.std.specs.Prelude.{is_some}
+use Rattle.h3_field.specs.InstructionAnswer.{IsReply}
+use Rattle.h3_qpack.specs.Instructions.{AreAccepted}
+use Rattle.h3_world.specs.OwnStreams.{settings_bytes}
+use Rattle.h3_headline.specs.Cited.{IsRead, StreamLaws}
+use Rattle.h3_headline.specs.LearningLaws.{control_came}
+use Rattle.h3_headline.specs.ListeningLaws.{decoder_came, encoder_came}
+use Rattle.h3_headline.specs.OwnStreams.{Takes, accepted}
+use Rattle.h3_headline.specs.PeerStreams.{MayListen, added_since, after_control, controlling, decoding_of, encoder_then, hearing, listening, peer_by, replies_between, role_by, settings_frame_of, with_role}
+use Rattle.h3_headline.specs.RoleLaws.{delivered_typed, heard_typed, kind_of_control, kind_of_decoder, kind_of_encoder, typed_control, typed_decoder, typed_encoder}
+use Rattle.h3_headline.specs.Standing.{HasControl, HasDecoderStream, HasEncoderStream, came_on, replies_unread}
+use Rattle.h3_headline.specs.WritesMoreLaws.{type_of_control, type_of_decoder, type_of_encoder}
 
 pub arrives_plain : (e : EndpointHistory) (id : ℕ) (bytes : List ℕ) → e.kept ≡ [] → arrives e (BytesCame id bytes) ≡ deliver e id bytes
 arrives_plain e id bytes none = ap (λ k. arrives_behind k e (BytesCame id bytes)) none

@@ -1,38 +1,32 @@
 -- Both endpoints stand in a world in which an own stream of one side got further.
-use Rattle.std.proofs.Common.{◌≡◌, ℕ, ◌+◌, ◌-◌, Bool, true, false, if◌then◌else◌, List, ◌++◌, take, Some, None, refl, sym, ap, ◌∙◌, subst}
-use Rattle.std.specs.Prelude.{◌==◌}
-use Rattle.h3_field.specs.Instruction.{EncoderInstruction, encoder_bytes, DecoderInstruction}
-use Rattle.h3_qpack.specs.EncoderHistory.{EncoderHistory}
-use Rattle.h3_qpack.specs.WholeInstructions.{whole_in, rest_in}
+use Rattle.std.proofs.Common.{◌≡◌, ℕ, if◌then◌else◌, Some, None, sym, ap, ◌∙◌, subst, ◌-◌, Bool, List, refl, true, false, ◌+◌, take}
 use Rattle.h3_proto.specs.declared.stream.Side.{Side}
-use Rattle.h3_proto.specs.declared.stream.Side.TheVariants.{Client, Server}
 use Rattle.h3_connection.specs.Endpoint.{EndpointHistory, Own}
-use Rattle.h3_connection.specs.OwnIds.{other, control_id, encoder_id, decoder_id, is_own}
-use Rattle.h3_connection.specs.StreamSets.{HaveDistinctIds, stream_at, set_stream}
-use Rattle.h3_connection.specs.StreamSetLaws.{set-here}
-use Rattle.h3_connection.specs.Unidirectional.{Unidirectional}
-use Rattle.h3_connection.specs.Unidirectional.Role.{Control, Encoder, Decoder}
-use Rattle.h3_connection.specs.declared.setup.Limits.{Limits}
+use Rattle.h3_connection.specs.StreamSets.{stream_at, HaveDistinctIds, set_stream}
 use Rattle.h3_world.specs.declared.setup.Setup.{Setup}
 use Rattle.h3_world.specs.Order.{outgoing_of}
-use Rattle.h3_world.specs.Setup.{announced_at}
-use Rattle.h3_world.specs.Sound.{IsSoundWriter}
 use Rattle.h3_world.specs.Streams.{flow, is_open}
 use Rattle.h3_world.specs.World.{World, Party, party}
-use Rattle.h3_headline.specs.CitedLaws.{IsRead}
-use Rattle.h3_headline.specs.ControlLaws.{peer_by}
+use Rattle.h3_connection.specs.OwnIds.{other, encoder_id, decoder_id, is_own, control_id}
+use Rattle.h3_field.specs.Instruction.{EncoderInstruction, DecoderInstruction, encoder_bytes}
+use Rattle.h3_world.specs.Sound.{IsSoundWriter}
+use Rattle.std.specs.Prelude.{◌==◌}
+use Rattle.h3_connection.specs.Unidirectional.{Unidirectional}
+use Rattle.h3_proto.specs.declared.stream.Side.TheVariants.{Client, Server}
+use Rattle.h3_qpack.specs.WholeInstructions.{whole_in, rest_in}
+use Rattle.h3_connection.specs.StreamSetLaws.{set-here}
+use Rattle.h3_connection.specs.Unidirectional.Role.{Encoder, Decoder, Control}
+use Rattle.h3_world.specs.Setup.{announced_at}
+use Rattle.h3_qpack.specs.EncoderHistory.{EncoderHistory}
+use Rattle.h3_connection.specs.declared.setup.Limits.{Limits}
+use Rattle.h3_headline.specs.Arriving.{saying}
+use Rattle.h3_headline.specs.Cited.{IsRead}
 use Rattle.h3_headline.specs.FlowLaws.{same_number}
-use Rattle.h3_headline.specs.LearningLaws.{after_control, controlling}
-use Rattle.h3_headline.specs.ListeningLaws.{hearing, listening, decoding_of}
-use Rattle.h3_headline.specs.MovesLaws.{saying, set_at, stands_moved}
-use Rattle.h3_headline.specs.RoleLaws.{role_by, with_role}
-use Rattle.h3_headline.specs.Standing.{HasControl, HasControlOf, HasEncoderStream, HasEncoderStreamOf, HasDecoderStream, HasDecoderStreamOf, ReceivesAt, StandsAt, came_on, are_settings_there, replies_unread}
-use Rattle.h3_headline.specs.WritesMoreLaws.{encoder_stream_more, decoder_stream_more}
-
--- The worlds differ in their parties alone.
-pub record SameStreams (w v : World) : Type 0 where
-  pub flows : (s : Side) (i : ℕ) → flow v s i ≡ flow w s i
-  pub opens : (s : Side) (i : ℕ) → is_open v s i ≡ is_open w s i
+use Rattle.h3_headline.specs.MovesLaws.{set_at, stands_moved}
+use Rattle.h3_headline.specs.OwnStreams.{Hears, SameStreams, writing}
+use Rattle.h3_headline.specs.PeerStreams.{after_control, controlling, decoding_of, hearing, listening, peer_by, role_by, with_role}
+use Rattle.h3_headline.specs.Standing.{HasControl, HasControlOf, HasDecoderStream, HasDecoderStreamOf, HasEncoderStream, HasEncoderStreamOf, ReceivesAt, StandsAt, are_settings_there, came_on, replies_unread}
+use Rattle.h3_headline.specs.WritesMoreLaws.{decoder_stream_more, encoder_stream_more}
 
 outgoing_same : (setup : Setup) (w v : World) (side : Side) (e : EndpointHistory) → StandsAt setup w side e → SameStreams w v
     → (i : ℕ) → stream_at e.outgoing i ≡ (if is_open v side i then Some (outgoing_of (flow v side i)) else None)
@@ -43,10 +37,6 @@ incoming_same : (setup : Setup) (w v : World) (side : Side) (e : EndpointHistory
 incoming_same setup w v side e h same i =
     subst (λ b. ReceivesAt b (flow v (other side) i) (stream_at e.incoming i)) (sym (same.opens side i))
     (subst (λ f. ReceivesAt (is_open w side i) f (stream_at e.incoming i)) (sym (same.flows (other side) i)) (h.incoming i))
-
--- what a side wrote that writes more instructions and replies
-abbrev pub writing : Own → List EncoderInstruction → List DecoderInstruction → Own
-writing own is replies = record own { instructions = own.instructions ++ is; replies = own.replies ++ replies }
 
 -- **The side whose stream got further, and whose peer wrote more.**
 pub writer_stands : (setup : Setup) (w v : World) (side : Side) (e : EndpointHistory) (own : Own) (is : List EncoderInstruction) (replies : List DecoderInstruction) (knows : Bool) → StandsAt setup w side e → SameStreams w v
@@ -69,26 +59,6 @@ writer_stands setup w v side e own is replies knows h same here there sound =
       incoming = incoming_same setup w v side e h same;
       distinct = h.distinct;
     })
-
--- The endpoint differs in what it has of the other side's own streams, its encoder and what it wrote.
-pub record Hears (setup : Setup) (v : World) (side : Side) (e f : EndpointHistory) : Type 0 where
-  pub same : f ≡ record e {
-    unidirectional = f.unidirectional;
-    control_on = f.control_on;
-    encoder_on = f.encoder_on;
-    decoder_on = f.decoder_on;
-    peer = f.peer;
-    decoding = f.decoding;
-    encoder = f.encoder;
-    decoder_unread = f.decoder_unread;
-    own = f.own;
-  }
-  pub own : f.own ≡ (party v side).own
-  pub encoder : f.encoder ≡ (party v side).encoder
-  pub control : HasControlOf setup side (party v (other side)).own f
-  pub encoder_stream : HasEncoderStreamOf setup side (party v (other side)).own f
-  pub decoder_stream : HasDecoderStreamOf setup side (party v (other side)).own f
-  pub others : (id : ℕ) → is_own (other side) id ≡ false → stream_at f.unidirectional id ≡ stream_at e.unidirectional id
 
 pub reader_stands : (setup : Setup) (w v : World) (side : Side) (e f : EndpointHistory) → StandsAt setup w side e → SameStreams w v → Hears setup v side e f → StandsAt setup v side f
 reader_stands setup w v side e f h same m =

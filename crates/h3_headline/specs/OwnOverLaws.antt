@@ -1,59 +1,48 @@
 -- Bytes of an own stream go over: both endpoints stand in the world after that.
-use Rattle.std.proofs.Common.{◌≡◌, ℕ, ◌+◌, ◌-◌, ◌≤◌, Bool, true, false, if◌then◌else◌, List, [], ◌++◌, length, take, drop, flat_map, Option, Some, None, refl, sym, ap, ◌∙◌, subst, arith}
-use Rattle.std.specs.Prelude.{◌==◌, is_some}
-use Rattle.h3_field.specs.Instruction.{encoder_bytes, DecoderInstruction, decoder_bytes}
-use Rattle.h3_qpack.specs.DecoderState.{announcing}
-use Rattle.h3_qpack.specs.Instructions.{AreAccepted}
-use Rattle.h3_qpack.specs.WholeInstructions.{whole_in, insertions_in, decoder_instructions_in}
 use Rattle.h3_proto.specs.declared.stream.Side.{Side}
 use Rattle.h3_proto.specs.declared.stream.Side.TheVariants.{Client, Server}
-use Rattle.h3_wire.specs.StreamHeaders.{control_encoding}
-use Rattle.h3_coding.specs.Encodings.{encoding}
-use Rattle.h3_connection.specs.Control.{increment}
-use Rattle.h3_connection.specs.Endpoint.{EndpointHistory, Own, bytes_waiting, own_waiting, goaway_encoding}
-use Rattle.h3_connection.specs.Keeping.{arrives}
-use Rattle.h3_connection.specs.Outgoing.{Outgoing, part_bytes_waiting}
-use Rattle.h3_connection.specs.OwnIds.{other, control_id, encoder_id, decoder_id}
-use Rattle.h3_connection.specs.Sending.{advance, advance_at, own_advanced}
-use Rattle.h3_connection.specs.StreamSets.{stream_at}
-use Rattle.h3_connection.specs.declared.arrival.Arrival.TheVariants.{BytesCame}
-use Rattle.h3_connection.specs.declared.setup.Announced.{Announced}
-use Rattle.h3_connection.specs.declared.setup.Limits.{Limits}
 use Rattle.h3_world.specs.declared.setup.Setup.{Setup}
-use Rattle.h3_world.specs.Delivering.{delivered_own}
-use Rattle.h3_world.specs.Following.{replies_left}
-use Rattle.h3_world.specs.OwnStreams.{settings_bytes}
-use Rattle.h3_world.specs.Setup.{IsMadeSetup, announced_at}
 use Rattle.h3_world.specs.Sound.{IsSoundWorld, IsSoundParty}
-use Rattle.h3_world.specs.World.{World, Party, party}
+use Rattle.h3_world.specs.World.{World, party, Party}
+use Rattle.std.proofs.Common.{◌≡◌, ℕ, Option, Some, None, ap, ◌∙◌, ◌+◌, ◌++◌, drop, flat_map, refl, ◌-◌, length, sym, subst, take, arith, Bool, true, false, if◌then◌else◌, List, ◌≤◌, []}
+use Rattle.h3_connection.specs.Endpoint.{EndpointHistory, bytes_waiting, own_waiting, Own, goaway_encoding}
+use Rattle.h3_connection.specs.Outgoing.{Outgoing, part_bytes_waiting}
+use Rattle.h3_connection.specs.StreamSets.{stream_at}
+use Rattle.h3_world.specs.Setup.{announced_at, IsMadeSetup}
+use Rattle.h3_connection.specs.OwnIds.{control_id, encoder_id, decoder_id, other}
+use Rattle.h3_connection.specs.declared.setup.Announced.{Announced}
+use Rattle.h3_world.specs.OwnStreams.{settings_bytes}
+use Rattle.h3_field.specs.Instruction.{encoder_bytes, decoder_bytes, DecoderInstruction}
+use Rattle.h3_coding.specs.Encodings.{encoding}
+use Rattle.h3_connection.specs.Sending.{advance, advance_at, own_advanced}
+use Rattle.h3_connection.specs.Control.{increment}
+use Rattle.h3_world.specs.Delivering.{delivered_own}
+use Rattle.h3_qpack.specs.WholeInstructions.{whole_in, insertions_in, decoder_instructions_in}
+use Rattle.h3_qpack.specs.DecoderState.{announcing}
+use Rattle.std.specs.Prelude.{is_some}
+use Rattle.h3_qpack.specs.Instructions.{AreAccepted}
+use Rattle.h3_world.specs.Following.{replies_left}
+use Rattle.h3_connection.specs.declared.setup.Limits.{Limits}
+use Rattle.h3_connection.specs.Unidirectional.Role.{Control}
 use Rattle.h3_headline.specs.AcceptedLaws.{counts_all, replies_accepted}
 use Rattle.h3_headline.specs.AnnouncedLaws.{announces_at}
-use Rattle.h3_headline.specs.CitedLaws.{IsRead, StreamLaws}
-use Rattle.h3_headline.specs.ControlLaws.{peer_by}
-use Rattle.h3_headline.specs.DecoderStreamLaws.{replies_between, between_accepted}
+use Rattle.h3_headline.specs.Arriving.{saying}
+use Rattle.h3_headline.specs.Cited.{IsRead, StreamLaws}
+use Rattle.h3_headline.specs.DecoderStreamLaws.{between_accepted}
 use Rattle.h3_headline.specs.EncoderStreamLaws.{instructions_read}
 use Rattle.h3_headline.specs.FlowLaws.{other-other}
-use Rattle.h3_headline.specs.LearningLaws.{after_control, controlling, still}
-use Rattle.h3_headline.specs.ListeningLaws.{added_since, encoder_then}
-use Rattle.h3_headline.specs.OwnDeliveredLaws.{Takes, accepted, encoder_delivered, decoder_delivered, control_delivered}
-use Rattle.h3_headline.specs.MovesLaws.{saying}
-use Rattle.h3_headline.specs.OwnMovesLaws.{writing, writer_stands, hearing_stands, listening_stands, controlling_stands}
-use Rattle.h3_headline.specs.OwnWorldLaws.{listened_to, listened_writes, further_own, insertions_of, read_of, party_of, writer_after, reader_after, streams_after, advanced_control, advanced_encoder, advanced_decoder, insertions_listened, replies_listened, settings_listened}
-use Rattle.h3_headline.specs.RoleLaws.{role_by, with_role}
+use Rattle.h3_headline.specs.LearningLaws.{still}
+use Rattle.h3_headline.specs.OwnDeliveredLaws.{control_delivered, decoder_delivered, encoder_delivered}
+use Rattle.h3_headline.specs.OwnMovesLaws.{controlling_stands, hearing_stands, listening_stands, writer_stands}
+use Rattle.h3_headline.specs.OwnStreams.{GoesOver, Takes, further_own, insertions_of, left_of, listened_to, party_of, read_of, writing}
+use Rattle.h3_headline.specs.OwnWorldLaws.{advanced_control, advanced_decoder, advanced_encoder, insertions_listened, listened_writes, reader_after, replies_listened, settings_listened, streams_after, writer_after}
+use Rattle.h3_headline.specs.PeerStreams.{added_since, after_control, controlling, encoder_then, peer_by, replies_between, role_by, with_role}
 use Rattle.h3_headline.specs.Standing.{IsWritable, StandsAt, are_settings_there, came_on}
 use Rattle.h3_headline.specs.UnitLaws.{whole_within}
-use Rattle.h3_connection.specs.Unidirectional.Role.{Control}
 
 pub party_sound : (setup : Setup) (w : World) (side : Side) → IsSoundWorld setup w → IsSoundParty setup w side
 party_sound setup w Client h = h.client
 party_sound setup w Server h = h.server
-
--- The writer: what waits, and the endpoint once it was taken.
-abbrev pub left_of : Side → Own → Announced → ℕ → List ℕ
-left_of side own a id =
-    if id == control_id side then drop own.control_taken (control_encoding a.settings ++ flat_map goaway_encoding own.goaways) else (
-    if id == encoder_id side then drop own.encoder_taken (encoding 2 ++ flat_map encoder_bytes own.instructions) else (
-    if id == decoder_id side then drop own.decoder_taken (encoding 3 ++ flat_map decoder_bytes own.replies) else []))
 
 pub waiting_own : (setup : Setup) (w : World) (side : Side) (id : ℕ) (e : EndpointHistory) → StandsAt setup w side e → stream_at e.outgoing id ≡ None → bytes_waiting e id ≡ left_of side (party w side).own (announced_at setup side) id
 waiting_own setup w side id e h none =
@@ -110,13 +99,6 @@ reads_all laws setup w side n made sound =
     let is = (party w (other side)).own.instructions in
     subst (λ s. IsRead (announced_at setup s).limits.table (take (whole_in encoder_bytes n is) is)) (other-other side)
     (instructions_read laws setup w (other side) (whole_in encoder_bytes n is) made (party_sound setup w (other side) sound) (whole_within encoder_bytes n is))
-
--- What the reader is after a delivery, which it answers without a refusal.
-pub record GoesOver (setup : Setup) (w : World) (side : Side) (id count : ℕ) (e : EndpointHistory) (bytes : List ℕ) : Type 0 where
-  pub after : EndpointHistory
-  pub arrived : arrives e (BytesCame id (take count bytes)) ≡ accepted after
-  pub stands : StandsAt setup (delivered_own setup w (other side) id count) side after
-  pub next_id : after.next_id ≡ e.next_id
 
 -- **The encoder stream.**
 pub encoder_over : (laws : StreamLaws) (setup : Setup) (w : World) (side : Side) (count : ℕ) (e : EndpointHistory) → IsMadeSetup setup → IsSoundWorld setup w → IsWritable (other side) (party w (other side)).own → StandsAt setup w side e

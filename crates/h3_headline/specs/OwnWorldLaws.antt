@@ -1,49 +1,24 @@
 -- The parties of a world in which an own stream of one side got further.
-use Rattle.std.proofs.Common.{◌≡◌, ℕ, ◌+◌, ◌-◌, not, Bool, true, false, ◌&&◌, if◌then◌else◌, List, [], ◌∷◌, ◌++◌, length, min, drop, append-nil, refl, sym, ap, ◌∙◌, arith}
-use Rattle.h3_field.specs.Instruction.{EncoderInstruction, DecoderInstruction}
-use Rattle.h3_field.specs.Instruction.EncoderInstruction.{SetCapacity}
-use Rattle.h3_qpack.specs.EncoderHistory.{using_table, encoder_after_all}
-use Rattle.h3_qpack.specs.WholeInstructions.{insertions_in, decoder_instructions_in}
+use Rattle.std.proofs.Common.{◌≡◌, ℕ, refl, ◌-◌, ◌∙◌, ◌+◌, true, List, [], ◌++◌, append-nil, sym, ap, Bool, false, if◌then◌else◌, ◌∷◌, min, not, ◌&&◌, length, drop, arith}
 use Rattle.h3_proto.specs.declared.stream.Side.{Side}
 use Rattle.h3_proto.specs.declared.stream.Side.TheVariants.{Client, Server}
-use Rattle.h3_connection.specs.Control.{increment}
-use Rattle.h3_connection.specs.Endpoint.{EndpointHistory, Own}
 use Rattle.h3_connection.specs.OwnIds.{other, control_id, encoder_id, decoder_id}
-use Rattle.h3_connection.specs.Sending.{own_advanced}
-use Rattle.h3_connection.specs.declared.setup.Limits.{Limits}
 use Rattle.h3_world.specs.declared.setup.Setup.{Setup}
-use Rattle.h3_world.specs.Delivering.{further, having_learned, delivered_own, having_listened}
-use Rattle.h3_world.specs.Setup.{announced_at, has_table}
-use Rattle.h3_world.specs.World.{World, Party, party, with_party}
+use Rattle.h3_world.specs.Delivering.{delivered_own, further, having_listened, having_learned}
+use Rattle.h3_world.specs.World.{World, party, with_party, Party}
+use Rattle.h3_connection.specs.Endpoint.{Own, EndpointHistory}
+use Rattle.h3_connection.specs.Sending.{own_advanced}
+use Rattle.h3_field.specs.Instruction.{DecoderInstruction}
+use Rattle.h3_connection.specs.Control.{increment}
+use Rattle.h3_field.specs.Instruction.EncoderInstruction.{SetCapacity}
+use Rattle.h3_qpack.specs.EncoderHistory.{using_table, encoder_after_all}
+use Rattle.h3_connection.specs.declared.setup.Limits.{Limits}
+use Rattle.h3_world.specs.Setup.{has_table}
+use Rattle.h3_qpack.specs.WholeInstructions.{decoder_instructions_in}
+use Rattle.h3_headline.specs.Arriving.{saying}
 use Rattle.h3_headline.specs.FlowLaws.{flow-with_party, is_open-with_party}
-use Rattle.h3_headline.specs.LearningLaws.{after_control, learned_encoder, learned_own}
-use Rattle.h3_headline.specs.ListeningLaws.{encoder_then}
-use Rattle.h3_headline.specs.MovesLaws.{saying}
-use Rattle.h3_headline.specs.OwnMovesLaws.{SameStreams, writing}
-use Rattle.h3_headline.specs.Standing.{are_settings_there}
-
--- a side that listens, where the other side's settings were known and are
-abbrev pub listened : Bool → Bool → Limits → Party → ℕ → List DecoderInstruction → Party
-listened knew knows limits p more is =
-    let q = if not knew && knows then having_learned p limits else p in
-    record { own = record q.own { replies = q.own.replies ++ increment more }; encoder = encoder_after_all q.encoder is }
-
--- the decoder instructions that are read of what a side wrote
-abbrev pub read_of : Setup → Side → Own → List DecoderInstruction
-read_of setup writer own = if are_settings_there setup writer own.control_taken then decoder_instructions_in (own.decoder_taken - 1) own.replies else []
-
-abbrev pub insertions_of : Own → ℕ
-insertions_of own = insertions_in (own.encoder_taken - 1) own.instructions
-
--- the reader after what the writer wrote got further
-abbrev pub listened_to : Setup → Side → Party → Own → Own → Party
-listened_to setup writer p old new =
-    listened (are_settings_there setup writer old.control_taken) (are_settings_there setup writer new.control_taken) (announced_at setup writer).limits p (insertions_of new - insertions_of old)
-    (drop (length (read_of setup writer old)) (read_of setup writer new))
-
--- what the other side of a side wrote, further delivered
-abbrev pub further_own : World → Side → ℕ → ℕ → Own
-further_own w side id count = own_advanced (party w (other side)).own (other side) id count
+use Rattle.h3_headline.specs.OwnStreams.{SameStreams, Writes, further_own, listened, listened_to, party_from, party_of, read_by}
+use Rattle.h3_headline.specs.PeerStreams.{after_control, encoder_then, learned_encoder, learned_own}
 
 pub writer_after : (setup : Setup) (w : World) (side : Side) (id count : ℕ) → party (delivered_own setup w (other side) id count) (other side) ≡ record (party w (other side)) { own = further_own w side id count }
 writer_after setup w Client id count = refl
@@ -76,11 +51,6 @@ pub advanced_decoder : (own : Own) (side : Side) (count : ℕ) → own_advanced 
 advanced_decoder own Client count = refl
 advanced_decoder own Server count = refl
 
--- What a side that listens writes.
-pub record Writes (old new : Own) (more : ℕ) : Type 0 where
-  pub instructions : List EncoderInstruction
-  pub is : new ≡ writing old instructions (increment more)
-
 nothing_written : (p : Party) (more : ℕ) (is : List DecoderInstruction) → Writes p.own (listened true true (record { table = 0; blocked = 0 }) p more is).own more
 nothing_written p more is = record { instructions = []; is = ap (λ l. record p.own { instructions = l; replies = p.own.replies ++ increment more }) (sym (append-nil p.own.instructions)) }
 
@@ -111,9 +81,6 @@ plain : (b : Bool) (limits : Limits) (p : Party) → (if not b && b then having_
 plain true limits p = refl
 plain false limits p = refl
 
-abbrev party_from : Party → ℕ → List DecoderInstruction → Party
-party_from q more is = record { own = record q.own { replies = q.own.replies ++ increment more }; encoder = encoder_after_all q.encoder is }
-
 -- insertions come
 pub insertions_listened : (b : Bool) (limits : Limits) (p : Party) (more : ℕ) (is : List DecoderInstruction) → listened b b limits p more (drop (length is) is) ≡ record p { own = saying p.own (increment more) }
 insertions_listened b limits p more is = ap (λ q. party_from q more (drop (length is) is)) (plain b limits p) ∙ ap (λ l. party_from p more l) (none_after is)
@@ -131,10 +98,6 @@ replies_listened b limits p n few many replies =
     by_known true = refl
     by_known false = refl
 
--- settings come
-abbrev pub party_of : EndpointHistory → Party
-party_of e = record { own = e.own; encoder = e.encoder }
-
 learned_is : (limits : Limits) (p : Party) → having_learned p limits ≡ record { own = learned_own p.encoder.most_capacity limits p.own; encoder = learned_encoder limits p.encoder }
 learned_is limits p = by_table (has_table p.encoder.most_capacity limits)
   where
@@ -145,9 +108,6 @@ learned_is limits p = by_table (has_table p.encoder.most_capacity limits)
         }
     by_table true = refl
     by_table false = refl
-
-abbrev read_by : Bool → ℕ → List DecoderInstruction → List DecoderInstruction
-read_by b came replies = if b then decoder_instructions_in (came - 1) replies else []
 
 nothing_more : (q : Party) (n : ℕ) (is : List DecoderInstruction) → party_from q (n - n) is ≡ record q { encoder = encoder_after_all q.encoder is }
 nothing_more q n is = ap (λ l. record q { own = record q.own { replies = l }; encoder = encoder_after_all q.encoder is }) (ap (λ l. q.own.replies ++ l) (no_increment n) ∙ append-nil q.own.replies)

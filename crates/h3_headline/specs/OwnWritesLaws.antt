@@ -1,45 +1,35 @@
 -- After a delivery on an own stream, what both sides wrote is still what writers take, and the sections that were sent are as before.
-use Rattle.std.proofs.Common.{◌≡◌, ℕ, zero, suc, ◌+◌, ◌-◌, ◌*◌, ◌<◌, ◌≤◌, ◌^◌, nat_lt, not, Bool, true, false, ◌&&◌, ◌||◌, if◌then◌else◌, List, [], ◌∷◌, ◌++◌, length, min, take, drop, refl, sym, ap, ◌∙◌, subst, arith}
-use Rattle.std.specs.Prelude.{◌==◌, ◌/◌, ◌%◌}
+use Rattle.std.proofs.Common.{◌+◌, List, [], ◌∷◌, ◌++◌, ℕ, zero, suc, ◌-◌, ◌≤◌, nat_lt, Bool, true, false, if◌then◌else◌, length, arith, ◌*◌, ◌^◌, ◌<◌, ◌≡◌, refl, min, not, ◌&&◌, take, drop, sym, subst}
 use Rattle.std.specs.List.{AllByRecursion}
-use Rattle.h3_field.specs.Instruction.{DecoderInstruction}
+use Rattle.std.specs.Prelude.{◌/◌, ◌%◌, ◌==◌}
+use Rattle.h3_field.specs.Integer.{groups, ones, prefixed}
 use Rattle.h3_field.specs.Instruction.EncoderInstruction.{SetCapacity}
+use Rattle.h3_qpack.specs.Encodings.{IsWrittenInstruction}
+use Rattle.h3_proto.specs.declared.stream.Side.{Side}
+use Rattle.h3_connection.specs.Endpoint.{Own}
+use Rattle.h3_connection.specs.OwnIds.{control_id, encoder_id, decoder_id, other}
+use Rattle.h3_connection.specs.Sending.{own_advanced}
+use Rattle.h3_qpack.specs.WholeInstructions.{insertions_in, whole_in}
 use Rattle.h3_field.specs.Instruction.DecoderInstruction.{Increment}
 use Rattle.h3_field.specs.InstructionAnswer.{IsReply}
-use Rattle.h3_field.specs.Integer.{groups, ones, prefixed}
-use Rattle.h3_qpack.specs.DecoderState.{announcing}
-use Rattle.h3_qpack.specs.Encodings.{IsWrittenInstruction}
-use Rattle.h3_qpack.specs.EncoderHistory.{using_table}
-use Rattle.h3_qpack.specs.WholeInstructions.{whole_in, insertions_in}
-use Rattle.h3_field.specs.Instruction.{encoder_bytes}
-use Rattle.h3_proto.specs.declared.stream.Side.{Side}
-use Rattle.h3_proto.specs.declared.stream.Side.TheVariants.{Client, Server}
 use Rattle.h3_connection.specs.Control.{increment}
-use Rattle.h3_connection.specs.Endpoint.{Own}
-use Rattle.h3_connection.specs.OwnIds.{other, control_id, encoder_id, decoder_id, is_own}
-use Rattle.h3_connection.specs.Sending.{own_advanced}
-use Rattle.h3_connection.specs.declared.event.Refusal.TheVariants as refusal
+use Rattle.h3_field.specs.Instruction.{DecoderInstruction, encoder_bytes}
+use Rattle.h3_qpack.specs.EncoderHistory.{using_table}
 use Rattle.h3_connection.specs.declared.setup.Limits.{Limits}
+use Rattle.h3_world.specs.Delivering.{having_learned, delivered_own}
+use Rattle.h3_world.specs.Setup.{has_table, IsMadeSetup, announced_at}
+use Rattle.h3_world.specs.World.{Party, World, party}
+use Rattle.h3_qpack.specs.DecoderState.{announcing}
 use Rattle.h3_world.specs.declared.setup.Setup.{Setup}
-use Rattle.h3_world.specs.declared.event.Event.TheVariants as event
-use Rattle.h3_world.specs.declared.event.Answer.TheVariants as answer
-use Rattle.h3_world.specs.Delivering.{having_learned, delivered_own, delivered_end, delivered_reset, is_closed}
-use Rattle.h3_world.specs.Ends.{Ends}
-use Rattle.h3_world.specs.Machine.{served}
-use Rattle.h3_world.specs.Order.{is_finished}
-use Rattle.h3_world.specs.Setup.{IsMadeSetup, announced_at, has_table}
 use Rattle.h3_world.specs.Sound.{IsSoundWorld}
-use Rattle.h3_world.specs.Streams.{flow, waiting}
-use Rattle.h3_world.specs.World.{World, Party, party}
 use Rattle.h3_headline.specs.AcceptedLaws.{counts_all}
 use Rattle.h3_headline.specs.AnnouncedLaws.{announces_at}
-use Rattle.h3_headline.specs.CitedLaws.{StreamLaws}
+use Rattle.h3_headline.specs.Cited.{StreamLaws}
 use Rattle.h3_headline.specs.EncoderStreamLaws.{least_right}
-use Rattle.h3_headline.specs.OwnEventLaws.{served_as, served_own, own_first}
-use Rattle.h3_headline.specs.OwnMovesLaws.{SameStreams}
 use Rattle.h3_headline.specs.OwnOverLaws.{reads_all}
-use Rattle.h3_headline.specs.OwnWorldLaws.{listened, further_own, insertions_of, read_of, writer_after, reader_after, streams_after}
-use Rattle.h3_headline.specs.Standing.{AreReadable, IsReadable, IsWritable, Stands, are_settings_there}
+use Rattle.h3_headline.specs.OwnStreams.{SameStreams, advanced_by, further_own, insertions_of, listened, read_of}
+use Rattle.h3_headline.specs.OwnWorldLaws.{reader_after, writer_after}
+use Rattle.h3_headline.specs.Standing.{AreReadable, IsReadable, IsWritable, are_settings_there}
 
 all_join : {X : Type 0} (P : X → Type 0) (xs ys : List X) → AllByRecursion P xs → AllByRecursion P ys → AllByRecursion P (xs ++ ys)
 all_join P [] ys h k = k
@@ -76,12 +66,6 @@ further_writable side own id count h = by_test (id == control_id side) (id == en
     by_test false true c = record { goaways = h.goaways; instructions = h.instructions; replies = h.replies }
     by_test false false true = record { goaways = h.goaways; instructions = h.instructions; replies = h.replies }
     by_test false false false = h
-
-abbrev advanced_by : Own → ℕ → Bool → Bool → Bool → Own
-advanced_by own count a b c =
-    if a then record own { control_taken = own.control_taken + count } else (
-    if b then record own { encoder_taken = own.encoder_taken + count } else (
-    if c then record own { decoder_taken = own.decoder_taken + count } else own))
 
 further_insertions : (side : Side) (own : Own) (id count : ℕ) → insertions_of (own_advanced own side id count) ≡ insertions_in ((own_advanced own side id count).encoder_taken - 1) own.instructions
 further_insertions side own id count = by_test (id == control_id side) (id == encoder_id side) (id == decoder_id side)
@@ -142,55 +126,3 @@ writer_writable setup w side id count h =
 -- what was sent on request streams
 pub readable_same : (w v : World) (side : Side) → SameStreams w v → AreReadable w side → AreReadable v side
 readable_same w v side same h id = subst (λ f. AllByRecursion (IsReadable (other side)) f.sent) (sym (same.flows side id)) (h id)
-
--- What `Stands` says of a world besides its two endpoints and its soundness.
-pub record KeepsWriting (w : World) : Type 0 where
-  pub client_writes : IsWritable Client w.client.own
-  pub server_writes : IsWritable Server w.server.own
-  pub requests : AreReadable w Client
-  pub responses : AreReadable w Server
-
-pub still_writing : (setup : Setup) (w : World) (ends : Ends) → Stands setup w ends → KeepsWriting w
-still_writing setup w ends h = record { client_writes = h.client_writes; server_writes = h.server_writes; requests = h.requests; responses = h.responses }
-
-writing_after : (laws : StreamLaws) (setup : Setup) (w : World) (ends : Ends) (writer : Side) (id count : ℕ) → IsMadeSetup setup → Stands setup w ends → KeepsWriting (delivered_own setup w writer id count)
-writing_after laws setup w ends Client id count made h =
-    let v = delivered_own setup w Client id count in
-    let same = streams_after setup w Client id count in
-    record {
-      client_writes = writer_writable setup w Server id count h.client_writes;
-      server_writes = reader_writable laws setup w Server id count made h.sound h.server_writes;
-      requests = readable_same w v Client same h.requests;
-      responses = readable_same w v Server same h.responses;
-    }
-writing_after laws setup w ends Server id count made h =
-    let v = delivered_own setup w Server id count in
-    let same = streams_after setup w Server id count in
-    record {
-      client_writes = reader_writable laws setup w Client id count made h.sound h.client_writes;
-      server_writes = writer_writable setup w Client id count h.server_writes;
-      requests = readable_same w v Client same h.requests;
-      responses = readable_same w v Server same h.responses;
-    }
-
--- **A delivery on an own stream.**
-pub own_keeps : (laws : StreamLaws) (setup : Setup) (w : World) (ends : Ends) (writer : Side) (id count : ℕ) → IsMadeSetup setup → Stands setup w ends → is_own writer id ≡ true
-    → KeepsWriting (served setup w (event.Deliver writer id count)).1
-own_keeps laws setup w ends writer id count made h own = by_short (nat_lt (waiting setup w writer id) count) refl
-  where
-    by_short : (short : Bool) → nat_lt (waiting setup w writer id) count ≡ short → KeepsWriting (served setup w (event.Deliver writer id count)).1
-    by_short true t = subst (λ x. KeepsWriting x.1) (sym (served_own setup w writer id count own true t)) (still_writing setup w ends h)
-    by_short false t = subst (λ x. KeepsWriting x.1) (sym (served_own setup w writer id count own false t)) (writing_after laws setup w ends writer id count made h)
-
--- **An end and a reset of one change nothing.**
-pub own_end_served : (setup : Setup) (w : World) (writer : Side) (id : ℕ) → is_own writer id ≡ true → served setup w (event.DeliverEnd writer id) ≡ served_as answer.Early w
-own_end_served setup w writer id own =
-    let later = if is_closed w writer id then served_as (answer.Refused refusal.AfterEnd) w else served_as answer.Done (delivered_end w writer id) in
-    ap (λ b. if not b then served_as answer.NoStream w else (if not (not (is_own writer id) && is_finished (flow w writer id) && (waiting setup w writer id == 0)) then served_as answer.Early w else later)) (own_first writer writer id _ refl own)
-    ∙ ap (λ b. if not (not b && is_finished (flow w writer id) && (waiting setup w writer id == 0)) then served_as answer.Early w else later) own
-
-pub own_reset_served : (setup : Setup) (w : World) (writer : Side) (id : ℕ) → is_own writer id ≡ true → served setup w (event.DeliverReset writer id) ≡ served_as answer.Early w
-own_reset_served setup w writer id own =
-    let later = if is_closed w writer id then served_as (answer.Refused refusal.AfterEnd) w else served_as answer.Done (delivered_reset w writer id) in
-    ap (λ b. if not b then served_as answer.NoStream w else (if is_own writer id || not (flow w writer id).is_reset then served_as answer.Early w else later)) (own_first writer writer id _ refl own)
-    ∙ ap (λ b. if b || not (flow w writer id).is_reset then served_as answer.Early w else later) own

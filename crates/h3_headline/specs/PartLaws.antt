@@ -1,30 +1,17 @@
 -- A part that was sent: where its bytes end, where the message is in front of it, and what follows it.
-use Rattle.std.proofs.Common.{◌≡◌, ◌⊎◌, inl, inr, ℕ, zero, suc, ◌+◌, ◌≤◌, true, false, List, [], ◌∷◌, ◌++◌, length, take, drop, refl, sym, ap, ◌∙◌, subst, arith, Option, Some, None, unwrap_or, length-append, take-append-drop}
-use Rattle.std.specs.List.{AllByRecursion, flat_map, fold}
-use Rattle.std.specs.Prelude.{slice_get}
+use Rattle.std.proofs.Common.{◌≡◌, true, false, arith, inl, inr, Option, refl, Some, None, ap, unwrap_or, ℕ, List, [], ◌∷◌, subst, zero, suc, ◌+◌, ◌++◌, length, take, length-append, drop, sym, ◌∙◌, take-append-drop, ◌≤◌}
 use Rattle.std.proofs.lemmas.Grind.{common_steps, flat_map-append}
 use Rattle.h3_connection.specs.declared.place.Place.{Place}
-use Rattle.h3_connection.specs.declared.place.Place.TheVariants.{BeforeHead, InBody, AfterTrailer}
-use Rattle.h3_world.specs.Flow.{Flow, Part, part_bytes, flow_bytes}
+use Rattle.h3_world.specs.Flow.{Part, part_bytes, Flow, flow_bytes}
 use Rattle.h3_world.specs.Flow.Part.{Interim, Head, Body, Trailer, End}
+use Rattle.h3_world.specs.Sound.{MayFollow, AreSent, IsSentPart, IsSoundFlow}
+use Rattle.h3_connection.specs.declared.place.Place.TheVariants.{BeforeHead}
 use Rattle.h3_world.specs.World.{Party}
+use Rattle.std.specs.List.{flat_map, fold, AllByRecursion}
+use Rattle.std.specs.Prelude.{slice_get}
 use Rattle.h3_world.specs.Order.{next_part, is_end, last_part}
-use Rattle.h3_world.specs.Sound.{IsSentPart, MayFollow, AreSent, IsSoundFlow, is_before_head, is_in_body, is_trailer}
-use Rattle.h3_headline.specs.Standing.{place_behind, place_after}
-
--- where a message is in front of a part
-abbrev pub IsPlaceOf : Part → Place → Type 0
-IsPlaceOf (Interim s) place = place ≡ BeforeHead
-IsPlaceOf (Head s) place = place ≡ BeforeHead
-IsPlaceOf (Body bytes own) place = place ≡ InBody
-IsPlaceOf (Trailer s) place = place ≡ InBody
-IsPlaceOf End place = (place ≡ InBody) ⊎ (place ≡ AfterTrailer)
-
--- where it is behind one
-pub record IsPlaceBehind (before : Option Part) (place : Place) : Type 0 where
-  pub before_head : is_before_head before ≡ true → place ≡ BeforeHead
-  pub in_body : is_in_body before ≡ true → place ≡ InBody
-  pub after_trailer : is_trailer before ≡ true → place ≡ AfterTrailer
+use Rattle.h3_headline.specs.Parts.{IsPartAt, IsPartFrom, IsPlaceBehind, IsPlaceOf}
+use Rattle.h3_headline.specs.Standing.{place_after, place_behind}
 
 differ : false ≡ true → ⊥
 differ h = grind (arith, common_steps, h)
@@ -46,14 +33,6 @@ place_next before place End h m = record { before_head = λ e. absurd (differ e)
 
 first_place : IsPlaceBehind None BeforeHead
 first_place = record { before_head = λ e. refl; in_body = λ e. absurd (differ e); after_trailer = λ e. absurd (differ e) }
-
--- The part is the n-th of these, which begin at this length and this place.
-pub record IsPartFrom (p : Party) (start : ℕ) (place : Place) (parts : List Part) (n : ℕ) (part : Part) : Type 0 where
-  pub sent : IsSentPart p (start + length (flat_map part_bytes (take n parts)) + length (part_bytes part)) part
-  pub place_is : IsPlaceOf part (fold place_behind place (take n parts))
-  pub behind : drop n parts ≡ part ∷ drop (suc n) parts
-  pub front : take (suc n) parts ≡ take n parts ++ part ∷ []
-  pub last : part ≡ End → drop (suc n) parts ≡ []
 
 pub same_part : (x y : Part) → Some x ≡ Some y → x ≡ y
 same_part x y e = ap (λ o. unwrap_or o x) e
@@ -95,16 +74,6 @@ part_from p before start place (q ∷ qs) (suc n) part h at e =
       front = ap (λ l. q ∷ l) r.front;
       last = r.last;
     }
-
--- The part is the n-th that was sent.
-pub record IsPartAt (p : Party) (sent_parts : List Part) (n : ℕ) (part : Part) : Type 0 where
-  pub sent : IsSentPart p (length (flat_map part_bytes (take n sent_parts)) + length (part_bytes part)) part
-  pub place_is : IsPlaceOf part (place_after (take n sent_parts))
-  pub behind : drop n sent_parts ≡ part ∷ drop (n + 1) sent_parts
-  pub bytes_behind : flat_map part_bytes (drop n sent_parts) ≡ part_bytes part ++ flat_map part_bytes (drop (n + 1) sent_parts)
-  -- where it is behind it
-  pub place_next : place_after (take (n + 1) sent_parts) ≡ place_behind (place_after (take n sent_parts)) part
-  pub last : part ≡ End → drop (n + 1) sent_parts ≡ []
 
 fold_more : (place : Place) (parts : List Part) (part : Part) → fold place_behind place (parts ++ part ∷ []) ≡ place_behind (fold place_behind place parts) part
 fold_more place [] part = refl

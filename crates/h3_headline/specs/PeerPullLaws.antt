@@ -1,27 +1,28 @@
 -- A pull under an id that carries no messages (RFC 9114, section 6.2): its answer is the world's, and nothing changes.
-use Rattle.std.proofs.Common.{arith, ◌≡◌, ℕ, ◌%◌, ◌<◌, Bool, true, false, [], refl, sym, ap, ◌∙◌, subst, if◌then◌else◌, Option, Some, None}
-use Rattle.std.specs.Prelude.{◌==◌, ◌||◌}
-use Rattle.std.proofs.lemmas.Grind.{common_steps}
-use Rattle.h3_coding.specs.VarintLaws.{none_at_end}
-use Rattle.h3_proto.specs.StreamIds.{is_request}
+use Rattle.std.proofs.Common.{◌≡◌, ℕ, ap, ◌∙◌, Some, Bool, true, false, [], sym, if◌then◌else◌, Option, None, refl, subst, ◌%◌, arith, ◌<◌}
 use Rattle.h3_proto.specs.declared.stream.Side.{Side}
-use Rattle.h3_proto.specs.declared.stream.Side.TheVariants.{Client, Server}
-use Rattle.h3_connection.specs.Delivering.{with_unidirectional}
-use Rattle.h3_connection.specs.Endpoint.{EndpointHistory, Kind, kind_of}
-use Rattle.h3_connection.specs.Endpoint.Kind.{Request, ServerOpened, OwnUnidirectional, PeerUnidirectional}
+use Rattle.h3_connection.specs.Endpoint.{EndpointHistory, kind_of}
 use Rattle.h3_connection.specs.Keeping.{pulls, pulls_behind}
+use Rattle.h3_connection.specs.Sending.{pull_at, pull_unless, pull_peer, pulled_unidirectional}
+use Rattle.h3_connection.specs.declared.event.Pull.TheVariants as pull
+use Rattle.h3_world.specs.declared.setup.Setup.{Setup}
+use Rattle.h3_world.specs.World.{World, party}
+use Rattle.h3_connection.specs.Delivering.{with_unidirectional}
+use Rattle.h3_connection.specs.StreamSets.{stream_at}
+use Rattle.h3_connection.specs.Unidirectional.{Unidirectional, Role, may_be_session}
+use Rattle.std.specs.Prelude.{◌==◌, ◌||◌}
+use Rattle.h3_coding.specs.VarintLaws.{none_at_end}
 use Rattle.h3_connection.specs.OwnIds.{other, control_id, encoder_id, decoder_id, is_own}
-use Rattle.h3_connection.specs.Sending.{pull_at, pull_peer, pull_unless, pulled_unidirectional}
-use Rattle.h3_connection.specs.StreamSets.{Streams, stream_at}
-use Rattle.h3_connection.specs.Unidirectional.{Unidirectional, Role, untold, may_be_session}
 use Rattle.h3_connection.specs.Unidirectional as streams
 use Rattle.h3_connection.specs.Unidirectional.Role.{Untold, Control, Encoder, Decoder}
 use Rattle.h3_connection.specs.declared.event.Pull.{Pull}
-use Rattle.h3_connection.specs.declared.event.Pull.TheVariants as pull
-use Rattle.h3_world.specs.declared.setup.Setup.{Setup}
 use Rattle.h3_world.specs.Pulling.{pull_unidirectional}
-use Rattle.h3_world.specs.World.{World, party}
+use Rattle.h3_proto.specs.declared.stream.Side.TheVariants.{Client, Server}
+use Rattle.h3_connection.specs.Endpoint.Kind.{PeerUnidirectional, Request, ServerOpened, OwnUnidirectional}
+use Rattle.std.proofs.lemmas.Grind.{common_steps}
+use Rattle.h3_proto.specs.StreamIds.{is_request}
 use Rattle.h3_headline.specs.FlowLaws.{same_number}
+use Rattle.h3_headline.specs.Pulls.{answer_of, answering, having_streams, in_role, kind_by}
 use Rattle.h3_headline.specs.SettledPullLaws.{set_same}
 use Rattle.h3_headline.specs.Standing.{IsPeerStream, StandsAt}
 
@@ -30,21 +31,8 @@ pub plain_pull : (setup : Setup) (w : World) (side : Side) (id : ℕ) (e : Endpo
 plain_pull setup w side id e h =
     ap (λ k. pulls_behind k e id) h.nothing_kept ∙ ap (λ c. pull_unless c e (pull_at e id (kind_of e.side id))) h.no_fault ∙ ap (λ s. pull_at e id (kind_of s id)) h.side_is
 
-abbrev answering : Pull → EndpointHistory → Pull × EndpointHistory
-answering a e = (a, e)
-
-abbrev having_streams : EndpointHistory → Streams Unidirectional → EndpointHistory
-having_streams e s = record e { unidirectional = s }
-
 unchanged : (e : EndpointHistory) (id : ℕ) (o : Unidirectional) → stream_at e.unidirectional id ≡ Some o → with_unidirectional e id o ≡ e
 unchanged e id o there = ap (having_streams e) (set_same e.unidirectional id o there)
-
--- whether its type came
-abbrev answer_of : ℕ → Pull
-answer_of came = if came == 0 then pull.Pending else pull.NoMessages
-
-abbrev in_role : Role → Unidirectional
-in_role role = record untold { role = role }
 
 -- a stream of the other side whose role has no messages
 peer_pull : (e : EndpointHistory) (id came : ℕ) (role : Role) (o : Option Unidirectional) → stream_at e.unidirectional id ≡ o → ((x : Unidirectional) → streams.pull_unidirectional x role ≡ (pull.NoMessages, x)) → IsPeerStream came role o
@@ -86,10 +74,6 @@ peer_answers setup w side id e h = by_id (id == control_id (other side)) refl (i
     by_id false x false y false z =
         peer_pull e id 0 Control (stream_at e.unidirectional id) refl (λ o. refl)
         (none_there (ap (λ t. t || id == encoder_id (other side) || id == decoder_id (other side)) x ∙ ap (λ t. t || id == decoder_id (other side)) y ∙ z))
-
--- the kinds by the last two bits of an id
-abbrev kind_by : Side → ℕ → Kind
-kind_by side bits = if bits == 0 then Request else (if bits == 1 then ServerOpened else (if bits == control_id side then OwnUnidirectional else PeerUnidirectional))
 
 peer_kind : (side : Side) (id : ℕ) → (id % 4 == control_id (other side)) ≡ true → kind_of side id ≡ PeerUnidirectional
 peer_kind Client id is = ap (kind_by Client) (same_number (id % 4) 3 is)

@@ -1,66 +1,68 @@
 -- A pull: both ends answer as the world allows, the pause is exact, and both stand in the world after it.
-use Rattle.std.proofs.Common.{arith, ◌≡◌, ℕ, ◌%◌, ◌^◌, ◌<◌, ◌≤◌, Bool, true, false, List, [], ◌∷◌, length, refl, sym, ap, ◌∙◌, subst, if◌then◌else◌, Option, Some, None}
-use Rattle.std.specs.Prelude.{◌==◌, not, MatchOption}
-use Rattle.std.specs.List.{AllByRecursion}
-use Rattle.std.proofs.lemmas.Bool.{le-ltb}
-use Rattle.h3_field.specs.Instruction.{DecoderInstruction}
-use Rattle.h3_field.specs.Instruction.DecoderInstruction.{Acknowledge}
-use Rattle.h3_field.specs.InstructionAnswer.{IsReply}
-use Rattle.h3_proto.specs.StreamIds.{is_request}
+use Rattle.std.proofs.Common.{◌≡◌, ℕ, length, refl, sym, ap, subst, None, Some, ◌≤◌, arith, ◌∙◌, ◌^◌, ◌<◌, Bool, true, false, [], ◌∷◌, if◌then◌else◌, Option, List, ◌%◌}
 use Rattle.h3_proto.specs.declared.stream.Side.{Side}
-use Rattle.h3_proto.specs.declared.stream.Side.TheVariants.{Client, Server}
-use Rattle.h3_connection.specs.Announcing.{section_of}
 use Rattle.h3_connection.specs.Endpoint.{EndpointHistory, heads_waiting}
-use Rattle.h3_connection.specs.Incoming.{Incoming}
 use Rattle.h3_connection.specs.Keeping.{pulls}
-use Rattle.h3_connection.specs.OwnIds.{other, control_id, decoder_id}
-use Rattle.h3_connection.specs.Pulling.{acknowledgment}
-use Rattle.h3_connection.specs.Sending.{pull_at, pull_request, after_answer, after_fault}
-use Rattle.h3_connection.specs.StreamSets.{stream_at}
-use Rattle.h3_connection.specs.declared.event.Fault.{Fault}
-use Rattle.h3_connection.specs.declared.event.Fault.TheVariants as faults
-use Rattle.h3_connection.specs.declared.event.Item.{Item}
-use Rattle.h3_connection.specs.declared.event.Item.TheVariants as item
+use Rattle.h3_connection.specs.OwnIds.{other, decoder_id, control_id}
 use Rattle.h3_connection.specs.declared.event.Pull.{Pull}
 use Rattle.h3_connection.specs.declared.event.Pull.TheVariants as pull
-use Rattle.h3_connection.specs.declared.event.StreamFault.{StreamFault}
-use Rattle.h3_connection.specs.declared.setup.Announced.{Announced}
 use Rattle.h3_world.specs.declared.setup.Setup.{Setup}
 use Rattle.h3_world.specs.declared.event.Event.TheVariants as event
 use Rattle.h3_world.specs.declared.event.Answer.TheVariants as answer
-use Rattle.h3_world.specs.Came.{insertions_came}
 use Rattle.h3_world.specs.Ends.{Ends, answered, end_at, was_pulled, with_end}
-use Rattle.h3_world.specs.Flow.{Flow, Part}
-use Rattle.h3_world.specs.Flow.Part.{Interim, Head, Body, Trailer, End}
 use Rattle.h3_world.specs.Headline.{Happens}
-use Rattle.h3_world.specs.Items.{acknowledgment_of, after_item, handed_out}
-use Rattle.h3_world.specs.Machine.{served, pull_settled, pull_next, item_there, count_waited_for}
+use Rattle.h3_world.specs.Pulling.{Pulls, PausesExactly, settled, PullsNext, pull_unidirectional, pull_unopened}
+use Rattle.h3_world.specs.World.{World, party, Party, with_party}
+use Rattle.std.specs.Prelude.{MatchOption, ◌==◌}
+use Rattle.h3_world.specs.Came.{insertions_came}
 use Rattle.h3_world.specs.Order.{next_part, is_over}
-use Rattle.h3_world.specs.Pauses.{PauseAllowed, pause_before, pause_of, paused}
-use Rattle.h3_world.specs.Pulling.{settled, pull_unidirectional, pull_unopened, fault_or, PullsNext, Pulls, PausesExactly}
-use Rattle.h3_world.specs.Setup.{IsMadeSetup, JudgesPlainly, announced_at}
-use Rattle.h3_world.specs.Shown.{limits_shown, sizes_shown, streams_waiting}
-use Rattle.h3_world.specs.Sound.{IsSoundWorld}
-use Rattle.h3_world.specs.Step.{Step, IsExact, IsWithinLimits}
+use Rattle.h3_world.specs.Pauses.{pause_before, pause_of, PauseAllowed, paused}
 use Rattle.h3_world.specs.Streams.{flow, is_open}
-use Rattle.h3_world.specs.World.{World, Party, party, with_party}
+use Rattle.h3_proto.specs.declared.stream.Side.TheVariants.{Client, Server}
+use Rattle.h3_world.specs.Setup.{announced_at, IsMadeSetup, JudgesPlainly}
+use Rattle.h3_world.specs.Shown.{streams_waiting, limits_shown, sizes_shown}
+use Rattle.h3_world.specs.Step.{IsWithinLimits, Step, IsExact}
+use Rattle.std.proofs.lemmas.Bool.{le-ltb}
+use Rattle.h3_connection.specs.declared.setup.Announced.{Announced}
+use Rattle.h3_connection.specs.Announcing.{section_of}
+use Rattle.h3_connection.specs.declared.event.Fault.{Fault}
+use Rattle.h3_connection.specs.declared.event.Item.{Item}
+use Rattle.h3_world.specs.Machine.{served, pull_settled, pull_next, item_there, count_waited_for}
+use Rattle.h3_world.specs.Sound.{IsSoundWorld}
+use Rattle.std.specs.List.{AllByRecursion}
+use Rattle.h3_field.specs.Instruction.DecoderInstruction.{Acknowledge}
+use Rattle.h3_field.specs.InstructionAnswer.{IsReply}
+use Rattle.h3_connection.specs.Pulling.{acknowledgment}
+use Rattle.h3_world.specs.Flow.{Part, Flow}
+use Rattle.h3_world.specs.Flow.Part.{Interim, Head, Body, Trailer, End}
+use Rattle.h3_world.specs.Items.{acknowledgment_of, after_item, handed_out}
+use Rattle.h3_field.specs.Instruction.{DecoderInstruction}
+use Rattle.h3_connection.specs.Sending.{after_fault, after_answer, pull_request, pull_at}
+use Rattle.h3_connection.specs.declared.event.Fault.TheVariants as faults
+use Rattle.h3_connection.specs.Incoming.{Incoming}
+use Rattle.h3_proto.specs.StreamIds.{is_request}
+use Rattle.h3_connection.specs.StreamSets.{stream_at}
+use Rattle.h3_connection.specs.declared.event.StreamFault.{StreamFault}
+use Rattle.h3_connection.specs.declared.event.Item.TheVariants as item
+use Rattle.h3_headline.specs.Arriving.{Receives, saying}
+use Rattle.h3_headline.specs.Calls.{Both, Serves}
+use Rattle.h3_headline.specs.Cited.{Laws}
 use Rattle.h3_headline.specs.ComingLaws.{kind_is}
 use Rattle.h3_headline.specs.DecodesLaws.{next_readable}
 use Rattle.h3_headline.specs.FewLaws.{few_kept, open_is_small}
 use Rattle.h3_headline.specs.FlowLaws.{open_there}
-use Rattle.h3_headline.specs.JoiningLaws.{Laws}
-use Rattle.h3_headline.specs.MovesLaws.{saying, Receives}
 use Rattle.h3_headline.specs.OwnWritesLaws.{saying_writable}
-use Rattle.h3_headline.specs.PeerPullLaws.{plain_pull, unidirectional_pull, silent_pull}
-use Rattle.h3_headline.specs.PullLaws.{pull_stands, pulled_receives, paused_receives, none_settled, item_leaves}
-use Rattle.h3_headline.specs.RunLaws.{StandsOn}
-use Rattle.h3_headline.specs.SendingLaws.{Both, both_of, Serves, does_on, call_agrees, stands_served, flow_count}
+use Rattle.h3_headline.specs.PeerPullLaws.{plain_pull, silent_pull, unidirectional_pull}
+use Rattle.h3_headline.specs.PullLaws.{item_leaves, none_settled, paused_receives, pull_stands, pulled_receives}
+use Rattle.h3_headline.specs.Pulls.{IsWithin, Pulled, settled_by}
+use Rattle.h3_headline.specs.SendingLaws.{both_of, call_agrees, does_on, flow_count, stands_served}
 use Rattle.h3_headline.specs.SessionDecoderLaws.{endpoint_decodes, insertions_read}
-use Rattle.h3_headline.specs.SettledPullLaws.{IsWithin, given_up_pull, over_pull, unopened_pull}
-use Rattle.h3_headline.specs.Standing.{IsReadable, IsWritable, StandsAt, Stands, are_settings_there}
+use Rattle.h3_headline.specs.SettledPullLaws.{given_up_pull, over_pull, unopened_pull}
+use Rattle.h3_headline.specs.Standing.{IsReadable, IsWritable, Stands, StandsAt, are_settings_there}
+use Rattle.h3_headline.specs.Steps.{StandsOn}
 use Rattle.h3_headline.specs.WaitingAtLaws.{endpoint_waits}
 use Rattle.h3_headline.specs.WritesMoreLaws.{decoder_stream_more}
-use Rattle.h3_headline.specs.WritingLaws.{sound_party, hears, party_count}
+use Rattle.h3_headline.specs.WritingLaws.{hears, party_count, sound_party}
 
 -- A pull that the ends answer so, and both stand in the world after it.
 answered_on : (laws : Laws) (setup : Setup) (w new : World) (ends : Ends) (side : Side) (id : ℕ) (a : Pull) (after : EndpointHistory) → Stands setup w ends → pulls (end_at ends side) id ≡ (a, after)
@@ -160,11 +162,6 @@ writes_on setup w new side id more g e f after b r replies same here there =
     by_id i true is = subst (AllByRecursion (IsReadable side)) (sym same) (b.sends_there id)
     by_id i false is = b.sends_there i
 
--- The worlds after the pull of an open stream.
-record Pulled (setup : Setup) (w new : World) (side : Side) (after f : EndpointHistory) : Type 0 where
-  both : Both setup new side after f
-  count : length new.exchanges ≡ length w.exchanges
-
 pulled_both : (setup : Setup) (w new : World) (side : Side) (id : ℕ) (e f after : EndpointHistory) (q : Pull) → Both setup w side e f → is_open w side id ≡ true → id < 2 ^ 62 → StandsAt setup new side after
     → StandsAt setup new (other side) f → PullsNext setup w side id q new → Pulled setup w new side after f
 pulled_both setup w new side id e f after q b there small here other_side next = by_pull q next
@@ -244,14 +241,6 @@ open_on laws setup w ends side id made plain h there alive more =
     limited a new step exact =
         let happens = laws.worlds.both setup w new (event.Pull side id) (answer.Pulled a) tt step exact h.sound in
         subst (λ (x : Announced). streams_waiting new side ≤ x.limits.blocked) (sym (both_of setup w side ends h).here.announced) (within setup new side happens.0.within_limits)
-
--- what is settled, by the tests in their order
-abbrev settled_by : World → Side → ℕ → Bool → Bool → Bool → Option StreamFault → Bool → Option Pull
-settled_by w side id is_peer request opened fault over =
-    if is_peer then Some (pull_unidirectional w (other side) id) else (
-    if not request then Some pull.NoMessages else (
-    if not opened then Some (pull_unopened side) else (
-    fault_or fault (if over then Some (pull.Item item.End) else None))))
 
 settled_is : (w : World) (side : Side) (id : ℕ) (is_peer request opened : Bool) (fault : Option StreamFault) (over : Bool) → (id % 4 == control_id (other side)) ≡ is_peer → is_request id ≡ request → is_open w side id ≡ opened
     → (flow w (other side) id).fault ≡ fault → is_over (flow w (other side) id) ≡ over → settled w side id ≡ settled_by w side id is_peer request opened fault over

@@ -1,48 +1,49 @@
 -- A pull of an open request stream: both endpoints answer as the world allows, the pause is exact, and both stand in the world after it.
-use Rattle.std.proofs.Common.{arith, ◌≤◌, ◌≡◌, ℕ, ◌+◌, ◌%◌, Bool, true, false, List, [], length, refl, sym, ap, ◌∙◌, subst, nat_lt, if◌then◌else◌, Option, Some, None}
-use Rattle.std.specs.Prelude.{◌==◌, not, unwrap_or, MatchOption}
-use Rattle.std.proofs.lemmas.Grind.{common_steps}
+use Rattle.std.proofs.Common.{◌≡◌, ap, subst, Option, Some, ℕ, Bool, true, false, refl, nat_lt, if◌then◌else◌, None, List, sym, ◌∙◌, [], arith, ◌%◌, ◌+◌, length, ◌≤◌}
+use Rattle.std.specs.Prelude.{unwrap_or, ◌==◌, not, MatchOption}
+use Rattle.h3_connection.specs.declared.event.Pull.{Pull}
+use Rattle.h3_world.specs.Pauses.{pause_of, section_pause, pause_before, paused, PauseAllowed}
+use Rattle.h3_connection.specs.declared.event.Pull.TheVariants as pull
+use Rattle.h3_world.specs.Flow.{Flow, Section, Part}
+use Rattle.h3_world.specs.Flow.Part.{Interim, Head, Body, Trailer, End}
 use Rattle.h3_field.specs.Instruction.{DecoderInstruction}
-use Rattle.h3_proto.specs.StreamIds.{is_request}
 use Rattle.h3_proto.specs.declared.stream.Side.{Side}
+use Rattle.h3_connection.specs.OwnIds.{other, control_id}
+use Rattle.h3_world.specs.World.{World, party, with_party}
+use Rattle.h3_world.specs.Streams.{flow, with_flow, is_open}
 use Rattle.h3_proto.specs.declared.stream.Side.TheVariants.{Client, Server}
+use Rattle.h3_connection.specs.Endpoint.{Own, EndpointHistory, replied, heads_waiting, kind_of}
+use Rattle.std.proofs.lemmas.Grind.{common_steps}
+use Rattle.h3_proto.specs.StreamIds.{is_request}
+use Rattle.h3_connection.specs.declared.event.Item.{Item}
+use Rattle.h3_connection.specs.declared.event.Item.TheVariants as item
+use Rattle.h3_world.specs.Order.{is_over, outgoing_of, next_part}
+use Rattle.h3_world.specs.Pulling.{settled, pull_unidirectional, pull_unopened, fault_or, PullsNext, Pulls, PausesExactly}
+use Rattle.h3_world.specs.Items.{after_item, acknowledgment_of, handed_out}
 use Rattle.h3_connection.specs.Announcing.{section_of}
 use Rattle.h3_connection.specs.Delivering.{with_incoming}
-use Rattle.h3_connection.specs.Endpoint.{EndpointHistory, Own, replied, heads_waiting, kind_of}
 use Rattle.h3_connection.specs.Keeping.{pulls, pulls_behind}
-use Rattle.h3_connection.specs.OwnIds.{other, control_id}
 use Rattle.h3_connection.specs.Pulling.{Pulled, pull_stream}
 use Rattle.h3_connection.specs.Sending.{pull_at, pull_unless, pull_request, pulled, if_too_many, after_answer}
 use Rattle.h3_connection.specs.StreamSets.{set_stream}
-use Rattle.h3_connection.specs.declared.event.Item.{Item}
-use Rattle.h3_connection.specs.declared.event.Item.TheVariants as item
-use Rattle.h3_connection.specs.declared.event.Pull.{Pull}
-use Rattle.h3_connection.specs.declared.event.Pull.TheVariants as pull
 use Rattle.h3_world.specs.declared.setup.Setup.{Setup}
 use Rattle.h3_world.specs.Setup.{announced_at, IsPlain}
-use Rattle.h3_world.specs.Flow.{Flow, Part, Section}
-use Rattle.h3_world.specs.Flow.Part.{Interim, Head, Body, Trailer, End}
-use Rattle.h3_world.specs.World.{World, Party, party, with_party}
 use Rattle.h3_world.specs.Came.{insertions_came}
-use Rattle.h3_world.specs.Items.{acknowledgment_of, after_item, handed_out}
 use Rattle.h3_world.specs.Machine.{count_waited_for}
-use Rattle.h3_world.specs.Order.{next_part, is_over, outgoing_of}
-use Rattle.h3_world.specs.Pauses.{PauseAllowed, section_pause, pause_before, pause_of, paused}
-use Rattle.h3_world.specs.Pulling.{settled, pull_unidirectional, pull_unopened, fault_or, PullsNext, Pulls, PausesExactly}
 use Rattle.h3_world.specs.Sound.{IsSoundWorld}
-use Rattle.h3_world.specs.Streams.{flow, with_flow, is_open}
-use Rattle.h3_headline.specs.ComingLaws.{incoming_there, kind_is, sound_flow, saying_nothing}
-use Rattle.h3_headline.specs.DeliverLaws.{owning, sends_same}
-use Rattle.h3_headline.specs.FlowLaws.{open_there, same_number, there-with_party, flow-with_flow, flow-with_peer, flow-with_party, party-with_flow, party-with_party, party-with_other, is_open-own, is_open-peer_kept, is_open-with_party}
-use Rattle.h3_headline.specs.MovesLaws.{saying, Receives, receiver_stands, sender_stands}
-use Rattle.h3_headline.specs.PulledLaws.{ComesTo, Pauses, HandsOut}
-use Rattle.h3_headline.specs.PulledPartLaws.{DecodesNext, IsReadableNext}
-use Rattle.h3_headline.specs.PulledSectionLaws.{ListsAreTheirValue}
-use Rattle.h3_headline.specs.PulledStreamLaws.{stream_comes}
-use Rattle.h3_headline.specs.WaitingAtLaws.{endpoint_waits}
 use Rattle.std.proofs.lemmas.Bool.{le-ltb}
 use Rattle.h3_world.specs.Shown.{streams_waiting}
+use Rattle.h3_headline.specs.Arriving.{Receives, owning, saying}
+use Rattle.h3_headline.specs.Cited.{ListsAreTheirValue}
+use Rattle.h3_headline.specs.ComingLaws.{incoming_there, kind_is, saying_nothing, sound_flow}
+use Rattle.h3_headline.specs.DeliverLaws.{sends_same}
+use Rattle.h3_headline.specs.FlowLaws.{flow-with_flow, flow-with_party, flow-with_peer, is_open-own, is_open-peer_kept, is_open-with_party, open_there, party-with_flow, party-with_other, party-with_party, same_number, there-with_party}
+use Rattle.h3_headline.specs.MovesLaws.{receiver_stands, sender_stands}
+use Rattle.h3_headline.specs.PulledStreamLaws.{stream_comes}
+use Rattle.h3_headline.specs.Pulling.{ComesTo, DecodesNext, HandsOut, IsReadableNext, Pauses}
+use Rattle.h3_headline.specs.Pulls.{PullStands, with_owner}
 use Rattle.h3_headline.specs.Standing.{HasDecoderStreamOf, ReceivesFlow, StandsAt}
+use Rattle.h3_headline.specs.WaitingAtLaws.{endpoint_waits}
 
 told : (q given : Pull) → ◌≡◌ {A = Option Pull} (Some q) (Some given) → pause_of q ≡ Some q → pause_of given ≡ Some given
 told q given e at = subst (λ x. pause_of x ≡ Some x) (ap (λ o. unwrap_or o q) e) at
@@ -96,9 +97,6 @@ pulled_receives w side id more g there seen =
     stays : (i : ℕ) → (if id == i then true else is_open w side i) ≡ is_open w side i
     stays i = by_id i (id == i) refl
 
-abbrev with_owner : World → Side → ℕ → Flow → Party → World
-with_owner w side id g p = with_flow (with_party w side p) (other side) id g
-
 same_party : (w : World) (side : Side) → with_party w side (party w side) ≡ w
 same_party w Client = refl
 same_party w Server = refl
@@ -110,17 +108,6 @@ paused_receives w side id count there =
     let g : Flow = record (flow w (other side) id) { waits_for = count } in
     let nothing : owning (party w side) (saying (party w side).own []) ≡ party w side = ap (λ (o : Own). owning (party w side) o) (saying_nothing (party w side).own) in
     subst (λ (v : World). Receives w v side id [] g) (ap (with_owner w side id g) nothing ∙ ap (λ v. with_flow v (other side) id g) (same_party w side)) (pulled_receives w side id [] g there refl)
-
--- What is there after a pull.
-pub record PullStands (setup : Setup) (w : World) (side : Side) (id : ℕ) (er ew : EndpointHistory) : Type 0 where
-  pub answer : Pull
-  pub after : EndpointHistory
-  pub new : World
-  pub pulled_is : pulls er id ≡ (answer, after)
-  pub step : Pulls setup w side id answer new
-  pub exact : PausesExactly w side id answer
-  pub reader : StandsAt setup new side after
-  pub writer : StandsAt setup new (other side) ew
 
 not_own : (side : Side) (id : ℕ) → is_request id ≡ true → (id % 4 == control_id (other side)) ≡ false
 not_own Client id e = grind (arith, common_steps, e)

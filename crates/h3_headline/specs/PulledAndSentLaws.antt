@@ -1,103 +1,31 @@
 -- Over a whole run, what is handed out of a flow is a front of what is sent on it.
-use Rattle.std.proofs.Common.{◌≡◌, ℕ, zero, suc, ◌+◌, ◌-◌, ◌<◌, ◌≤◌, Bool, true, false, List, [], ◌∷◌, ◌++◌, length, refl, sym, ap, ◌∙◌, subst, arith, Option, Some, None, append_assoc}
-use Rattle.std.specs.Prelude.{◌||◌, map, take, slice_get, nat_lt, unwrap_or, if◌then◌else◌}
-use Rattle.std.specs.List.{AllByRecursion}
+use Rattle.std.proofs.Common.{◌≡◌, true, false, arith, ℕ, ◌+◌, ◌-◌, Bool, List, ◌++◌, sym, ap, ◌∙◌, zero, suc, [], ◌∷◌, refl, None, append_assoc, Some, length, Option, ◌≤◌, ◌<◌}
 use Rattle.std.proofs.lemmas.Grind.{common_steps}
+use Rattle.std.specs.Prelude.{map, take, slice_get, ◌||◌, nat_lt, unwrap_or, if◌then◌else◌}
+use Rattle.h3_world.specs.Flow.{Flow, Part, part_bytes}
+use Rattle.h3_world.specs.Order.{next_part, is_end, is_over}
+use Rattle.h3_world.specs.Flow.Part.{Interim, Head, Body, Trailer, End}
+use Rattle.h3_world.specs.Sound.{AreSent}
+use Rattle.h3_world.specs.World.{Party, World, no_exchange, party}
 use Rattle.std.proofs.lemmas.Option.{slice_get_past}
 use Rattle.h3_proto.specs.StreamIds.{is_request, index_of}
+use Rattle.h3_world.specs.Streams.{exchange, flow}
 use Rattle.h3_proto.specs.declared.stream.Side.{Side}
 use Rattle.h3_proto.specs.declared.stream.Side.TheVariants.{Client, Server}
-use Rattle.h3_connection.specs.Announcing.{section_of}
 use Rattle.h3_connection.specs.OwnIds.{other}
 use Rattle.h3_world.specs.declared.setup.Setup.{Setup}
 use Rattle.h3_world.specs.declared.event.Event.{Event}
 use Rattle.h3_world.specs.declared.event.Answer.{Answer}
-use Rattle.h3_world.specs.Flow.{Flow, Part, part_bytes, unused}
-use Rattle.h3_world.specs.Flow.Part.{Interim, Head, Body, Trailer, End}
-use Rattle.h3_world.specs.Headline.{Happens}
-use Rattle.h3_world.specs.Order.{is_end, is_over, next_part}
-use Rattle.h3_world.specs.Run.{Run}
-use Rattle.h3_world.specs.Sendable.{IsSendable}
-use Rattle.h3_world.specs.Setup.{announced_at}
-use Rattle.h3_world.specs.Sound.{AreSent, IsSoundWorld}
-use Rattle.h3_world.specs.Streams.{exchange, flow}
-use Rattle.h3_world.specs.World.{World, Party, no_exchange, party, empty_world}
-use Rattle.h3_headline.specs.AlikeLaws.{WorldLaws}
 use Rattle.h3_headline.specs.ComingLaws.{sound_flow}
-use Rattle.h3_headline.specs.FlowLaws.{IsThere, and_first, and_second, other-other, same_both}
-use Rattle.h3_headline.specs.Messages.{Content, IsFrontOf, IsTakenWhole, at_reader, sent, has_finished, pulled, has_pulled_end, sent_in, finished_in, pulled_in, ended_in}
+use Rattle.h3_headline.specs.ContentLaws.{handed_front, taken_by_parts}
+use Rattle.h3_headline.specs.Contents.{Carried, Carries, IsAll, IsLastEnd, all_taken, handed_of, has_end, limit_of_reader, part_taken, piece_of}
+use Rattle.h3_headline.specs.FlowLaws.{and_first, and_second, same_both}
+use Rattle.h3_headline.specs.Messages.{Content, IsFrontOf, at_reader, has_finished, has_pulled_end, pulled, sent}
 use Rattle.h3_headline.specs.PartLaws.{end_last}
-use Rattle.h3_headline.specs.ContentLaws.{contents, has_end, part_taken, all_taken, piece_of, handed_of, handed, handed_front, taken_by_parts, Moves, moves_then, stays}
-use Rattle.h3_headline.specs.MovedLaws.{limit_of_reader, moved}
+use Rattle.h3_headline.specs.Steps.{IsThere}
 
-differ : false ≡ true → ⊥
+pub differ : false ≡ true → ⊥
 differ h = grind (arith, common_steps, h)
-
--- what a run changes of a flow
-abbrev pub RunMoves : Setup → World → World → List Event → List Answer → Side → ℕ → Type 0
-RunMoves setup w new events answers writer id =
-    Moves (limit_of_reader setup writer) (flow w writer id) (flow new writer id) (sent writer id events answers) (has_finished writer id events answers)
-    (pulled (other writer) id events answers) (has_pulled_end (other writer) id events answers)
-
--- and it keeps the world sound
-pub record Ran (setup : Setup) (w new : World) (events : List Event) (answers : List Answer) (writer : Side) (id : ℕ) : Type 0 where
-  pub moves : RunMoves setup w new events answers writer id
-  pub sound : IsSoundWorld setup new
-
-nothing : (most : ℕ) (f : Flow) → Moves most f f [] false [] false
-nothing most f = stays most f f false (record { sent = refl; parts_out = refl; body_out = refl }) (λ e. absurd (differ e))
-
-pub run_moves : (laws : WorldLaws) (setup : Setup) (w new : World) (events : List Event) (answers : List Answer) (writer : Side) (id : ℕ) → AllByRecursion IsSendable events → IsSoundWorld setup w
-    → Run (Happens setup) w events answers new → Ran setup w new events answers writer id
-run_moves laws setup w new [] [] writer id sendable h run =
-    subst (λ v. Ran setup w v [] [] writer id) (sym run) (record { moves = nothing (limit_of_reader setup writer) (flow w writer id); sound = h })
-run_moves laws setup w new (e ∷ es) (a ∷ later) writer id sendable h run =
-    let mid = run.0 in
-    let first = moved setup w mid e a writer id h run.1.step in
-    let sound = (laws.both setup w mid e a sendable.0 run.1.step run.1.exact h).1 in
-    let rest = run_moves laws setup mid new es later writer id sendable.1 sound run.2 in
-    record {
-      moves = moves_then (limit_of_reader setup writer) (flow w writer id) (flow mid writer id) (flow new writer id) (sent_in writer id e a) (sent writer id es later) (finished_in writer id e a) (has_finished writer id es later)
-          (pulled_in (other writer) id e a) (pulled (other writer) id es later) (ended_in (other writer) id e a) (has_pulled_end (other writer) id es later) first rest.moves;
-      sound = rest.sound;
-    }
-run_moves laws setup w new [] (a ∷ later) writer id sendable h run = absurd run
-run_moves laws setup w new (e ∷ es) [] writer id sendable h run = absurd run
-
--- before anything, each flow is unused
-nothing_yet : (setup : Setup) (writer : Side) (id : ℕ) → flow (empty_world setup) writer id ≡ unused
-nothing_yet setup Client id = ap (λ e. e.request) (same_both (is_request id) no_exchange no_exchange (λ e. refl))
-nothing_yet setup Server id = ap (λ e. e.response) (same_both (is_request id) no_exchange no_exchange (λ e. refl))
-
--- A run from the beginning: what was sent, and what was handed out.
-pub record Carries (most : ℕ) (g : Flow) (sending : List Content) (finishing : Bool) (handing : List Content) (ending : Bool) : Type 0 where
-  pub sent_is : contents g.sent ≡ sending
-  pub end_is : has_end g.sent ≡ finishing
-  pub handed_is : handed most g ≡ handing
-  pub over_is : ending ≡ true → is_over g ≡ true
-
-carries : (most : ℕ) (f g : Flow) (sending : List Content) (finishing : Bool) (handing : List Content) (ending : Bool) → f ≡ unused → Moves most f g sending finishing handing ending
-    → Carries most g sending finishing handing ending
-carries most f g sending finishing handing ending none m =
-    let n = subst (λ x. Moves most x g sending finishing handing ending) none m in
-    record { sent_is = n.sent_is; end_is = n.end_is; handed_is = n.handed_is; over_is = n.over_is }
-
-pub record Carried (setup : Setup) (w : World) (events : List Event) (answers : List Answer) (writer : Side) (id : ℕ) : Type 0 where
-  pub carried : Carries (limit_of_reader setup writer) (flow w writer id) (sent writer id events answers) (has_finished writer id events answers) (pulled (other writer) id events answers) (has_pulled_end (other writer) id events answers)
-  pub sound : IsSoundWorld setup w
-
-pub run_carries : (laws : WorldLaws) (setup : Setup) (w : World) (events : List Event) (answers : List Answer) (writer : Side) (id : ℕ) → AllByRecursion IsSendable events
-    → Run (Happens setup) (empty_world setup) events answers w → Carried setup w events answers writer id
-run_carries laws setup w events answers writer id sendable run =
-    let r = run_moves laws setup (empty_world setup) w events answers writer id sendable (laws.begins setup) run in
-    record {
-      carried = carries (limit_of_reader setup writer) (flow (empty_world setup) writer id) (flow w writer id) (sent writer id events answers) (has_finished writer id events answers)
-          (pulled (other writer) id events answers) (has_pulled_end (other writer) id events answers) (nothing_yet setup writer id) r.moves;
-      sound = r.sound;
-    }
-
-pub run_sound : (laws : WorldLaws) (setup : Setup) (w : World) (events : List Event) (answers : List Answer) → AllByRecursion IsSendable events → Run (Happens setup) (empty_world setup) events answers w → IsSoundWorld setup w
-run_sound laws setup w events answers sendable run = (run_carries laws setup w events answers Client 0 sendable run).sound
 
 -- **A front.**
 pub is_front : (most : ℕ) (g : Flow) (sending : List Content) (finishing : Bool) (handing : List Content) (ending : Bool) → Carries most g sending finishing handing ending → IsFrontOf handing (map (at_reader most) sending)
@@ -124,10 +52,6 @@ end_of (Head s) e = absurd (differ e)
 end_of (Body bytes own) e = absurd (differ e)
 end_of (Trailer s) e = absurd (differ e)
 end_of End e = refl
-
-record IsLastEnd (parts : List Part) (n : ℕ) : Type 0 where
-  count : length parts ≡ n + 1
-  ends : has_end parts ≡ true
 
 or_true : (a b : Bool) → b ≡ true → (a || b) ≡ true
 or_true true b e = refl
@@ -167,11 +91,6 @@ over_there w writer id e = record { request = by_request (is_request id) refl; p
     by_place true is = below (index_of id) (length w.exchanges) is
     by_place false is = absurd (not_over w writer id (no_flow w id is) e)
 
--- **Once the end is out, all is.**
-pub record IsAll (most : ℕ) (sending : List Content) (finishing : Bool) (handing : List Content) : Type 0 where
-  pub all : handing ≡ map (at_reader most) sending
-  pub has_finished : finishing ≡ true
-
 pub is_complete : (setup : Setup) (w : World) (events : List Event) (answers : List Answer) (writer : Side) (id : ℕ) → Carried setup w events answers writer id → has_pulled_end (other writer) id events answers ≡ true
     → IsAll (limit_of_reader setup writer) (sent writer id events answers) (has_finished writer id events answers) (pulled (other writer) id events answers)
 is_complete setup w events answers writer id c ended =
@@ -188,40 +107,3 @@ is_complete setup w events answers writer id c ended =
   where
     below : (a b : ℕ) → nat_lt a b ≡ true → a < b
     below a b h = grind (arith, common_steps, h)
-
--- The same for a reader.
-pub front_at : (laws : WorldLaws) (setup : Setup) (events : List Event) (answers : List Answer) (w : World) (side : Side) (id : ℕ) → AllByRecursion IsSendable events → Run (Happens setup) (empty_world setup) events answers w
-    → IsFrontOf (pulled side id events answers) (map (at_reader (section_of (announced_at setup side))) (sent (other side) id events answers))
-front_at laws setup events answers w side id sendable run =
-    let c = run_carries laws setup w events answers (other side) id sendable run in
-    subst (λ s. IsFrontOf (pulled s id events answers) (map (at_reader (section_of (announced_at setup s))) (sent (other side) id events answers))) (other-other side)
-    (is_front (limit_of_reader setup (other side)) (flow w (other side) id) (sent (other side) id events answers) (has_finished (other side) id events answers)
-    (pulled (other (other side)) id events answers) (has_pulled_end (other (other side)) id events answers) c.carried)
-
-pub all_at : (laws : WorldLaws) (setup : Setup) (events : List Event) (answers : List Answer) (w : World) (side : Side) (id : ℕ) → AllByRecursion IsSendable events → Run (Happens setup) (empty_world setup) events answers w
-    → has_pulled_end side id events answers ≡ true
-    → IsAll (section_of (announced_at setup side)) (sent (other side) id events answers) (has_finished (other side) id events answers) (pulled side id events answers)
-all_at laws setup events answers w side id sendable run ended =
-    let c = run_carries laws setup w events answers (other side) id sendable run in
-    subst (λ s. has_pulled_end s id events answers ≡ true → IsAll (section_of (announced_at setup s)) (sent (other side) id events answers) (has_finished (other side) id events answers) (pulled s id events answers)) (other-other side)
-    (is_complete setup w events answers (other side) id c) ended
-
--- and where no part is left
-pub left_none_at : (laws : WorldLaws) (setup : Setup) (events : List Event) (answers : List Answer) (w : World) (side : Side) (id : ℕ) → AllByRecursion IsSendable events → Run (Happens setup) (empty_world setup) events answers w
-    → next_part (flow w (other side) id) ≡ None → pulled side id events answers ≡ map (at_reader (section_of (announced_at setup side))) (sent (other side) id events answers)
-left_none_at laws setup events answers w side id sendable run none =
-    let c = run_carries laws setup w events answers (other side) id sendable run in
-    subst (λ s. pulled s id events answers ≡ map (at_reader (section_of (announced_at setup s))) (sent (other side) id events answers)) (other-other side)
-    (is_all (limit_of_reader setup (other side)) (flow w (other side) id) (sent (other side) id events answers) (has_finished (other side) id events answers)
-    (pulled (other (other side)) id events answers) (has_pulled_end (other (other side)) id events answers) c.carried none)
-
--- with no section above the limit, what was sent
-taken_whole : (most : ℕ) (sending : List Content) → AllByRecursion (IsTakenWhole most) sending → map (at_reader most) sending ≡ sending
-taken_whole most [] h = refl
-taken_whole most (c ∷ cs) h = ap (λ x. x ∷ map (at_reader most) cs) h.0 ∙ ap (λ l. c ∷ l) (taken_whole most cs h.1)
-
-pub whole_at : (laws : WorldLaws) (setup : Setup) (events : List Event) (answers : List Answer) (w : World) (side : Side) (id : ℕ) → AllByRecursion IsSendable events → Run (Happens setup) (empty_world setup) events answers w
-    → has_pulled_end side id events answers ≡ true → AllByRecursion (IsTakenWhole (section_of (announced_at setup side))) (sent (other side) id events answers)
-    → pulled side id events answers ≡ sent (other side) id events answers
-whole_at laws setup events answers w side id sendable run ended whole =
-    (all_at laws setup events answers w side id sendable run ended).all ∙ taken_whole (section_of (announced_at setup side)) (sent (other side) id events answers) whole

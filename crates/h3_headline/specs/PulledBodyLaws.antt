@@ -1,43 +1,25 @@
 -- What is handed out of a piece of the body whose type and length were read.
-use Rattle.std.proofs.Common.{◌≡◌, ℕ, zero, suc, ◌+◌, ◌-◌, ◌≤◌, ◌<◌, Bool, true, false, List, [], ◌∷◌, ◌++◌, length, take, drop, refl, sym, ap, ◌∙◌, subst, arith, nat_lt, if◌then◌else◌, Option, Some, None, append_assoc, length-append, take-append-drop}
-use Rattle.std.specs.List.{AllByRecursion, concat, flat_map}
-use Rattle.std.specs.Prelude.{◌&&◌, ◌==◌, nat_le, slice_get}
+use Rattle.std.proofs.Common.{◌≡◌, ℕ, ◌<◌, true, arith, nat_lt, ◌+◌, ◌-◌, Bool, false, List, [], ◌++◌, length, drop, refl, sym, ap, ◌∙◌, length-append, if◌then◌else◌, zero, suc, subst, Option, Some, None, ◌≤◌, take, append_assoc, ◌∷◌, take-append-drop}
 use Rattle.std.proofs.lemmas.Grind.{common_steps}
-use Rattle.std.proofs.lemmas.List.{take_at, drop_at, take-append-le, drop-append-le, length-drop, length-take, drop-drop, drop_all}
-use Rattle.h3_wire.specs.Pieces.{chunk_of}
+use Rattle.std.specs.List.{concat, flat_map, AllByRecursion}
+use Rattle.std.specs.Prelude.{◌&&◌, ◌==◌, slice_get, nat_le}
 use Rattle.h3_connection.specs.Incoming.{Incoming}
-use Rattle.h3_connection.specs.Pulling.{just, malformed, in_payload, at_payload, body_of, connection_fault}
+use Rattle.h3_world.specs.Flow.{Flow, part_bytes, Part, Section, flow_bytes}
+use Rattle.h3_wire.specs.Pieces.{chunk_of}
+use Rattle.h3_connection.specs.Pulling.{malformed, in_payload, at_payload, body_of, connection_fault, just}
 use Rattle.h3_connection.specs.Codes.{frame_error}
 use Rattle.h3_messages.specs.Content.{is_exceeded}
-use Rattle.h3_messages.specs.declared.content.Content.TheVariants.{Unsaid}
-use Rattle.h3_connection.specs.declared.event.Item.TheVariants as item
 use Rattle.h3_connection.specs.declared.event.Malformation.TheVariants as malformation
-use Rattle.h3_connection.specs.declared.event.Pull.{Pull}
-use Rattle.h3_connection.specs.declared.event.Pull.TheVariants as pull
-use Rattle.h3_world.specs.Flow.{Flow, Part, Section, part_bytes, flow_bytes}
 use Rattle.h3_world.specs.Flow.Part.{Body}
+use Rattle.h3_connection.specs.declared.event.Pull.TheVariants as pull
 use Rattle.h3_world.specs.Items.{body_there}
 use Rattle.h3_world.specs.Order.{next_part, is_end}
-use Rattle.h3_headline.specs.PulledLaws.{ComesTo, Pauses, HandsOut, GoesOn, stands_at, receives_on}
-use Rattle.h3_headline.specs.Standing.{StandsBefore, WaitsIn, HasBytes, ReceivesFlow, place_after, section_frame, section_of_part}
-
--- A receiver inside a piece of the body: how much is left of it, what of that came, and what follows.
-pub record IsInPiece (f : Flow) (bytes : List ℕ) (own : ℕ) (i : Incoming) : Type 0 where
-  pub on : GoesOn f i
-  pub next : next_part f ≡ Some (Body bytes own)
-  pub size : i.body_left ≡ length (drop f.body_out bytes)
-  pub some : 0 < length (drop f.body_out bytes)
-  pub out : f.body_out ≤ length bytes
-  pub unread : concat i.unread ++ drop f.delivered (flow_bytes f) ≡ drop f.body_out bytes ++ flat_map part_bytes (drop (f.parts_out + 1) f.sent)
-  pub there : body_there f bytes own ≡ length (concat i.unread)
-  pub section : i.section ≡ None
-  pub pieces : AllByRecursion HasBytes i.unread
-  pub place : i.place ≡ place_after (take f.parts_out f.sent)
-  pub content : i.content ≡ Unsaid
-  pub place_next : place_after (take (f.parts_out + 1) f.sent) ≡ place_after (take f.parts_out f.sent)
-  pub waits : i.waits_for ≡ 0
-  -- once the end came all bytes did
-  pub whole : f.ended ≡ true → drop f.delivered (flow_bytes f) ≡ []
+use Rattle.std.proofs.lemmas.List.{take_at, drop_at, take-append-le, drop-append-le, drop_all, length-drop, drop-drop, length-take}
+use Rattle.h3_connection.specs.declared.event.Item.TheVariants as item
+use Rattle.h3_connection.specs.declared.event.Pull.{Pull}
+use Rattle.h3_headline.specs.PulledLaws.{receives_on, stands_at}
+use Rattle.h3_headline.specs.Pulling.{ComesTo, HandsOut, IsFront, IsInPiece, Pauses, after_front}
+use Rattle.h3_headline.specs.Standing.{HasBytes, ReceivesFlow, StandsBefore, WaitsIn, section_frame, section_of_part}
 
 below : (a b : ℕ) → nat_lt a b ≡ true → a < b
 below a b e = grind (arith, common_steps, e)
@@ -82,16 +64,6 @@ nothing_came_of_it most id f came bytes own i h none =
       place = h.place;
       content = h.content;
     }))
-
--- A front of what is left was handed out.
-abbrev pub after_front : Incoming → List ℕ → List (List ℕ) → Incoming
-after_front i front pieces = record i { unread = pieces; body_left = i.body_left - length front }
-
-pub record IsFront (i : Incoming) (front : List ℕ) (pieces : List (List ℕ)) : Type 0 where
-  pub some : 0 < length front
-  pub within : length front ≤ i.body_left
-  pub unread : concat i.unread ≡ front ++ concat pieces
-  pub kept : AllByRecursion HasBytes pieces
 
 front_left : (left rest unread front behind more : List ℕ) → unread ++ more ≡ left ++ rest → unread ≡ front ++ behind → length front ≤ length left
     → (front ≡ take (length front) left) × (behind ++ more ≡ drop (length front) left ++ rest)

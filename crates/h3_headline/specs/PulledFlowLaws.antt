@@ -1,51 +1,32 @@
 -- What a pull of a request stream comes to: by where its receiver stands before the next part.
-use Rattle.std.proofs.Common.{◌≡◌, ℕ, ◌+◌, ◌≤◌, ◌<◌, Bool, true, false, List, [], ◌∷◌, ◌++◌, length, take, drop, refl, sym, ap, ◌∙◌, subst, arith, if◌then◌else◌, Option, Some, None}
-use Rattle.std.specs.List.{AllByRecursion, concat, flat_map}
+use Rattle.std.proofs.Common.{◌≡◌, ◌+◌, length, take, drop, refl, true, [], arith, ◌<◌, Bool, false, ℕ, subst, Option, Some, List, ◌∷◌, sym, ap, ◌∙◌, if◌then◌else◌, ◌≤◌, ◌++◌}
+use Rattle.std.specs.List.{concat, flat_map}
+use Rattle.h3_connection.specs.Incoming.{Incoming, is_body}
+use Rattle.h3_world.specs.Flow.{Flow, part_bytes, flow_bytes, Part, Section}
+use Rattle.h3_world.specs.World.{Party}
 use Rattle.std.proofs.lemmas.List.{drop_all}
+use Rattle.h3_world.specs.Sound.{IsSoundFlow, IsSentSection}
+use Rattle.h3_connection.specs.Pulling.{just, left_with, at_end, at_frame, framed, next_frame, between_frames, connection_fault, begun_section}
+use Rattle.h3_connection.specs.declared.event.Pull.TheVariants as pull
+use Rattle.h3_world.specs.Pauses.{pause_before}
 use Rattle.h3_qpack.specs.DecoderState.{DecoderState}
-use Rattle.h3_header.specs.Head as header
-use Rattle.h3_wire.specs.Encoded.{frame_encoding}
 use Rattle.h3_wire.specs.Frames.{Whole, Unfinished, frame_at}
 use Rattle.h3_wire.specs.UnfinishedLaws.{IsUnfinishedFront}
 use Rattle.h3_wire.specs.declared.proto.frame.PayloadLen.{PayloadLen}
 use Rattle.h3_wire.specs.declared.proto.frame.Frame.{Frame}
 use Rattle.h3_proto.specs.declared.stream.Side.{Side}
-use Rattle.h3_messages.specs.declared.content.Content.TheVariants.{Unsaid}
-use Rattle.h3_connection.specs.Incoming.{Incoming, is_body}
-use Rattle.h3_connection.specs.Pulling.{just, left_with, begun_section, at_end, at_frame, framed, next_frame, between_frames, connection_fault}
 use Rattle.h3_connection.specs.Codes.{frame_error}
 use Rattle.h3_connection.specs.Skipping.{is_empty_data, skipped}
-use Rattle.h3_connection.specs.declared.event.Item.{Item}
-use Rattle.h3_connection.specs.declared.event.Pull.TheVariants as pull
 use Rattle.h3_connection.specs.declared.setup.Announced.{Announced}
-use Rattle.h3_world.specs.Flow.{Flow, Part, Section, part_bytes, flow_bytes}
-use Rattle.h3_world.specs.World.{Party}
+use Rattle.h3_header.specs.Head as header
+use Rattle.h3_wire.specs.Encoded.{frame_encoding}
+use Rattle.h3_connection.specs.declared.event.Item.{Item}
 use Rattle.h3_world.specs.Order.{next_part}
-use Rattle.h3_world.specs.Pauses.{pause_before}
-use Rattle.h3_world.specs.Sound.{IsSentSection, IsSoundFlow}
-use Rattle.h3_headline.specs.FrontLaws.{long_front, came_so_far, skipped_whole, skipped_unfinished, skipped_none, left_all, left_behind, without_pieces}
-use Rattle.h3_headline.specs.PartLaws.{IsPartAt, flow_parts}
-use Rattle.h3_headline.specs.PulledLaws.{ComesTo, Pauses, GoesOn}
-use Rattle.h3_headline.specs.PulledSectionLaws.{IsSectionPart, IsAtSection}
-use Rattle.h3_headline.specs.Standing.{HasBytes, ReceivesFlow, place_after}
-
--- A receiver in front of a part of which no byte was read apart from the others.
-pub record IsBefore (p : Party) (f : Flow) (i : Incoming) : Type 0 where
-  pub on : GoesOn f i
-  pub sound : IsSoundFlow p f
-  pub section : i.section ≡ None
-  pub body_left : i.body_left ≡ 0
-  pub out : f.body_out ≡ 0
-  pub unread : concat i.unread ++ drop f.delivered (flow_bytes f) ≡ flat_map part_bytes (drop f.parts_out f.sent)
-  pub waits : i.waits_for ≡ 0
-  pub no_wait : f.waits_for ≡ 0
-  pub pieces : AllByRecursion HasBytes i.unread
-  pub place : i.place ≡ place_after (take f.parts_out f.sent)
-  pub content : i.content ≡ Unsaid
-  pub same : ReceivesFlow f i
-
-abbrev before_bytes : Flow → ℕ
-before_bytes f = length (flat_map part_bytes (take f.parts_out f.sent))
+use Rattle.h3_headline.specs.FrontLaws.{came_so_far, left_all, left_behind, long_front, skipped_none, skipped_unfinished, skipped_whole, without_pieces}
+use Rattle.h3_headline.specs.PartLaws.{flow_parts}
+use Rattle.h3_headline.specs.Parts.{IsPartAt}
+use Rattle.h3_headline.specs.Pulling.{ComesTo, IsAtSection, IsBefore, IsSectionPart, Pauses, before_bytes}
+use Rattle.h3_headline.specs.Standing.{ReceivesFlow}
 
 -- how much came
 pub came_is : (p : Party) (f : Flow) (i : Incoming) → IsBefore p f i → before_bytes f + length (concat i.unread) ≡ f.delivered

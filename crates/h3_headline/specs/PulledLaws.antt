@@ -1,35 +1,13 @@
 -- What a pull of a request stream comes to, by the flow that it receives.
-use Rattle.std.proofs.Common.{◌≡◌, ℕ, true, false, List, [], drop, sym, ap, ◌∙◌, subst, Option, Some, None}
-use Rattle.std.specs.List.{flat_map}
+use Rattle.std.proofs.Common.{◌≡◌, true, false, ap, Option, None, ℕ, List, drop, sym, subst, ◌∙◌}
 use Rattle.std.specs.Prelude.{is_some}
-use Rattle.h3_connection.specs.Incoming.{Incoming}
-use Rattle.h3_connection.specs.Pulling.{Pulled}
-use Rattle.h3_connection.specs.declared.event.Item.{Item}
-use Rattle.h3_connection.specs.declared.event.Pull.{Pull}
-use Rattle.h3_connection.specs.declared.event.Pull.TheVariants as pull
 use Rattle.h3_connection.specs.declared.event.StreamFault.{StreamFault}
+use Rattle.std.specs.List.{flat_map}
 use Rattle.h3_world.specs.Flow.{Flow, Part, part_bytes}
-use Rattle.h3_world.specs.Items.{HasCome, acknowledgment_of, after_item}
-use Rattle.h3_world.specs.Machine.{count_waited_for}
+use Rattle.h3_connection.specs.Incoming.{Incoming}
 use Rattle.h3_world.specs.Order.{is_over}
-use Rattle.h3_world.specs.Pauses.{pause_before}
-use Rattle.h3_headline.specs.Standing.{StandsBefore, ReadsFlow, ReceivesFlow}
-
--- The pull pauses exactly where it must, or hands out an item that has come; and its receiver keeps what is kept then.
-pub data ComesTo (most id : ℕ) (f : Flow) (came : ℕ) (part : Option Part) (p : Pulled) : Type 0 where
-  Pauses : (q : Pull) → pause_before f came part ≡ Some q → p.answer ≡ q → p.replies ≡ [] → ReceivesFlow (record f { waits_for = count_waited_for q }) p.incoming
-      → ComesTo most id f came part p
-  HandsOut : (i : Item) → pause_before f came part ≡ None → HasCome most f part i → p.answer ≡ pull.Item i → p.replies ≡ acknowledgment_of id part → ReceivesFlow (after_item f part i) p.incoming
-      → ComesTo most id f came part p
-
--- What is the same of a receiver whose pull goes on: it was not given up, and its end was not handed out.
-pub record GoesOn (f : Flow) (i : Incoming) : Type 0 where
-  pub alive : f.fault ≡ None
-  pub fault : i.fault ≡ None
-  pub ended : i.ended ≡ f.ended
-  pub was_reset : i.was_reset ≡ f.reset_came
-  pub goes_on : i.is_over ≡ false
-  pub not_over : is_over f ≡ false
+use Rattle.h3_headline.specs.Pulling.{GoesOn}
+use Rattle.h3_headline.specs.Standing.{ReadsFlow, ReceivesFlow, StandsBefore}
 
 pub none_some : (o : Option StreamFault) → o ≡ None → is_some o ≡ true → ⊥
 none_some o e h = let n : is_some o ≡ false = ap is_some e in absurd (cc)

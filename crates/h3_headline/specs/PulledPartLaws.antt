@@ -1,8 +1,12 @@
 -- What a pull of a request stream comes to: by the part that is next.
-use Rattle.std.proofs.Common.{◌≡◌, inl, inr, ℕ, ◌+◌, ◌-◌, ◌<◌, lit<, Bool, true, false, List, [], ◌∷◌, ◌++◌, length, take, drop, refl, sym, ap, ◌∙◌, subst, arith, nat_lt, if◌then◌else◌, Option, Some, None, append_assoc, length-append}
-use Rattle.std.specs.List.{concat, flat_map}
+use Rattle.std.proofs.Common.{◌≡◌, ◌+◌, ◌-◌, length, take, drop, ap, ◌∙◌, length-append, ℕ, ◌<◌, nat_lt, if◌then◌else◌, Some, None, inl, inr, lit<, Bool, true, false, List, [], ◌∷◌, ◌++◌, refl, sym, subst, arith, Option, append_assoc}
+use Rattle.std.specs.List.{flat_map, concat}
+use Rattle.h3_world.specs.Flow.{Flow, Part, part_bytes, flow_bytes, Section}
+use Rattle.h3_world.specs.World.{Party}
+use Rattle.std.proofs.lemmas.Bool.{lt-ltb, cases_lt}
+use Rattle.h3_connection.specs.declared.event.Pull.TheVariants as pull
+use Rattle.h3_world.specs.Pauses.{section_pause}
 use Rattle.std.specs.Prelude.{◌&&◌, ◌==◌, slice_get}
-use Rattle.std.proofs.lemmas.Bool.{cases_lt, lt-ltb}
 use Rattle.std.proofs.lemmas.Grind.{common_steps}
 use Rattle.std.proofs.lemmas.List.{length-drop}
 use Rattle.h3_qpack.specs.DecodedSection.{decode_section}
@@ -24,29 +28,25 @@ use Rattle.h3_connection.specs.declared.event.Item.{Item}
 use Rattle.h3_connection.specs.Codes.{frame_unexpected}
 use Rattle.h3_connection.specs.declared.event.Item.TheVariants as item
 use Rattle.h3_connection.specs.declared.event.Malformation.TheVariants as malformation
-use Rattle.h3_connection.specs.declared.event.Pull.TheVariants as pull
 use Rattle.h3_connection.specs.declared.place.Place.{Place}
 use Rattle.h3_connection.specs.declared.place.Place.TheVariants.{BeforeHead, InBody}
 use Rattle.h3_connection.specs.declared.setup.Announced.{Announced}
-use Rattle.h3_world.specs.Flow.{Flow, Part, Section, part_bytes, flow_bytes}
 use Rattle.h3_world.specs.Flow.Part.{Interim, Head, Body, Trailer, End}
-use Rattle.h3_world.specs.World.{Party}
 use Rattle.h3_world.specs.Items.{body_there}
 use Rattle.h3_world.specs.Order.{next_part, is_over, is_end, last_part}
-use Rattle.h3_world.specs.Pauses.{section_pause}
 use Rattle.h3_world.specs.Setup.{IsPlain}
 use Rattle.h3_world.specs.Sound.{IsSentSection}
-use Rattle.h3_headline.specs.FrontLaws.{short_front, long_front, left_behind, without_pieces, unfinished_section, unfinished_data, data_front}
-use Rattle.h3_headline.specs.PartLaws.{IsPartAt, part_at, flow_parts, none_left, ended_over, IsPlaceOf}
+use Rattle.h3_headline.specs.Cited.{ListsAreTheirValue}
+use Rattle.h3_headline.specs.FrontLaws.{data_front, left_behind, long_front, short_front, unfinished_data, unfinished_section, without_pieces}
+use Rattle.h3_headline.specs.PartLaws.{ended_over, flow_parts, none_left, part_at}
+use Rattle.h3_headline.specs.Parts.{IsPartAt, IsPlaceOf}
 use Rattle.h3_headline.specs.PulledBodyLaws.{payload_comes}
-use Rattle.h3_headline.specs.PulledFlowLaws.{IsBefore, came_is, all_came, not_ended, waits_on, unfinished_waits, nothing_there, whole_frame, section_there}
-use Rattle.h3_headline.specs.PulledLaws.{ComesTo, HandsOut, stands_at, receives_on}
-use Rattle.h3_headline.specs.PulledSectionLaws.{ListsAreTheirValue, IsSectionPart, interim_part, head_part, trailer_part, IsReadAs, reads_interim, reads_head, reads_trailer, tried_as, first_try}
+use Rattle.h3_headline.specs.PulledFlowLaws.{all_came, came_is, not_ended, nothing_there, section_there, unfinished_waits, waits_on, whole_frame}
+use Rattle.h3_headline.specs.PulledLaws.{receives_on, stands_at}
+use Rattle.h3_headline.specs.PulledSectionLaws.{first_try, head_part, interim_part, reads_head, reads_interim, reads_trailer, trailer_part}
+use Rattle.h3_headline.specs.Pulling.{ComesTo, DecodesNext, HandsOut, IsBefore, IsReadAs, IsReadableNext, IsSectionPart, before_bytes, tried_as}
 use Rattle.h3_headline.specs.ReceivingLaws.{encoding_some}
-use Rattle.h3_headline.specs.Standing.{IsReadable, WaitsIn, section_frame, section_of_part}
-
-abbrev before_bytes : Flow → ℕ
-before_bytes f = length (flat_map part_bytes (take f.parts_out f.sent))
+use Rattle.h3_headline.specs.Standing.{WaitsIn, section_frame, section_of_part}
 
 -- how long all is that was sent
 whole_length : (p : Party) (f : Flow) (part : Part) → IsPartAt p f.sent f.parts_out part
@@ -226,19 +226,8 @@ module _ (lists : ListsAreTheirValue) (side : Side) (announced : Announced) (id 
           clash a b = grind (arith, common_steps, a, b)
       still_open false e = refl
 
-  -- what the decoder makes of the section that is next
-  abbrev pub DecodesNext : Option Part → Type 0
-  DecodesNext (Some (Interim s)) = decode_section r s.encoded ≡ tried_as came s
-  DecodesNext (Some (Head s)) = decode_section r s.encoded ≡ tried_as came s
-  DecodesNext (Some (Trailer s)) = decode_section r s.encoded ≡ tried_as came s
-  DecodesNext _ = Unit {0}
-
-  abbrev pub IsReadableNext : Option Part → Type 0
-  IsReadableNext None = Unit {0}
-  IsReadableNext (Some part) = IsReadable side part
-
   -- **In front of a part.**
-  pub before_comes : IsPlain announced → (p : Party) (f : Flow) (part : Option Part) (i : Incoming) → IsBefore p f i → next_part f ≡ part → DecodesNext part → IsReadableNext part
+  pub before_comes : IsPlain announced → (p : Party) (f : Flow) (part : Option Part) (i : Incoming) → IsBefore p f i → next_part f ≡ part → DecodesNext lists side announced id r came part → IsReadableNext lists side announced id r came part
       → ComesTo (section_of announced) id f came part (between_frames side announced id r i)
   before_comes plain p f None i h next decodes readable = none_comes p f i h next
   before_comes plain p f (Some (Interim s)) i h next decodes readable =

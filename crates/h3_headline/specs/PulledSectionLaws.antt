@@ -1,62 +1,46 @@
 -- What is handed out of a field section whose frame was read.
-use Rattle.std.proofs.Common.{◌≡◌, ℕ, ◌+◌, ◌-◌, ◌≤◌, ◌<◌, ◌^◌, Bool, true, false, List, ◌++◌, take, drop, refl, sym, ap, ◌∙◌, subst, arith, nat_lt, if◌then◌else◌, Some, None, append_assoc}
-use Rattle.std.specs.List.{AllByRecursion, concat, flat_map}
-use Rattle.std.proofs.lemmas.Bool.{lt-ltb, le-ltb, le-leb}
-use Rattle.std.specs.Prelude.{codes, not, ◌&&◌, ◌==◌, nat_le, slice_get, Option, option_map}
-use Rattle.std.proofs.lemmas.Grind.{common_steps}
+use Rattle.std.proofs.Common.{refl, ◌≡◌, ◌<◌, ◌^◌, List, arith, ◌+◌, ◌-◌, Bool, true, false, ap, ◌∙◌, nat_lt, Some, ◌++◌, take, drop, sym, ℕ, ◌≤◌, None, if◌then◌else◌, subst, append_assoc}
+use Rattle.h3_connection.specs.declared.event.Item.TheVariants as item
+use Rattle.h3_world.specs.Flow.{Section, Flow, Part, flow_bytes}
+use Rattle.h3_world.specs.Flow.Part.{Interim, Head, Trailer}
 use Rattle.h3_field.specs.Field.{Field, section_size}
-use Rattle.h3_field.specs.Instruction.{DecoderInstruction}
-use Rattle.h3_qpack.specs.DecodedSection.{DecodedSection, Fields, Missing, decode_section}
-use Rattle.h3_qpack.specs.DecoderState.{DecoderState}
-use Rattle.h3_qpack.specs.Sizes.{last_value, told_size}
-use Rattle.h3_header.specs.Head.{has_pseudo}
+use Rattle.h3_qpack.specs.Sizes.{told_size, last_value}
+use Rattle.std.specs.Prelude.{◌&&◌, slice_get, codes, not, Option, option_map, ◌==◌, nat_le}
+use Rattle.h3_world.specs.Order.{next_part, is_end}
+use Rattle.std.specs.List.{concat}
 use Rattle.h3_header.specs.Head as header
-use Rattle.h3_header.specs.HeadRead.{IsHead, head_of}
-use Rattle.h3_header.specs.Reads.{IsHeadOf, head_of_fields}
+use Rattle.h3_connection.specs.Incoming.{Incoming}
+use Rattle.h3_connection.specs.declared.event.Item.{Item}
+use Rattle.h3_connection.specs.declared.place.Place.{Place}
+use Rattle.std.proofs.lemmas.Bool.{le-ltb, lt-ltb, le-leb}
+use Rattle.h3_world.specs.Pauses.{section_pause}
+use Rattle.h3_connection.specs.declared.event.Pull.TheVariants as pull
+use Rattle.std.proofs.lemmas.Grind.{common_steps}
+use Rattle.h3_field.specs.Instruction.{DecoderInstruction}
+use Rattle.h3_qpack.specs.DecoderState.{DecoderState}
+use Rattle.h3_header.specs.HeadRead.{head_of}
+use Rattle.h3_header.specs.Reads.{head_of_fields}
 use Rattle.h3_header.specs.ReadsBack.{ReadsBack}
-use Rattle.h3_wire.specs.Encoded.{frame_encoding}
 use Rattle.h3_proto.specs.declared.stream.Side.{Side}
 use Rattle.h3_proto.specs.declared.stream.Side.TheVariants.{Client, Server}
 use Rattle.h3_connection.specs.Announcing.{section_of}
 use Rattle.h3_messages.specs.declared.content.Content.TheVariants.{Unsaid}
-use Rattle.h3_connection.specs.Incoming.{Incoming}
 use Rattle.h3_connection.specs.StrictMessages.{broken_rule, content_behind, if_whole, malformation_by, violation_at, content_behind_large}
-use Rattle.h3_connection.specs.Pulling.{Pulled, just, is_client, is_interim, next_place, judged, with_content, read_section, decoded, at_section, acknowledgment, past_section, tried, connection_fault, malformed, head_or_trailer, past_large}
-use Rattle.h3_connection.specs.Codes.{decompression_failed}
+use Rattle.h3_connection.specs.Pulling.{Pulled, is_client, is_interim, next_place, judged, with_content, malformed, head_or_trailer, past_large, just, decoded, at_section, acknowledgment, past_section, tried, connection_fault}
 use Rattle.h3_connection.specs.declared.event.Malformation.{Malformation}
 use Rattle.h3_connection.specs.declared.event.Malformation.TheVariants as malformation
-use Rattle.h3_connection.specs.declared.event.Item.{Item}
-use Rattle.h3_connection.specs.declared.event.Item.TheVariants as item
-use Rattle.h3_connection.specs.declared.event.Pull.TheVariants as pull
-use Rattle.h3_connection.specs.declared.place.Place.{Place}
 use Rattle.h3_connection.specs.declared.place.Place.TheVariants.{BeforeHead, InBody, AfterTrailer}
 use Rattle.h3_connection.specs.declared.setup.Announced.{Announced}
-use Rattle.h3_world.specs.Flow.{Flow, Part, Section, part_bytes, flow_bytes}
-use Rattle.h3_world.specs.Flow.Part.{Interim, Head, Trailer}
-use Rattle.h3_world.specs.Items.{IsSectionItem, SectionHasCome, HasCome, acknowledgment_of, after_item}
-use Rattle.h3_world.specs.Order.{next_part, is_end}
-use Rattle.h3_world.specs.Pauses.{pause_before, section_pause}
+use Rattle.h3_world.specs.Items.{IsSectionItem}
 use Rattle.h3_world.specs.Setup.{IsPlain}
-use Rattle.h3_headline.specs.PulledLaws.{ComesTo, Pauses, HandsOut, GoesOn, stands_at, receives_on}
-use Rattle.h3_headline.specs.Standing.{IsReadable, WaitsIn, HasBytes, ReceivesFlow, place_after, place_behind, section_frame, section_of_part}
+use Rattle.h3_qpack.specs.DecodedSection.{Fields, Missing, decode_section}
+use Rattle.h3_wire.specs.Encoded.{frame_encoding}
+use Rattle.h3_connection.specs.Codes.{decompression_failed}
+use Rattle.h3_headline.specs.Cited.{ListsAreTheirValue}
+use Rattle.h3_headline.specs.PulledLaws.{receives_on, stands_at}
+use Rattle.h3_headline.specs.Pulling.{ComesTo, HandsOut, IsAtSection, IsReadAs, IsSectionPart, Pauses, behind_section, placed, tried_as}
+use Rattle.h3_headline.specs.Standing.{IsReadable, ReceivesFlow, WaitsIn, place_after, place_behind, section_frame, section_of_part}
 use Rattle.h3_headline.specs.StatusLaws.{interim_by_last}
-
--- the law of h3_header that a list that is read as a head is read as that head
-abbrev pub ListsAreTheirValue : Type 0
-ListsAreTheirValue = (fields : List Field) (h : header.Head) → IsHeadOf fields h → head_of fields ≡ IsHead h
-
--- the flow behind the section
-abbrev pub behind_section : Flow → Flow
-behind_section f = record f { parts_out = f.parts_out + 1; waits_for = 0 }
-
--- The part is this section, which is handed out as such an item.
-pub record IsSectionPart (kind : header.Head → Item) (s : Section) (part : Part) : Type 0 where
-  pub replies : (id : ℕ) → acknowledgment_of id (Some part) ≡ acknowledgment id s.count
-  pub pause : (f : Flow) (came : ℕ) → pause_before f came (Some part) ≡ section_pause f came s
-  pub after : (f : Flow) (i : Item) → after_item f (Some part) i ≡ behind_section f
-  pub more : is_end (Some part) ≡ false
-  pub section : section_of_part (Some part) ≡ Some s
-  pub has_come : (most : ℕ) (f : Flow) (i : Item) → SectionHasCome kind most f s i → HasCome most f (Some part) i
 
 pub interim_part : (s : Section) → IsSectionPart item.Interim s (Interim s)
 interim_part s = record { replies = λ id. refl; pause = λ f came. refl; after = λ f i. refl; more = refl; section = refl; has_come = λ most f i h. h }
@@ -66,23 +50,6 @@ head_part s = record { replies = λ id. refl; pause = λ f came. refl; after = �
 
 pub trailer_part : (s : Section) → IsSectionPart item.Trailer s (Trailer s)
 trailer_part s = record { replies = λ id. refl; pause = λ f came. refl; after = λ f i. refl; more = refl; section = refl; has_come = λ most f i h. h }
-
--- The section is at hand: its frame was read, and what follows it is unread.
-pub record IsAtSection (kind : header.Head → Item) (f : Flow) (part : Part) (s : Section) (i : Incoming) : Type 0 where
-  pub on : GoesOn f i
-  pub next : next_part f ≡ Some part
-  pub is : IsSectionPart kind s part
-  pub own : s.own_length ≤ f.delivered
-  pub reads_back : ReadsBack s.fields
-  pub small : section_size s.fields < 2 ^ 56
-  pub body_left : i.body_left ≡ 0
-  pub out : f.body_out ≡ 0
-  pub front : flat_map part_bytes (drop f.parts_out f.sent) ≡ frame_encoding 1 s.encoded ++ flat_map part_bytes (drop (f.parts_out + 1) f.sent)
-  pub unread : concat i.unread ++ drop f.delivered (flow_bytes f) ≡ flat_map part_bytes (drop (f.parts_out + 1) f.sent)
-  pub pieces : AllByRecursion HasBytes i.unread
-  pub place : i.place ≡ place_after (take f.parts_out f.sent)
-  pub content : i.content ≡ Unsaid
-  pub place_next : place_after (take (f.parts_out + 1) f.sent) ≡ place_behind (place_after (take f.parts_out f.sent)) part
 
 told_is : (fields : List Field) → section_size fields < 2 ^ 56 → told_size fields ≡ section_size fields
 told_is fields small = omega (arith, small)
@@ -95,10 +62,6 @@ over_after f part next more =
     not_second : (a b : Bool) → b ≡ false → (a && b) ≡ false
     not_second true b e = e
     not_second false b e = refl
-
--- its receiver at a place
-abbrev pub placed : Incoming → Place → Incoming
-placed i place = record (past_section i) { place = place }
 
 receives_behind : (kind : header.Head → Item) (f : Flow) (part : Part) (s : Section) (i : Incoming) (place : Place) → IsAtSection kind f part s i → place ≡ place_behind (place_after (take f.parts_out f.sent)) part
     → ReceivesFlow (behind_section f) (placed i place)
@@ -119,12 +82,6 @@ no_pause f came s own enough = rw (le-ltb f.delivered s.own_length own, le-ltb c
 -- and before that the pause is for them
 a_pause : (f : Flow) (came : ℕ) (s : Section) → s.own_length ≤ f.delivered → came < s.count → section_pause f came s ≡ Some (pull.Waiting s.count)
 a_pause f came s own missing = rw (le-ltb f.delivered s.own_length own, lt-ltb came s.count missing) refl
-
--- What a section that was decoded is read as.
-pub record IsReadAs (side : Side) (announced : Announced) (id : ℕ) (r : DecoderState) (kind : header.Head → Item) (part : Part) (s : Section) (x : Incoming) (replies : List DecoderInstruction) : Type 0 where
-  pub item_is : Item
-  pub reads : read_section side announced id r x replies s.fields ≡ record { answer = pull.Item item_is; incoming = record x { place = place_behind x.place part }; replies = replies }
-  pub of_fields : IsSectionItem kind (section_of announced) s.fields item_is
 
 module _ (lists : ListsAreTheirValue) (side : Side) (announced : Announced) (plain : IsPlain announced) (id : ℕ) (r : DecoderState) where
   -- no rule is asked for
@@ -239,10 +196,6 @@ module _ (lists : ListsAreTheirValue) (side : Side) (announced : Announced) (pla
       by_side : (d : Side) → next_place d InBody s.fields ≡ AfterTrailer
       by_side Client = refl
       by_side Server = refl
-
--- what the decoder makes of the section: its fields, or that it misses insertions
-abbrev pub tried_as : ℕ → Section → DecodedSection
-tried_as came s = if nat_le s.count came then Fields s.fields s.count else Missing s.count
 
 module _ (side : Side) (announced : Announced) (id : ℕ) (r : DecoderState) where
   -- its fields were decoded

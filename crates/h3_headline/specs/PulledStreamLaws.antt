@@ -1,6 +1,9 @@
 -- What a pull of a request stream comes to, wherever its receiver stands.
-use Rattle.std.proofs.Common.{◌≡◌, ◌⊎◌, inl, inr, ℕ, zero, suc, ◌+◌, ◌≤◌, ◌<◌, true, false, List, [], ◌∷◌, ◌++◌, length, take, drop, refl, sym, ap, ◌∙◌, subst, arith, nat_lt, if◌then◌else◌, Option, Some, None, append_assoc, length-append}
-use Rattle.std.specs.List.{concat, flat_map, fold}
+use Rattle.h3_connection.specs.declared.place.Place.{Place}
+use Rattle.h3_world.specs.Flow.{Part, Flow, Section, part_bytes, flow_bytes}
+use Rattle.h3_world.specs.Flow.Part.{Interim, Head, Body, Trailer, End}
+use Rattle.std.proofs.Common.{List, [], ◌∷◌, ◌≡◌, ◌⊎◌, inl, inr, ℕ, zero, suc, ◌+◌, ◌≤◌, ◌<◌, true, false, ◌++◌, length, take, drop, refl, sym, ap, ◌∙◌, subst, arith, nat_lt, if◌then◌else◌, Option, Some, None, append_assoc, length-append}
+use Rattle.std.specs.List.{fold, concat, flat_map}
 use Rattle.std.proofs.lemmas.Bool.{lt-ltb, le-ltb}
 use Rattle.std.proofs.lemmas.List.{drop_at, length-drop}
 use Rattle.h3_qpack.specs.DecodedSection.{decode_section}
@@ -16,27 +19,20 @@ use Rattle.h3_connection.specs.declared.event.Item.{Item}
 use Rattle.h3_connection.specs.declared.event.Item.TheVariants as item
 use Rattle.h3_connection.specs.declared.event.Pull.TheVariants as pull
 use Rattle.h3_connection.specs.declared.event.StreamFault.{StreamFault}
-use Rattle.h3_connection.specs.declared.place.Place.{Place}
 use Rattle.h3_connection.specs.declared.place.Place.TheVariants.{BeforeHead, InBody, AfterTrailer, InSession}
 use Rattle.h3_connection.specs.declared.setup.Announced.{Announced}
-use Rattle.h3_world.specs.Flow.{Flow, Part, Section, part_bytes, flow_bytes}
-use Rattle.h3_world.specs.Flow.Part.{Interim, Head, Body, Trailer, End}
 use Rattle.h3_world.specs.World.{Party}
 use Rattle.h3_world.specs.Order.{next_part, is_over}
 use Rattle.h3_world.specs.Setup.{IsPlain}
 use Rattle.h3_world.specs.Sound.{IsSentSection, IsSoundFlow, WaitsBefore, WaitsForNext}
-use Rattle.h3_headline.specs.PartLaws.{part_at, flow_parts}
+use Rattle.h3_headline.specs.Cited.{ListsAreTheirValue}
+use Rattle.h3_headline.specs.PartLaws.{flow_parts, part_at}
 use Rattle.h3_headline.specs.PulledBodyLaws.{payload_comes}
 use Rattle.h3_headline.specs.PulledFlowLaws.{all_came}
-use Rattle.h3_headline.specs.PulledLaws.{ComesTo, GoesOn}
-use Rattle.h3_headline.specs.PulledPartLaws.{DecodesNext, IsReadableNext, before_comes}
-use Rattle.h3_headline.specs.PulledSectionLaws.{ListsAreTheirValue, IsSectionPart, interim_part, head_part, trailer_part, IsReadAs, reads_interim, reads_head, reads_trailer, tried_as, next_try}
-use Rattle.h3_headline.specs.Standing.{StandsBefore, WaitsIn, ReadsFlow, ReceivesFlow, place_behind, section_frame, section_of_part}
-
--- a message is in no session
-abbrev IsInMessage : Place → Type 0
-IsInMessage InSession = ⊥
-IsInMessage _ = Unit {0}
+use Rattle.h3_headline.specs.PulledPartLaws.{before_comes}
+use Rattle.h3_headline.specs.PulledSectionLaws.{head_part, interim_part, next_try, reads_head, reads_interim, reads_trailer, trailer_part}
+use Rattle.h3_headline.specs.Pulling.{ComesTo, DecodesNext, GoesOn, IsInMessage, IsReadAs, IsReadableNext, IsSectionPart, tried_as}
+use Rattle.h3_headline.specs.Standing.{ReadsFlow, ReceivesFlow, StandsBefore, WaitsIn, place_behind, section_frame, section_of_part}
 
 stays_in : (place : Place) (part : Part) → IsInMessage place → IsInMessage (place_behind place part)
 stays_in place (Interim s) h = h

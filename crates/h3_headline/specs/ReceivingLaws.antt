@@ -1,24 +1,25 @@
 -- What a receiver keeps of a flow when bytes of it come, its end or its reset.
-use Rattle.std.proofs.Common.{◌≡◌, ◌⊎◌, inl, inr, ℕ, zero, suc, ◌+◌, ◌-◌, ◌<◌, ◌^◌, lit<, true, false, List, [], ◌∷◌, ◌++◌, length, take, drop, refl, sym, ap, ◌∙◌, subst, arith, nat_lt, if◌then◌else◌, Option, Some, None, length-append, append_assoc, take-append-drop, append-nil}
-use Rattle.std.specs.List.{AllByRecursion, concat, flat_map}
-use Rattle.std.specs.Prelude.{◌&&◌, slice_get, is_some}
-use Rattle.std.proofs.lemmas.Grind.{common_steps}
-use Rattle.std.proofs.lemmas.List.{drop-drop}
-use Rattle.std.proofs.lemmas.List.Folds.{concat-append}
-use Rattle.h3_wire.specs.Pieces.{with_piece}
-use Rattle.h3_wire.specs.Encoded.{head_encoding, frame_encoding}
+use Rattle.std.proofs.Common.{ℕ, ◌<◌, List, length, arith, ◌-◌, ◌^◌, length-append, ◌≡◌, ◌+◌, lit<, ◌⊎◌, inl, inr, refl, Option, Some, None, true, false, take, drop, sym, ap, ◌∙◌, nat_lt, [], ◌∷◌, ◌++◌, append-nil, append_assoc, take-append-drop, zero, suc, subst, if◌then◌else◌}
 use Rattle.h3_coding.specs.Encodings.{IsEncoding, one, two, four, eight, encoding}
 use Rattle.h3_coding.specs.EncodingLaws.{encoding_is_valid}
-use Rattle.h3_connection.specs.Incoming.{Incoming, nothing_came, given_up}
-use Rattle.h3_connection.specs.Delivering.{kept, with_end, given_up_by, given_up_once}
-use Rattle.h3_connection.specs.declared.event.StreamFault.{StreamFault}
-use Rattle.h3_world.specs.Flow.{Flow, Part, Section, part_bytes, flow_bytes}
+use Rattle.h3_wire.specs.Encoded.{head_encoding, frame_encoding}
+use Rattle.h3_world.specs.Flow.{Flow, Section, Part, part_bytes, flow_bytes}
+use Rattle.h3_world.specs.Sound.{WaitsBefore, IsSoundFlow, WaitsForNext, OutOfNext}
 use Rattle.h3_world.specs.Flow.Part.{Interim, Head, Body, Trailer, End}
 use Rattle.h3_world.specs.World.{Party}
 use Rattle.h3_world.specs.Order.{next_part, is_over, is_end}
-use Rattle.h3_world.specs.Sound.{IsSoundFlow, WaitsForNext, WaitsBefore, OutOfNext}
-use Rattle.h3_headline.specs.Standing.{place_after, section_frame, section_of_part, StandsBefore, WaitsIn, HasBytes, ReadsFlow, ReceivesFlow}
+use Rattle.std.specs.List.{flat_map, concat, AllByRecursion}
+use Rattle.std.specs.Prelude.{◌&&◌, slice_get, is_some}
+use Rattle.std.proofs.lemmas.Grind.{common_steps}
+use Rattle.h3_connection.specs.Incoming.{nothing_came, given_up, Incoming}
+use Rattle.h3_connection.specs.Delivering.{kept, with_end, given_up_by, given_up_once}
+use Rattle.std.proofs.lemmas.List.Folds.{concat-append}
+use Rattle.h3_wire.specs.Pieces.{with_piece}
+use Rattle.std.proofs.lemmas.List.{drop-drop}
+use Rattle.h3_connection.specs.declared.event.StreamFault.{StreamFault}
+use Rattle.h3_headline.specs.Arriving.{come, ended_flow, flow_given_up, reset_flow}
 use Rattle.h3_headline.specs.PartLaws.{part_at}
+use Rattle.h3_headline.specs.Standing.{HasBytes, ReadsFlow, ReceivesFlow, StandsBefore, WaitsIn, place_after, section_frame, section_of_part}
 
 encoding_bytes : (v : ℕ) (bytes : List ℕ) → IsEncoding v bytes → 0 < length bytes
 encoding_bytes v bytes (one f) = omega (arith, f.count)
@@ -114,10 +115,6 @@ moved frame unread bytes whole delivered count is =
     ∙ ap (λ l. frame ++ l) (append_assoc unread bytes (drop (delivered + count) whole) ∙ ap (λ l. unread ++ l) rest)
     ∙ sym (append_assoc frame unread (drop delivered whole))
 
--- the flow after so many bytes of it came
-abbrev pub come : Flow → ℕ → Flow
-come f count = record f { delivered = f.delivered + count; seen = true }
-
 before_come : (f : Flow) (count : ℕ) (n : ℕ) (part : Option Part) (left : List ℕ) → StandsBefore f n part left → StandsBefore (come f count) n part left
 before_come f count zero part left h = h
 before_come f count (suc n) None left h = h
@@ -168,10 +165,6 @@ bytes_come f i bytes count h is =
           content = r.content;
         }
 
--- The end comes.
-abbrev pub ended_flow : Flow → Flow
-ended_flow f = record f { seen = true; ended = true }
-
 pub end_comes : (f : Flow) (i : Incoming) → ReceivesFlow f i → ReceivesFlow (ended_flow f) (with_end i)
 end_comes f i h =
     record {
@@ -220,13 +213,6 @@ is_given_up f i fault ended reset over =
   where
     lost : ◌≡◌ {A = Option StreamFault} (Some fault) None → ⊥
     lost e = cc
-
--- Its reset comes: the stream is given up, unless it was before.
-abbrev pub reset_flow : Flow → Flow
-reset_flow f = record f { seen = true; reset_came = true }
-
-abbrev pub flow_given_up : Flow → StreamFault → Flow
-flow_given_up f fault = if is_some f.fault then reset_flow f else record (reset_flow f) { fault = Some fault; waits_for = 0 }
 
 pub reset_comes : (f : Flow) (i : Incoming) (fault : StreamFault) → ReceivesFlow f i → ReceivesFlow (flow_given_up f fault) (given_up_once (record i { was_reset = true }) fault)
 reset_comes f i fault h = subst (after f.fault) (sym h.fault) (by_fault f.fault refl)

@@ -1,22 +1,23 @@
 -- The reset of a request stream goes over: the receiver gives the stream up once, and both endpoints stand in the world after it.
-use Rattle.std.proofs.Common.{◌≡◌, ℕ, Bool, true, false, refl, if◌then◌else◌, Some}
+use Rattle.std.proofs.Common.{◌≡◌, Bool, true, false, refl, if◌then◌else◌, Some, ℕ}
 use Rattle.std.specs.Prelude.{is_some}
+use Rattle.h3_connection.specs.declared.event.StreamFault.{StreamFault}
+use Rattle.h3_world.specs.Flow.{Flow}
+use Rattle.h3_world.specs.Order.{outgoing_of}
 use Rattle.h3_proto.specs.declared.stream.Side.{Side}
 use Rattle.h3_connection.specs.Delivering.{opened, incoming_at, with_incoming, given_up_once, cancellation}
 use Rattle.h3_connection.specs.Endpoint.{EndpointHistory}
 use Rattle.h3_connection.specs.OwnIds.{other}
-use Rattle.h3_connection.specs.declared.event.StreamFault.{StreamFault}
 use Rattle.h3_world.specs.declared.setup.Setup.{Setup}
-use Rattle.h3_world.specs.Flow.{Flow}
 use Rattle.h3_world.specs.World.{World, party}
-use Rattle.h3_world.specs.Order.{outgoing_of}
 use Rattle.h3_world.specs.Sound.{IsSoundWorld}
 use Rattle.h3_world.specs.Streams.{flow, is_open}
+use Rattle.h3_headline.specs.Arriving.{Receives, flow_given_up, saying}
 use Rattle.h3_headline.specs.ComingLaws.{stands_after_coming}
 use Rattle.h3_headline.specs.DeliverLaws.{sends_same}
 use Rattle.h3_headline.specs.FlowLaws.{open_there}
-use Rattle.h3_headline.specs.MovesLaws.{saying, Receives, sender_stands}
-use Rattle.h3_headline.specs.ReceivingLaws.{flow_given_up, reset_comes}
+use Rattle.h3_headline.specs.MovesLaws.{sender_stands}
+use Rattle.h3_headline.specs.ReceivingLaws.{reset_comes}
 use Rattle.h3_headline.specs.Standing.{HasDecoderStreamOf, StandsAt}
 
 -- what the sender has of a stream that was given up at its receiver

@@ -1,34 +1,21 @@
 -- Bytes come on an own stream of the other side: its first byte tells its role, and what follows is for that role.
-use Rattle.std.proofs.Common.{◌≡◌, ℕ, zero, suc, ◌+◌, ◌-◌, ◌<◌, lit<, Bool, true, false, if◌then◌else◌, List, [], ◌∷◌, ◌++◌, take, drop, Option, Some, None, refl, sym, ap, ◌∙◌, arith}
+use Rattle.std.proofs.Common.{◌+◌, ◌<◌, lit<, ◌∷◌, ◌++◌, refl, sym, ap, ◌∙◌, ◌≡◌, ℕ, List, false, arith, if◌then◌else◌, [], zero, suc, ◌-◌, take, drop, Option, Some, None, Bool, true}
+use Rattle.h3_coding.specs.Varint.{varint_at}
+use Rattle.h3_coding.specs.VarintLaws.{reads_shortest, none_at_end}
+use Rattle.h3_connection.specs.Unidirectional.{of_kind, Role, role_after, Unidirectional, untold, with_bytes, is_closed}
+use Rattle.h3_connection.specs.Unidirectional.Role.{Control, Encoder, Decoder, Untold}
 use Rattle.std.specs.Prelude.{◌==◌, unwrap_or}
 use Rattle.std.proofs.lemmas.Grind.{common_steps}
-use Rattle.h3_coding.specs.Varint.{varint_at}
-use Rattle.h3_coding.specs.VarintLaws.{none_at_end, reads_shortest}
+use Rattle.h3_connection.specs.Delivering.{bytes_at, heard_as, read_unidirectional, with_unidirectional, closed_refusal, deliver, refusal_at, taken}
+use Rattle.h3_connection.specs.Endpoint.{EndpointHistory, kind_of, is_second}
+use Rattle.h3_connection.specs.Endpoint.Kind.{PeerUnidirectional}
+use Rattle.h3_connection.specs.StreamSets.{stream_at}
 use Rattle.h3_proto.specs.declared.stream.Side.{Side}
 use Rattle.h3_proto.specs.declared.stream.Side.TheVariants.{Client, Server}
-use Rattle.h3_connection.specs.Delivering.{bytes_at, closed_refusal, deliver, heard_as, read_unidirectional, refusal_at, taken, with_unidirectional}
-use Rattle.h3_connection.specs.Endpoint.{EndpointHistory, is_second, kind_of}
-use Rattle.h3_connection.specs.Endpoint.Kind.{PeerUnidirectional}
 use Rattle.h3_connection.specs.OwnIds.{other, control_id, encoder_id, decoder_id}
-use Rattle.h3_connection.specs.StreamSets.{stream_at}
-use Rattle.h3_connection.specs.Unidirectional.{Unidirectional, Role, untold, is_closed, of_kind, role_after, with_bytes}
-use Rattle.h3_connection.specs.Unidirectional.Role.{Untold, Control, Encoder, Decoder}
+use Rattle.h3_headline.specs.PeerStreams.{IsTyped, behind_type, role_by, roled, with_role}
 use Rattle.h3_headline.specs.Standing.{IsPeerStream, came_on}
-use Rattle.h3_headline.specs.WritesMoreLaws.{type_of_control, type_of_encoder, type_of_decoder}
-
--- the role of a stream of which so many bytes came
-abbrev pub role_by : ℕ → Role → Role
-role_by came role = if came == 0 then Untold [] else role
-
--- what comes behind the type
-abbrev pub behind_type : ℕ → ℕ → List ℕ → List ℕ
-behind_type came count units = take (came + count - 1 - (came - 1)) (drop (came - 1) units)
-
--- The byte tells the role, which then stays.
-pub record IsTyped (kind : ℕ) (role : Role) : Type 0 where
-  pub first : (rest : List ℕ) → role_after (Untold []) (kind ∷ rest) ≡ (role, rest)
-  pub stays : (bytes : List ℕ) → role_after role bytes ≡ (role, bytes)
-  pub keeps : (o : Unidirectional) (bytes : List ℕ) → with_bytes o (role, bytes) ≡ record o { role = role }
+use Rattle.h3_headline.specs.WritesMoreLaws.{type_of_control, type_of_decoder, type_of_encoder}
 
 pub typed_control : IsTyped 0 Control
 typed_control =
@@ -54,9 +41,6 @@ typed_decoder =
       keeps = λ o bytes. refl;
     }
 
-abbrev roled : Role → List ℕ → Role × List ℕ
-roled role bytes = (role, bytes)
-
 both_same : (r s : Role) (xs ys : List ℕ) → r ≡ s → xs ≡ ys → roled r xs ≡ roled s ys
 both_same r s xs ys e f = ap (λ x. roled x xs) e ∙ ap (λ y. roled s y) f
 
@@ -80,10 +64,6 @@ role_then kind role (suc c) count units t =
     ∙ t.stays (take count (drop c units))
     ∙ both_same role (role_by (suc c + count) role) (take count (drop c units)) (behind_type (suc c) count units) (sym (told role (suc c + count) (omega arith)))
     (ap (λ n. take n (drop c units)) e ∙ ap (λ n. take (suc c + count - 1 - (suc c - 1)) (drop n units)) f)
-
--- the stream as it is kept
-abbrev pub with_role : Role → Unidirectional
-with_role role = record untold { role = role }
 
 pub peer_stream : (came : ℕ) (role : Role) (stream : Option Unidirectional) → IsPeerStream came role stream → unwrap_or stream untold ≡ with_role (role_by came role)
 peer_stream came role None h = sym (ap (λ n. with_role (role_by n role)) h)

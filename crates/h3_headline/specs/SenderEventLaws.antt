@@ -1,17 +1,17 @@
 -- Where a call of a sender is served, the event happens in the world, and both ends stand in it after that.
 use Rattle.h3_world.specs.declared.setup.Setup.{Setup}
-use Rattle.h3_world.specs.declared.event.Event.{Event}
 use Rattle.h3_world.specs.declared.event.Answer.{Answer}
 use Rattle.h3_world.specs.Ends.{Ends, answered}
+use Rattle.h3_world.specs.World.{World}
+use Rattle.h3_world.specs.declared.event.Event.{Event}
 use Rattle.h3_world.specs.Machine.{served}
 use Rattle.h3_world.specs.Sendable.{IsSendable}
-use Rattle.h3_world.specs.World.{World}
-use Rattle.h3_headline.specs.AlikeLaws.{WorldLaws, alike_stands}
-use Rattle.h3_headline.specs.OwnEventLaws.{AnswersAlike}
-use Rattle.h3_headline.specs.OwnWritesLaws.{KeepsWriting}
-use Rattle.h3_headline.specs.RunLaws.{StandsOn}
-use Rattle.h3_headline.specs.SendingLaws.{Serves}
+use Rattle.h3_headline.specs.AlikeLaws.{alike_stands}
+use Rattle.h3_headline.specs.Calls.{Serves}
+use Rattle.h3_headline.specs.Cited.{WorldLaws}
+use Rattle.h3_headline.specs.OwnStreams.{AnswersAlike, KeepsWriting}
 use Rattle.h3_headline.specs.Standing.{Stands}
+use Rattle.h3_headline.specs.Steps.{StandsOn}
 
 pub answers_served : (setup : Setup) (given : Answer × Ends) (to : Answer × World) → Serves setup given to → AnswersAlike setup given to
 answers_served setup given to h = record { answer = h.answer; at_client = h.both.here; at_server = h.both.there; next_id = h.next_id }

@@ -1,53 +1,39 @@
 -- A call of one end: where its refusal is the world's, both ends stand in the world after it.
-use Rattle.std.proofs.Common.{◌≡◌, ℕ, ◌*◌, ◌^◌, ◌≤◌, Bool, true, false, List, ◌∷◌, length, refl, sym, ap, ◌∙◌, subst, if◌then◌else◌, Option, Some, None}
-use Rattle.std.specs.Prelude.{not, is_some, unwrap_or, ◌==◌}
-use Rattle.std.specs.List.{AllByRecursion}
 use Rattle.h3_proto.specs.declared.stream.Side.{Side}
 use Rattle.h3_proto.specs.declared.stream.Side.TheVariants.{Client, Server}
-use Rattle.h3_connection.specs.Endpoint.{EndpointHistory}
-use Rattle.h3_connection.specs.Incoming.{Incoming}
-use Rattle.h3_connection.specs.Outgoing.{Outgoing, nothing_sent}
 use Rattle.h3_connection.specs.OwnIds.{other}
-use Rattle.h3_connection.specs.Sending.{does, closed_or, first_of, unless_closed, outgoing_at}
-use Rattle.h3_connection.specs.Sending as sender
-use Rattle.h3_connection.specs.StreamSets.{stream_at, set_stream}
-use Rattle.h3_connection.specs.declared.event.Refusal.{Refusal}
-use Rattle.h3_connection.specs.declared.event.Refusal.TheVariants as refusal
 use Rattle.h3_world.specs.declared.setup.Setup.{Setup}
-use Rattle.h3_world.specs.declared.event.Answer.{Answer}
 use Rattle.h3_world.specs.Ends.{Ends, end_at, with_end}
-use Rattle.h3_world.specs.Ends as ends_of
-use Rattle.h3_world.specs.Flow.{Flow}
-use Rattle.h3_world.specs.Machine as machine
-use Rattle.h3_world.specs.Order.{outgoing_of}
+use Rattle.h3_world.specs.World.{World, Party}
+use Rattle.std.proofs.Common.{◌*◌, ◌^◌, ◌≤◌, length, ◌≡◌, refl, sym, ap, ◌∙◌, subst, Option, Some, None, ℕ, Bool, true, false, List, ◌∷◌, if◌then◌else◌}
+use Rattle.h3_world.specs.declared.event.Answer.{Answer}
 use Rattle.h3_world.specs.Sound.{IsSoundWorld}
-use Rattle.h3_world.specs.Streams.{flow, with_flow, is_open}
-use Rattle.h3_world.specs.World.{World, Party, party}
+use Rattle.h3_connection.specs.Endpoint.{EndpointHistory}
+use Rattle.h3_connection.specs.Sending.{does, first_of, outgoing_at, closed_or, unless_closed}
+use Rattle.h3_connection.specs.declared.event.Refusal.{Refusal}
+use Rattle.h3_world.specs.Ends as ends_of
+use Rattle.h3_world.specs.Machine as machine
+use Rattle.std.specs.Prelude.{not, is_some, unwrap_or, ◌==◌}
+use Rattle.h3_connection.specs.Outgoing.{Outgoing, nothing_sent}
+use Rattle.h3_connection.specs.Sending as sender
+use Rattle.h3_connection.specs.declared.event.Refusal.TheVariants as refusal
+use Rattle.h3_world.specs.Order.{outgoing_of}
+use Rattle.h3_world.specs.Streams.{flow, is_open, with_flow}
+use Rattle.h3_connection.specs.StreamSets.{stream_at, set_stream}
+use Rattle.h3_world.specs.Flow.{Flow}
+use Rattle.h3_connection.specs.Incoming.{Incoming}
+use Rattle.std.specs.List.{AllByRecursion}
+use Rattle.h3_headline.specs.Calls.{Both, Does, Extends, Serves}
 use Rattle.h3_headline.specs.DeliverLaws.{sends_set}
-use Rattle.h3_headline.specs.FlowLaws.{same_number, set_length, other-other, open_there, flow-with_flow, flow-with_other, flow-with_peer, party-with_flow, is_open-own, is_open-peer_kept}
+use Rattle.h3_headline.specs.FlowLaws.{flow-with_flow, flow-with_other, flow-with_peer, is_open-own, is_open-peer_kept, open_there, other-other, party-with_flow, same_number, set_length}
 use Rattle.h3_headline.specs.MovesLaws.{stands_moved}
-use Rattle.h3_headline.specs.Standing.{HasControlOf, HasEncoderStreamOf, HasDecoderStreamOf, ReceivesFlow, ReceivesAt, StandsAt, IsWritable, IsReadable, AreReadable, Stands}
-
--- The end of a side and the other one stand in the world, and what was written and sent is what readers take.
-pub record Both (setup : Setup) (w : World) (side : Side) (e f : EndpointHistory) : Type 0 where
-  pub here : StandsAt setup w side e
-  pub there : StandsAt setup w (other side) f
-  pub writes_here : IsWritable side (party w side).own
-  pub writes_there : IsWritable (other side) (party w (other side)).own
-  pub sends_here : AreReadable w side
-  pub sends_there : (id : ℕ) → AllByRecursion (IsReadable side) (flow w (other side) id).sent
+use Rattle.h3_headline.specs.Standing.{HasControlOf, HasDecoderStreamOf, HasEncoderStreamOf, IsReadable, IsWritable, ReceivesAt, ReceivesFlow, Stands, StandsAt}
 
 pub both_of : (setup : Setup) (w : World) (side : Side) (ends : Ends) → Stands setup w ends → Both setup w side (end_at ends side) (end_at ends (other side))
 both_of setup w Client ends h =
     record { here = h.at_client; there = h.at_server; writes_here = h.client_writes; writes_there = h.server_writes; sends_here = h.requests; sends_there = h.responses }
 both_of setup w Server ends h =
     record { here = h.at_server; there = h.at_client; writes_here = h.server_writes; writes_there = h.client_writes; sends_here = h.responses; sends_there = h.requests }
-
--- The ends answer as the machine does, and stand in the world after it.
-pub record Serves (setup : Setup) (given : Answer × Ends) (to : Answer × World) : Type 0 where
-  pub answer : given.0 ≡ to.0
-  pub both : Both setup to.1 Client given.1.client given.1.server
-  pub next_id : given.1.client.next_id ≡ 4 * length to.1.exchanges
 
 pub stands_served : (setup : Setup) (given : Answer × Ends) (to : Answer × World) → Serves setup given to → 4 * length to.1.exchanges ≤ 2 ^ 62 → IsSoundWorld setup to.1
     → Stands setup to.1 given.1
@@ -73,12 +59,6 @@ from_client setup v Server ends new h = record { here = h.there; there = h.here;
 same_next : (ends : Ends) (side : Side) (new : EndpointHistory) → new.next_id ≡ (end_at ends side).next_id → (with_end ends side new).client.next_id ≡ ends.client.next_id
 same_next ends Client new e = e
 same_next ends Server new e = refl
-
--- What a call that is not refused leads to.
-pub record Does (setup : Setup) (v : World) (ends : Ends) (side : Side) (given success : Answer) (new : EndpointHistory) : Type 0 where
-  pub same : given ≡ success
-  pub both : Both setup v side new (end_at ends (other side))
-  pub next_id : (with_end ends side new).client.next_id ≡ 4 * length v.exchanges
 
 -- of a call that opens no stream
 pub does_on : (setup : Setup) (w v : World) (ends : Ends) (side : Side) (success : Answer) (new : EndpointHistory) → Stands setup w ends → new.next_id ≡ (end_at ends side).next_id
@@ -131,12 +111,6 @@ not_refused_open false rules e = cc
 pub not_refused : (b : Bool) (x : Refusal) (rules : List (Bool × Refusal)) → first_of ((b, x) ∷ rules) ≡ None → (b ≡ false) × (first_of rules ≡ None)
 not_refused true x rules e = cc
 not_refused false x rules e = (refl, e)
-
--- A flow that got further at its sender alone: its receiver keeps what it kept.
-pub record Extends (side : Side) (f g : Flow) : Type 0 where
-  pub seen : g.seen ≡ f.seen
-  pub kept : (i : Incoming) → ReceivesFlow f i → ReceivesFlow g i
-  pub readable : AllByRecursion (IsReadable (other side)) f.sent → AllByRecursion (IsReadable (other side)) g.sent
 
 sender_on : (setup : Setup) (w : World) (side : Side) (id n : ℕ) (g : Flow) (e : EndpointHistory) → StandsAt setup w side e → is_open w side id ≡ true
     → StandsAt setup (with_flow w side id g) side (record e { outgoing = set_stream e.outgoing id (outgoing_of g); sent = n })

@@ -1,27 +1,26 @@
 -- A call of a sender, and what an end shows: it happens in the world, and both ends stand in it after that.
-use Rattle.std.proofs.Common.{ℕ, ◌<◌, ◌^◌, List, length, subst}
-use Rattle.h3_header.specs.Head.{Head as Fields, head_fields}
+use Rattle.std.proofs.Common.{◌<◌, ◌^◌, length, subst, ℕ, List}
 use Rattle.h3_proto.specs.declared.stream.Side.{Side}
 use Rattle.h3_qpack.specs.EncoderHistory.{EncoderHistory}
 use Rattle.h3_world.specs.declared.setup.Setup.{Setup}
-use Rattle.h3_world.specs.declared.event.Event.TheVariants as event
-use Rattle.h3_world.specs.Ends.{Ends}
-use Rattle.h3_world.specs.Sendable.{IsSendable, IsSendableHead}
-use Rattle.h3_world.specs.Setup.{IsPlain, announced_at}
 use Rattle.h3_world.specs.Sound.{IsSoundWorld}
 use Rattle.h3_world.specs.World.{World, party}
+use Rattle.h3_header.specs.Head.{Head as Fields, head_fields}
+use Rattle.h3_world.specs.Sendable.{IsSendableHead, IsSendable}
+use Rattle.h3_world.specs.declared.event.Event.TheVariants as event
+use Rattle.h3_world.specs.Ends.{Ends}
+use Rattle.h3_world.specs.Setup.{IsPlain, announced_at}
+use Rattle.h3_headline.specs.Calls.{IsWritableHead}
 use Rattle.h3_headline.specs.CancelLaws.{cancel_served}
-use Rattle.h3_headline.specs.CitedLaws.{StreamLaws}
-use Rattle.h3_headline.specs.HeadLaws.{IsWritableHead, head_served, trailer_served}
-use Rattle.h3_headline.specs.JoiningLaws.{Laws}
+use Rattle.h3_headline.specs.Cited.{Laws, StreamLaws}
+use Rattle.h3_headline.specs.HeadLaws.{head_served, trailer_served}
 use Rattle.h3_headline.specs.OpeningLaws.{open_served}
-use Rattle.h3_headline.specs.RunLaws.{StandsOn}
 use Rattle.h3_headline.specs.SenderEventLaws.{served_stands}
-use Rattle.h3_headline.specs.SentLaws.{finish_served, body_served, reset_served}
+use Rattle.h3_headline.specs.SentLaws.{body_served, finish_served, reset_served}
 use Rattle.h3_headline.specs.ShowingLaws.{show_served}
 use Rattle.h3_headline.specs.Standing.{Stands}
-use Rattle.h3_headline.specs.WritingLaws.{sound_party, goaway_served}
-use Rattle.h3_world.specs.Setup.{JudgesPlainly}
+use Rattle.h3_headline.specs.Steps.{StandsOn}
+use Rattle.h3_headline.specs.WritingLaws.{goaway_served, sound_party}
 
 -- numbers of entries stay below 2^62
 few_inserted : (laws : StreamLaws) (setup : Setup) (w : World) (side : Side) → IsSoundWorld setup w → length (party w side).encoder.inserted < 2 ^ 62

@@ -1,37 +1,38 @@
 -- A piece of a body, the end of a message, and a reset: what the ends answer, and where they stand.
-use Rattle.std.proofs.Common.{◌≡◌, ℕ, ◌+◌, Bool, true, false, List, [], ◌∷◌, ◌++◌, length, refl, sym, ap, ◌∙◌, subst, arith, if◌then◌else◌, Option, Some, None}
-use Rattle.std.specs.Prelude.{not, ◌&&◌, ◌||◌, ◌==◌, drop, unwrap_or}
-use Rattle.std.proofs.lemmas.Grind.{common_steps}
-use Rattle.h3_wire.specs.Encoded.{frame_encoding}
+use Rattle.std.proofs.Common.{◌≡◌, Bool, true, false, refl, ℕ, [], ◌∷◌, sym, ap, ◌∙◌, subst, Option, ◌+◌, List, ◌++◌, length, None, arith, if◌then◌else◌, Some}
+use Rattle.std.specs.Prelude.{not, ◌&&◌, unwrap_or, ◌==◌, ◌||◌, drop}
 use Rattle.h3_proto.specs.declared.stream.Side.{Side}
-use Rattle.h3_proto.specs.declared.stream.Side.TheVariants.{Client, Server}
-use Rattle.h3_connection.specs.Endpoint.{EndpointHistory, Kind, kind_of, is_read_as, is_critical_id, is_critical_of}
-use Rattle.h3_connection.specs.Endpoint.Kind.{Request, ServerOpened, OwnUnidirectional, PeerUnidirectional}
-use Rattle.h3_connection.specs.Outgoing.{Outgoing, nothing_sent, takes_body, takes_end, is_sent_off, is_unsent, last_is_trailer}
-use Rattle.h3_connection.specs.Outgoing.OwnPart.{OwnBody}
-use Rattle.h3_connection.specs.OwnIds.{other, control_id, encoder_id, decoder_id, is_own}
-use Rattle.h3_connection.specs.Sending.{first_of, outgoing_at, with_outgoing, counted}
-use Rattle.h3_connection.specs.Sending as sender
-use Rattle.h3_connection.specs.StreamSets.{set_stream}
-use Rattle.h3_connection.specs.declared.event.Refusal.TheVariants as refusal
+use Rattle.h3_connection.specs.Endpoint.{EndpointHistory, is_read_as, Kind, kind_of, is_critical_id, is_critical_of}
 use Rattle.h3_world.specs.declared.setup.Setup.{Setup}
+use Rattle.h3_world.specs.World.{World, party}
+use Rattle.h3_connection.specs.Outgoing.{Outgoing, nothing_sent, takes_end, is_unsent, takes_body, last_is_trailer, is_sent_off}
+use Rattle.h3_connection.specs.OwnIds.{other, control_id, encoder_id, decoder_id, is_own}
+use Rattle.h3_connection.specs.Sending.{outgoing_at, with_outgoing, counted, first_of}
+use Rattle.h3_connection.specs.Sending as sender
+use Rattle.h3_connection.specs.declared.event.Refusal.TheVariants as refusal
 use Rattle.h3_world.specs.declared.event.Event.TheVariants as event
 use Rattle.h3_world.specs.declared.event.Answer.TheVariants as answer
 use Rattle.h3_world.specs.Ends.{Ends, end_at, answered}
-use Rattle.h3_world.specs.Flow.{Flow, flow_bytes}
-use Rattle.h3_world.specs.Flow.Part.{Body, End}
+use Rattle.h3_world.specs.Flow.Part.{End, Body}
 use Rattle.h3_world.specs.Machine.{served}
 use Rattle.h3_world.specs.Order.{outgoing_of}
-use Rattle.h3_world.specs.Order as order
-use Rattle.h3_world.specs.Refusals.{is_critical, body_refusal, finish_refusal, reset_refusal}
-use Rattle.h3_world.specs.Sending.{appended, sent_body, finished, cut_off}
+use Rattle.h3_world.specs.Refusals.{finish_refusal, body_refusal, is_critical, reset_refusal}
+use Rattle.h3_world.specs.Sending.{appended, finished, sent_body, cut_off}
 use Rattle.h3_world.specs.Streams.{flow, is_open}
-use Rattle.h3_world.specs.World.{World, party}
+use Rattle.h3_wire.specs.Encoded.{frame_encoding}
+use Rattle.h3_connection.specs.Outgoing.OwnPart.{OwnBody}
+use Rattle.h3_world.specs.Flow.{flow_bytes, Flow}
+use Rattle.std.proofs.lemmas.Grind.{common_steps}
+use Rattle.h3_connection.specs.Endpoint.Kind.{Request, ServerOpened, OwnUnidirectional, PeerUnidirectional}
+use Rattle.h3_proto.specs.declared.stream.Side.TheVariants.{Client, Server}
+use Rattle.h3_world.specs.Order as order
+use Rattle.h3_headline.specs.Arriving.{cut}
+use Rattle.h3_headline.specs.Calls.{Both, Does, Serves, seen_by, sending}
 use Rattle.h3_headline.specs.ComingLaws.{sound_flow}
-use Rattle.h3_headline.specs.DeliverLaws.{sent_bytes, left_length, sends_at}
+use Rattle.h3_headline.specs.DeliverLaws.{left_length, sends_at, sent_bytes}
 use Rattle.h3_headline.specs.FlowLaws.{open_there, same_number}
-use Rattle.h3_headline.specs.SendingLaws.{Both, both_of, Serves, Does, does_on, call_agrees, rules_agree, goes_unclosed, refusal_agrees, not_refused, not_refused_open, flow_extended, flow_count}
-use Rattle.h3_headline.specs.SentPartLaws.{part_extends, cut, cut_extends, sends_part, sends_end}
+use Rattle.h3_headline.specs.SendingLaws.{both_of, call_agrees, does_on, flow_count, flow_extended, goes_unclosed, not_refused, not_refused_open, refusal_agrees, rules_agree}
+use Rattle.h3_headline.specs.SentPartLaws.{cut_extends, part_extends, sends_end, sends_part}
 use Rattle.h3_headline.specs.Standing.{Stands, StandsAt, came_on}
 
 -- what a part that is not refused tells
@@ -70,9 +71,6 @@ counted_stands setup w side n e f h =
       sends_here = h.sends_here;
       sends_there = h.sends_there;
     }
-
-abbrev sending : EndpointHistory → ℕ → ℕ → Outgoing → EndpointHistory
-sending e id n o = record e { outgoing = set_stream e.outgoing id o; sent = n }
 
 -- the end of a message
 pub finish_served : (setup : Setup) (w : World) (ends : Ends) (side : Side) (id : ℕ) → Stands setup w ends → Serves setup (answered ends (event.Finish side id)) (served setup w (event.Finish side id))
@@ -166,10 +164,6 @@ none_critical setup w side id e h mine theirs = by_kind (kind_of e.side id)
         let c : is_read_as e.encoder_on id ≡ false = ap (λ o. is_read_as o id) h.encoder_stream.is_on ∙ read_as_it (party w (other side)).own.encoder_taken (encoder_id (other side)) id each.1 in
         let d : is_read_as e.decoder_on id ≡ false = ap (λ o. is_read_as o id) h.decoder_stream.is_on ∙ read_as_it (party w (other side)).own.decoder_taken (decoder_id (other side)) id each.2 in
         rw (a, b, c, d) refl
-
--- each of the six
-abbrev seen_by : EndpointHistory → Side → ℕ → Bool
-seen_by e s n = is_critical_of (record e { side = s }) n (kind_of s n)
 
 own_critical : (e : EndpointHistory) (id : ℕ) → is_critical id ≡ true → is_critical_id e id ≡ true
 own_critical e id h = by_id (id == 2) (id == 6) (id == 10) (id == 3) (id == 7) (id == 11) refl refl refl refl refl refl

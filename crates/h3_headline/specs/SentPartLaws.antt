@@ -1,20 +1,21 @@
 -- A flow to whose end a part is written, or that is cut off: its receiver keeps what it kept.
-use Rattle.std.proofs.Common.{◌≡◌, ℕ, zero, suc, ◌+◌, ◌-◌, ◌<◌, ◌≤◌, Bool, true, false, List, [], ◌∷◌, ◌++◌, length, take, drop, refl, sym, ap, ◌∙◌, subst, arith, Option, Some, None, append_assoc, append-nil}
-use Rattle.std.specs.Prelude.{not, ◌&&◌, slice_get, nat_lt}
-use Rattle.std.specs.List.{AllByRecursion, concat, flat_map}
+use Rattle.std.proofs.Common.{◌≡◌, ℕ, zero, suc, ◌+◌, ◌<◌, List, [], ◌∷◌, ◌++◌, length, refl, arith, ◌≤◌, take, ap, drop, Some, ◌-◌, ◌∙◌, append-nil, sym, subst, Option, None, append_assoc, Bool, true, false}
+use Rattle.std.specs.Prelude.{slice_get, ◌&&◌, nat_lt, not}
+use Rattle.h3_world.specs.Flow.{Part, Flow, part_bytes, flow_bytes, Section, own_part}
 use Rattle.std.proofs.lemmas.Grind.{flat_map-append}
-use Rattle.h3_proto.specs.declared.stream.Side.{Side}
-use Rattle.h3_connection.specs.Incoming.{Incoming}
-use Rattle.h3_connection.specs.Outgoing.{Outgoing, OwnPart}
-use Rattle.h3_connection.specs.OwnIds.{other}
-use Rattle.h3_world.specs.Flow.{Flow, Part, Section, own_part, part_bytes, flow_bytes}
+use Rattle.h3_world.specs.Sending.{appended}
+use Rattle.std.specs.List.{flat_map, concat, AllByRecursion}
 use Rattle.h3_world.specs.Flow.Part.{Interim, Head, Body, Trailer, End}
 use Rattle.h3_world.specs.Order.{next_part, is_end, last_part, outgoing_of}
-use Rattle.h3_world.specs.Sending.{appended}
+use Rattle.h3_connection.specs.Incoming.{Incoming}
 use Rattle.h3_world.specs.Sound.{IsSoundFlow}
 use Rattle.h3_world.specs.World.{Party}
-use Rattle.h3_headline.specs.SendingLaws.{Extends}
-use Rattle.h3_headline.specs.Standing.{place_after, section_frame, section_of_part, StandsBefore, WaitsIn, IsReadable, ReceivesFlow}
+use Rattle.h3_proto.specs.declared.stream.Side.{Side}
+use Rattle.h3_connection.specs.OwnIds.{other}
+use Rattle.h3_connection.specs.Outgoing.{OwnPart}
+use Rattle.h3_headline.specs.Arriving.{cut, made}
+use Rattle.h3_headline.specs.Calls.{Extends}
+use Rattle.h3_headline.specs.Standing.{IsReadable, ReceivesFlow, StandsBefore, WaitsIn, place_after, section_frame, section_of_part}
 
 get_front : (parts more : List Part) (n : ℕ) → n < length parts → slice_get (parts ++ more) n ≡ slice_get parts n
 get_front [] more n h = absurd (omega (arith, h))
@@ -110,10 +111,6 @@ all_more P (p ∷ parts) part x h = (h.0, all_more P parts part x h.1)
 pub part_extends : (p : Party) (side : Side) (f : Flow) (part : Part) → IsSoundFlow p f → IsReadable (other side) part → Extends side f (appended f part)
 part_extends p side f part sound readable = record { seen = refl; kept = λ i h. kept_appended p f part i sound h; readable = λ h. all_more (IsReadable (other side)) f.sent part readable h }
 
--- It is cut off.
-abbrev pub cut : Flow → Flow
-cut f = record f { is_reset = true }
-
 kept_cut : (f : Flow) (i : Incoming) → ReceivesFlow f i → ReceivesFlow (cut f) i
 kept_cut f i h =
     record {
@@ -154,9 +151,6 @@ last_appended : (parts : List Part) (part : Part) → last_part (parts ++ part �
 last_appended [] part = refl
 last_appended (p ∷ []) part = refl
 last_appended (p ∷ q ∷ parts) part = last_appended (q ∷ parts) part
-
-abbrev made : List OwnPart → ℕ → Bool → Bool → Outgoing
-made parts taken finished reset = record { parts = parts; taken = taken; is_finished = finished; is_reset = reset; end_taken = false }
 
 parts_appended : (f : Flow) (part : Part) → flat_map own_part (f.sent ++ part ∷ []) ≡ flat_map own_part f.sent ++ own_part part
 parts_appended f part = flat_map-append own_part f.sent (part ∷ []) ∙ ap (λ l. flat_map own_part f.sent ++ l) (append-nil (own_part part))

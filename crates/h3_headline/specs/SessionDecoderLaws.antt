@@ -1,57 +1,46 @@
 -- The decoder of an endpoint that stands in a world is that of the session, and each section that a stream decodes next is what a writer
 -- took.
-use Rattle.std.proofs.Common.{◌≡◌, ◌⊎◌, inl, inr, ℕ, zero, suc, ◌+◌, ◌-◌, ◌^◌, ◌<◌, ◌≤◌, Bool, true, false, if◌then◌else◌, List, [], ◌∷◌, ◌++◌, length, min, take, drop, refl, sym, ap, ◌∙◌, subst, arith, Option, Some, None}
-use Rattle.std.specs.List.{AllByRecursion}
-use Rattle.std.specs.Prelude.{◌==◌, map, filter, is_some, slice_get, unwrap_or}
-use Rattle.h3_field.specs.Field.{Field, section_size}
-use Rattle.h3_field.specs.Instruction.{encoder_bytes}
-use Rattle.h3_field.specs.ReadBack.{IsFieldOfBytes}
-use Rattle.h3_proto.specs.StreamIds.{is_request, index_of}
-use Rattle.h3_proto.specs.declared.stream.Side.{Side}
-use Rattle.h3_proto.specs.declared.stream.Side.TheVariants.{Client, Server}
+use Rattle.std.proofs.Common.{◌≡◌, Some, ℕ, zero, suc, List, [], take, refl, ◌-◌, ◌≤◌, Bool, true, false, length, min, sym, ap, ◌∙◌, subst, ◌∷◌, arith, ◌⊎◌, inl, inr, ◌+◌, ◌++◌, drop, Option, None, if◌then◌else◌}
 use Rattle.h3_qpack.specs.DecoderState.{DecoderState, announcing, decoder_after_all}
-use Rattle.h3_qpack.specs.EncoderHistory.{EncoderHistory}
+use Rattle.h3_field.specs.Field.{Field}
+use Rattle.h3_field.specs.Instruction.{encoder_bytes}
+use Rattle.h3_proto.specs.declared.stream.Side.{Side}
 use Rattle.h3_qpack.specs.Encodings.{HasInsertions, IsDecoderAt, IsWritten}
 use Rattle.h3_qpack.specs.Exchange as exchange
-use Rattle.h3_qpack.specs.Session.{UndecodedSection, oldest, is_canceled}
-use Rattle.h3_qpack.specs.TableHistory.{table_of, table_state}
 use Rattle.h3_qpack.specs.WholeInstructions.{whole_in}
-use Rattle.h3_connection.specs.Endpoint.{EndpointHistory}
 use Rattle.h3_connection.specs.OwnIds.{other}
 use Rattle.h3_world.specs.declared.setup.Setup.{Setup}
 use Rattle.h3_world.specs.Came.{settings_came, instructions_came, insertions_came}
-use Rattle.h3_world.specs.Flow.{Part, Section, part_bytes}
-use Rattle.h3_world.specs.Flow.Part.{Interim, Head, Body, Trailer, End}
-use Rattle.h3_world.specs.Following.{EncodedSection, HasCapacity, HasSession, as_encoded, section_in, sections_in, sections_left, sections_on, undecoded}
-use Rattle.h3_world.specs.Order.{next_part}
+use Rattle.h3_world.specs.Following.{HasCapacity, as_encoded, EncodedSection, section_in, sections_in, sections_left, sections_on, undecoded, HasSession}
 use Rattle.h3_world.specs.Setup.{IsMadeSetup, announced_at}
-use Rattle.h3_world.specs.Sound.{AreSent, IsSentPart, IsSentSection, IsSoundExchange, IsSoundParty, IsSoundWorld}
-use Rattle.h3_world.specs.Streams.{flow, is_open}
+use Rattle.h3_world.specs.Sound.{IsSoundParty, IsSentSection, IsSentPart, AreSent, IsSoundExchange, IsSoundWorld}
+use Rattle.h3_world.specs.World.{World, party, Party, Exchange, no_exchange}
+use Rattle.h3_qpack.specs.EncoderHistory.{EncoderHistory}
+use Rattle.h3_world.specs.Flow.{Section, Part, part_bytes}
+use Rattle.std.specs.List.{AllByRecursion}
+use Rattle.h3_world.specs.Flow.Part.{Interim, Head, Body, Trailer, End}
+use Rattle.std.specs.Prelude.{slice_get, unwrap_or, ◌==◌, map, filter, is_some}
+use Rattle.h3_proto.specs.StreamIds.{is_request, index_of}
 use Rattle.h3_world.specs.Streams as streams
-use Rattle.h3_world.specs.World.{World, Party, Exchange, no_exchange, party}
+use Rattle.h3_proto.specs.declared.stream.Side.TheVariants.{Client, Server}
+use Rattle.h3_world.specs.Streams.{flow, is_open}
+use Rattle.h3_qpack.specs.Session.{UndecodedSection, oldest, is_canceled}
+use Rattle.h3_connection.specs.Endpoint.{EndpointHistory}
+use Rattle.h3_world.specs.Order.{next_part}
 use Rattle.h3_headline.specs.AcceptedLaws.{counts_all}
-use Rattle.h3_headline.specs.CitedLaws.{StreamLaws}
+use Rattle.h3_headline.specs.Cited.{ListsAreTheirValue, StreamLaws}
 use Rattle.h3_headline.specs.ComingLaws.{sound_flow}
 use Rattle.h3_headline.specs.DecodesLaws.{next_decodes}
+use Rattle.h3_headline.specs.Decoding.{AreTaken, HasRead, IsAfter, IsTaken, held}
 use Rattle.h3_headline.specs.EncoderStreamLaws.{least_right, opened_instructions, read_as}
 use Rattle.h3_headline.specs.FlowLaws.{open_there, other-other}
 use Rattle.h3_headline.specs.OwnOverLaws.{party_sound}
-use Rattle.h3_headline.specs.PulledPartLaws.{DecodesNext}
-use Rattle.h3_headline.specs.PulledSectionLaws.{ListsAreTheirValue}
+use Rattle.h3_headline.specs.Pulling.{DecodesNext}
 use Rattle.h3_headline.specs.Standing.{StandsAt}
 use Rattle.h3_headline.specs.UnitLaws.{whole_within}
 
--- a decoder has read these first insertions
-record HasRead (announced capacity : ℕ) (inserted : List Field) (r : DecoderState) : Type 0 where
-  count : ℕ
-  has : HasInsertions announced capacity (take count inserted) r
-
 same_decoder : (r q : DecoderState) → Some r ≡ Some q → r ≡ q
 same_decoder r q e = cc
-
--- what the decoder of the other side is after the instructions that came
-abbrev IsAfter : Setup → World → Side → DecoderState → Type 0
-IsAfter setup w writer r = decoder_after_all (Some (announcing (announced_at setup (other writer)).limits.table)) (instructions_came (party w writer)) ≡ Some r
 
 none_taken : (n : ℕ) → ◌≡◌ {A = List Field} (take n []) []
 none_taken zero = refl
@@ -96,9 +85,6 @@ same_front (suc n) m [] e = sym (none_taken m)
 same_front (suc n) zero (x ∷ xs) e = absurd (omega (arith, e))
 same_front (suc n) (suc m) (x ∷ xs) e = ap (λ l. x ∷ l) (same_front n m xs (omega (arith, e)))
 
-abbrev held : ℕ → List Field → List Field
-held capacity inserted = (table_state (table_of capacity inserted)).entries
-
 -- of no insertions none is held, whatever the capacity
 held_same : (capacity announced m : ℕ) (inserted : List Field) → (capacity ≡ announced) ⊎ (inserted ≡ []) → held announced (take m inserted) ≡ held capacity (take m inserted)
 held_same capacity announced m inserted (inl same) = ap (λ c. held c (take m inserted)) (sym same)
@@ -133,10 +119,6 @@ decoder_is_at laws setup w writer r made sound reads =
       learned = learned_by announced s.encoder has;
     }
 
--- what is known of each section that was sent
-abbrev IsTaken : EncodedSection → Type 0
-IsTaken x = AllByRecursion IsFieldOfBytes x.fields × (section_size x.fields < 2 ^ 62) × (length x.encoded < 2 ^ 63)
-
 section_taken : (p : Party) (s : Section) → IsSentSection p s → IsTaken (as_encoded s)
 section_taken p s h = (h.of_bytes, omega (arith, h.small), omega (arith, h.has_length))
 
@@ -153,10 +135,6 @@ sent_taken p before start [] (suc n) h = tt
 sent_taken p before start (q ∷ qs) zero h =
     part_taken p (start + length (part_bytes q)) q (sections_in qs) h.1 (sent_taken p (Some q) (start + length (part_bytes q)) qs zero h.2)
 sent_taken p before start (q ∷ qs) (suc n) h = sent_taken p (Some q) (start + length (part_bytes q)) qs n h.2
-
--- of each stream, whether it is there or not
-abbrev AreTaken : Exchange → Type 0
-AreTaken e = AllByRecursion IsTaken (sections_left e.request) × AllByRecursion IsTaken (sections_left e.response)
 
 exchange_taken : (w : World) (es : List Exchange) (n : ℕ) → AllByRecursion (IsSoundExchange w) es → AreTaken (unwrap_or (slice_get es n) no_exchange)
 exchange_taken w [] zero h = (tt, tt)

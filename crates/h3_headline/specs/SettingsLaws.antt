@@ -1,11 +1,11 @@
 -- What is asked of the settings of a peer is the same of those that have a meaning.
-use Rattle.std.proofs.Common.{◌≡◌, ℕ, Bool, true, false, List, [], ◌∷◌, Some, refl, ap, sym, ◌∙◌, subst, if◌then◌else◌}
+use Rattle.std.proofs.Common.{◌≡◌, ℕ, Bool, true, false, refl, sym, subst, List, [], ◌∷◌, Some, ap, ◌∙◌, if◌then◌else◌}
 use Rattle.std.specs.Prelude.{◌==◌, find, option_map}
 use Rattle.std.proofs.lemmas.Bool.{eqb-true}
-use Rattle.h3_field.specs.Field.{Field}
 use Rattle.h3_proto.specs.Settings.{is_known, value_of}
-use Rattle.h3_connection.specs.Sending.{is_too_large}
 use Rattle.h3_connection.specs.Shown.{limits_of}
+use Rattle.h3_field.specs.Field.{Field}
+use Rattle.h3_connection.specs.Sending.{is_too_large}
 use Rattle.h3_headline.specs.Standing.{with_meaning}
 
 -- a setting that is left out is not the one that is looked for

@@ -1,35 +1,24 @@
 -- What a pull answers where no part is looked at.
-use Rattle.std.proofs.Common.{◌≡◌, ℕ, Bool, true, false, not, [], refl, ap, subst, arith, Option, Some, None, if◌then◌else◌}
-use Rattle.std.specs.Prelude.{◌%◌, ◌==◌, unwrap_or}
+use Rattle.std.proofs.Common.{◌≡◌, true, false, arith, Bool, ap, subst, Some, refl, Option, None, if◌then◌else◌, ℕ}
 use Rattle.std.proofs.lemmas.Grind.{common_steps}
+use Rattle.std.specs.Prelude.{unwrap_or, ◌%◌, ◌==◌}
+use Rattle.h3_connection.specs.declared.event.Pull.{Pull}
+use Rattle.h3_connection.specs.declared.event.Fault.TheVariants.{Stream}
+use Rattle.h3_connection.specs.declared.event.Item.TheVariants as item
+use Rattle.h3_connection.specs.declared.event.Pull.TheVariants as pull
+use Rattle.h3_connection.specs.declared.event.StreamFault.{StreamFault}
 use Rattle.h3_proto.specs.StreamIds.{is_request}
 use Rattle.h3_proto.specs.declared.stream.Side.{Side}
 use Rattle.h3_connection.specs.OwnIds.{other, control_id}
 use Rattle.h3_connection.specs.Pulling.{is_client}
-use Rattle.h3_connection.specs.declared.event.Fault.TheVariants.{Stream}
-use Rattle.h3_connection.specs.declared.event.Item.TheVariants as item
-use Rattle.h3_connection.specs.declared.event.Pull.{Pull}
-use Rattle.h3_connection.specs.declared.event.Pull.TheVariants as pull
-use Rattle.h3_connection.specs.declared.event.StreamFault.{StreamFault}
-use Rattle.h3_world.specs.declared.event.Answer.TheVariants as answer
 use Rattle.h3_world.specs.Order.{is_over}
-use Rattle.h3_world.specs.Pulling.{own_delivered, pull_unidirectional, pull_unopened, fault_or, settled}
+use Rattle.h3_world.specs.Pulling.{own_delivered, pull_unidirectional, pull_unopened, settled}
 use Rattle.h3_world.specs.Streams.{flow, is_open}
 use Rattle.h3_world.specs.World.{World}
-use Rattle.h3_headline.specs.Messages.{contents_of, is_end_of}
+use Rattle.h3_headline.specs.Pulls.{LooksOn, SaysNothing, by_rules}
 
 differ : false ≡ true → ⊥
 differ h = grind (arith, common_steps, h)
-
--- It hands out nothing, and the end again alone.
-pub record SaysNothing (over : Bool) (q : Pull) : Type 0 where
-  pub contents : contents_of (answer.Pulled q) ≡ []
-  pub ends : is_end_of (answer.Pulled q) ≡ true → over ≡ true
-
--- the answer by the tests of a settled pull
-abbrev by_rules : Bool → Bool → Bool → Option StreamFault → Bool → Pull → Pull → Option Pull
-by_rules unidirectional request there fault over one unopened =
-    if unidirectional then Some one else (if not request then Some pull.NoMessages else (if not there then Some unopened else fault_or fault (if over then Some (pull.Item item.End) else None)))
 
 is_value : (over : Bool) (p q : Pull) → SaysNothing over p → Some p ≡ Some q → SaysNothing over q
 is_value over p q h e = subst (SaysNothing over) (ap (λ o. unwrap_or o p) e) h
@@ -56,11 +45,6 @@ settled_says w side i q e =
     let over = is_over (flow w (other side) i) in
     rules_say (i % 4 == control_id (other side)) (is_request i) (is_open w side i) (flow w (other side) i).fault over (pull_unidirectional w (other side) i) (pull_unopened side) q
     (pause_or_none (own_delivered w (other side) i == 0) over) (none_or_pause (is_client side) over) e
-
--- Where a part is looked at, the stream is open, and its end is not out.
-pub record LooksOn (there over : Bool) : Type 0 where
-  pub is_there : there ≡ true
-  pub not_over : over ≡ false
 
 rules_look : (unidirectional request there : Bool) (fault : Option StreamFault) (over : Bool) (one unopened : Pull) → by_rules unidirectional request there fault over one unopened ≡ None → LooksOn there over
 rules_look true request there fault over one unopened e = cc

@@ -1,31 +1,32 @@
 -- A pull of a request stream that was given up, that is over or that is not open: its answer is the world's, and nothing changes.
-use Rattle.std.proofs.Common.{◌≡◌, ℕ, Bool, true, false, [], ◌∷◌, refl, sym, ap, ◌∙◌, nat_lt, if◌then◌else◌, Some, None}
+use Rattle.std.proofs.Common.{◌≡◌, ℕ, Bool, true, false, [], ◌∷◌, refl, sym, ap, ◌∙◌, if◌then◌else◌, Some, nat_lt, None}
 use Rattle.std.specs.Prelude.{◌==◌, unwrap_or}
-use Rattle.h3_proto.specs.StreamIds.{is_request}
-use Rattle.h3_proto.specs.declared.stream.Side.{Side}
+use Rattle.h3_connection.specs.StreamSets.{Streams, set_stream, stream_at}
 use Rattle.h3_connection.specs.Delivering.{with_incoming}
 use Rattle.h3_connection.specs.Endpoint.{EndpointHistory, Own, replied, heads_waiting, kind_of}
 use Rattle.h3_connection.specs.Incoming.{Incoming}
-use Rattle.h3_connection.specs.Keeping.{pulls, pulls_behind}
-use Rattle.h3_connection.specs.OwnIds.{other}
-use Rattle.h3_connection.specs.Pulling.{just, is_client, pull_stream}
-use Rattle.h3_connection.specs.Sending.{pull_at, pull_unless, pull_request, pulled, if_too_many, after_answer}
-use Rattle.h3_connection.specs.StreamSets.{Streams, set_stream, stream_at}
-use Rattle.h3_connection.specs.declared.event.Fault.TheVariants.{Stream}
-use Rattle.h3_connection.specs.declared.event.Item.TheVariants as item
-use Rattle.h3_connection.specs.declared.event.Pull.{Pull}
 use Rattle.h3_connection.specs.declared.event.Pull.TheVariants as pull
-use Rattle.h3_connection.specs.declared.event.StreamFault.{StreamFault}
+use Rattle.h3_proto.specs.StreamIds.{is_request}
+use Rattle.h3_proto.specs.declared.stream.Side.{Side}
+use Rattle.h3_connection.specs.Keeping.{pulls, pulls_behind}
+use Rattle.h3_connection.specs.Pulling.{just, pull_stream, is_client}
+use Rattle.h3_connection.specs.Sending.{pull_at, pull_unless, pull_request, pulled, if_too_many, after_answer}
+use Rattle.h3_connection.specs.declared.event.Pull.{Pull}
 use Rattle.h3_world.specs.declared.setup.Setup.{Setup}
 use Rattle.h3_world.specs.World.{World}
+use Rattle.h3_connection.specs.OwnIds.{other}
+use Rattle.h3_connection.specs.declared.event.Fault.TheVariants.{Stream}
+use Rattle.h3_connection.specs.declared.event.StreamFault.{StreamFault}
+use Rattle.h3_world.specs.Streams.{flow, is_open}
+use Rattle.h3_connection.specs.declared.event.Item.TheVariants as item
 use Rattle.h3_world.specs.Order.{is_over}
 use Rattle.h3_world.specs.Pulling.{pull_unopened}
-use Rattle.h3_world.specs.Streams.{flow, is_open}
-use Rattle.h3_headline.specs.ComingLaws.{incoming_there, incoming_none, kind_is, saying_nothing}
+use Rattle.h3_headline.specs.Arriving.{saying}
+use Rattle.h3_headline.specs.Cited.{ListsAreTheirValue}
+use Rattle.h3_headline.specs.ComingLaws.{incoming_none, incoming_there, kind_is, saying_nothing}
 use Rattle.h3_headline.specs.FlowLaws.{open_there, same_number}
-use Rattle.h3_headline.specs.MovesLaws.{saying}
-use Rattle.h3_headline.specs.PulledSectionLaws.{ListsAreTheirValue}
 use Rattle.h3_headline.specs.PulledStreamLaws.{given_up_stays, over_stays}
+use Rattle.h3_headline.specs.Pulls.{IsWithin, having_own, with_streams}
 use Rattle.h3_headline.specs.Standing.{StandsAt}
 
 -- setting what is there changes nothing
@@ -41,20 +42,10 @@ set_same {X = X} ((q, y) ∷ streams) id x e = by_id (set_same streams id x) (q 
     by_id later true is e = ap (λ b. if b then (id, x) ∷ streams else (q, y) ∷ set_stream streams id x) is ∙ same_stream (ap (λ o. unwrap_or o y) e) (same_number q id is)
     by_id later false is e = ap (λ b. if b then (id, x) ∷ streams else (q, y) ∷ set_stream streams id x) is ∙ ap (λ l. (q, y) ∷ l) (later e)
 
-abbrev with_streams : EndpointHistory → Streams Incoming → EndpointHistory
-with_streams e streams = record e { incoming = streams }
-
-abbrev having_own : EndpointHistory → Own → EndpointHistory
-having_own e own = record e { own = own }
-
 -- the endpoint after a pull that changes nothing
 unchanged : (e : EndpointHistory) (id : ℕ) (i : Incoming) → stream_at e.incoming id ≡ Some i → replied (with_incoming e id i) [] ≡ e
 unchanged e id i there =
     ap (λ s. having_own (with_streams e s) (saying e.own [])) (set_same e.incoming id i there) ∙ ap (λ (o : Own). having_own e o) (saying_nothing e.own)
-
--- no more streams wait now than allowed
-abbrev pub IsWithin : EndpointHistory → Type 0
-IsWithin e = nat_lt e.announced.limits.blocked (heads_waiting e.decoding.decoder e.incoming) ≡ false
 
 pulls_stream : (setup : Setup) (w : World) (side : Side) (id : ℕ) (e : EndpointHistory) (i : Incoming) (a : Pull) → StandsAt setup w side e → is_request id ≡ true → IsWithin e → stream_at e.incoming id ≡ Some i
     → pull_stream e.side e.announced id e.decoding.decoder i ≡ just a i → after_answer a e ≡ (a, e) → pulls e id ≡ (a, e)

@@ -1,18 +1,18 @@
 -- What an end shows is what the world shows: the peer's limits, and the sizes of both tables.
-use Rattle.std.proofs.Common.{◌≡◌, ℕ, Bool, true, false, refl, sym, ap, ◌∙◌, if◌then◌else◌, Some, None}
+use Rattle.std.proofs.Common.{◌≡◌, Bool, true, false, refl, ap, ◌∙◌, if◌then◌else◌, Some, None, ℕ, sym}
 use Rattle.std.specs.Prelude.{option_map}
-use Rattle.h3_field.specs.Field.{section_size}
-use Rattle.h3_qpack.specs.EncoderHistory.{EncoderHistory}
-use Rattle.h3_table.specs.Table.{table}
 use Rattle.h3_proto.specs.declared.stream.Side.{Side}
 use Rattle.h3_connection.specs.Endpoint.{EndpointHistory}
 use Rattle.h3_connection.specs.OwnIds.{other}
 use Rattle.h3_connection.specs.Shown.{limits_of, peer_limits, table_sizes}
-use Rattle.h3_connection.specs.declared.event.TableSizes.{TableSizes}
 use Rattle.h3_world.specs.declared.setup.Setup.{Setup}
 use Rattle.h3_world.specs.Setup.{announced_at}
 use Rattle.h3_world.specs.Shown.{limits_shown, receiving_size, sizes_shown}
 use Rattle.h3_world.specs.World.{World, party}
+use Rattle.h3_field.specs.Field.{section_size}
+use Rattle.h3_qpack.specs.EncoderHistory.{EncoderHistory}
+use Rattle.h3_table.specs.Table.{table}
+use Rattle.h3_connection.specs.declared.event.TableSizes.{TableSizes}
 use Rattle.h3_headline.specs.SettingsLaws.{limits_with_meaning}
 use Rattle.h3_headline.specs.Standing.{StandsAt, are_settings_there, with_meaning}
 

@@ -1,45 +1,42 @@
 -- How many streams wait at an end is how many exchanges do; and all that an end shows.
-use Rattle.std.proofs.Common.{arith, ◌≡◌, ℕ, zero, suc, ◌+◌, ◌-◌, ◌*◌, ◌<◌, ◌≤◌, Bool, true, false, List, [], ◌∷◌, refl, sym, ap, ◌∙◌, subst, nat_lt, if◌then◌else◌, Some}
-use Rattle.std.specs.Prelude.{◌==◌, ◌&&◌, ◌%◌, count_by, length, take, slice_get, is_none, unwrap_or}
-use Rattle.std.proofs.Math.Nat.{div-add-mod}
-use Rattle.std.proofs.lemmas.Grind.{common_steps}
+use Rattle.std.proofs.Common.{◌≡◌, ℕ, true, false, ap, ◌∙◌, Bool, [], ◌∷◌, refl, sym, if◌then◌else◌, Some, arith, ◌+◌, ◌-◌, nat_lt, subst, suc, ◌*◌, ◌≤◌, List, zero, ◌<◌}
+use Rattle.std.specs.Prelude.{◌==◌, unwrap_or, count_by, slice_get, take, length, ◌&&◌, ◌%◌, is_none}
+use Rattle.h3_connection.specs.Incoming.{Incoming}
+use Rattle.h3_connection.specs.StreamSets.{Streams, stream_at}
 use Rattle.std.proofs.lemmas.List.Sums.{sum_by-cons}
-use Rattle.h3_field.specs.Instruction.{EncoderInstruction, encoder_bytes}
-use Rattle.h3_proto.specs.StreamIds.{is_request, index_of}
 use Rattle.h3_proto.specs.declared.stream.Side.{Side}
-use Rattle.h3_proto.specs.declared.stream.Side.TheVariants.{Client, Server}
+use Rattle.h3_world.specs.World.{Exchange, World, party, no_exchange}
+use Rattle.h3_field.specs.Instruction.{EncoderInstruction, encoder_bytes}
 use Rattle.h3_qpack.specs.DecoderState.{announcing}
 use Rattle.h3_qpack.specs.WholeInstructions.{whole_in}
 use Rattle.h3_connection.specs.Endpoint.{EndpointHistory}
-use Rattle.h3_connection.specs.Incoming.{Incoming}
 use Rattle.h3_connection.specs.OwnIds.{other}
-use Rattle.h3_connection.specs.Shown.{waiting_heads, table_sizes}
-use Rattle.h3_connection.specs.StreamSets.{Streams, stream_at}
 use Rattle.h3_world.specs.declared.setup.Setup.{Setup}
-use Rattle.h3_world.specs.declared.event.Event.TheVariants as event
-use Rattle.h3_world.specs.declared.event.Answer.TheVariants as answer
 use Rattle.h3_world.specs.Setup.{announced_at}
 use Rattle.h3_world.specs.Came.{insertions_came}
-use Rattle.h3_world.specs.Ends.{Ends, end_at, answered}
-use Rattle.h3_world.specs.Flow.{Flow}
-use Rattle.h3_world.specs.Machine.{served}
-use Rattle.h3_world.specs.Shown.{incoming, limits_shown, sizes_shown, streams_waiting}
+use Rattle.h3_proto.specs.StreamIds.{is_request, index_of}
+use Rattle.h3_proto.specs.declared.stream.Side.TheVariants.{Client, Server}
+use Rattle.h3_world.specs.Shown.{incoming, streams_waiting, limits_shown, sizes_shown}
 use Rattle.h3_world.specs.Streams.{flow, is_open}
+use Rattle.std.proofs.lemmas.Grind.{common_steps}
+use Rattle.std.proofs.Math.Nat.{div-add-mod}
+use Rattle.h3_connection.specs.Shown.{waiting_heads, table_sizes}
+use Rattle.h3_world.specs.Flow.{Flow}
 use Rattle.h3_world.specs.Sound.{IsSoundWorld}
-use Rattle.h3_world.specs.World.{World, Exchange, no_exchange, party}
+use Rattle.h3_world.specs.declared.event.Event.TheVariants as event
+use Rattle.h3_world.specs.declared.event.Answer.TheVariants as answer
+use Rattle.h3_world.specs.Ends.{Ends, end_at, answered}
+use Rattle.h3_world.specs.Machine.{served}
 use Rattle.h3_headline.specs.AcceptedLaws.{counts_all}
+use Rattle.h3_headline.specs.Calls.{Serves}
 use Rattle.h3_headline.specs.ComingLaws.{incoming_there, is_unseen}
-use Rattle.h3_headline.specs.FlowLaws.{IsThere, same_number}
-use Rattle.h3_headline.specs.SendingLaws.{both_of, Serves}
+use Rattle.h3_headline.specs.FlowLaws.{same_number}
+use Rattle.h3_headline.specs.SendingLaws.{both_of}
 use Rattle.h3_headline.specs.ShowLaws.{limits_agree, sizes_agree}
-use Rattle.h3_headline.specs.Standing.{StandsAt, Stands}
-use Rattle.h3_headline.specs.WaitingLaws.{waits_in, waiting_above}
+use Rattle.h3_headline.specs.Standing.{Stands, StandsAt}
+use Rattle.h3_headline.specs.Steps.{IsThere}
+use Rattle.h3_headline.specs.Waiting.{WaitsThere, one_if, waiting_above, waits_in, without}
 use Rattle.h3_headline.specs.WaitingAtLaws.{endpoint_waits}
-
--- all but the stream that is found there
-abbrev without : Streams Incoming → ℕ → Streams Incoming
-without [] id = []
-without ((q, i) ∷ streams) id = if q == id then streams else (q, i) ∷ without streams id
 
 differs : (p id q : ℕ) → (p == id) ≡ true → (id == q) ≡ false → (p == q) ≡ false
 differs p id q same off = ap (λ n. n == q) (same_number p id same) ∙ off
@@ -52,9 +49,6 @@ without_other ((p, i) ∷ streams) id q off = by_id (p == id) refl (without_othe
         → stream_at (if t then streams else (p, i) ∷ without streams id) q ≡ (if p == q then Some i else stream_at streams q)
     by_id true same later = sym (ap (λ b. if b then Some i else stream_at streams q) (differs p id q same off))
     by_id false not later = ap (λ o. if p == q then Some i else o) later
-
-abbrev one_if : Bool → ℕ
-one_if b = if b then 1 else 0
 
 one_taken : (n : ℕ) (streams : Streams Incoming) (id : ℕ) (i : Incoming) → stream_at streams id ≡ Some i → nat_lt n i.waits_for ≡ true → waiting_above n streams ≡ 1 + waiting_above n (without streams id)
 one_taken n [] id i at waits = cc
@@ -70,12 +64,6 @@ one_taken n ((p, x) ∷ streams) id i at waits = by_id (p == id) at (λ later. o
         let here : one_if (nat_lt n x.waits_for) ≡ 1 = ap (λ (y : Incoming). one_if (nat_lt n y.waits_for)) same ∙ ap one_if waits in
         omega (arith, count x streams, here)
     by_id false is later = omega (arith, later is, count x streams, count x (without streams id))
-
--- the stream of an exchange that waits
-pub record WaitsThere (n : ℕ) (streams : Streams Incoming) (id : ℕ) : Type 0 where
-  pub i : Incoming
-  pub at : stream_at streams id ≡ Some i
-  pub waits : nat_lt n i.waits_for ≡ true
 
 at_id : (n : ℕ) (streams : Streams Incoming) (a b : ℕ) → a ≡ b → WaitsThere n streams a → WaitsThere n streams b
 at_id n streams a b is h = subst (WaitsThere n streams) is h

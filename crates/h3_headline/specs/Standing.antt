@@ -1,39 +1,39 @@
 -- An endpoint stands in a world: what it keeps is what was sent, delivered and handed out there.
-use Rattle.std.specs.Prelude.{◌≡◌, ℕ, zero, suc, ◌+◌, ◌-◌, ◌*◌, ◌^◌, ◌<◌, ◌≤◌, ◌&&◌, Bool, true, false, List, [], ◌∷◌, ◌++◌, length, take, drop, fold, filter, flat_map, ◌==◌, if◌then◌else◌, Option, Some, None, is_some, nat_le}
+use Rattle.std.specs.Prelude.{◌-◌, List, fold, ℕ, [], Option, Some, None, ◌≡◌, zero, suc, ◌+◌, ◌++◌, length, drop, flat_map, ◌<◌, take, true, is_some, Bool, false, ◌==◌, if◌then◌else◌, nat_le, filter, ◌^◌, ◌∷◌, ◌&&◌, ◌*◌, ◌≤◌}
+use Rattle.h3_connection.specs.declared.place.Place.{Place}
+use Rattle.h3_connection.specs.declared.place.Place.TheVariants.{InBody, AfterTrailer, BeforeHead}
+use Rattle.h3_world.specs.Flow.{Part, Flow, part_bytes, Section, flow_bytes}
+use Rattle.h3_world.specs.Flow.Part.{Interim, Head, Body, Trailer, End}
+use Rattle.h3_wire.specs.Encoded.{frame_encoding}
+use Rattle.h3_connection.specs.Incoming.{Incoming}
 use Rattle.std.specs.List.{AllByRecursion, concat}
+use Rattle.h3_messages.specs.declared.content.Content.TheVariants.{Unsaid}
+use Rattle.h3_world.specs.Order.{next_part, is_over, outgoing_of}
+use Rattle.h3_world.specs.Streams.{flow, is_open}
+use Rattle.h3_connection.specs.OwnIds.{other, control_id, encoder_id, decoder_id, is_own}
+use Rattle.h3_connection.specs.Unidirectional.{Unidirectional, Role, untold}
+use Rattle.h3_connection.specs.Unidirectional.Role.{Untold, Control, Encoder, Decoder}
+use Rattle.h3_proto.specs.declared.stream.Side.{Side}
+use Rattle.h3_world.specs.declared.setup.Setup.{Setup}
+use Rattle.h3_world.specs.Setup.{announced_at}
+use Rattle.h3_world.specs.OwnStreams.{settings_bytes}
+use Rattle.h3_qpack.specs.WholeInstructions.{rest_in, whole_in}
+use Rattle.h3_connection.specs.Endpoint.{goaway_encoding, EndpointHistory, Own}
+use Rattle.h3_field.specs.Instruction.{DecoderInstruction, decoder_bytes, EncoderInstruction, encoder_bytes}
+use Rattle.h3_proto.specs.Settings.{is_known}
+use Rattle.h3_connection.specs.PeerReading.{Peer, is_above, is_no_goaway}
+use Rattle.h3_qpack.specs.DecoderState.{announcing, decoder_after_all}
+use Rattle.h3_connection.specs.Listeners.{Decoding}
+use Rattle.h3_connection.specs.StreamSets.{stream_at, HaveDistinctIds}
+use Rattle.h3_world.specs.World.{World, party}
+use Rattle.h3_field.specs.InstructionAnswer.{IsReply}
+use Rattle.h3_qpack.specs.Encodings.{IsWrittenInstruction}
 use Rattle.h3_header.specs.Head.{has_pseudo}
 use Rattle.h3_header.specs.Reads.{head_of_fields}
 use Rattle.h3_connection.specs.Pulling.{is_client, is_for, is_interim}
-use Rattle.h3_wire.specs.Encoded.{frame_encoding}
-use Rattle.h3_field.specs.Instruction.{EncoderInstruction, encoder_bytes, DecoderInstruction, decoder_bytes}
-use Rattle.h3_field.specs.InstructionAnswer.{IsReply}
-use Rattle.h3_proto.specs.Settings.{is_known}
-use Rattle.h3_qpack.specs.Encodings.{IsWrittenInstruction}
-use Rattle.h3_qpack.specs.DecoderState.{announcing, decoder_after_all}
-use Rattle.h3_qpack.specs.WholeInstructions.{whole_in, rest_in}
-use Rattle.h3_proto.specs.declared.stream.Side.{Side}
 use Rattle.h3_proto.specs.declared.stream.Side.TheVariants.{Client, Server}
-use Rattle.h3_connection.specs.Endpoint.{EndpointHistory, Own, goaway_encoding}
-use Rattle.h3_connection.specs.Incoming.{Incoming}
-use Rattle.h3_connection.specs.OwnIds.{other, control_id, encoder_id, decoder_id, is_own}
-use Rattle.h3_connection.specs.Listeners.{Decoding}
-use Rattle.h3_connection.specs.PeerReading.{Peer, is_above, is_no_goaway}
-use Rattle.h3_connection.specs.StreamSets.{HaveDistinctIds, stream_at}
-use Rattle.h3_connection.specs.Unidirectional.{Unidirectional, Role, untold}
-use Rattle.h3_connection.specs.Unidirectional.Role.{Untold, Control, Encoder, Decoder}
-use Rattle.h3_messages.specs.declared.content.Content.TheVariants.{Unsaid}
-use Rattle.h3_connection.specs.declared.place.Place.{Place}
-use Rattle.h3_connection.specs.declared.place.Place.TheVariants.{BeforeHead, InBody, AfterTrailer}
-use Rattle.h3_world.specs.declared.setup.Setup.{Setup}
-use Rattle.h3_world.specs.Setup.{announced_at}
 use Rattle.h3_world.specs.Ends.{Ends}
-use Rattle.h3_world.specs.Flow.{Flow, Part, Section, part_bytes, flow_bytes}
-use Rattle.h3_world.specs.Flow.Part.{Interim, Head, Body, Trailer, End}
-use Rattle.h3_world.specs.Order.{next_part, is_over, outgoing_of}
-use Rattle.h3_world.specs.OwnStreams.{settings_bytes}
 use Rattle.h3_world.specs.Sound.{IsSoundWorld}
-use Rattle.h3_world.specs.Streams.{flow, is_open}
-use Rattle.h3_world.specs.World.{World, party}
 
 -- where a message is behind a part (RFC 9114, section 4.1)
 abbrev pub place_behind : Place → Part → Place

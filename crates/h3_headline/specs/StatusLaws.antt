@@ -1,22 +1,16 @@
 -- The last status of a field list that is read as a head is that head's: so a list that is too large is counted as the head that it has.
-use Rattle.std.proofs.Common.{◌≡◌, ℕ, ◌+◌, ◌≤◌, ◌<◌, Bool, true, false, List, [], ◌∷◌, refl, sym, ap, ◌∙◌, subst, arith, if◌then◌else◌, Option, Some, None}
-use Rattle.std.specs.List.{fold}
-use Rattle.std.specs.Prelude.{◌&&◌, ◌==◌, ◌/◌, ◌%◌, nat_le, bytes_eq, codes}
-use Rattle.std.proofs.lemmas.Grind.{common_steps}
-use Rattle.std.proofs.lemmas.Slice.Eq.{bytes_eq-Decides}
-use Rattle.http.specs.StatusCode.{IsCodeText, code_digits}
+use Rattle.std.proofs.Common.{Bool, true, false, if◌then◌else◌, ◌≡◌, refl, Some, ℕ, List, sym, subst, Option, [], ◌∷◌, ◌+◌, ◌<◌, arith, ◌≤◌, ap, ◌∙◌, None}
+use Rattle.std.specs.Prelude.{bytes_eq, codes, ◌&&◌, ◌==◌, ◌/◌, ◌%◌, nat_le}
 use Rattle.h3_field.specs.Field.{Field}
-use Rattle.h3_qpack.specs.Sizes.{value_after, last_value}
 use Rattle.h3_header.specs.Head.{Head, trailer_head}
-use Rattle.h3_header.specs.Reads.{kind_of, with_kind, with_field, AcceptsAt, IsValueAt, AcceptsAll, status_number, head_of_fields}
-use Rattle.h3_connection.specs.Pulling.{is_interim, is_interim_text, is_digit}
-
--- a status of the head is that of the last text, which is one of a status
-abbrev pub IsStatusOf : Option ℕ → Option (List ℕ) → Type 0
-IsStatusOf None None = Unit {0}
-IsStatusOf (Some n) None = ⊥
-IsStatusOf None (Some text) = ⊥
-IsStatusOf (Some n) (Some text) = IsCodeText text × (n ≡ status_number text)
+use Rattle.h3_header.specs.Reads.{kind_of, with_kind, IsValueAt, AcceptsAt, with_field, AcceptsAll, status_number, head_of_fields}
+use Rattle.std.proofs.lemmas.Slice.Eq.{bytes_eq-Decides}
+use Rattle.h3_qpack.specs.Sizes.{value_after, last_value}
+use Rattle.std.specs.List.{fold}
+use Rattle.std.proofs.lemmas.Grind.{common_steps}
+use Rattle.h3_connection.specs.Pulling.{is_digit, is_interim, is_interim_text}
+use Rattle.http.specs.StatusCode.{code_digits}
+use Rattle.h3_headline.specs.Status.{IsStatusOf}
 
 either : {X : Type 0} (P : X → Type 0) (b : Bool) (x y : X) → P x → P y → P (if b then x else y)
 either P true x y p q = p
@@ -56,10 +50,6 @@ status_of : (h : Head) (last : Option (List ℕ)) (fields : List Field) → IsSt
 unfolding AcceptsAll
 status_of h last [] at accepts = at
 status_of h last (f ∷ fields) at accepts = status_of (with_field h f) (value_after (codes ":status") last f) fields (after_field h last f at accepts.0) accepts.1
-
-yes : (b : Bool) → (b ≡ false → ⊥) → b ≡ true
-yes true h = refl
-yes false h = absurd (h refl)
 
 digit : (n : ℕ) → n < 10 → is_digit (48 + n) ≡ true
 digit n h = grind (arith, common_steps, h)

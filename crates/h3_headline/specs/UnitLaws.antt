@@ -1,10 +1,11 @@
 -- Texts that stand one behind the other, as frames and instructions do: which of them came whole with a front of all bytes, and what
 -- came of the next one.
-use Rattle.std.proofs.Common.{◌≡◌, ℕ, zero, suc, ◌+◌, ◌-◌, ◌<◌, ◌≤◌, nat_le, Bool, true, false, if◌then◌else◌, List, [], ◌∷◌, ◌++◌, length, take, drop, flat_map, refl, sym, ap, ◌∙◌, arith, append_assoc, length-append}
-use Rattle.std.proofs.lemmas.Bool.{leb-true}
+use Rattle.std.proofs.Common.{◌≡◌, ℕ, ◌<◌, nat_le, false, arith, ◌≤◌, true, zero, suc, List, [], take, refl, drop, ◌+◌, ◌∷◌, ap, ◌-◌, ◌++◌, length, ◌∙◌, flat_map, sym, append_assoc, Bool, if◌then◌else◌, length-append}
 use Rattle.std.proofs.lemmas.Grind.{common_steps}
-use Rattle.std.proofs.lemmas.List.{take-append-le}
 use Rattle.h3_qpack.specs.WholeInstructions.{whole_in, rest_in}
+use Rattle.std.proofs.lemmas.Bool.{leb-true}
+use Rattle.std.proofs.lemmas.List.{take-append-le}
+use Rattle.h3_headline.specs.Parts.{GoesOn, HaveBytes}
 
 above : (a n : ℕ) → nat_le a n ≡ false → n < a
 above a n e = grind (arith, common_steps, e)
@@ -80,13 +81,6 @@ front_is f n (x ∷ xs) = by_test (nat_le (length (f x)) n) refl (front_is f (n 
         ∙ sym (ap (λ l. flat_map f l ++ rest) (take_one k x xs))
     by_test false e later = take-append-le n (f x) (flat_map f xs) (let less = above (length (f x)) n e in omega (arith, less))
 
--- More came: what was left and the new bytes are a front of the texts that were not whole.
-pub record GoesOn {X : Type 0} (f : X → List ℕ) (few many : ℕ) (all : List X) : Type 0 where
-  pub count : ℕ
-  pub bytes : rest_in f few all ++ take (many - few) (drop few (flat_map f all)) ≡ take count (flat_map f (drop (whole_in f few all) all))
-  pub whole : take (whole_in f many all) all ≡ take (whole_in f few all) all ++ take (whole_in f count (drop (whole_in f few all) all)) (drop (whole_in f few all) all)
-  pub rest : rest_in f many all ≡ rest_in f count (drop (whole_in f few all) all)
-
 goes_further : {X : Type 0} (f : X → List ℕ) (few many : ℕ) (x : X) (xs : List X) → few ≤ many → nat_le (length (f x)) few ≡ true → GoesOn f (few - length (f x)) (many - length (f x)) xs → GoesOn f few many (x ∷ xs)
 goes_further f few many x xs h e later =
     let len = length (f x) in
@@ -125,10 +119,6 @@ goes_on f few many (x ∷ xs) h = by_test (nat_le (length (f x)) few) refl (goes
     by_test : (b : Bool) → nat_le (length (f x)) few ≡ b → GoesOn f (few - length (f x)) (many - length (f x)) xs → GoesOn f few many (x ∷ xs)
     by_test true e later = goes_further f few many x xs h e later
     by_test false e later = goes_within f few many x xs h e
-
--- Each text has a byte: then what came stays as it came when more is written.
-pub record HaveBytes {X : Type 0} (f : X → List ℕ) : Type 0 where
-  pub some : (x : X) → 0 < length (f x)
 
 pub whole_same : {X : Type 0} (f : X → List ℕ) → HaveBytes f → (n : ℕ) (xs ys : List X) → n ≤ length (flat_map f xs) → whole_in f n (xs ++ ys) ≡ whole_in f n xs
 whole_same f b n [] [] h = refl

@@ -1,23 +1,25 @@
 -- An endpoint that stands in a world has no more waiting streams than the world counts at its side.
-use Rattle.std.proofs.Common.{arith, ◌≡◌, ℕ, zero, suc, ◌≤◌, ◌<◌, Bool, true, false, List, [], ◌∷◌, refl, sym, ap, ◌∙◌, subst, nat_lt, if◌then◌else◌, Option, Some, None, length}
-use Rattle.std.specs.Prelude.{◌&&◌, count_by, slice_get, is_none, is_some, unwrap_or}
-use Rattle.std.proofs.lemmas.Bool.{le-ltb}
+use Rattle.std.proofs.Common.{arith, ◌≡◌, ℕ, zero, suc, ◌<◌, List, [], ◌∷◌, refl, Some, length, sym, ap, ◌∙◌, if◌then◌else◌, Bool, true, false, subst, nat_lt, Option, None, ◌≤◌}
+use Rattle.std.specs.Prelude.{slice_get, unwrap_or, ◌&&◌, is_none, is_some, count_by}
+use Rattle.h3_world.specs.World.{Exchange, no_exchange, World, party}
 use Rattle.h3_proto.specs.StreamIds.{index_of}
+use Rattle.h3_world.specs.Streams.{exchange, flow, is_open}
 use Rattle.h3_proto.specs.declared.stream.Side.{Side}
 use Rattle.h3_proto.specs.declared.stream.Side.TheVariants.{Client, Server}
+use Rattle.h3_connection.specs.OwnIds.{other}
+use Rattle.h3_world.specs.Shown.{incoming, streams_waiting}
+use Rattle.std.proofs.lemmas.Bool.{le-ltb}
 use Rattle.h3_connection.specs.Endpoint.{EndpointHistory, heads_waiting}
 use Rattle.h3_connection.specs.Incoming.{Incoming}
-use Rattle.h3_connection.specs.OwnIds.{other}
 use Rattle.h3_connection.specs.StreamSets.{stream_at}
 use Rattle.h3_connection.specs.declared.event.StreamFault.{StreamFault}
 use Rattle.h3_world.specs.declared.setup.Setup.{Setup}
 use Rattle.h3_world.specs.Came.{insertions_came}
-use Rattle.h3_world.specs.Shown.{incoming, streams_waiting}
-use Rattle.h3_world.specs.Streams.{exchange, flow, is_open}
-use Rattle.h3_world.specs.World.{World, Exchange, no_exchange, party}
-use Rattle.h3_headline.specs.FlowLaws.{IsThere, open_there}
-use Rattle.h3_headline.specs.Standing.{ReceivesFlow, ReceivesAt, StandsAt}
-use Rattle.h3_headline.specs.WaitingLaws.{waits_in, WaitsAt, no_more_wait}
+use Rattle.h3_headline.specs.FlowLaws.{open_there}
+use Rattle.h3_headline.specs.Standing.{ReceivesAt, ReceivesFlow, StandsAt}
+use Rattle.h3_headline.specs.Steps.{IsThere}
+use Rattle.h3_headline.specs.Waiting.{WaitsAt, waits_in}
+use Rattle.h3_headline.specs.WaitingLaws.{no_more_wait}
 
 found_at : (es : List Exchange) (n : ℕ) → n < length es → slice_get es n ≡ Some (unwrap_or (slice_get es n) no_exchange)
 found_at [] n h = absurd (omega (arith, h))

@@ -1,26 +1,17 @@
 -- No more streams of an endpoint wait for insertions than streams of the world.
-use Rattle.std.proofs.Common.{arith, ◌≡◌, ℕ, zero, suc, ◌+◌, ◌≤◌, Bool, true, false, List, [], ◌∷◌, refl, ap, ◌∙◌, nat_lt, if◌then◌else◌, Some, None}
-use Rattle.std.specs.Prelude.{◌==◌, ◌&&◌, count_by, slice_get, slice_set, is_none, unwrap_or}
+use Rattle.std.proofs.Common.{arith, ◌≡◌, ℕ, true, false, ap, zero, suc, ◌+◌, List, [], ◌∷◌, ◌∙◌, Some, Bool, refl, None, if◌then◌else◌, ◌≤◌, nat_lt}
+use Rattle.std.specs.Prelude.{◌&&◌, count_by, slice_get, slice_set, unwrap_or, ◌==◌}
 use Rattle.std.proofs.lemmas.Bool.{le-ltb}
-use Rattle.std.proofs.lemmas.Grind.{common_steps}
-use Rattle.std.proofs.lemmas.List.Sums.{sum_by-cons}
-use Rattle.h3_proto.specs.StreamIds.{is_request, index_of}
 use Rattle.h3_proto.specs.declared.stream.Side.{Side}
 use Rattle.h3_proto.specs.declared.stream.Side.TheVariants.{Client, Server}
+use Rattle.h3_world.specs.World.{no_exchange, Exchange}
+use Rattle.std.proofs.lemmas.List.Sums.{sum_by-cons}
 use Rattle.h3_connection.specs.Incoming.{Incoming}
-use Rattle.h3_connection.specs.StreamSets.{Streams, HaveDistinctIds, stream_at}
-use Rattle.h3_world.specs.World.{Exchange, no_exchange}
-use Rattle.h3_world.specs.Shown.{incoming}
-use Rattle.h3_headline.specs.FlowLaws.{set_elsewhere, places_differ, same_number}
-
-abbrev pub waits_in : ℕ → Side → Exchange → Bool
-waits_in n side e = nat_lt n (incoming side e).waits_for && is_none (incoming side e).fault
-
-abbrev one_if : Bool → ℕ
-one_if b = if b then 1 else 0
-
-abbrev pub waiting_above : ℕ → Streams Incoming → ℕ
-waiting_above n streams = count_by (λ s. nat_lt n s.1.waits_for) streams
+use Rattle.h3_connection.specs.StreamSets.{Streams, stream_at, HaveDistinctIds}
+use Rattle.std.proofs.lemmas.Grind.{common_steps}
+use Rattle.h3_proto.specs.StreamIds.{index_of}
+use Rattle.h3_headline.specs.FlowLaws.{places_differ, same_number, set_elsewhere}
+use Rattle.h3_headline.specs.Waiting.{WaitsAt, one_if, waiting_above, waits_in}
 
 none_waits : (n : ℕ) (side : Side) → waits_in n side no_exchange ≡ false
 none_waits n Client = ap (λ b. b && true) (le-ltb n 0 (omega arith))
@@ -47,13 +38,6 @@ without_one n side (x ∷ es) (suc k) e at waits =
       sum_by-cons (λ y. one_if (waits_in n side y)) x es,
       sum_by-cons (λ y. one_if (waits_in n side y)) x (slice_set es k no_exchange),
     )
-
--- a stream that waits is one of an exchange that does
-pub record WaitsAt (n : ℕ) (side : Side) (es : List Exchange) (id : ℕ) : Type 0 where
-  pub request : is_request id ≡ true
-  pub e : Exchange
-  pub at : slice_get es (index_of id) ≡ Some e
-  pub waits : waits_in n side e ≡ true
 
 not_first : (streams : Streams Incoming) (q id : ℕ) (j : Incoming) → stream_at streams q ≡ None → stream_at streams id ≡ Some j → (q == id) ≡ false
 not_first streams q id j none at = by_id (q == id) refl

@@ -1,24 +1,25 @@
 -- What an endpoint has of the other side's own streams stays as it is when that side writes more on them.
-use Rattle.std.proofs.Common.{◌≡◌, ℕ, ◌-◌, ◌<◌, ◌≤◌, Bool, true, false, if◌then◌else◌, List, [], ◌∷◌, ◌++◌, length, take, drop, flat_map, refl, sym, ap, ◌∙◌, arith, length-append, Option, Some}
+use Rattle.std.proofs.Common.{ℕ, ◌<◌, length, arith, ◌-◌, List, ◌++◌, length-append, ◌≡◌, [], ◌∷◌, refl, ap, ◌≤◌, flat_map, if◌then◌else◌, take, drop, sym, ◌∙◌, Option, Some, Bool, true, false}
 use Rattle.std.proofs.lemmas.Grind.{common_steps}
-use Rattle.h3_coding.specs.Encodings.{encoding}
 use Rattle.h3_field.specs.Integer.{prefixed}
 use Rattle.h3_field.specs.StringLiteral.{string_literal}
 use Rattle.h3_field.specs.Instruction.{EncoderInstruction, encoder_bytes, DecoderInstruction, decoder_bytes}
 use Rattle.h3_field.specs.Instruction.EncoderInstruction.{SetCapacity, InsertWithStaticName, InsertWithEntryName, InsertLiteral, Duplicate}
 use Rattle.h3_field.specs.Instruction.DecoderInstruction.{Acknowledge, CancelStream, Increment}
-use Rattle.h3_proto.specs.declared.stream.Side.{Side}
-use Rattle.h3_qpack.specs.DecoderState.{announcing, decoder_after_all}
+use Rattle.h3_coding.specs.Encodings.{encoding}
 use Rattle.h3_connection.specs.Endpoint.{goaway_encoding}
-use Rattle.h3_connection.specs.Listeners.{Decoding}
+use Rattle.h3_proto.specs.declared.stream.Side.{Side}
 use Rattle.h3_connection.specs.OwnIds.{other}
 use Rattle.h3_connection.specs.PeerReading.{Peer}
 use Rattle.h3_connection.specs.Unidirectional.{Unidirectional}
 use Rattle.h3_world.specs.declared.setup.Setup.{Setup}
 use Rattle.h3_world.specs.Setup.{announced_at}
 use Rattle.h3_world.specs.OwnStreams.{settings_bytes}
-use Rattle.h3_headline.specs.Standing.{HasControl, HasEncoderStream, HasDecoderStream, are_settings_there, replies_unread}
-use Rattle.h3_headline.specs.UnitLaws.{HaveBytes, taken_same, rest_same, front_same}
+use Rattle.h3_qpack.specs.DecoderState.{announcing, decoder_after_all}
+use Rattle.h3_connection.specs.Listeners.{Decoding}
+use Rattle.h3_headline.specs.Parts.{HaveBytes}
+use Rattle.h3_headline.specs.Standing.{HasControl, HasDecoderStream, HasEncoderStream, are_settings_there, replies_unread}
+use Rattle.h3_headline.specs.UnitLaws.{front_same, rest_same, taken_same}
 
 some_prefixed : (size flags n : ℕ) → 0 < length (prefixed size flags n)
 some_prefixed size flags n = grind (arith, common_steps)

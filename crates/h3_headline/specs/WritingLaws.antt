@@ -1,20 +1,23 @@
 -- A side writes on its own streams: both ends stand in the world after it.
-use Rattle.std.proofs.Common.{◌≡◌, ℕ, ◌^◌, ◌<◌, ◌≤◌, Bool, true, false, List, [], ◌∷◌, ◌++◌, length, refl, sym, ap, ◌∙◌, subst, if◌then◌else◌, Option, Some, None, nat_lt}
-use Rattle.std.specs.Prelude.{not, ◌&&◌, flat_map}
-use Rattle.h3_proto.specs.StreamIds.{is_request}
 use Rattle.h3_proto.specs.declared.stream.Side.{Side}
 use Rattle.h3_proto.specs.declared.stream.Side.TheVariants.{Client, Server}
+use Rattle.h3_world.specs.declared.setup.Setup.{Setup}
+use Rattle.h3_world.specs.Sound.{IsSoundParty, IsSoundWorld}
+use Rattle.h3_world.specs.World.{World, party, Party, with_party}
+use Rattle.std.proofs.Common.{subst, ◌≡◌, refl, sym, ap, ◌∙◌, length, ℕ, Bool, true, false, if◌then◌else◌, Option, Some, None, nat_lt, ◌^◌, ◌<◌, ◌≤◌, [], ◌∷◌, ◌++◌}
 use Rattle.h3_connection.specs.Endpoint.{EndpointHistory, Own, goaway_encoding}
-use Rattle.h3_connection.specs.Lasts.{last_id}
 use Rattle.h3_connection.specs.OwnIds.{other, control_id}
-use Rattle.h3_connection.specs.PeerReading.{is_above, is_no_goaway}
+use Rattle.std.specs.List.{AllByRecursion}
+use Rattle.std.specs.Prelude.{not, ◌&&◌, flat_map}
+use Rattle.h3_proto.specs.StreamIds.{is_request}
+use Rattle.h3_connection.specs.PeerReading.{is_no_goaway, is_above}
 use Rattle.h3_connection.specs.Pulling.{is_client}
-use Rattle.h3_connection.specs.Sending.{raised}
-use Rattle.h3_connection.specs.Sending as sender
-use Rattle.h3_connection.specs.StreamSets.{stream_at}
 use Rattle.h3_connection.specs.declared.event.Refusal.{Refusal}
 use Rattle.h3_connection.specs.declared.event.Refusal.TheVariants as refusal
-use Rattle.h3_world.specs.declared.setup.Setup.{Setup}
+use Rattle.h3_connection.specs.Sending.{raised}
+use Rattle.h3_connection.specs.Lasts.{last_id}
+use Rattle.h3_connection.specs.Sending as sender
+use Rattle.h3_connection.specs.StreamSets.{stream_at}
 use Rattle.h3_world.specs.declared.event.Event.TheVariants as event
 use Rattle.h3_world.specs.declared.event.Answer.TheVariants as answer
 use Rattle.h3_world.specs.Ends.{Ends, end_at, answered}
@@ -23,25 +26,18 @@ use Rattle.h3_world.specs.OwnStreams.{settings_bytes}
 use Rattle.h3_world.specs.Refusals.{goaway_refusal}
 use Rattle.h3_world.specs.Sending.{with_goaway}
 use Rattle.h3_world.specs.Setup.{announced_at}
-use Rattle.h3_world.specs.Sound.{IsSoundParty, IsSoundWorld}
-use Rattle.h3_world.specs.World.{World, Party, party, with_party}
-use Rattle.h3_headline.specs.ControlStreamLaws.{last_of_none, goaways_then}
-use Rattle.h3_headline.specs.FlowLaws.{other-other, flow-with_party, party-with_party, party-with_other, is_open-with_party}
-use Rattle.h3_headline.specs.OwnMovesLaws.{SameStreams, reader_stands}
-use Rattle.h3_headline.specs.SendingLaws.{Both, both_of, Serves, does_on, call_agrees, goes_unclosed}
-use Rattle.h3_headline.specs.Standing.{HasControlOf, HasEncoderStreamOf, HasDecoderStreamOf, StandsAt, IsWritable, IsReadable, Stands}
+use Rattle.h3_headline.specs.Calls.{Both, Hears, Serves, with_goaways, with_own}
+use Rattle.h3_headline.specs.ControlStreamLaws.{goaways_then, last_of_none}
+use Rattle.h3_headline.specs.FlowLaws.{flow-with_party, is_open-with_party, other-other, party-with_other, party-with_party}
+use Rattle.h3_headline.specs.OwnMovesLaws.{reader_stands}
+use Rattle.h3_headline.specs.OwnStreams.{SameStreams}
+use Rattle.h3_headline.specs.SendingLaws.{both_of, call_agrees, does_on, goes_unclosed}
+use Rattle.h3_headline.specs.Standing.{HasControlOf, HasDecoderStreamOf, HasEncoderStreamOf, IsReadable, IsWritable, Stands, StandsAt}
 use Rattle.h3_headline.specs.WritesMoreLaws.{control_more}
-use Rattle.std.specs.List.{AllByRecursion}
 
 pub sound_party : (setup : Setup) (w : World) (side : Side) → IsSoundWorld setup w → IsSoundParty setup w side
 sound_party setup w Client h = h.client
 sound_party setup w Server h = h.server
-
--- What the reader has of what the side wrote: what it had, or by what it wrote now.
-pub record Hears (setup : Setup) (side : Side) (own : Own) (f : EndpointHistory) : Type 0 where
-  pub control : HasControlOf setup (other side) own f
-  pub encoder_stream : HasEncoderStreamOf setup (other side) own f
-  pub decoder_stream : HasDecoderStreamOf setup (other side) own f
 
 pub hears : (setup : Setup) (w : World) (side : Side) (f : EndpointHistory) → StandsAt setup w (other side) f → Hears setup side (party w side).own f
 hears setup w side f h =
@@ -90,13 +86,6 @@ party_writes setup w side p e f h k writes =
 pub party_count : (w : World) (side : Side) (p : Party) → length (with_party w side p).exchanges ≡ length w.exchanges
 party_count w Client p = refl
 party_count w Server p = refl
-
--- a GOAWAY frame
-abbrev with_goaways : Own → List ℕ → Own
-with_goaways own ids = record own { goaways = ids }
-
-abbrev with_own : EndpointHistory → Own → EndpointHistory
-with_own e own = record e { own = own }
 
 -- what is not refused may be written
 allowed : (side : Side) (id : ℕ) (later : Option Refusal) → (if not (is_client side) && not (is_request id) then Some refusal.NotRequestId else later) ≡ None → (is_no_goaway (other side) id ≡ false) × (later ≡ None)

@@ -16,9 +16,8 @@ ghost use Rattle.h3_world.specs.Setup.{IsMadeSetup, JudgesPlainly, announced_at}
 ghost use Rattle.h3_world.specs.Sound.{IsSoundWorld};
 ghost use Rattle.h3_world.specs.Streams.{flow, is_open};
 ghost use Rattle.h3_world.specs.World.{World, empty_world, party};
-ghost use Rattle.h3_headline.specs.JoiningLaws.{Laws};
-ghost use Rattle.h3_headline.specs.PulledPartLaws.{DecodesNext};
-ghost use Rattle.h3_headline.specs.PulledSectionLaws.{ListsAreTheirValue};
+ghost use Rattle.h3_headline.specs.Cited.{Laws, ListsAreTheirValue};
+ghost use Rattle.h3_headline.specs.Pulling.{DecodesNext};
 ghost use Rattle.h3_headline.specs.Standing.{Stands, StandsAt};
 
 /// What the lemmas here cite holds: of QPACK's sessions and streams, of what a field list is read as, and of the steps of a world.

@@ -13,7 +13,8 @@ use Rattle.h3_connection.specs.Unidirectional.{Role}
 use Rattle.h3_connection.specs.Unidirectional.Role.{Untold, Control, Encoder, Decoder}
 use Rattle.h3_connection.specs.declared.arrival.Arrival.{Arrival}
 use Rattle.h3_connection.specs.declared.arrival.Arrival.TheVariants.{BytesCame}
-use Rattle.h3_headline.specs.RoleLaws.{IsTyped, role_by, behind_type, with_role, peer_stream, heard_typed, typed_control, typed_encoder, typed_decoder}
+use Rattle.h3_headline.specs.PeerStreams.{IsTyped, role_by, behind_type, with_role}
+use Rattle.h3_headline.specs.RoleLaws.{peer_stream, heard_typed, typed_control, typed_encoder, typed_decoder}
 use Rattle.h3_headline.specs.Standing.{IsPeerStream}
 use Rattle.h3_memory.specs.Kept.{Delivery}
 use Rattle.h3_memory.specs.Keeping.{Held, ahead}

@@ -18,18 +18,17 @@ use Rattle.h3_world.specs.Delivering.{delivered_own, delivered_message, is_close
 use Rattle.h3_world.specs.Flow.{Flow}
 use Rattle.h3_world.specs.Setup.{IsMadeSetup}
 use Rattle.h3_world.specs.World.{World, party, with_party}
+use Rattle.h3_headline.specs.Calls.{Both}
+use Rattle.h3_headline.specs.Cited.{Laws}
 use Rattle.h3_headline.specs.FlowLaws.{same_number}
-use Rattle.h3_headline.specs.JoiningLaws.{Laws}
-use Rattle.h3_headline.specs.OwnDeliveredLaws.{accepted}
-use Rattle.h3_headline.specs.OwnEventLaws.{OwnCome, own_come, own_outgoing}
-use Rattle.h3_headline.specs.OwnMovesLaws.{SameStreams}
+use Rattle.h3_headline.specs.OwnEventLaws.{own_come, own_outgoing}
 use Rattle.h3_headline.specs.OwnOverLaws.{advanced_is, waiting_own}
+use Rattle.h3_headline.specs.OwnStreams.{accepted, OwnCome, SameStreams}
 use Rattle.h3_headline.specs.OwnWorldLaws.{streams_after}
 use Rattle.h3_headline.specs.OwnWritesLaws.{reader_writable, writer_writable, readable_same}
-use Rattle.h3_headline.specs.SendingLaws.{Both}
 use Rattle.h3_headline.specs.Standing.{StandsAt, IsReadable}
-use Rattle.std.specs.List.{AllByRecursion}
 use Rattle.h3_headline.specs.WritingLaws.{party_count}
+use Rattle.std.specs.List.{AllByRecursion}
 use Rattle.h3_memory.specs.Kept.{Delivery, Bytes, End, Reset, read_delivery}
 use Rattle.h3_memory.specs.Keeping.{MayAllBeRead, bytes_in, came_of, text_of, handed_own, handed_stream}
 use Rattle.h3_memory.proofs.Ahead.{at_mapped, further_taken}

@@ -22,17 +22,20 @@ use Rattle.h3_world.specs.Setup.{IsMadeSetup}
 use Rattle.h3_world.specs.Sound.{IsSoundWorld}
 use Rattle.h3_world.specs.Streams.{flow, with_flow, is_open}
 use Rattle.h3_world.specs.World.{World}
-use Rattle.h3_headline.specs.ComesLaws.{Comes, end_comes_over, reset_comes_over, received_both, arrives_next}
+use Rattle.h3_headline.specs.Arriving.{Comes, Receives, saying, come}
+use Rattle.h3_headline.specs.Calls.{Both}
+use Rattle.h3_headline.specs.Cited.{Laws}
+use Rattle.h3_headline.specs.ComesLaws.{end_comes_over, reset_comes_over, received_both, arrives_next}
 use Rattle.h3_headline.specs.ComingLaws.{kind_is, stands_after_coming, saying_nothing}
 use Rattle.h3_headline.specs.DeliverLaws.{flow_received, still_heard, goes_on}
 use Rattle.h3_headline.specs.FewLaws.{open_is_small}
-use Rattle.h3_headline.specs.FlowLaws.{IsThere, open_there, same_number}
-use Rattle.h3_headline.specs.JoiningLaws.{Laws}
-use Rattle.h3_headline.specs.MovesLaws.{Receives, saying, sender_stands}
-use Rattle.h3_headline.specs.OwnDeliveredLaws.{accepted}
-use Rattle.h3_headline.specs.ReceivingLaws.{come, bytes_come}
-use Rattle.h3_headline.specs.SendingLaws.{Both, flow_count}
+use Rattle.h3_headline.specs.FlowLaws.{open_there, same_number}
+use Rattle.h3_headline.specs.MovesLaws.{sender_stands}
+use Rattle.h3_headline.specs.OwnStreams.{accepted}
+use Rattle.h3_headline.specs.ReceivingLaws.{bytes_come}
+use Rattle.h3_headline.specs.SendingLaws.{flow_count}
 use Rattle.h3_headline.specs.Standing.{StandsAt}
+use Rattle.h3_headline.specs.Steps.{IsThere}
 use Rattle.h3_memory.specs.Kept.{Delivery, Bytes, End, Reset, read_delivery}
 use Rattle.h3_memory.specs.Keeping.{MayAllBeRead, bytes_in, came_of, text_of, handed_own, handed_stream}
 use Rattle.h3_memory.proofs.Ahead.{at_mapped, further_taken}

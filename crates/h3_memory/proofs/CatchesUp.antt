@@ -10,7 +10,7 @@ use Rattle.h3_world.specs.declared.setup.Setup.{Setup}
 use Rattle.h3_world.specs.Ends.{Ends, end_at}
 use Rattle.h3_world.specs.Setup.{IsMadeSetup}
 use Rattle.h3_world.specs.World.{World}
-use Rattle.h3_headline.specs.JoiningLaws.{Laws}
+use Rattle.h3_headline.specs.Cited.{Laws}
 use Rattle.h3_memory.specs.Kept.{Delivery, Bytes, End, Reset, KeepingWorld, kept_at, read_delivery, read_deliveries}
 use Rattle.h3_memory.specs.Keeping.{AreKept, Held, Keeps, StandsKeeping, ahead}
 use Rattle.h3_memory.proofs.BehindOwn.{found_as}

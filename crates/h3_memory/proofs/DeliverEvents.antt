@@ -10,8 +10,8 @@ use Rattle.h3_world.specs.declared.event.Event.TheVariants as event
 use Rattle.h3_world.specs.Ends.{Ends}
 use Rattle.h3_world.specs.Headline.{is_memory}
 use Rattle.h3_world.specs.Setup.{IsMadeSetup}
+use Rattle.h3_headline.specs.Cited.{Laws}
 use Rattle.h3_headline.specs.ComingLaws.{kind_is}
-use Rattle.h3_headline.specs.JoiningLaws.{Laws}
 use Rattle.h3_memory.specs.Kept.{End, Reset, KeepingWorld, noticed_all}
 use Rattle.h3_memory.specs.Keeping.{StandsKeeping, came_of, text_of}
 use Rattle.h3_memory.specs.Refused.{AnswerOf, LacksMemory}

@@ -20,7 +20,7 @@ use Rattle.h3_world.specs.Ends.{Ends, answered, done, was_offered}
 use Rattle.h3_world.specs.Headline.{is_memory}
 use Rattle.h3_world.specs.Setup.{IsMadeSetup}
 use Rattle.h3_world.specs.World.{World}
-use Rattle.h3_headline.specs.JoiningLaws.{Laws}
+use Rattle.h3_headline.specs.Cited.{Laws}
 use Rattle.h3_memory.specs.Kept.{Bytes, End, Reset, KeepingWorld}
 use Rattle.h3_memory.specs.Keeping.{StandsKeeping}
 use Rattle.h3_memory.specs.MemoryStep.{StepOf, UnlessMemory, offered, read_behind}

@@ -17,7 +17,7 @@ use Rattle.h3_world.specs.Sound.{IsSoundWorld}
 use Rattle.h3_world.specs.Step.{Step, IsExact}
 use Rattle.h3_world.specs.Streams.{flow, is_open, has_outgoing, waiting}
 use Rattle.h3_world.specs.World.{World}
-use Rattle.h3_headline.specs.AlikeLaws.{WorldLaws}
+use Rattle.h3_headline.specs.Cited.{WorldLaws}
 use Rattle.h3_headline.specs.FlowLaws.{open_there, other-other}
 use Rattle.h3_memory.specs.Kept.{Delivery, Bytes, End, Reset, KeepingWorld, kept_at, with_world, with_kept, caught_up}
 use Rattle.h3_memory.specs.MemoryStep.{Pulls, offered, read_behind}

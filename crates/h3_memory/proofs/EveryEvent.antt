@@ -11,7 +11,7 @@ use Rattle.h3_world.specs.Ends.{Ends, new_ends}
 use Rattle.h3_world.specs.Sendable.{IsSendable}
 use Rattle.h3_world.specs.Setup.{IsMadeSetup, JudgesPlainly}
 use Rattle.h3_headline.specs.BeginningLaws.{begins}
-use Rattle.h3_headline.specs.JoiningLaws.{Laws}
+use Rattle.h3_headline.specs.Cited.{Laws}
 use Rattle.h3_memory.specs.Refused.{EndsRun}
 use Rattle.h3_memory.specs.Theorem.{RunsWithMemory, StepsOn}
 use Rattle.h3_memory.proofs.DeliverEvents.{deliver_step, end_step, gone_step}

@@ -20,8 +20,8 @@ use Rattle.h3_world.specs.Came.{settings_came}
 use Rattle.h3_world.specs.Setup.{IsMadeSetup}
 use Rattle.h3_world.specs.World.{World, party}
 use Rattle.h3_headline.specs.AnnouncedLaws.{announces_at}
+use Rattle.h3_headline.specs.Cited.{Laws}
 use Rattle.h3_headline.specs.ControlStreamLaws.{waits}
-use Rattle.h3_headline.specs.JoiningLaws.{Laws}
 use Rattle.h3_headline.specs.Standing.{StandsAt, are_settings_there, came_on, replies_unread}
 use Rattle.h3_memory.specs.Kept.{Delivery, Bytes, End, Reset, held_bytes, HoldsBack}
 use Rattle.h3_memory.specs.Keeping.{Held, ahead, came_of, held_of}

@@ -21,8 +21,8 @@ use Rattle.h3_world.specs.Ends.{Ends}
 use Rattle.h3_world.specs.Setup.{IsMadeSetup}
 use Rattle.h3_world.specs.Streams.{has_outgoing, waiting}
 use Rattle.h3_world.specs.World.{World}
+use Rattle.h3_headline.specs.Cited.{Laws}
 use Rattle.h3_headline.specs.DeliverLaws.{has_outgoing_is}
-use Rattle.h3_headline.specs.JoiningLaws.{Laws}
 use Rattle.h3_memory.specs.Kept.{Delivery, Bytes, KeepingWorld, read_delivery, read_deliveries}
 use Rattle.h3_memory.specs.Keeping.{MayAllBeRead, StandsKeeping, ahead, came_of, text_of}
 use Rattle.h3_memory.proofs.CatchesUp.{ReadsAll, keeping_so, reads_all, standing_of}

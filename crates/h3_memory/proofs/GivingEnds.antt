@@ -21,9 +21,9 @@ use Rattle.h3_world.specs.Order.{is_end, is_finished, last_part, outgoing_of}
 use Rattle.h3_world.specs.Setup.{IsMadeSetup}
 use Rattle.h3_world.specs.Streams.{flow, is_open, has_outgoing, waiting}
 use Rattle.h3_world.specs.World.{World}
+use Rattle.h3_headline.specs.Cited.{Laws}
 use Rattle.h3_headline.specs.DeliverLaws.{waiting_is}
 use Rattle.h3_headline.specs.FlowLaws.{same_number}
-use Rattle.h3_headline.specs.JoiningLaws.{Laws}
 use Rattle.h3_headline.specs.OwnEventLaws.{own_outgoing}
 use Rattle.h3_headline.specs.Standing.{StandsAt}
 use Rattle.h3_memory.specs.Kept.{Delivery, End, Reset, read_deliveries}

@@ -25,7 +25,7 @@ use Rattle.h3_world.specs.Sound.{IsSoundWorld}
 use Rattle.h3_world.specs.Step.{Does, IsExact, IsWithinLimits, Step}
 use Rattle.h3_world.specs.Streams.{flow}
 use Rattle.h3_world.specs.World.{World, party}
-use Rattle.h3_headline.specs.AlikeLaws.{WorldLaws}
+use Rattle.h3_headline.specs.Cited.{WorldLaws}
 use Rattle.h3_memory.specs.Kept.{KeepingWorld, caught_up, is_settled}
 use Rattle.h3_memory.specs.Keeping.{StandsKeeping}
 use Rattle.h3_memory.specs.MemoryStep.{Answers, HappensWithMemory, Pulls, StepOf, StepWithMemory, UnlessMemory, read_behind, reader_world}

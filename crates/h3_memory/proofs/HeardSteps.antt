@@ -18,7 +18,7 @@ use Rattle.h3_connection.specs.Unidirectional.Role.{Encoder, Decoder}
 use Rattle.h3_world.specs.declared.setup.Setup.{Setup}
 use Rattle.h3_world.specs.Setup.{IsMadeSetup}
 use Rattle.h3_world.specs.World.{World, party}
-use Rattle.h3_headline.specs.JoiningLaws.{Laws}
+use Rattle.h3_headline.specs.Cited.{Laws}
 use Rattle.h3_headline.specs.Standing.{StandsAt}
 use Rattle.h3_memory.specs.Kept.{Delivery, Bytes, End, Reset}
 use Rattle.h3_memory.specs.Keeping.{ahead}

@@ -23,12 +23,11 @@ use Rattle.h3_world.specs.OwnStreams.{settings_bytes}
 use Rattle.h3_world.specs.Setup.{IsMadeSetup, announced_at}
 use Rattle.h3_world.specs.Streams.{is_open}
 use Rattle.h3_world.specs.World.{World, party}
-use Rattle.h3_headline.specs.CitedLaws.{StreamLaws}
+use Rattle.h3_headline.specs.Cited.{StreamLaws, Laws}
 use Rattle.h3_headline.specs.ComingLaws.{kind_is}
-use Rattle.h3_headline.specs.ControlLaws.{settings_frame_of}
 use Rattle.h3_headline.specs.FlowLaws.{open_there}
-use Rattle.h3_headline.specs.JoiningLaws.{Laws}
 use Rattle.h3_headline.specs.OwnEventLaws.{each_own}
+use Rattle.h3_headline.specs.PeerStreams.{settings_frame_of}
 use Rattle.h3_headline.specs.RoleLaws.{is_first}
 use Rattle.h3_headline.specs.Standing.{IsPeerStream, StandsAt, are_settings_there, control_left, replies_unread}
 use Rattle.h3_headline.specs.UnitLaws.{none_left}

@@ -25,8 +25,8 @@ use Rattle.h3_world.specs.Order.{is_finished}
 use Rattle.h3_world.specs.Setup.{IsMadeSetup}
 use Rattle.h3_world.specs.Streams.{flow, is_open, has_outgoing, waiting}
 use Rattle.h3_world.specs.World.{World}
+use Rattle.h3_headline.specs.Cited.{Laws}
 use Rattle.h3_headline.specs.FlowLaws.{same_number}
-use Rattle.h3_headline.specs.JoiningLaws.{Laws}
 use Rattle.h3_memory.specs.Kept.{Delivery, Bytes, End, Reset, noticed_all, read_deliveries, ReadsPart}
 use Rattle.h3_memory.specs.Keeping.{AreKept, MayAllBeRead, StandsKeeping, ahead, came_of, text_of}
 use Rattle.h3_memory.proofs.CatchesUp.{ReadsAll, keeping_so, reads_all}

@@ -10,7 +10,7 @@ use Rattle.h3_world.specs.Refused.{held_back, with_insertions}
 use Rattle.h3_world.specs.Sound.{IsSoundWorld}
 use Rattle.h3_world.specs.Streams.{flow, is_open}
 use Rattle.h3_world.specs.World.{World}
-use Rattle.h3_headline.specs.AlikeLaws.{WorldLaws}
+use Rattle.h3_headline.specs.Cited.{WorldLaws}
 
 pub record KeptLaws : Type 0 where
   pub worlds : WorldLaws

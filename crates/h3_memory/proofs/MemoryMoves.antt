@@ -21,11 +21,12 @@ use Rattle.h3_world.specs.Sending.{cut_off}
 use Rattle.h3_world.specs.Step.{Does}
 use Rattle.h3_world.specs.Streams.{flow}
 use Rattle.h3_world.specs.World.{World}
+use Rattle.h3_headline.specs.ContentLaws.{moves_then, stays}
+use Rattle.h3_headline.specs.Contents.{Moves, KeepsParts, limit_of_reader, MovesBy}
 use Rattle.h3_headline.specs.FlowLaws.{open_there}
+use Rattle.h3_headline.specs.KeepsPartsLaws.{keeps_same, keeps_with_flow, keeps_delivery, keeps_end, keeps_reset}
 use Rattle.h3_headline.specs.Messages.{Content, is_on, sent_in, finished_in, pulled_in, ended_in}
-use Rattle.h3_headline.specs.ContentLaws.{Moves, moves_then, stays}
-use Rattle.h3_headline.specs.KeepsPartsLaws.{KeepsParts, keeps_same, keeps_with_flow, keeps_delivery, keeps_end, keeps_reset}
-use Rattle.h3_headline.specs.MovedLaws.{limit_of_reader, MovesBy, moved}
+use Rattle.h3_headline.specs.MovedLaws.{moved}
 use Rattle.h3_memory.specs.Kept.{Delivery, Bytes, End, Reset, KeepingWorld, kept_at, with_kept, caught_up, is_settled, noticed_all}
 use Rattle.h3_memory.specs.MemoryStep.{Answers, CutsSection, Keeps, LacksMemory, Pulls, StepOf, StepWithMemory, read_behind}
 use Rattle.h3_memory.specs.SoundKeeping.{IsSoundKeeping}

@@ -17,12 +17,12 @@ use Rattle.h3_world.specs.Sendable.{IsSendable}
 use Rattle.h3_world.specs.Setup.{announced_at}
 use Rattle.h3_world.specs.Streams.{flow}
 use Rattle.h3_world.specs.World.{empty_world, no_exchange}
-use Rattle.h3_headline.specs.AlikeLaws.{WorldLaws}
+use Rattle.h3_headline.specs.Cited.{WorldLaws}
+use Rattle.h3_headline.specs.ContentLaws.{moves_then, stays}
+use Rattle.h3_headline.specs.Contents.{Moves, limit_of_reader, Carried, Carries, IsAll, RunMoves}
 use Rattle.h3_headline.specs.FlowLaws.{other-other, same_both}
 use Rattle.h3_headline.specs.Messages.{Content, IsFrontOf, at_reader, sent, has_finished, pulled, has_pulled_end, sent_in, finished_in, pulled_in, ended_in}
-use Rattle.h3_headline.specs.ContentLaws.{Moves, moves_then, stays}
-use Rattle.h3_headline.specs.MovedLaws.{limit_of_reader}
-use Rattle.h3_headline.specs.PulledAndSentLaws.{Carried, Carries, IsAll, RunMoves, is_all, is_complete, is_front}
+use Rattle.h3_headline.specs.PulledAndSentLaws.{is_all, is_complete, is_front}
 use Rattle.h3_memory.specs.Kept.{KeepingWorld, nothing_kept}
 use Rattle.h3_memory.specs.MemoryStep.{HappensWithMemory}
 use Rattle.h3_world.specs.Run.{Run}

@@ -15,9 +15,9 @@ use Rattle.h3_world.specs.Setup.{announced_at}
 use Rattle.h3_world.specs.Sound.{IsSoundWorld, IsSoundFlow}
 use Rattle.h3_world.specs.Streams.{flow, is_open, has_outgoing, waiting}
 use Rattle.h3_world.specs.World.{World, party}
-use Rattle.h3_headline.specs.WritingLaws.{sound_party}
 use Rattle.h3_headline.specs.ComingLaws.{sound_flow}
 use Rattle.h3_headline.specs.FlowLaws.{open_there}
+use Rattle.h3_headline.specs.WritingLaws.{sound_party}
 use Rattle.h3_memory.specs.Kept.{Delivery, Bytes, End, Reset}
 use Rattle.h3_memory.specs.Keeping.{MayAllBeRead, came_of, text_of}
 use Rattle.h3_memory.proofs.OwnReads.{came_after, closed_after}

@@ -17,14 +17,16 @@ use Rattle.h3_world.specs.Order.{next_part}
 use Rattle.h3_world.specs.Sound.{IsSoundWorld}
 use Rattle.h3_world.specs.Streams.{flow, with_flow, is_open}
 use Rattle.h3_world.specs.World.{World}
+use Rattle.h3_headline.specs.Arriving.{Receives, saying}
 use Rattle.h3_headline.specs.ComesLaws.{received_both}
 use Rattle.h3_headline.specs.ComingLaws.{saying_nothing, stands_after_coming}
 use Rattle.h3_headline.specs.DeliverLaws.{flow_received, sends_same, still_heard}
-use Rattle.h3_headline.specs.FlowLaws.{IsThere, open_there}
-use Rattle.h3_headline.specs.MovesLaws.{Receives, saying, sender_stands, set_at}
+use Rattle.h3_headline.specs.FlowLaws.{open_there}
+use Rattle.h3_headline.specs.MovesLaws.{sender_stands, set_at}
 use Rattle.h3_headline.specs.SendingLaws.{flow_count}
 use Rattle.h3_headline.specs.SettledPullLaws.{set_same}
 use Rattle.h3_headline.specs.Standing.{ReceivesFlow, StandsAt, StandsBefore, WaitsIn, section_of_part}
+use Rattle.h3_headline.specs.Steps.{IsThere}
 use Rattle.h3_headline.specs.WaitingLaws.{self}
 use Rattle.h3_memory.specs.Kept.{Delivery}
 use Rattle.h3_memory.specs.Keeping.{EachResumes, Held, ahead, bytes_in, handed_stream}

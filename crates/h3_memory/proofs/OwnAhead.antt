@@ -22,8 +22,8 @@ use Rattle.h3_connection.specs.Unidirectional.Role.{Untold, Control, Encoder, De
 use Rattle.h3_world.specs.declared.setup.Setup.{Setup}
 use Rattle.h3_world.specs.Setup.{announced_at}
 use Rattle.h3_world.specs.World.{World, party}
-use Rattle.h3_headline.specs.ControlLaws.{settings_frame_of}
 use Rattle.h3_headline.specs.OwnEventLaws.{each_own}
+use Rattle.h3_headline.specs.PeerStreams.{settings_frame_of}
 use Rattle.h3_headline.specs.RoleLaws.{is_first, kind_of_control, kind_of_encoder, kind_of_decoder}
 use Rattle.h3_headline.specs.Standing.{StandsAt}
 use Rattle.h3_headline.specs.WritesMoreLaws.{type_of_control, type_of_encoder, type_of_decoder}

@@ -16,8 +16,8 @@ use Rattle.h3_world.specs.Setup.{announced_at}
 use Rattle.h3_world.specs.Streams.{flow}
 use Rattle.h3_world.specs.World.{World, Party, party}
 use Rattle.h3_headline.specs.OwnEventLaws.{each_own}
-use Rattle.h3_headline.specs.OwnMovesLaws.{SameStreams}
-use Rattle.h3_headline.specs.OwnWorldLaws.{Writes, writer_after, reader_after, streams_after, listened_writes, insertions_of, read_of, further_own}
+use Rattle.h3_headline.specs.OwnStreams.{SameStreams, Writes, insertions_of, read_of, further_own}
+use Rattle.h3_headline.specs.OwnWorldLaws.{writer_after, reader_after, streams_after, listened_writes}
 use Rattle.h3_headline.specs.Standing.{are_settings_there}
 use Rattle.h3_memory.specs.Kept.{Delivery, Bytes, End, Reset}
 use Rattle.h3_memory.specs.Keeping.{came_of, with_count, with_closed}

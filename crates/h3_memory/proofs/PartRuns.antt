@@ -11,7 +11,7 @@ use Rattle.h3_connection.specs.PartReading.{PeerReadsPart, ReadsOn, ReadsWhole, 
 use Rattle.h3_world.specs.declared.setup.Setup.{Setup}
 use Rattle.h3_world.specs.Setup.{IsMadeSetup}
 use Rattle.h3_world.specs.World.{World}
-use Rattle.h3_headline.specs.JoiningLaws.{Laws}
+use Rattle.h3_headline.specs.Cited.{Laws}
 use Rattle.h3_memory.specs.Kept.{Delivery, ReadsPart, Stops}
 use Rattle.h3_memory.proofs.HeardSteps.{hears_step, listens_step}
 use Rattle.h3_memory.proofs.HoldsStep.{holds_step}

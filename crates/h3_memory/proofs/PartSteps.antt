@@ -14,7 +14,7 @@ use Rattle.h3_world.specs.declared.setup.Setup.{Setup}
 use Rattle.h3_world.specs.Delivering.{is_closed}
 use Rattle.h3_world.specs.Setup.{IsMadeSetup}
 use Rattle.h3_world.specs.World.{World}
-use Rattle.h3_headline.specs.JoiningLaws.{Laws}
+use Rattle.h3_headline.specs.Cited.{Laws}
 use Rattle.h3_memory.specs.Kept.{Delivery, Bytes, End, Reset, read_delivery, ReadsPart, Reads, Cuts}
 use Rattle.h3_memory.specs.Keeping.{EachResumes, Held, MayAllBeRead, ahead, came_of, held_of, text_of}
 use Rattle.h3_memory.proofs.BehindOwn.{BehindReads, found_as}

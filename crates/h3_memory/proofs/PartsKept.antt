@@ -13,9 +13,11 @@ use Rattle.h3_world.specs.Sending.{given_up}
 use Rattle.h3_world.specs.Sound.{IsSoundWorld}
 use Rattle.h3_world.specs.Streams.{flow, with_flow, is_open, has_outgoing}
 use Rattle.h3_world.specs.World.{World, party}
-use Rattle.h3_headline.specs.FlowLaws.{IsThere, open_there}
+use Rattle.h3_headline.specs.Contents.{KeepsParts}
+use Rattle.h3_headline.specs.FlowLaws.{open_there}
+use Rattle.h3_headline.specs.KeepsPartsLaws.{keeps_same, keeps_flows, keeps_with_party, keeps_with_flow, keeps_given_up}
 use Rattle.h3_headline.specs.OwnWorldLaws.{streams_after}
-use Rattle.h3_headline.specs.KeepsPartsLaws.{KeepsParts, keeps_same, keeps_flows, keeps_with_party, keeps_with_flow, keeps_given_up}
+use Rattle.h3_headline.specs.Steps.{IsThere}
 use Rattle.h3_memory.specs.Kept.{Delivery, Bytes, End, Reset, ReadsPart, noticed, noticed_all, read_delivery, read_deliveries, stream_of}
 use Rattle.h3_memory.specs.Kept.ReadsPart.{Stops, Reads, Cuts, HoldsBack}
 use Rattle.h3_memory.specs.Keeping.{MayAllBeRead, came_of}

@@ -9,7 +9,7 @@ use Rattle.h3_world.specs.Ends.{end_at}
 use Rattle.h3_world.specs.Headline.{is_memory}
 use Rattle.h3_world.specs.Setup.{IsMadeSetup, JudgesPlainly}
 use Rattle.h3_world.specs.Step.{IsExact}
-use Rattle.h3_headline.specs.JoiningLaws.{Laws}
+use Rattle.h3_headline.specs.Cited.{Laws}
 use Rattle.h3_memory.specs.Kept.{kept_at, caught_up, is_settled}
 use Rattle.h3_memory.specs.Keeping.{StandsKeeping}
 use Rattle.h3_memory.specs.MemoryStep.{Answers, StepOf, UnlessMemory}

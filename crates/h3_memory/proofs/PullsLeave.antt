@@ -21,7 +21,8 @@ use Rattle.h3_world.specs.Pulling.{PullsNext, fault_or, pull_unidirectional, pul
 use Rattle.h3_world.specs.Step.{Step}
 use Rattle.h3_world.specs.Streams.{flow, with_flow, is_open}
 use Rattle.h3_world.specs.World.{World, Party, party, with_party}
-use Rattle.h3_headline.specs.FlowLaws.{IsThere, flow-with_party, open_there, there-with_party}
+use Rattle.h3_headline.specs.FlowLaws.{flow-with_party, open_there, there-with_party}
+use Rattle.h3_headline.specs.Steps.{IsThere}
 use Rattle.h3_memory.specs.Writing.{LeavesKept}
 use Rattle.h3_memory.proofs.SameSent.{SameFlow, flow_same_grows}
 use Rattle.h3_memory.proofs.Written.{SameMarks, unchanged, leaves_then}

@@ -12,8 +12,8 @@ use Rattle.h3_world.specs.Refused.{held_back, with_replies_held}
 use Rattle.h3_world.specs.Sound.{IsSoundWorld}
 use Rattle.h3_world.specs.Streams.{flow, has_outgoing}
 use Rattle.h3_world.specs.World.{World, party}
-use Rattle.h3_headline.specs.WritingLaws.{sound_party}
 use Rattle.h3_headline.specs.FlowLaws.{flow-with_party, party-with_other, is_open-with_party}
+use Rattle.h3_headline.specs.WritingLaws.{sound_party}
 use Rattle.h3_memory.specs.Kept.{Delivery, Bytes, End, Reset, ReadsPart, held_bytes, read_delivery, read_deliveries}
 use Rattle.h3_memory.specs.Kept.ReadsPart.{Stops, Reads, Cuts, HoldsBack}
 use Rattle.h3_memory.specs.Keeping.{came_of, text_of, with_count}

@@ -14,9 +14,10 @@ use Rattle.h3_world.specs.declared.setup.Setup.{Setup}
 use Rattle.h3_world.specs.Ends.{Ends, end_at}
 use Rattle.h3_world.specs.Sound.{IsSoundWorld}
 use Rattle.h3_world.specs.World.{World}
+use Rattle.h3_headline.specs.Calls.{Both}
 use Rattle.h3_headline.specs.MovesLaws.{stands_moved}
 use Rattle.h3_headline.specs.OwnEventLaws.{each_own}
-use Rattle.h3_headline.specs.SendingLaws.{Both, both_of}
+use Rattle.h3_headline.specs.SendingLaws.{both_of}
 use Rattle.h3_headline.specs.Standing.{Stands, StandsAt}
 use Rattle.h3_memory.specs.Kept.{Delivery, Bytes, End, Reset}
 use Rattle.h3_memory.specs.Keeping.{Held, ahead, bytes_in, handed_own, handed_stream}

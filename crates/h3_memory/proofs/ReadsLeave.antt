@@ -14,8 +14,9 @@ use Rattle.h3_world.specs.Pulling.{own_delivered}
 use Rattle.h3_world.specs.Sending.{given_up}
 use Rattle.h3_world.specs.Streams.{flow, with_flow, is_open, has_outgoing}
 use Rattle.h3_world.specs.World.{World, Party}
-use Rattle.h3_headline.specs.FlowLaws.{IsThere, same_number, set_length, flow-with_flow, party-with_flow, open_there}
+use Rattle.h3_headline.specs.FlowLaws.{same_number, set_length, flow-with_flow, party-with_flow, open_there}
 use Rattle.h3_headline.specs.OwnEventLaws.{own_closed}
+use Rattle.h3_headline.specs.Steps.{IsThere}
 use Rattle.h3_memory.specs.Kept.{Delivery, Bytes, End, Reset, read_delivery}
 use Rattle.h3_memory.specs.Keeping.{MayAllBeRead, came_of, with_count, with_closed}
 use Rattle.h3_memory.specs.Writing.{LeavesKept}

@@ -17,10 +17,11 @@ use Rattle.h3_world.specs.Delivering.{is_closed, reset_code}
 use Rattle.h3_world.specs.Setup.{IsMadeSetup}
 use Rattle.h3_world.specs.Streams.{is_open}
 use Rattle.h3_world.specs.World.{World}
+use Rattle.h3_headline.specs.Cited.{Laws}
 use Rattle.h3_headline.specs.ComingLaws.{incoming_there, kind_is}
-use Rattle.h3_headline.specs.FlowLaws.{IsThere, open_there}
-use Rattle.h3_headline.specs.JoiningLaws.{Laws}
+use Rattle.h3_headline.specs.FlowLaws.{open_there}
 use Rattle.h3_headline.specs.Standing.{StandsAt}
+use Rattle.h3_headline.specs.Steps.{IsThere}
 use Rattle.h3_memory.specs.Kept.{Delivery, Bytes, End, Reset, read_delivery}
 use Rattle.h3_memory.specs.Keeping.{Held, AreKept, EachResumes, MayAllBeRead, ahead, bytes_in, came_of, held_of, text_of, without_held}
 use Rattle.h3_memory.proofs.AheadRequests.{ReadsAhead, request_comes, request_distinct}

@@ -12,7 +12,8 @@ use Rattle.h3_world.specs.Pulling.{own_delivered}
 use Rattle.h3_world.specs.Sending.{cut_off}
 use Rattle.h3_world.specs.Streams.{flow, is_open}
 use Rattle.h3_world.specs.World.{World, Party, party}
-use Rattle.h3_headline.specs.FlowLaws.{IsThere, same_number, flow-with_flow, party-with_flow, is_open-own}
+use Rattle.h3_headline.specs.FlowLaws.{same_number, flow-with_flow, party-with_flow, is_open-own}
+use Rattle.h3_headline.specs.Steps.{IsThere}
 use Rattle.h3_memory.specs.Kept.{Delivery, Bytes, End, Reset}
 use Rattle.h3_memory.specs.Keeping.{MayAllBeRead, came_of, text_of, with_count, with_closed}
 use Rattle.h3_memory.specs.SoundKeeping.{CanBeRead}

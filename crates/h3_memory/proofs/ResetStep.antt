@@ -22,11 +22,11 @@ use Rattle.h3_world.specs.Sendable.{IsSendable}
 use Rattle.h3_world.specs.Sending.{cut_off}
 use Rattle.h3_world.specs.Step.{Does}
 use Rattle.h3_world.specs.Streams.{flow}
-use Rattle.h3_headline.specs.JoiningLaws.{Laws}
-use Rattle.h3_headline.specs.RunLaws as headline
+use Rattle.h3_headline.specs.Cited.{Laws}
 use Rattle.h3_headline.specs.SendingLaws.{both_of}
 use Rattle.h3_headline.specs.SentEventLaws.{reset_on}
 use Rattle.h3_headline.specs.Standing.{Stands, StandsAt}
+use Rattle.h3_headline.specs.Steps as headline
 use Rattle.h3_memory.specs.Kept.{KeepingWorld, kept_at, with_world, caught_up}
 use Rattle.h3_memory.specs.Keeping.{Keeps, StandsKeeping, ahead}
 use Rattle.h3_memory.specs.Refused as refused

@@ -14,7 +14,8 @@ use Rattle.h3_world.specs.Order.{is_finished}
 use Rattle.h3_world.specs.Sending.{given_up}
 use Rattle.h3_world.specs.Streams.{flow, with_flow, is_open}
 use Rattle.h3_world.specs.World.{World, Party, party, with_party}
-use Rattle.h3_headline.specs.FlowLaws.{IsThere, flow-with_party, party-with_flow, is_open-own, is_open-with_party, there-with_party, other-other}
+use Rattle.h3_headline.specs.FlowLaws.{flow-with_party, party-with_flow, is_open-own, is_open-with_party, there-with_party, other-other}
+use Rattle.h3_headline.specs.Steps.{IsThere}
 use Rattle.h3_memory.specs.Keeping.{text_of}
 use Rattle.h3_memory.specs.Writing.{WritesMore}
 use Rattle.h3_memory.proofs.Written.{FlowGrows, grown_writes, text_by}

@@ -23,12 +23,12 @@ use Rattle.h3_world.specs.declared.setup.Setup.{Setup}
 use Rattle.h3_world.specs.Ends.{Ends, end_at, with_end}
 use Rattle.h3_world.specs.Sound.{IsSoundWorld}
 use Rattle.h3_world.specs.World.{World, party}
-use Rattle.h3_headline.specs.CitedLaws.{StreamLaws}
-use Rattle.h3_headline.specs.JoiningLaws.{Laws}
-use Rattle.h3_headline.specs.SendingLaws.{Both, both_of}
+use Rattle.h3_headline.specs.Calls.{Both, Hears}
+use Rattle.h3_headline.specs.Cited.{StreamLaws, Laws}
+use Rattle.h3_headline.specs.SendingLaws.{both_of}
 use Rattle.h3_headline.specs.Standing.{IsWritable, Stands}
 use Rattle.h3_headline.specs.WritesMoreLaws.{encoder_stream_more}
-use Rattle.h3_headline.specs.WritingLaws.{Hears, hears, party_writes, sound_party}
+use Rattle.h3_headline.specs.WritingLaws.{hears, party_writes, sound_party}
 use Rattle.h3_memory.specs.Kept.{KeepingWorld, with_world}
 use Rattle.h3_memory.specs.Keeping.{StandsKeeping}
 use Rattle.h3_memory.specs.MemoryStep as memory_step

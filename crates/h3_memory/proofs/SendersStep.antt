@@ -25,7 +25,7 @@ use Rattle.h3_world.specs.Setup.{JudgesPlainly}
 use Rattle.h3_world.specs.Step.{Does, IsExact}
 use Rattle.h3_world.specs.Streams.{flow, is_open}
 use Rattle.h3_world.specs.World.{World}
-use Rattle.h3_headline.specs.JoiningLaws.{Laws}
+use Rattle.h3_headline.specs.Cited.{Laws}
 use Rattle.h3_headline.specs.SentEventLaws.{opened_on, head_on, trailer_on, cancel_on, goaway_on}
 use Rattle.h3_memory.specs.Kept.{KeepingWorld, with_world}
 use Rattle.h3_memory.specs.Keeping.{StandsKeeping}

@@ -28,8 +28,8 @@ use Rattle.h3_world.specs.Setup.{IsPlain, announced_at}
 use Rattle.h3_world.specs.Step.{Step}
 use Rattle.h3_world.specs.Streams.{has_outgoing}
 use Rattle.h3_world.specs.World.{World}
+use Rattle.h3_headline.specs.Cited.{Laws}
 use Rattle.h3_headline.specs.FlowLaws.{same_number}
-use Rattle.h3_headline.specs.JoiningLaws.{Laws}
 use Rattle.h3_headline.specs.SendingLaws.{both_of}
 use Rattle.h3_headline.specs.SentEventLaws.{opened_on, head_on, body_on, trailer_on, finish_on, cancel_on, goaway_on, show_on}
 use Rattle.h3_headline.specs.Standing.{Stands}

@@ -29,9 +29,10 @@ use Rattle.h3_world.specs.Sending.{appended, opened, having_encoded, section_sen
 use Rattle.h3_world.specs.Step.{Does}
 use Rattle.h3_world.specs.Streams.{flow, with_flow, is_open}
 use Rattle.h3_world.specs.World.{World, Party, party, with_party}
-use Rattle.h3_headline.specs.FlowLaws.{IsThere, and_second, open_there, there_open, there-with_party, flow-with_party}
+use Rattle.h3_headline.specs.FlowLaws.{and_second, open_there, there_open, there-with_party, flow-with_party}
 use Rattle.h3_headline.specs.OpeningLaws.{flow_opened, one_more}
 use Rattle.h3_headline.specs.SendingLaws.{not_refused_open, not_refused}
+use Rattle.h3_headline.specs.Steps.{IsThere}
 use Rattle.h3_memory.specs.Writing.{LeavesKept}
 use Rattle.h3_memory.proofs.Written.{OwnGrows, FlowGrows, SameMarks, Grown, Marked, nothing_written, same_taken, nothing_sent, same_marks, grown_on, unchanged, leaves_then}
 use Rattle.h3_memory.proofs.WorldsWritten.{party_leaves, flow_leaves}

@@ -18,8 +18,9 @@ use Rattle.h3_world.specs.Sending.{given_up}
 use Rattle.h3_world.specs.Sound.{IsSoundWorld}
 use Rattle.h3_world.specs.Streams.{flow, with_flow, is_open, has_outgoing}
 use Rattle.h3_world.specs.World.{World, Party, party, with_party}
-use Rattle.h3_headline.specs.FlowLaws.{IsThere, flow-with_party, open_there, other-other, there-with_party}
+use Rattle.h3_headline.specs.FlowLaws.{flow-with_party, open_there, other-other, there-with_party}
 use Rattle.h3_headline.specs.OwnWorldLaws.{streams_after}
+use Rattle.h3_headline.specs.Steps.{IsThere}
 use Rattle.h3_memory.specs.Kept.{Delivery, Bytes, End, Reset, KeepingWorld, kept_at, caught_up, is_settled, read_delivery, read_deliveries}
 use Rattle.h3_memory.specs.Keeping.{came_of}
 use Rattle.h3_memory.specs.SoundKeeping.{CanBeRead, IsSoundKeeping}

@@ -16,7 +16,7 @@ use Rattle.h3_world.specs.Pulling.{PullsNext, Pulls, PausesExactly, settled}
 use Rattle.h3_world.specs.Setup.{IsMadeSetup, JudgesPlainly}
 use Rattle.h3_world.specs.Step.{Step, IsExact}
 use Rattle.h3_world.specs.World.{World}
-use Rattle.h3_headline.specs.JoiningLaws.{Laws}
+use Rattle.h3_headline.specs.Cited.{Laws}
 use Rattle.h3_headline.specs.PullEventLaws.{pull_on}
 use Rattle.h3_headline.specs.SendingLaws.{both_of}
 use Rattle.h3_headline.specs.Standing.{StandsAt, Stands}

@@ -27,10 +27,11 @@ use Rattle.h3_world.specs.Sound.{IsSoundWorld}
 use Rattle.h3_world.specs.Streams.{exchange, flow, with_flow, has_outgoing, is_open}
 use Rattle.h3_world.specs.World.{World, Exchange, Party, no_exchange, party, with_party}
 use Rattle.h3_headline.specs.ComingLaws.{incoming_there, incoming_none, is_unseen, kind_is}
-use Rattle.h3_headline.specs.FlowLaws.{IsThere, open_there, there-with_party, flow-with_party, other-other}
+use Rattle.h3_headline.specs.FlowLaws.{open_there, there-with_party, flow-with_party, other-other}
 use Rattle.h3_headline.specs.OwnEventLaws.{each_own}
 use Rattle.h3_headline.specs.SendingLaws.{flow_count}
 use Rattle.h3_headline.specs.Standing.{StandsAt, IsPeerStream}
+use Rattle.h3_headline.specs.Steps.{IsThere}
 use Rattle.h3_memory.specs.Keeping.{MayAllBeRead, came_of}
 use Rattle.h3_memory.specs.Kept.{Delivery, Bytes, End, KeepingWorld, kept_at, caught_up, is_settled, read_delivery, read_deliveries}
 use Rattle.h3_memory.specs.Kept as kept

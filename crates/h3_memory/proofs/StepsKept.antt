@@ -13,7 +13,7 @@ use Rattle.h3_world.specs.Headline.{is_memory}
 use Rattle.h3_world.specs.Refusals.{head_refusal, trailer_refusal}
 use Rattle.h3_world.specs.Sendable.{IsSendable}
 use Rattle.h3_world.specs.Step.{IsExact}
-use Rattle.h3_headline.specs.AlikeLaws.{WorldLaws}
+use Rattle.h3_headline.specs.Cited.{WorldLaws}
 use Rattle.h3_memory.specs.Kept.{KeepingWorld, is_settled}
 use Rattle.h3_memory.specs.MemoryStep.{Answers, LacksMemory, StepOf, StepWithMemory, UnlessMemory, reader_world}
 use Rattle.h3_memory.specs.SoundKeeping.{IsSoundKeeping}

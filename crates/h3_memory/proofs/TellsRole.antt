@@ -15,8 +15,8 @@ use Rattle.h3_connection.specs.StreamSets.{stream_at}
 use Rattle.h3_connection.specs.StreamSetLaws.{set-same}
 use Rattle.h3_connection.specs.Unidirectional.{Unidirectional, Role, untold, role_after, with_bytes}
 use Rattle.h3_connection.specs.Unidirectional.Role.{Untold, Control, Encoder, Decoder}
-use Rattle.h3_headline.specs.CitedLaws.{StreamLaws}
-use Rattle.h3_headline.specs.RoleLaws.{with_role}
+use Rattle.h3_headline.specs.Cited.{StreamLaws}
+use Rattle.h3_headline.specs.PeerStreams.{with_role}
 use Rattle.h3_headline.specs.Standing.{IsPeerStream, came_on}
 
 -- A stream that told its role, at the endpoint that reads it.

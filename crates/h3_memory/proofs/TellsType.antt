@@ -21,10 +21,11 @@ use Rattle.h3_connection.specs.Unidirectional.{Role, Unidirectional, role_after,
 use Rattle.h3_connection.specs.Unidirectional.Role.{Untold, Control, Encoder, Decoder}
 use Rattle.h3_world.specs.declared.setup.Setup.{Setup}
 use Rattle.h3_world.specs.World.{World, party}
-use Rattle.h3_headline.specs.CitedLaws.{StreamLaws}
+use Rattle.h3_headline.specs.Cited.{StreamLaws}
 use Rattle.h3_headline.specs.FlowLaws.{same_number}
 use Rattle.h3_headline.specs.OwnEventLaws.{each_own}
-use Rattle.h3_headline.specs.RoleLaws.{IsTyped, peer_stream, role_then, typed_control, typed_decoder, typed_encoder, with_role}
+use Rattle.h3_headline.specs.PeerStreams.{IsTyped, with_role}
+use Rattle.h3_headline.specs.RoleLaws.{peer_stream, role_then, typed_control, typed_decoder, typed_encoder}
 use Rattle.h3_headline.specs.Standing.{IsPeerStream, StandsAt, came_on}
 use Rattle.h3_memory.specs.Kept.{Delivery}
 use Rattle.h3_memory.specs.Keeping.{Held, ahead, came_of, held_of}

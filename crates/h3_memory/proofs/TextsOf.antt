@@ -15,7 +15,7 @@ use Rattle.h3_world.specs.Streams.{flow, is_open}
 use Rattle.h3_world.specs.World.{World, party}
 use Rattle.h3_headline.specs.FlowLaws.{same_number}
 use Rattle.h3_headline.specs.OwnEventLaws.{each_own, own_closed}
-use Rattle.h3_headline.specs.OwnOverLaws.{left_of}
+use Rattle.h3_headline.specs.OwnStreams.{left_of}
 use Rattle.h3_headline.specs.WaitingLaws.{self}
 use Rattle.h3_memory.specs.Keeping.{came_of, text_of}
 

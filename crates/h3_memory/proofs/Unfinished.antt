@@ -21,10 +21,10 @@ use Rattle.h3_connection.specs.declared.setup.Announced.{Announced}
 use Rattle.h3_world.specs.declared.setup.Setup.{Setup}
 use Rattle.h3_world.specs.OwnStreams.{settings_bytes}
 use Rattle.h3_world.specs.Setup.{announced_at}
-use Rattle.h3_headline.specs.AnnouncedLaws.{Announces}
-use Rattle.h3_headline.specs.CitedLaws.{StreamLaws}
-use Rattle.h3_headline.specs.ControlLaws.{settings_frame_of, length_settings}
+use Rattle.h3_headline.specs.Cited.{StreamLaws}
+use Rattle.h3_headline.specs.ControlLaws.{length_settings}
 use Rattle.h3_headline.specs.ControlStreamLaws.{less_of, rest_unfinished, settings_wait}
+use Rattle.h3_headline.specs.PeerStreams.{Announces, settings_frame_of}
 use Rattle.h3_headline.specs.Standing.{AreGoaways, are_settings_there, control_left}
 use Rattle.h3_headline.specs.WritesMoreLaws.{type_of_control}
 

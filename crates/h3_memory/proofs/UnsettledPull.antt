@@ -17,7 +17,7 @@ use Rattle.h3_world.specs.Ends.{Ends, end_at, with_end, answered}
 use Rattle.h3_world.specs.Setup.{IsMadeSetup, JudgesPlainly}
 use Rattle.h3_world.specs.Step.{Step, IsExact}
 use Rattle.h3_world.specs.World.{World}
-use Rattle.h3_headline.specs.JoiningLaws.{Laws}
+use Rattle.h3_headline.specs.Cited.{Laws}
 use Rattle.h3_headline.specs.PeerPullLaws.{plain_pull}
 use Rattle.h3_headline.specs.PullEventLaws.{pull_on}
 use Rattle.h3_headline.specs.SendingLaws.{both_of}

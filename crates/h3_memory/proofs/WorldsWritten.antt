@@ -7,21 +7,8 @@ use Rattle.h3_world.specs.declared.setup.Setup.{Setup}
 use Rattle.h3_world.specs.Flow.{Flow}
 use Rattle.h3_world.specs.Streams.{flow, with_flow, is_open}
 use Rattle.h3_world.specs.World.{World, Party, party, with_party}
-use Rattle.h3_headline.specs.FlowLaws.{
-  IsThere,
-  same_number,
-  flow-with_flow,
-  flow-with_other,
-  flow-with_party,
-  party-with_flow,
-  party-with_party,
-  party-with_other,
-  is_open-own,
-  is_open-peer,
-  is_open-peer_kept,
-  is_open-with_party,
-  other-other,
-}
+use Rattle.h3_headline.specs.FlowLaws.{same_number, flow-with_flow, flow-with_other, flow-with_party, party-with_flow, party-with_party, party-with_other, is_open-own, is_open-peer, is_open-peer_kept, is_open-with_party, other-other}
+use Rattle.h3_headline.specs.Steps.{IsThere}
 use Rattle.h3_memory.specs.Writing.{WritesOn, LeavesKept}
 use Rattle.h3_memory.proofs.Written.{OwnGrows, SameTaken, FlowGrows, SameMarks, nothing_written, same_taken, nothing_sent, same_marks, grown_on, leaves_both}
 

@@ -1,4 +1,4 @@
-use Rattle.h3_headline.specs.EventLaws.{two_ends_run}
+use Rattle.h3_headline.proofs.EventLaws.{two_ends_run}
 use Rattle.h3_headline.proofs.laws.two_endpoints_run_in_a_world.Goals as goal
 
 pub returns : goal.returns

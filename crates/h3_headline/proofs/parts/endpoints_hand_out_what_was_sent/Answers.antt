@@ -1,7 +1,7 @@
 use Rattle.h3_world.specs.Ends.{answers_of_ends, new_ends}
 use Rattle.h3_world.specs.World.{empty_world}
 use Rattle.h3_headline.proofs.Cuts.{no_fault}
-use Rattle.h3_headline.specs.PulledAndSentLaws.{all_at, front_at}
+use Rattle.h3_headline.proofs.PulledAndSentLaws.{all_at, front_at}
 use Rattle.h3_headline.proofs.parts.endpoints_hand_out_what_was_sent.Goals as goal
 
 pub returns-clause-fault : goal.returns-clause-fault

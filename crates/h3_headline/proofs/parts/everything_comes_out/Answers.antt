@@ -1,4 +1,4 @@
-use Rattle.h3_headline.specs.PulledAndSentLaws.{left_none_at}
+use Rattle.h3_headline.proofs.PulledAndSentLaws.{left_none_at}
 use Rattle.h3_headline.proofs.parts.everything_comes_out.Goals as goal
 
 pub returns-clause-none_left : goal.returns-clause-none_left

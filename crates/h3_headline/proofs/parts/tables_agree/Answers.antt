@@ -1,4 +1,4 @@
-use Rattle.h3_headline.specs.PulledAndSentLaws.{run_sound}
+use Rattle.h3_headline.proofs.PulledAndSentLaws.{run_sound}
 use Rattle.h3_headline.proofs.Tables.{table_read}
 use Rattle.h3_headline.proofs.parts.tables_agree.Goals as goal
 

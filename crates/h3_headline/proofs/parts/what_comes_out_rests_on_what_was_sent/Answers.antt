@@ -1,5 +1,5 @@
 use Rattle.std.proofs.Common.{sym, ◌∙◌}
-use Rattle.h3_headline.specs.PulledAndSentLaws.{whole_at}
+use Rattle.h3_headline.proofs.PulledAndSentLaws.{whole_at}
 use Rattle.h3_headline.proofs.parts.what_comes_out_rests_on_what_was_sent.Goals as goal
 
 pub returns-clause-all : goal.returns-clause-all

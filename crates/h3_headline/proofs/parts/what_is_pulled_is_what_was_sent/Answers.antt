@@ -1,4 +1,4 @@
-use Rattle.h3_headline.specs.PulledAndSentLaws.{front_at, all_at}
+use Rattle.h3_headline.proofs.PulledAndSentLaws.{front_at, all_at}
 use Rattle.h3_headline.proofs.parts.what_is_pulled_is_what_was_sent.Goals as goal
 
 pub returns-clause-front : goal.returns-clause-front

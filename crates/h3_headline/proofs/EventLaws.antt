@@ -1,7 +1,6 @@
 -- Every event of two endpoints that stand in a world happens there, and both stand in the world after it. So they run in a world over
 -- every schedule.
 use Rattle.std.proofs.Common.{◌≡◌, Bool, true, false, refl, List}
-use Rattle.std.specs.List.{AllByRecursion}
 use Rattle.h3_connection.specs.OwnIds.{is_own}
 use Rattle.h3_world.specs.declared.setup.Setup.{Setup}
 use Rattle.h3_world.specs.declared.event.Event.{Event}
@@ -10,14 +9,16 @@ use Rattle.h3_world.specs.Ends.{Ends, new_ends}
 use Rattle.h3_world.specs.Sendable.{IsSendable}
 use Rattle.h3_world.specs.Setup.{IsMadeSetup, JudgesPlainly}
 use Rattle.h3_world.specs.World.{World, empty_world}
+use Rattle.std.specs.List.{AllByRecursion}
+use Rattle.h3_headline.proofs.DeliverEventLaws.{deliver_on, end_on, gone_on}
+use Rattle.h3_headline.proofs.OwnStandsLaws.{own_deliver_on, own_end_on, own_reset_on}
+use Rattle.h3_headline.proofs.RunLaws.{RunsOn, runs_on}
 use Rattle.h3_headline.specs.BeginningLaws.{begins}
-use Rattle.h3_headline.specs.DeliverEventLaws.{deliver_on, end_on, gone_on}
-use Rattle.h3_headline.specs.JoiningLaws.{Laws}
-use Rattle.h3_headline.specs.OwnStandsLaws.{own_deliver_on, own_end_on, own_reset_on}
+use Rattle.h3_headline.specs.Cited.{Laws}
 use Rattle.h3_headline.specs.PullEventLaws.{pull_on}
-use Rattle.h3_headline.specs.RunLaws.{StandsOn, RunsOn, runs_on}
-use Rattle.h3_headline.specs.SentEventLaws.{opened_on, head_on, body_on, trailer_on, finish_on, reset_on, cancel_on, goaway_on, show_on}
+use Rattle.h3_headline.specs.SentEventLaws.{body_on, cancel_on, finish_on, goaway_on, head_on, opened_on, reset_on, show_on, trailer_on}
 use Rattle.h3_headline.specs.Standing.{Stands}
+use Rattle.h3_headline.specs.Steps.{StandsOn}
 
 by_test : {X : Type 0} (b : Bool) → (b ≡ true → X) → (b ≡ false → X) → X
 by_test true own other = own refl

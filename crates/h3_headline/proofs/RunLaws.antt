@@ -1,20 +1,15 @@
 -- Two endpoints that stand in a world stay in one over a whole schedule, where they do over each event.
 use Rattle.std.proofs.Common.{List, [], ◌∷◌, refl}
-use Rattle.std.specs.List.{AllByRecursion}
 use Rattle.h3_world.specs.declared.setup.Setup.{Setup}
 use Rattle.h3_world.specs.declared.event.Event.{Event}
-use Rattle.h3_world.specs.Ends.{Ends, answered, ends_after, answers_of_ends}
+use Rattle.h3_world.specs.Ends.{Ends, ends_after, answers_of_ends, answered}
 use Rattle.h3_world.specs.Headline.{Happens}
 use Rattle.h3_world.specs.Run.{Run}
-use Rattle.h3_world.specs.Sendable.{IsSendable}
 use Rattle.h3_world.specs.World.{World}
+use Rattle.std.specs.List.{AllByRecursion}
+use Rattle.h3_world.specs.Sendable.{IsSendable}
 use Rattle.h3_headline.specs.Standing.{Stands}
-
--- One event of two endpoints that stand in a world: it happens there, and they stand in the world after it.
-pub record StandsOn (setup : Setup) (w : World) (ends : Ends) (e : Event) : Type 0 where
-  pub new : World
-  pub happens : Happens setup w e (answered ends e).0 new
-  pub stands : Stands setup new (answered ends e).1
+use Rattle.h3_headline.specs.Steps.{StandsOn}
 
 -- A whole schedule.
 pub record RunsOn (setup : Setup) (w : World) (ends : Ends) (events : List Event) : Type 0 where

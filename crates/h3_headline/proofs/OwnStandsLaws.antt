@@ -8,12 +8,13 @@ use Rattle.h3_world.specs.declared.event.Event.TheVariants as event
 use Rattle.h3_world.specs.Ends.{Ends}
 use Rattle.h3_world.specs.Setup.{IsMadeSetup}
 use Rattle.h3_world.specs.World.{World}
+use Rattle.h3_headline.proofs.OwnEventLaws.{own_delivered, own_end_is_early, own_reset_is_early}
+use Rattle.h3_headline.proofs.OwnWritesLaws.{own_end_served, own_keeps, own_reset_served, still_writing}
 use Rattle.h3_headline.specs.AlikeLaws.{alike_stands}
-use Rattle.h3_headline.specs.JoiningLaws.{Laws}
-use Rattle.h3_headline.specs.OwnEventLaws.{own_delivered, own_end_is_early, own_reset_is_early}
-use Rattle.h3_headline.specs.OwnWritesLaws.{KeepsWriting, still_writing, own_keeps, own_end_served, own_reset_served}
-use Rattle.h3_headline.specs.RunLaws.{StandsOn}
+use Rattle.h3_headline.specs.Cited.{Laws}
+use Rattle.h3_headline.specs.OwnStreams.{KeepsWriting}
 use Rattle.h3_headline.specs.Standing.{Stands}
+use Rattle.h3_headline.specs.Steps.{StandsOn}
 
 pub own_deliver_on : (laws : Laws) (setup : Setup) (w : World) (ends : Ends) (writer : Side) (id count : ℕ) → IsMadeSetup setup → Stands setup w ends → is_own writer id ≡ true
     → StandsOn setup w ends (event.Deliver writer id count)

@@ -1,44 +1,47 @@
 -- A delivery of bytes, of the end or of the reset of a request stream happens in the world, and both ends stand in it after that.
-use Rattle.std.proofs.Common.{◌≡◌, ℕ, ◌*◌, ◌<◌, ◌≤◌, ◌^◌, nat_lt, not, Bool, true, false, ◌&&◌, ◌||◌, if◌then◌else◌, length, take, Option, Some, None, refl, sym, ap, ◌∙◌, subst, arith}
-use Rattle.std.specs.Prelude.{◌==◌, unwrap_or, option_map}
-use Rattle.std.proofs.lemmas.Grind.{common_steps}
-use Rattle.h3_proto.specs.declared.stream.Side.{Side}
+use Rattle.std.proofs.Common.{refl, ◌≡◌, Bool, true, false, if◌then◌else◌, sym, subst, ℕ, not, ◌||◌, ◌*◌, length, ap, ◌∙◌, Some, Option, ◌&&◌, None, ◌≤◌, nat_lt, arith, take, ◌<◌, ◌^◌}
 use Rattle.h3_proto.specs.declared.stream.Side.TheVariants.{Client, Server}
-use Rattle.h3_connection.specs.Arrivals.{stream_of}
-use Rattle.h3_connection.specs.declared.arrival.Arrival.{Arrival}
-use Rattle.h3_connection.specs.declared.arrival.Arrival.TheVariants.{BytesCame, EndCame, ResetCame}
-use Rattle.h3_connection.specs.declared.event.Refusal.{Refusal}
-use Rattle.h3_connection.specs.declared.event.Refusal.TheVariants as refusal
-use Rattle.h3_connection.specs.Endpoint.{EndpointHistory, bytes_waiting, kind_of}
-use Rattle.h3_connection.specs.Keeping.{arrives}
-use Rattle.h3_connection.specs.Outgoing.{Outgoing}
-use Rattle.h3_connection.specs.OwnIds.{other, is_own}
-use Rattle.h3_connection.specs.Sending.{advance, advance_at}
-use Rattle.h3_connection.specs.Shown as shown
-use Rattle.h3_connection.specs.StreamSets.{stream_at}
 use Rattle.h3_world.specs.declared.setup.Setup.{Setup}
-use Rattle.h3_world.specs.declared.event.Event.TheVariants as event
 use Rattle.h3_world.specs.declared.event.Answer.{Answer}
 use Rattle.h3_world.specs.declared.event.Answer.TheVariants as answer
-use Rattle.h3_world.specs.Delivering.{delivered, delivered_own, delivered_message, delivered_end, delivered_reset, is_closed, may_end, reset_code}
-use Rattle.h3_world.specs.Ends.{Ends, answered, done, end_at, was_offered, with_end}
-use Rattle.h3_world.specs.Flow as flows
-use Rattle.h3_world.specs.Machine.{served}
-use Rattle.h3_world.specs.Order.{is_finished}
-use Rattle.h3_world.specs.Streams.{flow, with_flow, is_open, has_outgoing, waiting}
+use Rattle.h3_world.specs.Ends.{Ends, done, end_at, with_end, answered, was_offered}
 use Rattle.h3_world.specs.World.{World}
-use Rattle.h3_headline.specs.ComesLaws.{Comes, bytes_comes, end_comes_over, reset_comes_over, arrives_next}
+use Rattle.h3_proto.specs.declared.stream.Side.{Side}
+use Rattle.h3_connection.specs.OwnIds.{is_own, other}
+use Rattle.h3_world.specs.Streams.{is_open, has_outgoing, flow, with_flow, waiting}
+use Rattle.h3_connection.specs.Endpoint.{EndpointHistory, kind_of, bytes_waiting}
+use Rattle.h3_connection.specs.Arrivals.{stream_of}
+use Rattle.h3_connection.specs.declared.arrival.Arrival.{Arrival}
+use Rattle.h3_connection.specs.declared.event.Refusal.TheVariants as refusal
+use Rattle.h3_connection.specs.Keeping.{arrives}
+use Rattle.h3_connection.specs.declared.event.Refusal.{Refusal}
+use Rattle.h3_world.specs.Delivering.{is_closed, delivered, delivered_own, delivered_message, delivered_end, may_end, delivered_reset, reset_code}
+use Rattle.h3_connection.specs.Outgoing.{Outgoing}
+use Rattle.h3_connection.specs.Sending.{advance, advance_at}
+use Rattle.h3_connection.specs.StreamSets.{stream_at}
+use Rattle.std.proofs.lemmas.Grind.{common_steps}
+use Rattle.h3_connection.specs.declared.arrival.Arrival.TheVariants.{BytesCame, EndCame, ResetCame}
+use Rattle.h3_world.specs.Flow as flows
+use Rattle.h3_connection.specs.Shown as shown
+use Rattle.h3_world.specs.declared.event.Event.TheVariants as event
+use Rattle.h3_world.specs.Machine.{served}
+use Rattle.std.specs.Prelude.{◌==◌, unwrap_or, option_map}
+use Rattle.h3_world.specs.Order.{is_finished}
+use Rattle.h3_headline.proofs.ComesLaws.{bytes_comes}
+use Rattle.h3_headline.proofs.DeliverLaws.{after_end}
+use Rattle.h3_headline.proofs.OwnEventLaws.{given_as, served_as}
+use Rattle.h3_headline.specs.Arriving.{Comes, come}
+use Rattle.h3_headline.specs.Calls.{Both, Serves}
+use Rattle.h3_headline.specs.Cited.{Laws}
+use Rattle.h3_headline.specs.ComesLaws.{arrives_next, end_comes_over, reset_comes_over}
 use Rattle.h3_headline.specs.ComingLaws.{kind_is}
-use Rattle.h3_headline.specs.DeliverLaws.{after_end, has_outgoing_is, sends_at, waiting_is}
-use Rattle.h3_headline.specs.FlowLaws.{IsThere, open_there}
+use Rattle.h3_headline.specs.DeliverLaws.{has_outgoing_is, sends_at, waiting_is}
 use Rattle.h3_headline.specs.FewLaws.{open_is_small}
-use Rattle.h3_headline.specs.JoiningLaws.{Laws}
-use Rattle.h3_headline.specs.OwnEventLaws.{given_as, served_as}
-use Rattle.h3_headline.specs.ReceivingLaws.{come}
-use Rattle.h3_headline.specs.RunLaws.{StandsOn}
+use Rattle.h3_headline.specs.FlowLaws.{open_there}
 use Rattle.h3_headline.specs.SenderEventLaws.{served_stands}
-use Rattle.h3_headline.specs.SendingLaws.{Both, both_of, Serves}
+use Rattle.h3_headline.specs.SendingLaws.{both_of}
 use Rattle.h3_headline.specs.Standing.{Stands}
+use Rattle.h3_headline.specs.Steps.{IsThere, StandsOn}
 
 -- Where nothing is done both stand as before.
 unchanged : (setup : Setup) (w : World) (ends : Ends) (a : Answer) → Stands setup w ends → Serves setup (given_as a ends) (served_as a w)
