@@ -20,6 +20,7 @@ mod body;
 mod frames;
 mod front;
 mod left;
+mod owning;
 mod pull;
 mod sections;
 mod unread;

@@ -14,6 +14,7 @@ use std::alloc::{AllocError, Global};
 use std::marker::Model;
 
 mod judged;
+mod owning;
 mod pulling;
 mod receiving;
 mod seen;

@@ -24,6 +24,7 @@ mod heads;
 mod lists;
 mod next;
 mod outline;
+mod owning;
 mod pulling;
 mod reading;
 mod receiving;

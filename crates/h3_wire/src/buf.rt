@@ -11,8 +11,10 @@ use std::collections::VecDeque;
 use std::fmt;
 use std::marker::Model;
 
+mod owning;
 mod pieces;
 
+pub use owning::own;
 pub use pieces::{Cursor, Piece};
 
 /// Pieces, none of them empty. A contract sees the pieces as byte lists, of which `concat` is all
@@ -21,6 +23,8 @@ pub use pieces::{Cursor, Piece};
 pub struct BufList<T: Buf> {
     bufs: VecDeque<T>,
     len: usize,
+    // of the last pieces, at most how many were added since `own`
+    added: usize,
 }
 
 impl<T: Buf> Model for BufList<T> {
@@ -47,6 +51,7 @@ impl<T: Buf> BufList<T> {
         BufList {
             bufs: VecDeque::new(alloc),
             len: 0,
+            added: 0,
         }
     }
 
@@ -102,6 +107,7 @@ impl<T: Buf> BufList<T> {
             return;
         }
         self.len += len;
+        self.added = self.added.saturating_add(1);
         self.bufs.push_back_reserved(piece);
     }
 

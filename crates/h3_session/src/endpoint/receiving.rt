@@ -176,10 +176,11 @@ impl Endpoint {
     }
 
     // Whether what comes on the stream is its receiver's at once: it is a request stream's, and nothing is kept.
-    fn takes_at_once(&self, id: StreamId) -> bool
+    pub(super) fn takes_at_once(&self, id: StreamId) -> bool
         ensures closed { result ≡ true → self.now.closed ≡ None }
         ensures kept { result ≡ true → self.now.kept ≡ [] }
         ensures request { result ≡ true → kind_of self.now.side id ≡ Request }
+        ensures not { result ≡ false → self.now.closed ≡ None → self.now.kept ≡ [] → kind_of self.now.side id ≢ Request }
     {
         self.closed.is_none() && self.kept.is_empty() && is_request(self.side, id)
     }

@@ -93,6 +93,14 @@ impl FrameBuffer {
         self.unread.take_first_chunk()
     }
 
+    /// Puts a copy in the place of each piece that has no block of its own, and was not looked at before. Nothing else changes, also at an
+    /// `Err`: memory was refused, and the next call does the rest.
+    pub fn own(&mut self, alloc: Global) -> Result<(), AllocError>
+        ensures { self.new ≡ self.old }
+    {
+        self.unread.own(alloc)
+    }
+
     /// How many bytes were not read.
     pub fn len(&self) -> usize
         ensures { result ≡ length (concat self.now.pieces) }
