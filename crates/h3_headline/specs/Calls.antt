@@ -58,7 +58,7 @@ pub record Extends (side : Side) (f g : Flow) : Type 0 where
 abbrev pub sending : EndpointHistory → ℕ → ℕ → Outgoing → EndpointHistory
 sending e id n o = record e { outgoing = set_stream e.outgoing id o; sent = n }
 
--- each of the six
+-- whether the connection needs a stream, as the side sees its id
 abbrev pub seen_by : EndpointHistory → Side → ℕ → Bool
 seen_by e s n = is_critical_of (record e { side = s }) n (kind_of s n)
 
@@ -91,7 +91,7 @@ pub record Hears (setup : Setup) (side : Side) (own : Own) (f : EndpointHistory)
   pub encoder_stream : HasEncoderStreamOf setup (other side) own f
   pub decoder_stream : HasDecoderStreamOf setup (other side) own f
 
--- a GOAWAY frame
+-- what a side wrote, with these GOAWAY frames
 abbrev pub with_goaways : Own → List ℕ → Own
 with_goaways own ids = record own { goaways = ids }
 

@@ -42,6 +42,7 @@ peer_within side p bytes = refl
 fits_of : (a n : ℕ) → nat_le a n ≡ true → a ≤ n
 fits_of a n e = grind (arith, common_steps, e)
 
+-- the settings were there before
 known_before : (writer : Side) (a : Announced) (came count : ℕ) (gs : List ℕ) → AreGoaways writer None gs → length (settings_bytes a) ≤ came → Reads writer a came count gs true true
 known_before writer a came count gs all fits =
     let L = length (settings_bytes a) in

@@ -68,6 +68,7 @@ pub skipped_none : (in_body : Bool) → skipped in_body [] ≡ []
 unfolding skipped
 skipped_none in_body = refl
 
+-- all bytes are left
 pub left_all : (i : Incoming) → left_with i (concat i.unread) ≡ i
 left_all i =
     let none : length (concat i.unread) - length (concat i.unread) ≡ 0 = omega arith in

@@ -87,7 +87,7 @@ pub record Writes (old new : Own) (more : ℕ) : Type 0 where
 abbrev pub party_from : Party → ℕ → List DecoderInstruction → Party
 party_from q more is = record { own = record q.own { replies = q.own.replies ++ increment more }; encoder = encoder_after_all q.encoder is }
 
--- settings come
+-- what a world has of a side, by its endpoint
 abbrev pub party_of : EndpointHistory → Party
 party_of e = record { own = e.own; encoder = e.encoder }
 

@@ -98,6 +98,7 @@ replies_listened b limits p n few many replies =
     by_known true = refl
     by_known false = refl
 
+-- settings come
 learned_is : (limits : Limits) (p : Party) → having_learned p limits ≡ record { own = learned_own p.encoder.most_capacity limits p.own; encoder = learned_encoder limits p.encoder }
 learned_is limits p = by_table (has_table p.encoder.most_capacity limits)
   where

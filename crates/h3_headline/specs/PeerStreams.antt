@@ -105,7 +105,7 @@ peer_by a there n goaways =
 abbrev pub no_fault : Peer → PeerFound
 no_fault p = (p, None)
 
--- the settings were there before
+-- a control stream of which so many bytes came, and so many come now
 module _ (writer : Side) (a : Announced) (came count : ℕ) (gs : List ℕ) where
   abbrev start : ℕ
   start = length (settings_bytes a)

@@ -51,7 +51,7 @@ pub record IsLonger (some more front rest : List ℕ) : Type 0 where
   pub front_is : some ≡ front ++ drop (length front) some
   pub rest_is : drop (length front) some ++ more ≡ rest
 
--- all bytes are left
+-- a receiver that has these bytes unread
 abbrev pub with_unread : Incoming → List (List ℕ) → Incoming
 with_unread i pieces = record i { unread = pieces }
 

@@ -165,6 +165,7 @@ none_critical setup w side id e h mine theirs = by_kind (kind_of e.side id)
         let d : is_read_as e.decoder_on id ≡ false = ap (λ o. is_read_as o id) h.decoder_stream.is_on ∙ read_as_it (party w (other side)).own.decoder_taken (decoder_id (other side)) id each.2 in
         rw (a, b, c, d) refl
 
+-- each of the six streams that the connection needs
 own_critical : (e : EndpointHistory) (id : ℕ) → is_critical id ≡ true → is_critical_id e id ≡ true
 own_critical e id h = by_id (id == 2) (id == 6) (id == 10) (id == 3) (id == 7) (id == 11) refl refl refl refl refl refl
   where

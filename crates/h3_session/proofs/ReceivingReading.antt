@@ -15,7 +15,8 @@ use Rattle.h3_connection.specs.declared.arrival.Arrival.{Arrival}
 use Rattle.h3_connection.specs.declared.arrival.Arrival.TheVariants.{BytesCame, EndCame, ResetCame}
 use Rattle.h3_proto.specs.declared.stream.Side.{Side}
 use Rattle.h3_streams.specs.Placed.{StreamsState, placed, Reads}
-use Rattle.h3_streams.specs.ReadingOn.{IsDue, IsPeers, StopsAt, left_arrivals, part_of_some}
+use Rattle.h3_streams.specs.ReadingOn.{IsDue, IsPeers, StopsAt, left_arrivals}
+use Rattle.h3_streams.specs.ReadingOnLaws.{part_of_some}
 use Rattle.h3_streams.specs.declared.left.Left.{Left}
 use Rattle.h3_session.specs.Arriving.{IsReceived}
 use Rattle.h3_session.specs.OpenedLaws.{ChangesRequests, stands_same}

@@ -16,8 +16,8 @@ use Rattle.h3_connection.specs.Unidirectional.Role.{Untold, Control, Encoder, De
 use Rattle.h3_unidirectional.specs.Kinds.{is_untold, received_by, TellsFirst}
 use Rattle.h3_unidirectional.specs.declared.stream.Received.{Received}
 use Rattle.h3_unidirectional.specs.declared.stream.Received.TheVariants as received
+use Rattle.h3_streams.proofs.PlacedLaws.{stands_map}
 use Rattle.h3_streams.specs.Placed.{StreamsState, placed, Receives, Reads}
-use Rattle.h3_streams.specs.PlacedLaws.{stands_map}
 use Rattle.h3_streams.specs.ReadingOn.{ReadsSome, StopsAt, IsRead, IsPeers, IsDue, Stops, left_arrivals}
 use Rattle.h3_streams.specs.declared.left.Left.{Left}
 use Rattle.h3_streams.proofs.Closing.{there}

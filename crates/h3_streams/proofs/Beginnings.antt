@@ -11,8 +11,8 @@ use Rattle.h3_connection.specs.Endpoint.{EndpointHistory, replied}
 use Rattle.h3_connection.specs.Listeners.{Decoding, Encoding, fault_if, heard_more, after_hearing, insertions_heard}
 use Rattle.h3_connection.specs.PeerReading.{with_unread, read_peer}
 use Rattle.h3_connection.specs.State.{EndpointState, StandsFor, IsToldPeer}
+use Rattle.h3_streams.proofs.PlacedLaws.{stands_control, stands_encoder, stands_decoder}
 use Rattle.h3_streams.specs.Placed.{StreamsState, placed}
-use Rattle.h3_streams.specs.PlacedLaws.{stands_control, stands_encoder, stands_decoder}
 use Rattle.h3_connection.specs.PeerReadingLaws.{nothing_read_on}
 
 pub hear_nothing : (r : DecoderState) → hear r [] ≡ heard r [] false

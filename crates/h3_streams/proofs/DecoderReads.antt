@@ -15,8 +15,8 @@ use Rattle.h3_connection.specs.PartReading.{ReadsOn, ListensPart, held_as}
 use Rattle.h3_connection.specs.State.{EndpointState, StandsFor, IsToldPeer}
 use Rattle.h3_connection.specs.Unidirectional.Role.{Decoder}
 use Rattle.h3_unidirectional.specs.Fronts.{StopsListening}
+use Rattle.h3_streams.proofs.PlacedLaws.{stands_decoder}
 use Rattle.h3_streams.specs.Placed.{StreamsState, placed, Reads}
-use Rattle.h3_streams.specs.PlacedLaws.{stands_decoder}
 use Rattle.h3_streams.specs.ReadingOn.{ReadsSome, StopsAt, IsRead, Stops, left_arrivals}
 use Rattle.h3_streams.specs.Stopping.{ListensIf, ListenedPart, left_by}
 use Rattle.h3_streams.specs.declared.left.Left.{Left}

@@ -13,8 +13,8 @@ use Rattle.h3_connection.specs.Listeners.{Encoding, Listens}
 use Rattle.h3_connection.specs.PartReading.{ReadsOn, ListensPart, early_if}
 use Rattle.h3_connection.specs.State.{EndpointState, StandsFor}
 use Rattle.h3_unidirectional.specs.Fronts.{StopsListening}
+use Rattle.h3_streams.proofs.PlacedLaws.{stands_decoder}
 use Rattle.h3_streams.specs.Placed.{StreamsState, placed, Reads}
-use Rattle.h3_streams.specs.PlacedLaws.{stands_decoder}
 use Rattle.h3_streams.specs.ReadingOn.{ReadsSome, StopsAt, left_arrivals}
 use Rattle.h3_streams.specs.Stopping.{early_of, ReadsEarly, StopsEarly}
 use Rattle.h3_streams.specs.declared.left.Left.{Left}

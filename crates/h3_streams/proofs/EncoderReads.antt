@@ -13,8 +13,8 @@ use Rattle.h3_connection.specs.Listeners.{Decoding, Hears, heard_more, after_hea
 use Rattle.h3_connection.specs.PartReading.{ReadsOn, HearsPart, held_as}
 use Rattle.h3_connection.specs.State.{EndpointState, StandsFor, IsToldPeer}
 use Rattle.h3_connection.specs.Unidirectional.Role.{Encoder}
+use Rattle.h3_streams.proofs.PlacedLaws.{stands_encoder}
 use Rattle.h3_streams.specs.Placed.{StreamsState, placed, Reads}
-use Rattle.h3_streams.specs.PlacedLaws.{stands_encoder}
 use Rattle.h3_streams.specs.ReadingOn.{ReadsSome, StopsAt, IsRead, Stops, left_arrivals}
 use Rattle.h3_streams.specs.Stopping.{HeardPart, left_by}
 use Rattle.h3_streams.specs.declared.left.Left.{Left}

@@ -19,8 +19,8 @@ use Rattle.h3_connection.specs.PeerReading.{Peer, PeerFound, with_unread, read_p
 use Rattle.h3_connection.specs.State.{EndpointState, StandsFor}
 use Rattle.h3_connection.specs.Unidirectional.Role.{Control}
 use Rattle.h3_unidirectional.specs.Learned.{capacity_of, blocked_of, capacity_bytes}
+use Rattle.h3_streams.proofs.PlacedLaws.{stands_table}
 use Rattle.h3_streams.specs.Placed.{StreamsState, placed, Reads}
-use Rattle.h3_streams.specs.PlacedLaws.{stands_table}
 use Rattle.h3_streams.specs.ReadingOn.{ReadsSome, ReadsHeld, StopsHeld, IsPeers, left_arrivals}
 use Rattle.h3_streams.specs.Stopping.{learned_by, allowed_by, Learns, early_of, ReadsEarly, StopsEarly}
 use Rattle.h3_streams.specs.declared.left.Left.{Left}

@@ -11,8 +11,8 @@ use Rattle.h3_connection.specs.PartReading.{ReadsOn, PeerReadsPart, held_as, aft
 use Rattle.h3_connection.specs.PeerReading.{Peer, PeerFound, with_unread, read_peer}
 use Rattle.h3_connection.specs.State.{EndpointState, StandsFor}
 use Rattle.h3_connection.specs.Unidirectional.Role.{Control}
+use Rattle.h3_streams.proofs.PlacedLaws.{stands_control}
 use Rattle.h3_streams.specs.Placed.{StreamsState, placed, Reads}
-use Rattle.h3_streams.specs.PlacedLaws.{stands_control}
 use Rattle.h3_streams.specs.ReadingOn.{ReadsSome, StopsAt, IsRead, Stops, ReadsHeld, StopsHeld, left_arrivals}
 use Rattle.h3_streams.specs.declared.left.Left.{Left}
 use Rattle.h3_streams.proofs.EncoderReads.{first_found}

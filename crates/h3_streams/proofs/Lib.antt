@@ -15,3 +15,5 @@ mod ArrivedBytes
 pub mod Held
 mod Rows
 mod Joined
+mod PlacedLaws
+mod ReadingOn

@@ -19,8 +19,8 @@ use Rattle.h3_connection.specs.StreamSetLaws.{set-here}
 use Rattle.h3_connection.specs.Unidirectional.{Unidirectional, Role, untold, is_critical, role_after, with_bytes}
 use Rattle.h3_connection.specs.Unidirectional.Role.{Untold, Control, Encoder, Decoder, Session, Push, Ignored}
 use Rattle.h3_unidirectional.specs.Kinds.{TellsFirst}
+use Rattle.h3_streams.proofs.PlacedLaws.{stands_map}
 use Rattle.h3_streams.specs.Placed.{StreamsState, placed, Reads}
-use Rattle.h3_streams.specs.PlacedLaws.{stands_map}
 use Rattle.h3_streams.specs.ReadingOn.{ReadsSome, StopsAt, IsRead, IsPeers, Stops, Unheld, Held, reader_on, with_reader}
 use Rattle.h3_streams.proofs.Again.{is_there}
 use Rattle.h3_streams.proofs.Beginnings.{Begins, control_begins, encoder_begins, decoder_begins}

@@ -4,3 +4,4 @@ pub mod PlacedLaws
 pub mod ReadingOn
 pub mod Stopping
 pub mod Plain
+pub mod ReadingOnLaws

@@ -1,35 +1,26 @@
 -- What a reading leaves that was refused memory: what came was read up to some point, and the rest is still to be read.
-use Rattle.std.specs.Prelude.{◌≡◌, ◌<◌, ◌^◌, ℕ, length, false, List, [], ◌∷◌, ◌++◌, Option, Some, None, IfSome, All}
-use Rattle.std.specs.List.{concat}
+use Rattle.std.specs.Prelude.{List, Some, ◌≡◌, ◌∷◌, ◌++◌, All, ℕ, IfSome, Option, None, false, [], ◌<◌, ◌^◌, length}
+use Rattle.h3_connection.specs.declared.arrival.Arrival.{Arrival}
+use Rattle.h3_connection.specs.Endpoint.{EndpointHistory, kind_of, is_second}
+use Rattle.h3_connection.specs.PartReading.{ReadsOn, early_arrival, held_as}
 use Rattle.h3_proto.specs.declared.stream.Side.{Side}
 use Rattle.h3_connection.specs.Arrivals.{stream_of}
-use Rattle.h3_connection.specs.Control.{after_peer}
-use Rattle.h3_connection.specs.Delivering.{unidirectional_at}
-use Rattle.h3_connection.specs.declared.arrival.Arrival.{Arrival}
-use Rattle.h3_connection.specs.declared.arrival.Arrival.TheVariants.{BytesCame}
-use Rattle.h3_connection.specs.Endpoint.{EndpointHistory, is_second, kind_of}
 use Rattle.h3_connection.specs.Endpoint.Kind.{PeerUnidirectional}
-use Rattle.h3_connection.specs.PartReading.{ReadsOn, ReadsPart, held_as, early_arrival}
-use Rattle.h3_connection.specs.PeerReading.{read_peer}
+use Rattle.h3_connection.specs.declared.arrival.Arrival.TheVariants.{BytesCame}
+use Rattle.h3_streams.specs.declared.left.Left.{Left}
 use Rattle.h3_connection.specs.State.{EndpointState, StandsFor}
+use Rattle.h3_connection.specs.Delivering.{unidirectional_at}
 use Rattle.h3_connection.specs.Unidirectional.{Role}
 use Rattle.h3_connection.specs.Unidirectional.Role.{Control, Encoder, Decoder}
-use Rattle.h3_streams.specs.Placed.{StreamsState, placed, stream_of_peer, Reads}
-use Rattle.h3_streams.specs.declared.left.Left.{Left}
+use Rattle.h3_connection.specs.Control.{after_peer}
+use Rattle.h3_connection.specs.PeerReading.{read_peer}
+use Rattle.std.specs.List.{concat}
+use Rattle.h3_streams.specs.Placed.{Reads, StreamsState, placed, stream_of_peer}
 
 -- Some steps of reading, from the first endpoint and what is still to be read there to the last.
 pub data ReadsSome : EndpointHistory → List Arrival → EndpointHistory → List Arrival → Type 0 where
   Stays : {e : EndpointHistory} {arrivals : List Arrival} → ReadsSome e arrivals e arrivals
   Steps : {e next new : EndpointHistory} {arrivals more left : List Arrival} → ReadsOn e arrivals next more → ReadsSome next more new left → ReadsSome e arrivals new left
-
--- they are the beginning of a reading that stops later
-pub part_of_some : {e next new : EndpointHistory} {arrivals more : List Arrival} → ReadsSome e arrivals next more → ReadsPart next more new → ReadsPart e arrivals new
-part_of_some Stays later = later
-part_of_some (Steps first others) later = ReadsPart.Goes first (part_of_some others later)
-
-pub then_some : {e next new : EndpointHistory} {arrivals more left : List Arrival} → ReadsSome e arrivals next more → ReadsSome next more new left → ReadsSome e arrivals new left
-then_some Stays later = later
-then_some (Steps first others) later = Steps first (then_some others later)
 
 abbrev pub IsPeers : Side → Arrival → Type 0
 IsPeers side a = kind_of side (stream_of a) ≡ PeerUnidirectional

@@ -12,10 +12,10 @@ use Rattle.h3_wire.specs.declared.proto.frame.PayloadLen.{PayloadLen}
 use Rattle.h3_wire.specs.declared.proto.frame.Frame.{Frame}
 use Rattle.h3_wire.specs.declared.proto.frame.Frame.TheVariants as frame
 use Rattle.h3_connection.specs.PeerReading.{Peer, PeerFound, with_unread, read_max_push, read_frame, at_front, read_peer}
+use Rattle.h3_unidirectional.proofs.PeerLaws.{peer_frame, peer_fault, peer_less}
 use Rattle.h3_unidirectional.specs.Fronts.{ReadsFront, StopsReading}
 use Rattle.h3_unidirectional.proofs.FrameFronts.{Precedes, followed_by, frame_front, unknown_front}
 use Rattle.h3_connection.specs.PeerReadingLaws.{frame_keeps, peer_step, nothing_read_on}
-use Rattle.h3_unidirectional.specs.PeerLaws.{peer_frame, peer_fault, peer_less}
 
 -- the same finding, over other bytes
 abbrev over : PeerFound → List ℕ → PeerFound

@@ -7,3 +7,5 @@ mod Waits
 mod Unfinished
 mod Heads
 mod Behind
+mod OwnLaws
+mod PeerLaws

@@ -8,3 +8,4 @@ pub mod Learned
 pub mod OwnLaws
 pub mod PeerLaws
 pub mod WaitingLaws
+pub mod OwnTexts

@@ -1,27 +1,17 @@
 -- What waits on the own streams stands for what a history wrote and did not hand over.
-use Rattle.std.proofs.Common.{◌≡◌, ℕ, zero, suc, ◌+◌, ◌≤◌, ◌==◌, Bool, true, false, if◌then◌else◌, List, [], ◌∷◌, ◌++◌, length, drop, flat_map, append-nil, append_assoc, length-append, Some, None, refl, ap, sym, ◌∙◌, subst, arith}
-use Rattle.h3_coding.specs.Encodings.{encoding}
-use Rattle.h3_field.specs.Instruction.{EncoderInstruction, DecoderInstruction, encoder_bytes, decoder_bytes}
+use Rattle.std.proofs.Common.{◌≡◌, ℕ, ◌==◌, if◌then◌else◌, List, [], refl, drop, ◌∙◌, sym, Bool, true, false, Some, None, zero, suc, ◌+◌, ◌≤◌, ◌∷◌, ◌++◌, length, arith, flat_map, append_assoc, ap, length-append, append-nil, subst}
 use Rattle.h3_proto.specs.declared.stream.Side.{Side}
 use Rattle.h3_proto.specs.declared.stream.Side.TheVariants.{Client, Server}
-use Rattle.h3_wire.specs.StreamHeaders.{control_encoding}
-use Rattle.h3_connection.specs.declared.setup.Announced.{Announced}
-use Rattle.h3_connection.specs.Endpoint.{EndpointHistory, new_endpoint, goaway_encoding, own_waiting, replied}
 use Rattle.h3_connection.specs.OwnIds.{control_id, encoder_id, decoder_id}
-use Rattle.h3_connection.specs.Sending.{own_advanced}
+use Rattle.h3_connection.specs.Endpoint.{EndpointHistory, own_waiting, goaway_encoding, replied}
 use Rattle.h3_connection.specs.State.{OwnState, OwnStands, TakesWhatIsThere}
-use Rattle.h3_unidirectional.specs.Owned.{first_own, waiting_of, waiting_on, having_taken_of, having_taken}
 use Rattle.h3_unidirectional.specs.declared.own.OwnStream.TheVariants.{Control, Encoder, Decoder}
-
--- the texts of the own streams
-abbrev control_text : EndpointHistory → List ℕ
-control_text e = control_encoding e.announced.settings ++ flat_map goaway_encoding e.own.goaways
-
-abbrev encoder_text : EndpointHistory → List ℕ
-encoder_text e = encoding 2 ++ flat_map encoder_bytes e.own.instructions
-
-abbrev decoder_text : EndpointHistory → List ℕ
-decoder_text e = encoding 3 ++ flat_map decoder_bytes e.own.replies
+use Rattle.h3_wire.specs.StreamHeaders.{control_encoding}
+use Rattle.h3_coding.specs.Encodings.{encoding}
+use Rattle.h3_field.specs.Instruction.{EncoderInstruction, encoder_bytes, DecoderInstruction, decoder_bytes}
+use Rattle.h3_connection.specs.Sending.{own_advanced}
+use Rattle.h3_unidirectional.specs.OwnTexts.{Stands, control_text, decoder_text, encoder_text}
+use Rattle.h3_unidirectional.specs.Owned.{having_taken, having_taken_of, waiting_of, waiting_on}
 
 at_control : (side : Side) (x y z : List ℕ) → (if control_id side == control_id side then x else (if control_id side == encoder_id side then y else (if control_id side == decoder_id side then z else []))) ≡ x
 at_control Client x y z = refl
@@ -35,12 +25,6 @@ at_decoder : (side : Side) (x y z : List ℕ) → (if decoder_id side == control
 at_decoder Client x y z = refl
 at_decoder Server x y z = refl
 
--- each stream by itself
-record Stands (own : OwnState) (e : EndpointHistory) : Type 0 where
-  control : own.control ≡ drop e.own.control_taken (control_text e)
-  encoder : own.encoder ≡ drop e.own.encoder_taken (encoder_text e)
-  decoder : own.decoder ≡ drop e.own.decoder_taken (decoder_text e)
-
 stands : (own : OwnState) (e : EndpointHistory) → OwnStands own e → Stands own e
 stands own e h =
     let x = drop e.own.control_taken (control_text e) in
@@ -48,7 +32,7 @@ stands own e h =
     let z = drop e.own.decoder_taken (decoder_text e) in
     record { control = h.control ∙ at_control e.side x y z; encoder = h.encoder ∙ at_encoder e.side x y z; decoder = h.decoder ∙ at_decoder e.side x y z }
 
-own_stands : (own : OwnState) (e : EndpointHistory) → Stands own e → TakesWhatIsThere e → OwnStands own e
+pub own_stands : (own : OwnState) (e : EndpointHistory) → Stands own e → TakesWhatIsThere e → OwnStands own e
 own_stands own e h taken =
     let x = drop e.own.control_taken (control_text e) in
     let y = drop e.own.encoder_taken (encoder_text e) in
@@ -68,13 +52,6 @@ waiting_is own e id h =
     let s = stands own e h in
     waiting_by own (drop e.own.control_taken (control_text e)) (drop e.own.encoder_taken (encoder_text e)) (drop e.own.decoder_taken (decoder_text e))
     (id == control_id e.side) (id == encoder_id e.side) (id == decoder_id e.side) s.control s.encoder s.decoder
-
--- a new endpoint's
-pub first_stands : (side : Side) (announced : Announced) → OwnStands (first_own announced.settings) (new_endpoint side announced)
-first_stands side announced =
-    own_stands (first_own announced.settings) (new_endpoint side announced)
-    (record { control = sym (append-nil (control_encoding announced.settings)); encoder = sym (append-nil (encoding 2)); decoder = sym (append-nil (encoding 3)) })
-    (record { control = omega arith; encoder = omega arith; decoder = omega arith })
 
 drop_behind : (n : ℕ) (items more : List ℕ) → n ≤ length items → drop n (items ++ more) ≡ drop n items ++ more
 drop_behind zero items more h = refl

@@ -1,5 +1,5 @@
 use Rattle.std.proofs.Common.{sym}
-use Rattle.h3_streams.specs.PlacedLaws.{pulled_stands}
+use Rattle.h3_streams.proofs.PlacedLaws.{pulled_stands}
 use Rattle.h3_streams.proofs.streams.ConnectionStreams.pull.Goals as goal
 
 pub returns : goal.returns

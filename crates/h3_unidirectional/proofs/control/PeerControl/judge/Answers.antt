@@ -1,7 +1,7 @@
 use Rattle.std.proofs.Common.{ap, sym, ◌∙◌}
 use Rattle.std.specs.Option.{is_some}
 use Rattle.h3_connection.specs.PeerReading.{Peer}
-use Rattle.h3_unidirectional.specs.PeerLaws.{judged_later, judged_first}
+use Rattle.h3_unidirectional.proofs.PeerLaws.{judged_later, judged_first}
 use Rattle.h3_unidirectional.proofs.control.PeerControl.judge.Goals as goal
 
 pub returns-then-is_some : goal.returns-then-is_some

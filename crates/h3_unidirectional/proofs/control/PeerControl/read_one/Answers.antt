@@ -1,5 +1,5 @@
 use Rattle.std.proofs.Common.{sym}
-use Rattle.h3_unidirectional.specs.PeerLaws.{peer_refused}
+use Rattle.h3_unidirectional.proofs.PeerLaws.{peer_refused}
 use Rattle.h3_unidirectional.proofs.ControlFronts.{one_read, one_fault, goaway_read, refused_front}
 use Rattle.h3_unidirectional.proofs.control.PeerControl.read_one.Goals as goal
 
