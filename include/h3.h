@@ -64,7 +64,7 @@
  *                            Let the peer open at least three unidirectional streams (RFC 9114, section 6.2), and request streams
  *                            as others close.
  *   a request is to be sent  h3_open_request, and then a bidirectional stream of QUIC: both give 0, 4, 8, .. in turn (A REQUEST'S STREAM)
- *   stream data came         h3_deliver(id, bytes) (h3_deliver_lent spares a copy), in order of the stream's bytes; then pull that stream until a pause (H3_PENDING,
+ *   stream data came         h3_deliver(id, bytes), in order of the stream's bytes; then pull that stream until a pause (H3_PENDING,
  *                            H3_WAITING, H3_NO_MESSAGES) or H3_END or a fault. After data on a stream of the peer's that is
  *                            unidirectional (id % 4 is 2 or 3) also pull every stream whose last pull answered H3_WAITING.
  *   the stream's FIN came    h3_deliver_end(id), behind its data
@@ -395,7 +395,7 @@ static inline uint32_t h3_deliver(h3_endpoint *endpoint, uint64_t id, const void
 static inline uint32_t h3_deliver_lent(h3_endpoint *endpoint, uint64_t id, const void *bytes, size_t len, uint64_t *detail);
 
 /* Copies what is still held of the bytes that were lent on a stream, and the item that was pulled last: the caller may let the bytes go. To be called
- * behind h3_deliver_lent and its pulls where `unread` is not 0. No other answer changes. Refused: H3_ARGUMENT (id not below 2^62), H3_MEMORY (call
+ * behind h3_deliver_lent and its pulls where `unread` is not 0. It changes what no call answers. Refused: H3_ARGUMENT (id not below 2^62), H3_MEMORY (call
  * again, or leave the bytes). */
 static inline uint32_t h3_keep(h3_endpoint *endpoint, uint64_t id);
 
