@@ -9,7 +9,7 @@ typedef struct {
   h3_field_size *sizes;
   size_t count;
   pack bytes;
-} given_list; /* a list as h3_send_head takes it */
+} given_list; /* a list as h3_send_fields takes it */
 
 typedef struct {
   h3_endpoint end;
@@ -64,7 +64,7 @@ static void read_body(side *to) {
   to->got.body += len;
 }
 
-/* Reads a stream until a pause or its end. */
+/* Reads a stream until a pause or its end. The bytes in `carried` are overwritten next, so what is still held of them behind a pause is kept. */
 static void pull(side *to, uint64_t id) {
   for (h3_item item;;) {
     done("h3_pull", h3_pull(&to->end, id, &item));
@@ -80,6 +80,7 @@ static void pull(side *to, uint64_t id) {
       to->got.ends++;
       return;
     case H3_PENDING:
+      done("h3_keep", h3_keep(&to->end, id));
       return;
     default:
       stop("h3_pull gave another kind", (long)item.kind);
@@ -93,7 +94,8 @@ static void carry(side *from, side *to, uint64_t id, size_t piece) {
   do {
     done("h3_outgoing", h3_outgoing(&from->end, id, carried, piece, &len, &fin));
     if (len) {
-      done("h3_deliver", h3_deliver(&to->end, id, carried, len, NULL));
+      if (id % 4 == 0) done("h3_deliver_lent", h3_deliver_lent(&to->end, id, carried, len, NULL));
+      else done("h3_deliver", h3_deliver(&to->end, id, carried, len, NULL));
       done("h3_advance", h3_advance(&from->end, id, len));
     }
     if (fin) done("h3_deliver_end", h3_deliver_end(&to->end, id, NULL));
@@ -110,8 +112,8 @@ static void carry_all(side *from, side *to, int is_server, size_t piece) {
 
 static void send(side *from, uint64_t id) {
   const given_list *list = &from->lists[id / 4 % from->lists_count];
-  done("h3_send_head", h3_send_head(&from->end, id, list->sizes, list->count, list->bytes.bytes, list->bytes.len, NULL));
-  if (from->body) done("h3_send_body", h3_send_body(&from->end, id, exchange_body, from->body, NULL));
+  done("h3_send_fields", h3_send_fields(&from->end, id, list->sizes, list->count, list->bytes.bytes, list->bytes.len, NULL));
+  if (from->body) done("h3_send_body_lent", h3_send_body_lent(&from->end, id, exchange_body, from->body, NULL));
   done("h3_finish", h3_finish(&from->end, id, NULL));
 }
 

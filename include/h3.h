@@ -21,8 +21,8 @@
  *
  * h3_endpoint is one pointer, owned by the caller. H3_NONE_YET (all bytes zero) is none. h3_new makes an endpoint, and h3_free lets
  * it go; each h3_new needs one h3_free, or memory leaks. A copy of the struct is the same endpoint: keep one, and move it at will.
- * Bytes that go in are copied within the call, but by h3_send_body_lent: the caller may free or change them as soon as it returns. Bytes
- * that come out are copied into the caller's buffer. No pointer into the library is ever handed out, and h3_send_body_lent alone keeps one
+ * Bytes that go in are copied within the call, but by h3_send_body_lent and h3_deliver_lent: the caller may free or change them as soon as it
+ * returns. Bytes that come out are copied into the caller's buffer. No pointer into the library is ever handed out, and those two alone keep one
  * of the caller's. What does not fit into a buffer is not lost: outgoing bytes wait until h3_advance, and a pulled item stays until the
  * next h3_pull.
  * Buffers and results of one call must not overlap each other, nor the h3_endpoint.
@@ -106,7 +106,7 @@
  *   h3_send_body, h3_send_body_lent         that stream
  *   h3_finish                               no bytes; the end of that stream (h3_outgoing then says fin, with 0 bytes where none wait)
  *   h3_goaway                               the own control stream
- *   h3_deliver, h3_deliver_end,             the own encoder stream (the peer's settings came), the own decoder stream (the peer's encoder
+ *   h3_deliver(_lent), h3_deliver_end,      the own encoder stream (the peer's settings came), the own decoder stream (the peer's encoder
  *   h3_deliver_reset, h3_pull               stream was read, a head was decoded, a stream was given up)
  *   h3_cancel                               the own decoder stream
  *   all others                              none
@@ -213,36 +213,21 @@ enum h3_answer {
 /* The name of an answer, for a log: "H3_OK" for 0 and so on, and "an unknown answer" for a number that is none. */
 static inline const char *h3_answer_text(uint32_t answer) {
   switch (answer) {
-    case H3_OK: return "H3_OK";
-    case H3_CLOSED: return "H3_CLOSED";
-    case H3_CONNECTION: return "H3_CONNECTION";
-    case H3_NOT_RECEIVING: return "H3_NOT_RECEIVING";
-    case H3_AFTER_END: return "H3_AFTER_END";
-    case H3_KEPT: return "H3_KEPT";
-    case H3_NOT_CLIENT: return "H3_NOT_CLIENT";
-    case H3_GOING_AWAY: return "H3_GOING_AWAY";
-    case H3_IDS_USED_UP: return "H3_IDS_USED_UP";
-    case H3_NOT_OPEN: return "H3_NOT_OPEN";
-    case H3_OUT_OF_ORDER: return "H3_OUT_OF_ORDER";
-    case H3_WRONG_SIDE: return "H3_WRONG_SIDE";
-    case H3_PSEUDO_IN_TRAILER: return "H3_PSEUDO_IN_TRAILER";
-    case H3_TOO_LARGE: return "H3_TOO_LARGE";
-    case H3_CRITICAL: return "H3_CRITICAL";
-    case H3_ENDED: return "H3_ENDED";
-    case H3_NOT_REQUEST_ID: return "H3_NOT_REQUEST_ID";
-    case H3_RAISED: return "H3_RAISED";
-    case H3_MEMORY: return "H3_MEMORY";
-    case H3_TABLE_LIMIT: return "H3_TABLE_LIMIT";
-    case H3_BLOCKED_LIMIT: return "H3_BLOCKED_LIMIT";
-    case H3_SETTING: return "H3_SETTING";
-    case H3_FIELD_NAME: return "H3_FIELD_NAME";
-    case H3_FIELD_VALUE: return "H3_FIELD_VALUE";
-    case H3_FIELD_COUNT: return "H3_FIELD_COUNT";
-    case H3_NONE: return "H3_NONE";
-    case H3_ROOM: return "H3_ROOM";
-    case H3_MALFORMED: return "H3_MALFORMED";
-    case H3_ARGUMENT: return "H3_ARGUMENT";
-    case H3_NO_ENDPOINT: return "H3_NO_ENDPOINT";
+    case H3_OK: return "H3_OK"; case H3_CLOSED: return "H3_CLOSED";
+    case H3_CONNECTION: return "H3_CONNECTION"; case H3_NOT_RECEIVING: return "H3_NOT_RECEIVING";
+    case H3_AFTER_END: return "H3_AFTER_END"; case H3_KEPT: return "H3_KEPT";
+    case H3_NOT_CLIENT: return "H3_NOT_CLIENT"; case H3_GOING_AWAY: return "H3_GOING_AWAY";
+    case H3_IDS_USED_UP: return "H3_IDS_USED_UP"; case H3_NOT_OPEN: return "H3_NOT_OPEN";
+    case H3_OUT_OF_ORDER: return "H3_OUT_OF_ORDER"; case H3_WRONG_SIDE: return "H3_WRONG_SIDE";
+    case H3_PSEUDO_IN_TRAILER: return "H3_PSEUDO_IN_TRAILER"; case H3_TOO_LARGE: return "H3_TOO_LARGE";
+    case H3_CRITICAL: return "H3_CRITICAL"; case H3_ENDED: return "H3_ENDED";
+    case H3_NOT_REQUEST_ID: return "H3_NOT_REQUEST_ID"; case H3_RAISED: return "H3_RAISED";
+    case H3_MEMORY: return "H3_MEMORY"; case H3_TABLE_LIMIT: return "H3_TABLE_LIMIT";
+    case H3_BLOCKED_LIMIT: return "H3_BLOCKED_LIMIT"; case H3_SETTING: return "H3_SETTING";
+    case H3_FIELD_NAME: return "H3_FIELD_NAME"; case H3_FIELD_VALUE: return "H3_FIELD_VALUE";
+    case H3_FIELD_COUNT: return "H3_FIELD_COUNT"; case H3_NONE: return "H3_NONE";
+    case H3_ROOM: return "H3_ROOM"; case H3_MALFORMED: return "H3_MALFORMED";
+    case H3_ARGUMENT: return "H3_ARGUMENT"; case H3_NO_ENDPOINT: return "H3_NO_ENDPOINT";
     default: return "an unknown answer";
   }
 }
@@ -401,6 +386,18 @@ static inline uint32_t h3_end_taken(h3_endpoint *endpoint, uint64_t id);
  * fault), H3_NOT_RECEIVING, H3_NOT_OPEN, H3_AFTER_END, H3_MEMORY (nothing was taken: deliver again), H3_KEPT (all was taken), H3_CONNECTION
  * (what came is a fault). (Where the copy of the bytes itself is refused memory, H3_MEMORY comes first.) */
 static inline uint32_t h3_deliver(h3_endpoint *endpoint, uint64_t id, const void *bytes, size_t len, uint64_t *detail);
+
+/* Bytes came on a stream, as by h3_deliver, with no copy on a request stream: the library reads them where they lie. The caller leaves them there
+ * unchanged until h3_keep of the stream answered H3_OK; or `unread` of h3_stream is 0, and the item that was pulled last is none of the stream's (as
+ * behind a pause, unless a frame is cut or a head waits); or h3_pull of the stream answered H3_END or a fault that is not H3_FAULT_MEMORY; or
+ * h3_cancel or h3_deliver_reset of it answered H3_OK, or the connection has a fault (H3_CLOSED, H3_CONNECTION), and h3_pull was called since; or
+ * the endpoint was freed. H3_KEPT and a refused call keep none of them. Refused as h3_deliver. */
+static inline uint32_t h3_deliver_lent(h3_endpoint *endpoint, uint64_t id, const void *bytes, size_t len, uint64_t *detail);
+
+/* Copies what is still held of the bytes that were lent on a stream, and the item that was pulled last: the caller may let the bytes go. To be called
+ * behind h3_deliver_lent and its pulls where `unread` is not 0. It changes what no call answers. Refused: H3_ARGUMENT (id not below 2^62), H3_MEMORY (call
+ * again, or leave the bytes). */
+static inline uint32_t h3_keep(h3_endpoint *endpoint, uint64_t id);
 
 /* The end of a stream came (FIN). Refused as bytes are. */
 static inline uint32_t h3_deliver_end(h3_endpoint *endpoint, uint64_t id, uint64_t *detail);
@@ -593,6 +590,8 @@ uint32_t h3_raw_outgoing(h3_endpoint endpoint, uint64_t id, uint8_t *buffer, siz
 uint32_t h3_raw_advance(h3_endpoint endpoint, uint64_t id, size_t n, h3_endpoint *out);
 uint32_t h3_raw_end_taken(h3_endpoint endpoint, uint64_t id, h3_endpoint *out);
 uint32_t h3_raw_deliver(h3_endpoint endpoint, uint64_t id, const uint8_t *bytes, size_t len, uint64_t *detail, h3_endpoint *out);
+uint32_t h3_raw_deliver_lent(h3_endpoint endpoint, uint64_t id, const uint8_t *bytes, size_t len, uint64_t *detail, h3_endpoint *out);
+uint32_t h3_raw_keep(h3_endpoint endpoint, uint64_t id, h3_endpoint *out);
 uint32_t h3_raw_deliver_end(h3_endpoint endpoint, uint64_t id, uint64_t *detail, h3_endpoint *out);
 uint32_t h3_raw_deliver_reset(h3_endpoint endpoint, uint64_t id, uint64_t code, uint64_t *detail, h3_endpoint *out);
 uint32_t h3_raw_pull(h3_endpoint endpoint, uint64_t id, h3_item *item, h3_endpoint *out);
@@ -731,6 +730,16 @@ static inline uint32_t h3_deliver(h3_endpoint *endpoint, uint64_t id, const void
   if (!endpoint || !endpoint->at) return H3_NO_ENDPOINT;
   if (!bytes && len) return H3_ARGUMENT;
   return h3_raw_deliver(*endpoint, id, h3_in_(bytes), len, detail ? detail : &none, endpoint);
+}
+static inline uint32_t h3_deliver_lent(h3_endpoint *endpoint, uint64_t id, const void *bytes, size_t len, uint64_t *detail) {
+  uint64_t none;
+  if (!endpoint || !endpoint->at) return H3_NO_ENDPOINT;
+  if (!bytes && len) return H3_ARGUMENT;
+  return h3_raw_deliver_lent(*endpoint, id, h3_in_(bytes), len, detail ? detail : &none, endpoint);
+}
+static inline uint32_t h3_keep(h3_endpoint *endpoint, uint64_t id) {
+  if (!endpoint || !endpoint->at) return H3_NO_ENDPOINT;
+  return h3_raw_keep(*endpoint, id, endpoint);
 }
 static inline uint32_t h3_deliver_end(h3_endpoint *endpoint, uint64_t id, uint64_t *detail) {
   uint64_t none;

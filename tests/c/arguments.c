@@ -41,6 +41,8 @@ static void of_none(h3_endpoint *e) {
   IS(h3_send_trailer_fields(e, 0, &f, 1, "ab", 2, &detail), H3_NO_ENDPOINT);
   IS(h3_send_body(e, 0, "ab", 2, &detail), H3_NO_ENDPOINT);
   IS(h3_send_body_lent(e, 0, "ab", 2, &detail), H3_NO_ENDPOINT);
+  IS(h3_deliver_lent(e, 0, "ab", 2, &detail), H3_NO_ENDPOINT);
+  IS(h3_keep(e, 0), H3_NO_ENDPOINT);
   IS(h3_finish(e, 0, &detail), H3_NO_ENDPOINT);
   IS(h3_reset(e, 0, &detail), H3_NO_ENDPOINT);
   IS(h3_cancel(e, 0, &detail), H3_NO_ENDPOINT);
@@ -91,6 +93,7 @@ static void of_pointers(h3_endpoint *e, uint64_t id) {
   IS(h3_send_trailer_fields(e, id, &f, 1, NULL, 10, NULL), H3_ARGUMENT);
   IS(h3_send_body(e, id, NULL, 64, NULL), H3_ARGUMENT);
   IS(h3_send_body_lent(e, id, NULL, 64, NULL), H3_ARGUMENT);
+  IS(h3_deliver_lent(e, id, NULL, 64, NULL), H3_ARGUMENT);
   IS(h3_deliver(e, id, NULL, 64, NULL), H3_ARGUMENT);
   IS(h3_deliver(e, id, NULL, 0, NULL), H3_OK);
   IS(h3_next_waiting(e, 0, NULL), H3_ARGUMENT);
@@ -263,6 +266,8 @@ static void of_ids(h3_endpoint *e) {
     IS(h3_send_trailer_fields(e, ids[i], &f, 1, ":methodGET", 10, &detail), H3_ARGUMENT);
     IS(h3_send_body(e, ids[i], "ab", 2, &detail), H3_ARGUMENT);
     IS(h3_send_body_lent(e, ids[i], "ab", 2, &detail), H3_ARGUMENT);
+    IS(h3_deliver_lent(e, ids[i], "ab", 2, &detail), H3_ARGUMENT);
+    IS(h3_keep(e, ids[i]), H3_ARGUMENT);
     IS(h3_finish(e, ids[i], &detail), H3_ARGUMENT);
     IS(h3_reset(e, ids[i], &detail), H3_ARGUMENT);
     IS(h3_cancel(e, ids[i], &detail), H3_ARGUMENT);
@@ -386,36 +391,6 @@ static void of_strict_lists(void) {
   IS(h3_send_trailer(&client, id, &spaced, 1, "x-a b", 5, &rule), H3_MALFORMED);
   HOLDS(rule == H3_BAD_VALUE);
   h3_free(&client);
-}
-
-/* bytes that are lent go out as they lie, and may go once all was taken, or the stream was reset, or the endpoint freed */
-static void of_lent(void) {
-  h3_endpoint client = H3_NONE_YET;
-  h3_config c;
-  uint64_t id;
-  h3_field_size get = {7, 3};
-  uint8_t *body[3];
-  plain_config(&c);
-  IS(h3_new(&client, &c, NULL), H3_OK);
-  for (int i = 0; i < 3; i++) {
-    IS(h3_open_request(&client, &id, NULL), H3_OK);
-    body[i] = malloc(3);
-    if (!body[i]) exit(1);
-    memcpy(body[i], "one", 3);
-    IS(h3_send_body_lent(&client, id, body[i], 3, NULL), H3_OUT_OF_ORDER);
-    IS(h3_send_fields(&client, id, &get, 1, ":methodGET", 10, NULL), H3_OK);
-    of_bytes(&client, id, "\x01\x03\x00\x00\xd1", 5);
-    IS(h3_send_body_lent(&client, id, body[i], 3, NULL), H3_OK);
-  }
-  of_bytes(&client, 0, "\x00\x03one", 5);
-  free(body[0]);
-  IS(h3_send_body_lent(&client, 0, NULL, 0, NULL), H3_OK);
-  IS(h3_finish(&client, 0, NULL), H3_OK);
-  IS(h3_reset(&client, 4, NULL), H3_OK);
-  free(body[1]);
-  of_bytes(&client, 4, "", 0);
-  h3_free(&client);
-  free(body[2]);
 }
 
 static void of_counts(h3_endpoint *e, uint64_t id) {
@@ -715,7 +690,6 @@ int main(int argc, char **argv) {
   of_fields(&e, id);
   of_lists();
   of_strict_lists();
-  of_lent();
   of_counts(&e, id);
   of_pointers(&e, id);
   h3_free(&e);

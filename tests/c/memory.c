@@ -189,14 +189,21 @@ static void exchange(void) {
   h3_free(&ends[1]);
 }
 
-/* what waits on a stream goes over in one delivery. Bytes that were taken and not read are read by a delivery of none */
+static uint8_t lent[200];
+
+/* the bytes that were lent are kept, and then overwritten */
+static void keep(int side, uint64_t id) {
+  AGAIN(h3_keep(&ends[side], id), "keep");
+  memset(lent, 0xee, sizeof lent);
+}
+
+/* what waits on a stream goes over in one delivery, and is lent. Bytes that were taken and not read are read by a delivery of none */
 static void carry(int side, uint64_t id) {
-  uint8_t buffer[200];
   size_t n;
   uint32_t fin, answer;
-  if (h3_outgoing(&ends[side], id, buffer, sizeof buffer, &n, &fin) || !n || n == sizeof buffer) fail("outgoing", 0);
+  if (h3_outgoing(&ends[side], id, lent, sizeof lent, &n, &fin) || !n || n == sizeof lent) fail("outgoing", 0);
   int tries = 0;
-  while ((answer = h3_deliver(&ends[!side], id, buffer, n, NULL)) == H3_MEMORY)
+  while ((answer = h3_deliver_lent(&ends[!side], id, lent, n, NULL)) == H3_MEMORY)
     if (++tries > 2) fail("deliver", answer);
   if (answer == H3_KEPT) AGAIN(h3_deliver(&ends[!side], id, "", 0, NULL), "deliver");
   else if (answer) fail("deliver", answer);
@@ -233,6 +240,7 @@ static void waiting_head(void) {
   carry(0, id);
   item = pulled(1, id);
   if (item.kind != H3_WAITING || item.number != 2) fail("the head does not wait for two insertions", item.kind);
+  keep(1, id);
   carry(0, 6);
   item = pulled(1, id);
   if (item.kind != H3_HEAD || item.fields != 4) fail("the head does not come", item.kind);

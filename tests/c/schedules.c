@@ -1,6 +1,7 @@
 /* A client and a server in one program under random schedules: opens, heads, bodies, trailers, ends, resets, cancellations, bytes carried in random
  * pieces, pulls. Every item is compared with what was sent; no call may answer a fault of the connection. At the end everything that was
- * neither reset nor canceled has come out whole.
+ * neither reset nor canceled has come out whole. Half of what is delivered is lent, each piece in a block of its own, which is overwritten and
+ * freed as soon as h3.h lets it go, or h3_keep was called.
  *
  *     schedules FIRST_SEED COUNT */
 #include "h3.h"
@@ -70,6 +71,50 @@ static uint64_t unread(int side, uint64_t id) {
   h3_stream_state s;
   WANT(h3_stream(&ends[side], id, &s) == H3_OK, "stream", id, 0);
   return s.unread;
+}
+
+/* the blocks that were lent to a side on a stream, and the stream whose body was pulled last there */
+typedef struct block {
+  struct block *next;
+  size_t len;
+  uint8_t bytes[];
+} block;
+
+static block *lent[2][4 * REQUESTS + 12];
+static uint64_t body_of[2];
+static unsigned long kept;
+
+static void let_go(int side, uint64_t id) {
+  for (block *b; (b = lent[side][id]); free(b)) {
+    lent[side][id] = b->next;
+    memset(b->bytes, 0xee, b->len);
+  }
+}
+
+static void keep(int side, uint64_t id) {
+  WANT(h3_keep(&ends[side], id) == H3_OK, "keep", id, 0);
+  kept += lent[side][id] != NULL;
+  let_go(side, id);
+}
+
+/* behind a pull: nothing more is read of what was lent; or sometimes what is left of it is kept */
+static void let_go_or_keep(int side, uint64_t id, int is_over) {
+  if (is_over || (!unread(side, id) && body_of[side] != id)) let_go(side, id);
+  else if (rnd(3) == 0) keep(side, id);
+}
+
+static uint32_t deliver(int side, uint64_t id, const uint8_t *bytes, size_t len, uint64_t *detail) {
+  if (rnd(2)) return h3_deliver(&ends[side], id, bytes, len, detail);
+  block *b = malloc(sizeof *b + len);
+  if (!b) exit(1);
+  memcpy(b->bytes, bytes, len);
+  b->len = len;
+  b->next = lent[side][id];
+  lent[side][id] = b;
+  uint32_t told = h3_deliver_lent(&ends[side], id, b->bytes, len, detail);
+  if (rnd(4) == 0) keep(side, id);
+  if (id % 4 && !unread(side, id)) let_go(side, id);
+  return told;
 }
 
 static void open_one(void) {
@@ -163,7 +208,7 @@ static void carry(int side, uint64_t id, size_t most) {
   WANT(n == (before.waiting < most ? before.waiting : most), "outgoing gives fewer than fit", id, n);
   if (n) {
     uint64_t held = unread(!side, id);
-    told = h3_deliver(&ends[!side], id, buffer, n, &detail);
+    told = deliver(!side, id, buffer, n, &detail);
     WANT(told == H3_OK, "deliver", id, told == H3_CONNECTION ? detail : told);
     /* a request's bytes are held until they are pulled, unless it was given up; others are read, as far as they are whole */
     int is_thrown_away = request && (f->canceled || f->faulty);
@@ -251,6 +296,8 @@ static int pull_one(int side, int i) {
   h3_item item;
   uint64_t held = unread(side, id);
   WANT(h3_pull(&ends[side], id, &item) == H3_OK, "pull", id, 0);
+  body_of[side] = item.kind == H3_BODY ? id : UINT64_MAX;
+  let_go_or_keep(side, id, item.kind == H3_END || item.kind == H3_FAULT_RESET || item.kind == H3_FAULT_CANCELED);
   WANT(item.kind < H3_END ? unread(side, id) < held : unread(side, id) <= held, "unread behind a pull", id, held);
   WANT(item.kind != H3_BODY || unread(side, id) + item.len <= held, "unread behind a body", id, held);
   size_t n;
@@ -298,6 +345,7 @@ static void run(uint64_t of) {
   memset(flows, 0, sizeof flows);
   memset(seen, 0, sizeof seen);
   opened = 0;
+  body_of[0] = body_of[1] = UINT64_MAX;
   for (int side = 0; side < 2; side++) {
     h3_config c;
     h3_config_default(&c);
@@ -357,12 +405,14 @@ static void run(uint64_t of) {
   for (int side = 0; side < 2; side++) {
     h3_free(&ends[side]);
     h3_free(&ends[side]);
+    for (uint64_t id = 0; id < 4u * REQUESTS + 12; id++) let_go(side, id);
   }
 }
 
 int main(int argc, char **argv) {
   uint64_t first = argc > 1 ? strtoull(argv[1], NULL, 10) : 0, count = argc > 2 ? strtoull(argv[2], NULL, 10) : 200;
   for (uint64_t s = first; s < first + count; s++) run(s);
+  if (count > 50 && kept < count) fail("h3_keep seldom had something to keep", 0, kept);
   printf("ok schedules: %llu random schedules of two endpoints, every item as it was sent\n", (unsigned long long)count);
   return 0;
 }

@@ -16,6 +16,7 @@ use std::marker::Model;
 mod ending;
 mod heads;
 mod items;
+mod lending;
 mod outgoing;
 mod receiving;
 mod sending;

@@ -3,6 +3,7 @@
 mod ending;
 mod heads;
 mod items;
+mod lending;
 mod making;
 mod outgoing;
 mod receiving;

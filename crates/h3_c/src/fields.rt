@@ -1,16 +1,14 @@
 //! Heads as C hands them in: the sizes of each name and value, and all their bytes in one row.
-ghost use Rattle.std.specs.Prelude.{◌≡◌, ◌≤◌, ◌+◌, ◌++◌, ◌∷◌, [], length, take, drop, IfOk, IfErr, IfSome, OnOk, Some};
-ghost use Rattle.std.specs.Cow.{cow_slice_items};
+ghost use Rattle.std.specs.Prelude.{◌≡◌, ◌≤◌, ◌+◌, ◌++◌, ◌∷◌, [], length, take, drop, IfOk, IfErr, OnOk, Some};
 ghost use Rattle.h3_header.specs.HeadRead.{IsHead};
 ghost use Rattle.h3_c.specs.Given.{field_at_front, fields_cut, head_given};
 ghost use Rattle.h3_c.specs.Giving.{RefusesFields, RefusesHead};
+ghost use Rattle.h3_c.specs.Numbers.{memory};
 
 use crate::numbers::{ARGUMENT, MEMORY, Told, unread};
 use h3_field::HeaderField;
-use h3_field::static_::StaticTable;
 use h3_header::Header;
 use std::alloc::{AllocError, Global};
-use std::borrow::CowSlice;
 
 /// How long a name and its value are, in bytes: `h3_field_size` of the header.
 #[repr(C)]
@@ -20,98 +18,65 @@ pub struct FieldSize {
     pub value: u32,
 }
 
-fn owned(alloc: Global, bytes: &[u8]) -> Result<CowSlice<'static, u8>, AllocError>
-    ensures { IfOk result (λ c. cow_slice_items c ≡ bytes.now) }
-{
-    Ok(CowSlice::Owned(Vec::from_slice(alloc, bytes)?))
-}
-
-// The static table's copy of a name (RFC 9204, appendix A). It is compared here, so that the proof needs nothing of how it is found.
-fn static_name(name: &[u8]) -> Option<&'static [u8]>
-    ensures { IfSome result (λ s. s.now ≡ name.now) }
-{
-    let index = StaticTable::find_name(name)?;
-    let Ok(found) = StaticTable::get_name(index) else {
-        return None;
-    };
-    if found != name {
-        return None;
-    }
-    Some(found)
-}
-
-// A copy of values that most heads have, with no memory of its own.
-fn static_value(value: &[u8]) -> Option<&'static [u8]>
-    ensures { IfSome result (λ s. s.now ≡ value.now) }
-{
-    match value {
-        b"GET" => Some(b"GET"),
-        b"POST" => Some(b"POST"),
-        b"https" => Some(b"https"),
-        b"/" => Some(b"/"),
-        b"200" => Some(b"200"),
-        _ => None,
-    }
-}
-
-// The bytes, by a static copy where there is one.
-fn kept(
-    alloc: Global,
-    bytes: &[u8],
-    known: Option<&'static [u8]>,
-) -> Result<CowSlice<'static, u8>, AllocError>
-    requires { IfSome known (λ s. s.now ≡ bytes.now) }
-    ensures { IfOk result (λ c. cow_slice_items c ≡ bytes.now) }
-{
-    match known {
-        Some(known) => Ok(CowSlice::Borrowed(known)),
-        None => owned(alloc, bytes),
-    }
-}
-
-fn front(bytes: &[u8], count: usize) -> &[u8]
+fn front(bytes: &'static [u8], count: usize) -> &'static [u8]
     requires { count ≤ length bytes.now }
     ensures { result.now ≡ take count bytes.now }
 {
     &bytes[..count]
 }
 
-fn behind(bytes: &[u8], count: usize) -> &[u8]
+fn behind(bytes: &'static [u8], count: usize) -> &'static [u8]
     requires { count ≤ length bytes.now }
     ensures { result.now ≡ drop count bytes.now }
 {
     &bytes[count..]
 }
 
-// Adds the field at the front of the bytes.
+// The field at the front of the bytes, which stay where they lie.
+fn field_at_front(size: FieldSize, rest: &'static [u8]) -> HeaderField
+    requires { size.name + size.value ≤ length rest.now }
+    ensures { result ≡ field_at_front size rest.now }
+{
+    let name = front(rest, size.name as usize);
+    let value = front(behind(rest, size.name as usize), size.value as usize);
+    HeaderField::from_static(name, value)
+}
+
+// Adds the field at the front of the bytes, for which there mostly is room.
 fn push_field(
-    alloc: Global,
     fields: &mut Vec<HeaderField>,
     size: FieldSize,
-    rest: &[u8],
+    rest: &'static [u8],
 ) -> Result<(), AllocError>
     requires { size.name + size.value ≤ length rest.now }
     ensures { OnOk result (fields.new.items ≡ fields.old.items ++ field_at_front size rest.now ∷ []) }
 {
-    let name = front(rest, size.name as usize);
-    let value = front(behind(rest, size.name as usize), size.value as usize);
-    let name = kept(alloc, name, static_name(name))?;
-    let value = kept(alloc, value, static_value(value))?;
-    fields.push(HeaderField::new(name, value))?;
+    fields.push(field_at_front(size, rest))?;
     Ok(())
 }
 
-/// The fields, where the sizes are those of all bytes.
+// A list with room for so many.
+fn list_for(alloc: Global, count: usize) -> Result<Vec<HeaderField>, Told>
+    ensures ok { IfOk result (λ v. v.items ≡ []) }
+    ensures err { IfErr result (λ told. told ≡ memory) }
+{
+    match Vec::with_capacity(alloc, count) {
+        Ok(list) => Ok(list),
+        Err(_) => Err(MEMORY),
+    }
+}
+
+/// The fields, where the sizes are those of all bytes. Names and values stay where they lie: no field may outlive the call of C.
 #[tactic(auto, using(crate::proofs::Cuts::start, crate::proofs::Cuts::lacks))]
 pub(crate) fn cut_fields(
     alloc: Global,
     sizes: &[FieldSize],
-    bytes: &[u8],
+    bytes: &'static [u8],
 ) -> Result<Vec<HeaderField>, Told>
     ensures ok { IfOk result (λ v. fields_cut sizes.now bytes.now ≡ Some v.items) }
     ensures err { IfErr result (RefusesFields (fields_cut sizes.now bytes.now)) }
 {
-    let mut fields = Vec::new(alloc);
+    let mut fields = list_for(alloc, sizes.len())?;
     let mut rest = bytes;
     for at in 0..sizes.len() {
         let size = sizes[at];
@@ -119,7 +84,7 @@ pub(crate) fn cut_fields(
         if rest.len() < len {
             return Err(ARGUMENT);
         }
-        let Ok(()) = push_field(alloc, &mut fields, size, rest) else {
+        let Ok(()) = push_field(&mut fields, size, rest) else {
             return Err(MEMORY);
         };
         rest = behind(rest, len);
@@ -130,9 +95,13 @@ pub(crate) fn cut_fields(
     Ok(fields)
 }
 
-/// The head of what C gave.
+/// The head of what C gave, whose values stay where they lie: it may not outlive the call of C.
 #[tactic(auto, using(crate::proofs::Heads::is_head, crate::proofs::Heads::no_fields, crate::proofs::Heads::no_head))]
-pub(crate) fn given_head(alloc: Global, sizes: &[FieldSize], bytes: &[u8]) -> Result<Header, Told>
+pub(crate) fn given_head(
+    alloc: Global,
+    sizes: &[FieldSize],
+    bytes: &'static [u8],
+) -> Result<Header, Told>
     ensures ok { IfOk result (λ h. head_given sizes.now bytes.now ≡ Some (IsHead h)) }
     ensures err { IfErr result (RefusesHead (head_given sizes.now bytes.now)) }
 {

@@ -21,7 +21,7 @@ impl Connection {
         alloc: Global,
         id: u64,
         sizes: &[FieldSize],
-        bytes: &[u8],
+        bytes: &'static [u8],
     ) -> Told
         ensures { OnStream id result self.old self.new (OrMemory result self.old self.new
             (SendsGiven (head_given sizes.now bytes.now) result self.old self.new (λ head call. SendsHead self.old.endpoint self.new.endpoint id head call))) }
@@ -52,7 +52,7 @@ impl Connection {
         alloc: Global,
         id: u64,
         sizes: &[FieldSize],
-        bytes: &[u8],
+        bytes: &'static [u8],
     ) -> Told
         ensures { OnStream id result self.old self.new (OrMemory result self.old self.new
             (SendsGiven (head_given sizes.now bytes.now) result self.old self.new (λ head call. SendsTrailer self.old.endpoint self.new.endpoint id head call))) }
@@ -83,7 +83,7 @@ impl Connection {
         alloc: Global,
         id: u64,
         sizes: &[FieldSize],
-        bytes: &[u8],
+        bytes: &'static [u8],
     ) -> Told
         ensures { OnStream id result self.old self.new (OrMemory result self.old self.new
             (SendsCut (fields_cut sizes.now bytes.now) result self.old self.new (λ fields call. SendsFieldList self.old.endpoint self.new.endpoint id fields call))) }
@@ -114,7 +114,7 @@ impl Connection {
         alloc: Global,
         id: u64,
         sizes: &[FieldSize],
-        bytes: &[u8],
+        bytes: &'static [u8],
     ) -> Told
         ensures { OnStream id result self.old self.new (OrMemory result self.old self.new
             (SendsCut (fields_cut sizes.now bytes.now) result self.old self.new (λ fields call. SendsTrailerList self.old.endpoint self.new.endpoint id fields call))) }

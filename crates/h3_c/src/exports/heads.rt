@@ -17,7 +17,7 @@ pub extern "C" fn h3_raw_send_head(
     handle: Handle,
     id: u64,
     sizes: &[FieldSize],
-    bytes: &[u8],
+    bytes: &'static [u8],
     detail: &mut u64,
     out: &mut Handle,
 ) -> u32
@@ -39,7 +39,7 @@ pub extern "C" fn h3_raw_send_trailer(
     handle: Handle,
     id: u64,
     sizes: &[FieldSize],
-    bytes: &[u8],
+    bytes: &'static [u8],
     detail: &mut u64,
     out: &mut Handle,
 ) -> u32
@@ -61,7 +61,7 @@ pub extern "C" fn h3_raw_send_fields(
     handle: Handle,
     id: u64,
     sizes: &[FieldSize],
-    bytes: &[u8],
+    bytes: &'static [u8],
     detail: &mut u64,
     out: &mut Handle,
 ) -> u32
@@ -83,7 +83,7 @@ pub extern "C" fn h3_raw_send_trailer_fields(
     handle: Handle,
     id: u64,
     sizes: &[FieldSize],
-    bytes: &[u8],
+    bytes: &'static [u8],
     detail: &mut u64,
     out: &mut Handle,
 ) -> u32
