@@ -10,7 +10,8 @@
 typedef struct {
   const field_lists *lists;
   size_t heads, capacity, blocked;
-  int server; /* do we send responses? */
+  int server;   /* do we send responses? */
+  size_t first; /* the first head that counts */
 } heads_kind;
 
 typedef struct {
@@ -26,9 +27,10 @@ static void done(const char *what, uint32_t answer) {
 
 static const field_list *list_of(const heads_kind *kind, size_t i) { return &kind->lists->lists[i % kind->lists->count]; }
 
-static double plain_of(const heads_kind *kind) {
+/* names and values from a head on */
+static double plain_of(const heads_kind *kind, size_t first) {
   double sum = 0;
-  for (size_t i = 0; i < kind->heads; i++) {
+  for (size_t i = first; i < kind->heads; i++) {
     const field_list *list = list_of(kind, i);
     for (size_t j = 0; j < list->count; j++) sum += (double)(list->fields[j].namelen + list->fields[j].valuelen);
   }
@@ -98,19 +100,20 @@ static void send_list(heads_run *run, uint64_t id, const field_list *list) {
   free_pack(&bytes);
 }
 
-/* The instructions and the section are read, and answered. `first` bytes of the encoder stream say of which type it is. */
-static void section_goes(heads_run *run, uint64_t id, size_t first) {
+/* The instructions and the section are read, and answered; how many bytes they have. `first` bytes of the encoder stream say of which type it is. */
+static size_t section_goes(heads_run *run, uint64_t id, size_t first) {
   pack instructions = taken(run, h3_encoder_id(run->kind->server)), head = taken(run, id);
   size_t len;
   int64_t payload = nghttp3_get_varint(&len, head.bytes + 1);
   const uint8_t *section = head.bytes + 1 + len;
   if (!peer_receiver_hear(&run->receiver, instructions.bytes + first, instructions.len - first)) stop("nghttp3_qpack_decoder_read_encoder", (long)id);
   if (peer_receive(&run->receiver, id, section, (size_t)payload, &run->fields, &run->sum, NULL) != PEER_DECODED) stop("nghttp3_qpack_decoder_read_request", (long)id);
-  run->written += instructions.len - first + (size_t)payload;
+  size_t written = instructions.len - first + (size_t)payload;
   peer_reply(&run->receiver);
   done("h3_deliver", h3_deliver(&run->end, h3_decoder_id(!run->kind->server), run->receiver.replies.bytes, run->receiver.replies.len, NULL));
   free_pack(&instructions);
   free_pack(&head);
+  return written;
 }
 
 static size_t our_bytes(const heads_kind *kind) {
@@ -121,9 +124,10 @@ static size_t our_bytes(const heads_kind *kind) {
     if (kind->server) request_comes(&run, id);
     else done("h3_open_request", h3_open_request(&run.end, &id, NULL));
     send_list(&run, id, list_of(kind, i));
-    section_goes(&run, id, i == 0);
+    size_t written = section_goes(&run, id, i == 0);
+    if (i >= kind->first) run.written += written;
   }
-  if ((double)run.sum != plain_of(kind)) stop("nghttp3 read other fields", (long)run.sum);
+  if ((double)run.sum != plain_of(kind, 0)) stop("nghttp3 read other fields", (long)run.sum);
   h3_free(&run.end);
   peer_receiver_free(&run.receiver);
   return run.written;
@@ -141,27 +145,30 @@ static size_t peer_bytes(const heads_kind *kind) {
     put_section(&section, &sender);
     if (!peer_receiver_hear(&receiver, sender.instructions.pos, nghttp3_buf_len(&sender.instructions))) stop("nghttp3_qpack_decoder_read_encoder", (long)i);
     if (peer_receive(&receiver, 4 * i, section.bytes, section.len, &fields, &sum, NULL) != PEER_DECODED) stop("nghttp3_qpack_decoder_read_request", (long)i);
-    written += nghttp3_buf_len(&sender.instructions) + section.len;
+    if (i >= kind->first) written += nghttp3_buf_len(&sender.instructions) + section.len;
     peer_reply(&receiver);
     if (!peer_sender_hear(&sender, receiver.replies.bytes, receiver.replies.len)) stop("nghttp3_qpack_encoder_read_decoder", (long)i);
   }
-  if ((double)sum != plain_of(kind)) stop("nghttp3: other counts", (long)sum);
+  if ((double)sum != plain_of(kind, 0)) stop("nghttp3: other counts", (long)sum);
   free_pack(&section);
   peer_sender_free(&sender);
   peer_receiver_free(&receiver);
   return written;
 }
 
-static void heads_row(const char *row, const char *set, heads_kind kind, double most_of_peers) {
+/* At most 0.8 of the peer's bytes are wanted. */
+static void heads_row(const char *row, const char *set, heads_kind kind) {
   if (!is_measured(row, set)) return;
-  double plain = plain_of(&kind), peers = (double)peer_bytes(&kind) / plain;
-  size_row(row, set, (double)our_bytes(&kind) / plain, peers, most_of_peers * peers);
+  double plain = plain_of(&kind, kind.first), peers = (double)peer_bytes(&kind) / plain;
+  size_row(row, set, (double)our_bytes(&kind) / plain, peers, 0.8 * peers);
 }
 
 void heads_rows(const field_lists *requests, const field_lists *responses) {
-  heads_row("4096/16, 1,000 heads", "one authority", (heads_kind){requests, 1000, 4096, 16, 0}, 0);
-  heads_row("4096/100, 500 heads", "responses", (heads_kind){responses, 500, 4096, 100, 1}, 0.8);
+  heads_row("4096/16, 1,000 heads", "one authority", (heads_kind){requests, 1000, 4096, 16, 0, 0});
+  heads_row("4096/16, the last 100", "one authority", (heads_kind){requests, 1000, 4096, 16, 0, 900});
+  heads_row("4096/100, 500 heads", "responses", (heads_kind){responses, 500, 4096, 100, 1, 0});
+  heads_row("4096/100, the last 100", "responses", (heads_kind){responses, 500, 4096, 100, 1, 400});
   /* no stream may wait */
-  heads_row("4096/0, 1,000 heads", "one authority", (heads_kind){requests, 1000, 4096, 0, 0}, 0);
-  heads_row("4096/0, 500 heads", "responses", (heads_kind){responses, 500, 4096, 0, 1}, 0.8);
+  heads_row("4096/0, 1,000 heads", "one authority", (heads_kind){requests, 1000, 4096, 0, 0, 0});
+  heads_row("4096/0, 500 heads", "responses", (heads_kind){responses, 500, 4096, 0, 1, 0});
 }

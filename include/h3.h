@@ -264,9 +264,10 @@ typedef struct {
   uint64_t encoder_table;             /* the most bytes that the dynamic table of the own encoder has, however many the peer announces: the
                                        * lesser of both is set and used (RFC 9204, section 3.2.3). 0: it uses none, and writes nothing on its
                                        * stream. What the peer asks to be kept is at most this; 2^30 - 1 and more: all that it announces */
-  uint64_t economical_table;          /* whether the own encoder uses its table where the peer lets no stream wait (`blocked` 0 at the peer): it
-                                       * inserts what it writes as a literal, and names the entry once the peer told that it came (RFC 9204,
-                                       * section 2.1.2). Without it the table stays empty there */
+  uint64_t economical_table;          /* whether the own encoder keeps out of its table what never comes again, and does not name what is soon to go
+                                       * (RFC 9204, section 2.1.1.1). Where the peer lets no stream wait (`blocked` 0 at the peer) it inserts what
+                                       * it writes as a literal, and names the entry once the peer told that it came (section 2.1.2); without this
+                                       * the table stays empty there */
 } h3_config;
 
 /* A client whose limits are fit for a peer that is not trusted: it takes field sections of at most 65,536 bytes, and has a dynamic table of 4,096

@@ -15,7 +15,7 @@ instructions_for s stream fields = section.instructions_for (writing_on s stream
 
 -- the encoder after the insertions for some fields, whose section was not written
 abbrev pub having_inserted : EncoderHistory → ℕ → List Field → EncoderHistory
-having_inserted s stream fields = record s { inserted = (section.draft_of (writing_on s stream) fields).inserted }
+having_inserted s stream fields = section.having_inserted s stream fields
 
 -- the endpoint after that: the instructions for them went out
 abbrev pub with_insertions : EndpointHistory → ℕ → List Field → EndpointHistory

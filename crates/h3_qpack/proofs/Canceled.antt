@@ -1,5 +1,5 @@
 -- A section on a stream whose cancellation was read: it is written as static lines, and nothing else changes.
-use Rattle.std.proofs.Common.{Less, Equal, Greater, ◌⊎◌, inl, inr, ◌≡◌, ℕ, ◌+◌, ◌-◌, ◌^◌, ◌<◌, ◌≤◌, Bool, true, false, ◌&&◌, ◌||◌, max, List, [], ◌∷◌, ◌++◌, length, map, filter, fold, refl, sym, ◌∙◌, ap, arith, nat_lt, nat_le, cond, append_assoc, append-nil, flat_map, if◌then◌else◌, Option, Some, None, option_map, unwrap_or}
+use Rattle.std.proofs.Common.{Less, Equal, Greater, ◌⊎◌, inl, inr, ◌≡◌, ℕ, ◌+◌, ◌-◌, ◌^◌, ◌<◌, ◌≤◌, Bool, true, false, not, is_none, bytes_eq, ◌&&◌, ◌||◌, max, List, [], ◌∷◌, ◌++◌, length, map, filter, fold, refl, sym, ◌∙◌, ap, arith, nat_lt, nat_le, cond, append_assoc, append-nil, flat_map, if◌then◌else◌, Option, Some, None, option_map, unwrap_or}
 use Rattle.std.specs.Prelude.{◌==◌}
 use Rattle.std.specs.List.{AllByRecursion, list_all, list_any}
 use Rattle.std.specs.Ordering.{nat_cmp, match_ordering}
@@ -8,7 +8,7 @@ use Rattle.std.specs.BTreeSet.{insert_key}
 use Rattle.std.proofs.lemmas.Grind.{common_steps}
 use Rattle.std.proofs.lemmas.List.Elements.{filter-append}
 use Rattle.std.proofs.lemmas.List.Sums.{sum_by-cons}
-use Rattle.h3_field.specs.Field.{Field, field_size, section_size}
+use Rattle.h3_field.specs.Field.{Field, field_eq, field_size, section_size}
 use Rattle.h3_field.specs.ReadBack.{IsFieldOfBytes}
 use Rattle.h3_field.specs.StaticTable.{static_field, static_name}
 use Rattle.h3_field.specs.Line.{FieldLine, line_bytes}
@@ -19,7 +19,7 @@ use Rattle.h3_field.specs.Section.{literal_line, line_or_literal, static_line, s
 use Rattle.h3_table.specs.Table.{table, evictions}
 use Rattle.h3_qpack.specs.EncoderHistory.{EncoderHistory, blocks_out, referenced_entries, was_canceled, writing_on}
 use Rattle.h3_qpack.specs.EncoderState.{EncoderState, encoder_state}
-use Rattle.h3_qpack.specs.SectionEncoding.{Draft, add_line, add_literal, add_ahead, write_field, add_field, found, found_name, entry_name_line, evictions_by, finds_room, is_insertable, is_new, evicts_none, is_insertable_ahead, draft_of, required_insert_count, encoded_section, instructions_for, sent_section}
+use Rattle.h3_qpack.specs.SectionEncoding.{Draft, add_line, add_literal, add_ahead, write_field, add_field, unnamed, held, found, found_name, any_equal, is_usable, is_worth_to, literal_value, marked, marks_after, entry_name_line, evictions_by, finds_room, is_insertable, is_new, is_insertable_ahead, draft_of, required_insert_count, encoded_section, instructions_for, having_inserted, sent_section}
 use Rattle.h3_qpack.specs.Drafting.{IsSent, IsCutOff}
 use Rattle.h3_qpack.proofs.Newest.{newest_from-none}
 
@@ -67,7 +67,12 @@ not_above : (n most : ℕ) → n < 1 + most → nat_lt most n ≡ false
 not_above n most h = grind (arith, common_steps, h)
 
 not_insertable : (s : EncoderHistory) (lines : List FieldLine) (f : Field) → NamesNone s → is_insertable s (with_lines s lines) f ≡ false
-not_insertable s lines f h = grind (arith, common_steps, h.limit, not_below (blocks_out s))
+not_insertable s lines f h =
+    let d = with_lines s lines in
+    first (nat_lt (blocks_out s) s.limit) (is_worth_to s (not (is_none (held s d f))) (marks_after s d.lines) d f) (finds_room s d f) (ap (λ limit. nat_lt (blocks_out s) limit) h.limit ∙ not_below (blocks_out s))
+  where
+    first : (a b c : Bool) → a ≡ false → (a && b && c) ≡ false
+    first a b c h = rw h refl
 
 too_large : (size capacity : ℕ) → capacity ≡ 0 → 32 ≤ size → nat_le size capacity ≡ false
 too_large size capacity none some = grind (arith, common_steps, none, some)
@@ -85,9 +90,10 @@ no_room s d f none =
     second false false c d h = refl
     second true false c d h = refl
 
-pub not_ahead : (s : EncoderHistory) (d : Draft) (f : Field) → (s.economical ≡ false) ⊎ (s.capacity ≡ 0) → is_insertable_ahead s d f ≡ false
-not_ahead s d f (inl plain) = rw plain refl
-not_ahead s d f (inr none) = last (s.economical && (s.limit == 0) && is_new s d f && evicts_none s d f) (finds_room s d f) (no_room s d f none)
+pub not_ahead : (s : EncoderHistory) (marks : List ℕ) (d : Draft) (f : Field) → (s.economical ≡ false) ⊎ (s.capacity ≡ 0) → is_insertable_ahead s marks d f ≡ false
+not_ahead s marks d f (inl plain) = rw plain refl
+not_ahead s marks d f (inr none) =
+    last (s.economical && (s.limit == 0) && is_new s d f && is_worth_to s (not (is_none (any_equal s d f))) marks d f) (finds_room s d f) (no_room s d f none)
   where
     last : (a b : Bool) → b ≡ false → (a && b) ≡ false
     last a true h = absurd (cc)
@@ -96,11 +102,19 @@ not_ahead s d f (inr none) = last (s.economical && (s.limit == 0) && is_new s d 
 
 none_found : (s : EncoderHistory) (lines : List FieldLine) (f : Field) → NamesNone s → found s (with_lines s lines) f ≡ None
 none_found s lines f h =
-    newest_from-none _ 1 s.inserted (λ n e below. grind (arith, common_steps, h.evicted, not_above n (length s.inserted) below))
+    newest_from-none _ 1 s.inserted (λ n e below. fails (field_eq e f) (nat_lt (unnamed s (with_lines s lines)) n) (nat_le n (length s.inserted)) (is_usable s n) (not_above n (unnamed s (with_lines s lines)) (omega (arith, below, h.evicted))))
+  where
+    fails : (a b c d : Bool) → b ≡ false → (a && b && c && d) ≡ false
+    fails true b c d h = rw h refl
+    fails false b c d h = refl
 
 no_name : (s : EncoderHistory) (lines : List FieldLine) (f : Field) → NamesNone s → found_name s (with_lines s lines) f ≡ None
 no_name s lines f h =
-    newest_from-none _ 1 s.inserted (λ n e below. grind (arith, common_steps, h.evicted, not_above n (length s.inserted) below))
+    newest_from-none _ 1 s.inserted (λ n e below. fails (bytes_eq e.name f.name) (nat_lt (unnamed s (with_lines s lines)) n) (is_usable s n) (not_above n (unnamed s (with_lines s lines)) (omega (arith, below, h.evicted))))
+  where
+    fails : (a b c : Bool) → b ≡ false → (a && b && c) ≡ false
+    fails true b c h = rw h refl
+    fails false b c h = refl
 
 literal_added : (s : EncoderHistory) (lines : List FieldLine) (f : Field) (o n : Option ℕ) → n ≡ None
     → unwrap_or (option_map (λ index. add_line (with_lines s lines) (StaticName index f.value) []) o) (
@@ -131,7 +145,7 @@ line_of_field s lines f h =
 field_added : (s : EncoderHistory) (lines : List FieldLine) (f : Field) → NamesNone s → add_field s (with_lines s lines) f ≡ with_lines s (lines ++ static_line f ∷ [])
 field_added s lines f h =
     let d = write_field s (with_lines s lines) f in
-    ap (λ b. if b then add_ahead s d f else d) (not_ahead s d f h.unsaved) ∙ line_of_field s lines f h
+    ap (λ b. if b then add_ahead s d f else d) (not_ahead s (marks_after s lines) d f h.unsaved) ∙ line_of_field s lines f h
 
 fields_added : (s : EncoderHistory) (lines : List FieldLine) (fields : List Field) → NamesNone s
     → fold (add_field s) (with_lines s lines) fields ≡ with_lines s (lines ++ map static_line fields)
@@ -166,7 +180,7 @@ nothing_fits (f ∷ fs) =
 
 -- what a section on a canceled stream is written by
 abbrev pub without_table : EncoderHistory → EncoderHistory
-without_table s = record s { announced = 0; capacity = 0; limit = 0 }
+without_table s = record s { announced = 0; capacity = 0; limit = 0; economical = false }
 
 minus_none : (n : ℕ) → n - 0 ≡ n
 minus_none n = omega arith
@@ -211,20 +225,42 @@ none_waits known counts =
     let none : filter (λ c. nat_lt known c) (0 ∷ []) ≡ [] = rw (not_below known) refl in
     filter-append (λ c. nat_lt known c) counts (0 ∷ []) ∙ ap (λ cs. filter (λ c. nat_lt known c) counts ++ cs) none ∙ append-nil _
 
--- what is sent of a draft
-abbrev pub sent_draft : EncoderHistory → ℕ → Draft → EncoderHistory
-sent_draft s stream draft =
+-- what is sent of a draft by an encoder
+abbrev pub sent_draft : EncoderHistory → EncoderHistory → ℕ → Draft → EncoderHistory
+sent_draft s by stream draft =
     record s {
       inserted = draft.inserted;
       required_insert_counts = s.required_insert_counts ++ required_insert_count draft ∷ [];
+      marks = marks_after by draft.lines;
       tracked = s.tracked ++ (if required_insert_count draft == 0 then [] else record { stream = stream; references = draft.references } ∷ []);
     }
+
+-- A section on a canceled stream leaves no mark.
+plain_lines : (marks : List ℕ) (lines : List FieldLine) → fold (marked false) marks lines ≡ marks
+plain_lines marks [] = refl
+plain_lines marks (l ∷ lines) = ap (λ m. fold (marked false) m lines) (one (literal_value l)) ∙ plain_lines marks lines
+  where
+    one : (o : Option (List ℕ)) → unwrap_or (option_map (λ value. marks) o) marks ≡ marks
+    one None = refl
+    one (Some value) = refl
+
+pub on_marks : (s : EncoderHistory) (stream : ℕ) (lines : List FieldLine) → was_canceled s stream ≡ true → marks_after (writing_on s stream) lines ≡ s.marks
+on_marks s stream lines e = ap (λ b. marks_after (if b then without_table s else s) lines) e ∙ plain_lines s.marks lines
+
+begun_marks : (s : EncoderHistory) (b : Bool) → (if b then without_table s else s).marks ≡ s.marks
+begun_marks s true = refl
+begun_marks s false = refl
+
+-- no field leaves what was there
+pub none_inserted : (s : EncoderHistory) (stream : ℕ) → having_inserted s stream [] ≡ s
+none_inserted s stream =
+    ap (λ fs. record s { inserted = fs; marks = (writing_on s stream).marks }) (on_inserted s stream) ∙ ap (λ m. record s { marks = m }) (begun_marks s (was_canceled s stream))
 
 -- A section on a canceled stream is not tracked, and inserts nothing.
 pub canceled_kept : (s : EncoderHistory) (stream : ℕ) (fields : List Field) → was_canceled s stream ≡ true → encoder_state s ≡ encoder_state (sent_section s stream fields)
 canceled_kept s stream fields e =
-    sym (ap (λ d. encoder_state (sent_draft s stream d)) (on_static s stream fields e)
-    ∙ rw (none_waits s.known_received s.required_insert_counts, append-nil s.tracked) refl)
+    sym (ap (λ d. encoder_state (sent_draft s (writing_on s stream) stream d)) (on_static s stream fields e)
+    ∙ rw (none_waits s.known_received s.required_insert_counts, append-nil s.tracked, on_marks s stream (map static_line fields) e) refl)
 
 pub canceled_sent : (s : EncoderHistory) (stream : ℕ) (fields : List Field) (t : EncoderState) (before block start : List ℕ) → was_canceled s stream ≡ true → t ≡ encoder_state s
     → block ≡ before ++ section_bytes fields → AllByRecursion IsFieldOfBytes fields → IsSent s stream fields 0 t before block start start
@@ -244,7 +280,7 @@ nothing_written s stream fields t start same =
       front = 0;
       within = omega arith;
       are_bytes = tt;
-      stores = same ∙ ap (λ fs. encoder_state (record s { inserted = fs })) (sym (on_inserted s stream));
+      stores = same ∙ ap encoder_state (sym (none_inserted s stream));
       instructions_are = sym (append-nil start);
     }
 

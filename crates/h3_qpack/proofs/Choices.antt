@@ -3,18 +3,20 @@ use Rattle.std.proofs.Common.{◌≡◌, ℕ, ◌+◌, ◌-◌, ◌^◌, ◌<◌
 use Rattle.std.specs.List.{AllByRecursion, list_all, flat_map}
 use Rattle.std.proofs.lemmas.Grind.{common_steps}
 use Rattle.std.proofs.lemmas.Bool.{and_parts}
-use Rattle.h3_field.specs.Field.{Field, field_eq, field_size}
+use Rattle.h3_field.specs.Field.{Field, field_eq, field_size, section_size}
 use Rattle.h3_table.specs.Table.{table, evictions, newest}
 use Rattle.h3_table.specs.TableState.{evicted, newest_in, with_entry}
 use Rattle.h3_qpack.specs.EncoderHistory.{EncoderHistory, UnacknowledgedSection, blocks_out, referenced_entries}
-use Rattle.h3_qpack.specs.SectionEncoding.{Draft, is_usable, found, found_name, remaining, evictions_by, finds_room}
+use Rattle.h3_qpack.specs.SectionEncoding.{Draft, is_usable, draining, unnamed, held, found, found_name, is_worth, is_worth_to, remaining, evictions_by, finds_room}
 use Rattle.h3_table.specs.Tracking.{is_free_to}
 use Rattle.h3_table.specs.declared.tracking.TrackedSection.{TrackedSection}
 use Rattle.h3_table.specs.InOrder.{in_order}
 use Rattle.h3_table.specs.InOrderLaws.{all_in_order}
-use Rattle.h3_qpack.specs.EncoderState.{EncoderState, tracked_section, least, MayInsertInto}
+use Rattle.h3_qpack.specs.EncoderState.{EncoderState, encoder_state, tracked_section, least, MayInsertInto}
+use Rattle.h3_qpack.specs.Drafting.{is_worth_in}
 use Rattle.h3_table.specs.TableLaws.{evictions-append}
-use Rattle.h3_qpack.proofs.TableStates.{table_state_of, with_entry-held, search_held}
+use Rattle.h3_qpack.proofs.Newest.{above_only, newest_from-above}
+use Rattle.h3_qpack.proofs.TableStates.{table_state_of, with_entry-held, newest_from-same, search_held}
 
 -- the greatest number that may be named, of those up to a number
 abbrev pub usable_to : EncoderHistory → ℕ → ℕ
@@ -64,9 +66,12 @@ and_false : (b : Bool) → (b && false) ≡ false
 and_false true = refl
 and_false false = refl
 
+both_above : (a b n : ℕ) → nat_lt (max a b) n ≡ (nat_lt a n && nat_lt b n)
+both_above a b n = grind (arith, common_steps)
+
 -- an equal entry that is older than the section
-pub found_held : (s : EncoderHistory) (d : Draft) (f : Field) → newest_in (table_state_of s.capacity d.inserted) (λ e. field_eq e f) (evictions s.capacity d.inserted) (usable_to s (length s.inserted)) ≡ found s d f
-found_held s d f = search_held s.capacity d.inserted (λ e. field_eq e f) (evictions s.capacity d.inserted) (usable_to s (length s.inserted)) _
+pub held_held : (s : EncoderHistory) (d : Draft) (f : Field) → newest_in (table_state_of s.capacity d.inserted) (λ e. field_eq e f) (evictions s.capacity d.inserted) (usable_to s (length s.inserted)) ≡ held s d f
+held_held s d f = search_held s.capacity d.inserted (λ e. field_eq e f) (evictions s.capacity d.inserted) (usable_to s (length s.inserted)) _
     (λ n e le. rw (lt_false _ n le, and_false (field_eq e f)) refl)
     (λ n e low high. rw (lt_true _ n low, usable_is s (length s.inserted) n) (same (field_eq e f) (nat_le n (length s.inserted)) (is_usable s n)))
   where
@@ -81,18 +86,32 @@ found_held s d f = search_held s.capacity d.inserted (λ e. field_eq e f) (evict
     same false true false = refl
     same false false c = refl
 
+-- what is found is held, and does not drain
+pub found_above : (s : EncoderHistory) (d : Draft) (f : Field) → found s d f ≡ above_only (draining s) (held s d f)
+found_above s d f =
+    newest_from-same _ _ 1 d.inserted (λ n e low high. rw (both_above (draining s) (evictions s.capacity d.inserted) n) (same (field_eq e f) (nat_lt (draining s) n) (nat_lt (evictions s.capacity d.inserted) n) (nat_le n (length s.inserted)) (is_usable s n)))
+    ∙ newest_from-above (λ number entry. field_eq entry f && nat_lt (evictions s.capacity d.inserted) number && nat_le number (length s.inserted) && is_usable s number) (draining s) 1 d.inserted
+  where
+    same : (a x y b c : Bool) → (((a && (x && y)) && b) && c) ≡ (x && (((a && y) && b) && c))
+    same true true y b c = refl
+    same true false y b c = refl
+    same false true y b c = refl
+    same false false y b c = refl
+
 -- an entry of the name
 pub found_name_held : (s : EncoderHistory) (d : Draft) (f : Field)
-    → newest_in (table_state_of s.capacity d.inserted) (λ e. bytes_eq e.name f.name) (evictions s.capacity d.inserted) (usable_to s (length d.inserted)) ≡ found_name s d f
-found_name_held s d f = search_held s.capacity d.inserted (λ e. bytes_eq e.name f.name) (evictions s.capacity d.inserted) (usable_to s (length d.inserted)) _
-    (λ n e le. rw (lt_false _ n le, and_false (bytes_eq e.name f.name)) refl)
-    (λ n e low high. rw (lt_true _ n low, usable_is s (length d.inserted) n, le_true n (length d.inserted) high) (same (bytes_eq e.name f.name) (is_usable s n)))
+    → newest_in (table_state_of s.capacity d.inserted) (λ e. bytes_eq e.name f.name) (unnamed s d) (usable_to s (length d.inserted)) ≡ found_name s d f
+found_name_held s d f = search_held s.capacity d.inserted (λ e. bytes_eq e.name f.name) (unnamed s d) (usable_to s (length d.inserted)) _
+    (λ n e le. rw (lt_false (unnamed s d) n (omega (arith, le)), and_false (bytes_eq e.name f.name)) refl)
+    (λ n e low high. rw (usable_is s (length d.inserted) n, le_true n (length d.inserted) high) (same (bytes_eq e.name f.name) (nat_lt (unnamed s d) n) (is_usable s n)))
   where
-    same : (a c : Bool) → (c && a) ≡ ((a && true) && c)
-    same true true = refl
-    same true false = refl
-    same false true = refl
-    same false false = refl
+    same : (a x c : Bool) → ((x && c) && a) ≡ ((a && x) && c)
+    same true true true = refl
+    same true true false = refl
+    same true false c = refl
+    same false true true = refl
+    same false true false = refl
+    same false false c = refl
 
 -- an entry that remains after the insertion
 pub remaining_held : (s : EncoderHistory) (d : Draft) (f : Field) (test : Field → Bool)
@@ -105,17 +124,22 @@ remaining_held s d f test = search_held s.capacity d.inserted test (evictions_by
     same true b = refl
     same false b = refl
 
--- an entry of the table that equals the field
-pub present_held : (s : EncoderHistory) (d : Draft) (f : Field)
-    → newest_in (table_state_of s.capacity d.inserted) (λ e. field_eq e f) (evictions s.capacity d.inserted) (length d.inserted)
-    ≡ newest (λ number entry. field_eq entry f && nat_lt (evictions s.capacity d.inserted) number) d.inserted
-present_held s d f = search_held s.capacity d.inserted (λ e. field_eq e f) (evictions s.capacity d.inserted) (length d.inserted) _
-    (λ n e le. rw (lt_false _ n le, and_false (field_eq e f)) refl)
-    (λ n e low high. rw (lt_true _ n low, le_true n (length d.inserted) high) (same (field_eq e f)))
+-- an entry of the table that passes
+pub present_held : (s : EncoderHistory) (d : Draft) (test : Field → Bool)
+    → newest_in (table_state_of s.capacity d.inserted) test (evictions s.capacity d.inserted) (length d.inserted)
+    ≡ newest (λ number entry. test entry && nat_lt (evictions s.capacity d.inserted) number) d.inserted
+present_held s d test = search_held s.capacity d.inserted test (evictions s.capacity d.inserted) (length d.inserted) _
+    (λ n e le. rw (lt_false _ n le, and_false (test e)) refl)
+    (λ n e low high. rw (lt_true _ n low, le_true n (length d.inserted) high) (same (test e)))
   where
     same : (a : Bool) → a ≡ (a && true)
     same true = refl
     same false = refl
+
+-- A field is worth an entry by what is kept where it is by the rule.
+pub worth_held : (s : EncoderHistory) (d : Draft) (marks : List ℕ) (drains : Bool) (f : Field) → is_worth_in (encoder_state (record s { inserted = d.inserted; marks = marks })) drains f ≡ is_worth_to s drains marks d f
+worth_held s d marks drains f =
+    ap (λ name. is_worth s.economical drains (section_size (table s.capacity d.inserted)) s.capacity name marks f) (present_held s d (λ e. bytes_eq e.name f.name))
 
 -- what the section so far names at least, and no entry has a number as great where it names none
 abbrev pub oldest_of : List ℕ → ℕ

@@ -1,5 +1,5 @@
 -- What holds of a section under way.
-use Rattle.std.proofs.Common.{◌^◌, ◌≡◌, ℕ, ◌+◌, ◌<◌, ◌≤◌, Bool, true, false, ◌&&◌, ◌||◌, ◌==◌, List, [], ◌∷◌, ◌++◌, length, refl, sym, ◌∙◌, ap, arith, length-append, append_assoc, append-nil, max, Some, nat_le, nat_lt, bytes_eq, if◌then◌else◌, fold}
+use Rattle.std.proofs.Common.{◌^◌, ◌≡◌, ℕ, ◌+◌, ◌<◌, ◌≤◌, Bool, true, false, not, is_none, ◌&&◌, ◌||◌, ◌==◌, List, [], ◌∷◌, ◌++◌, length, refl, sym, ◌∙◌, ap, arith, length-append, append_assoc, append-nil, max, Some, nat_le, nat_lt, bytes_eq, if◌then◌else◌, fold}
 use Rattle.std.specs.List.{AllByRecursion, list_all}
 use Rattle.std.proofs.lemmas.Grind.{common_steps}
 use Rattle.std.proofs.lemmas.Bool.{and_parts}
@@ -7,7 +7,7 @@ use Rattle.h3_field.specs.Field.{Field, field_eq, field_size}
 use Rattle.h3_field.specs.Line.{FieldLine}
 use Rattle.h3_table.specs.Table.{evictions}
 use Rattle.h3_qpack.specs.EncoderHistory.{EncoderHistory, blocks_out, referenced_entries}
-use Rattle.h3_qpack.specs.SectionEncoding.{Draft, is_usable, found, evictions_by, finds_room, is_insertable, is_new, evicts_none, is_insertable_ahead, found_name, add_line, add_literal, add_inserted, add_ahead, write_field, add_field, draft_of}
+use Rattle.h3_qpack.specs.SectionEncoding.{Draft, is_usable, unnamed, held, found, any_equal, is_worth_to, marks_after, evictions_by, finds_room, is_insertable, is_new, is_insertable_ahead, found_name, add_line, add_literal, add_inserted, add_ahead, write_field, add_field, draft_of}
 use Rattle.h3_field.specs.StaticTable.{static_field, static_name}
 use Rattle.h3_table.specs.ReleasingLaws.{All-join}
 use Rattle.h3_table.specs.TableLaws.{length-table}
@@ -86,14 +86,17 @@ room_found s d f h =
 
 -- One more section may be blocked, and there is room.
 pub may_insert : (s : EncoderHistory) (d : Draft) (f : Field) → is_insertable s d f ≡ true → MayInsert s d f
-may_insert s d f h = room_found s d f (and_parts (nat_lt (blocks_out s) s.limit) (finds_room s d f) h).1
+may_insert s d f h = room_found s d f (and_parts (nat_lt (blocks_out s) s.limit && is_worth_to s (not (is_none (held s d f))) (marks_after s d.lines) d f) (finds_room s d f) h).1
 
 pub may_block : (s : EncoderHistory) (d : Draft) (f : Field) → is_insertable s d f ≡ true → nat_lt (blocks_out s) s.limit ≡ true
-may_block s d f h = (and_parts (nat_lt (blocks_out s) s.limit) (finds_room s d f) h).0
+may_block s d f h =
+    let a = and_parts (nat_lt (blocks_out s) s.limit && is_worth_to s (not (is_none (held s d f))) (marks_after s d.lines) d f) (finds_room s d f) h in
+    (and_parts (nat_lt (blocks_out s) s.limit) (is_worth_to s (not (is_none (held s d f))) (marks_after s d.lines) d f) a.0).0
 
 -- There is room for what is inserted for later sections.
-pub may_insert_ahead : (s : EncoderHistory) (d : Draft) (f : Field) → is_insertable_ahead s d f ≡ true → MayInsert s d f
-may_insert_ahead s d f h = room_found s d f (and_parts (s.economical && (s.limit == 0) && is_new s d f && evicts_none s d f) (finds_room s d f) h).1
+pub may_insert_ahead : (s : EncoderHistory) (marks : List ℕ) (d : Draft) (f : Field) → is_insertable_ahead s marks d f ≡ true → MayInsert s d f
+may_insert_ahead s marks d f h =
+    room_found s d f (and_parts (s.economical && (s.limit == 0) && is_new s d f && is_worth_to s (not (is_none (any_equal s d f))) marks d f) (finds_room s d f) h).1
 
 -- an entry that is named stays named where nothing that is named is evicted
 kept_names : (s : EncoderHistory) (fs gs : List Field) (names : List ℕ) → AllByRecursion (IsNamed s fs) names → AllByRecursion (λ number. evictions s.capacity (fs ++ gs) < number) names → AllByRecursion (IsNamed s (fs ++ gs)) names
@@ -143,8 +146,8 @@ found_is_named s d f number h =
     let p = newest_from-passes _ 1 d.inserted number h in
     let a = and_parts _ (is_usable s number) p.test_is in
     let b = and_parts _ (nat_le number (length s.inserted)) a.0 in
-    let c = and_parts (field_eq p.entry f) (nat_lt (evictions s.capacity d.inserted) number) b.0 in
-    record { there = lt_is _ _ c.1; made = omega (arith, p.below); usable = a.1 }
+    let c = and_parts (field_eq p.entry f) (nat_lt (unnamed s d) number) b.0 in
+    record { there = omega (arith, lt_is _ _ c.1); made = omega (arith, p.below); usable = a.1 }
   where
     lt_is : (a b : ℕ) → nat_lt a b ≡ true → a < b
     lt_is a b e = grind (arith, common_steps)
@@ -153,8 +156,8 @@ found_name_is_named : (s : EncoderHistory) (d : Draft) (f : Field) (number : ℕ
 found_name_is_named s d f number h =
     let p = newest_from-passes _ 1 d.inserted number h in
     let a = and_parts _ (is_usable s number) p.test_is in
-    let b = and_parts (bytes_eq p.entry.name f.name) (nat_lt (evictions s.capacity d.inserted) number) a.0 in
-    record { there = lt_is _ _ b.1; made = omega (arith, p.below); usable = a.1 }
+    let b = and_parts (bytes_eq p.entry.name f.name) (nat_lt (unnamed s d) number) a.0 in
+    record { there = omega (arith, lt_is _ _ b.1); made = omega (arith, p.below); usable = a.1 }
   where
     lt_is : (a b : ℕ) → nat_lt a b ≡ true → a < b
     lt_is a b e = grind (arith, common_steps)
@@ -176,11 +179,11 @@ line_of_field_is_draft s d f h =
     either_way (IsDraft s) (is_insertable s d f) _ _ (λ e. inserted_is_draft s d f h (may_insert s d f e) (may_block s d f e)) (literal_is_draft s d f h)))
 
 -- what holds of a draft holds of it with a field, where it goes through a line and an insertion for later sections
-pub with_field : (P : Draft → Type 0) (s : EncoderHistory) (d : Draft) (f : Field) → P (write_field s d f) → ((e : Draft) → is_insertable_ahead s e f ≡ true → P e → P (add_ahead s e f)) → P (add_field s d f)
-with_field P s d f h ahead = either_way P (is_insertable_ahead s (write_field s d f) f) _ _ (λ e. ahead (write_field s d f) e h) h
+pub with_field : (P : Draft → Type 0) (s : EncoderHistory) (d : Draft) (f : Field) → P (write_field s d f) → ((e : Draft) → is_insertable_ahead s (marks_after s d.lines) e f ≡ true → P e → P (add_ahead s e f)) → P (add_field s d f)
+with_field P s d f h ahead = either_way P (is_insertable_ahead s (marks_after s d.lines) (write_field s d f) f) _ _ (λ e. ahead (write_field s d f) e h) h
 
 field_is_draft : (s : EncoderHistory) (d : Draft) (f : Field) → IsDraft s d → IsDraft s (add_field s d f)
-field_is_draft s d f h = with_field (IsDraft s) s d f (line_of_field_is_draft s d f h) (λ d e k. ahead_is_draft s d f k (may_insert_ahead s d f e))
+field_is_draft s d f h = with_field (IsDraft s) s d f (line_of_field_is_draft s d f h) (λ e test k. ahead_is_draft s e f k (may_insert_ahead s (marks_after s d.lines) e f test))
 
 fields_are_draft : (s : EncoderHistory) (d : Draft) (fields : List Field) → IsDraft s d → IsDraft s (fold (add_field s) d fields)
 fields_are_draft s d [] h = h

@@ -35,7 +35,7 @@ naming_over h section number o low high =
 chosen_over : (t : EncoderState) (section : Section) (f : Field) (c : Choice) → IsOver t.table section → IsPossible t section f c → IsOver (encoder_state_with t f c).table (section_after t section c)
 chosen_over t section f (choice.Static index) o p = o
 chosen_over t section f (choice.Entry number) o p = naming_over t.table section number o p.0 (omega (arith, p.1, o.base))
-chosen_over t section f (choice.Insertion after) o p =
+chosen_over t section f (choice.Insertion after searched) o p =
     let here = evicted_with_entry t.table f p.0.fits in
     record {
       base = omega (arith, o.base);

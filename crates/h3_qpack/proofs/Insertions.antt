@@ -12,7 +12,7 @@ use Rattle.h3_field.specs.StaticTable.{static_table, static_field, static_name}
 use Rattle.h3_field.specs.Instruction.{EncoderInstruction}
 use Rattle.h3_table.specs.Table.{evictions}
 use Rattle.h3_qpack.specs.EncoderHistory.{EncoderHistory}
-use Rattle.h3_qpack.specs.SectionEncoding.{Draft, found, evictions_by, is_insertable, remaining, insertion, add_line, add_literal, write_field, add_field, draft_of, found_name, instructions_for}
+use Rattle.h3_qpack.specs.SectionEncoding.{Draft, found, marks_after, evictions_by, is_insertable, remaining, insertion, add_line, add_literal, write_field, add_field, draft_of, found_name, instructions_for}
 use Rattle.h3_qpack.specs.TableHistory.{TableHistory, entry_still_at, field_inserted, table_after_insertion, table_after, table_after_all, table_of, IsReadAs}
 use Rattle.h3_table.specs.TableLaws.{evictions-append}
 use Rattle.h3_qpack.proofs.Newest.{chosen, newest_from-passes}
@@ -146,7 +146,7 @@ field_read_as : (greatest : ℕ) (s : EncoderHistory) (before : List EncoderInst
     → IsReadAs greatest s.capacity (before ++ d.instructions) d.inserted → IsReadAs greatest s.capacity (before ++ (add_field s d f).instructions) (add_field s d f).inserted
 field_read_as greatest s before d f h =
     with_field (λ e. IsReadAs greatest s.capacity (before ++ e.instructions) e.inserted) s d f (line_of_field_read_as greatest s before d f h)
-    (λ e test k. inserted_read_as greatest s before e f (may_insert_ahead s e f test) k)
+    (λ e test k. inserted_read_as greatest s before e f (may_insert_ahead s (marks_after s d.lines) e f test) k)
 
 fields_read_as : (greatest : ℕ) (s : EncoderHistory) (before : List EncoderInstruction) (d : Draft) (fields : List Field)
     → IsReadAs greatest s.capacity (before ++ d.instructions) d.inserted → IsReadAs greatest s.capacity (before ++ (fold (add_field s) d fields).instructions) (fold (add_field s) d fields).inserted

@@ -48,3 +48,7 @@ none_between h test above most le = newest_from-none (in_range test above most) 
         by_order true true e f = absurd (grind (arith, common_steps, e, f, le))
         by_order true false e f = refl
         by_order false d e f = refl
+
+-- Nothing has the number 0.
+pub none_at_zero : (h : TableState) (test : Field → Bool) → newest_in h test (evicted h) 0 ≡ None
+none_at_zero h test = none_between h test (evicted h) 0 (omega arith)

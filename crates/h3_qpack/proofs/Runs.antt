@@ -22,7 +22,7 @@ use Rattle.h3_field.specs.declared.error.Error.TheVariants as of
 use Rattle.h3_qpack.specs.EncoderHistory.{EncoderHistory, no_table, encoder_after, encoder_after_all, writing_on}
 use Rattle.h3_qpack.specs.TableHistory.{IsReadAs}
 use Rattle.h3_qpack.specs.DecoderState.{DecoderState, announcing, decoder_after_all}
-use Rattle.h3_qpack.specs.SectionEncoding.{draft_of, required_insert_count, encoded_section, instructions_for, sent_section}
+use Rattle.h3_qpack.specs.SectionEncoding.{draft_of, required_insert_count, encoded_section, instructions_for, having_inserted, sent_section}
 use Rattle.h3_qpack.specs.Meaning.{MeansFields, IsMissing, IsBadSection}
 use Rattle.h3_qpack.specs.SectionAnswers.{IsReasonFor}
 use Rattle.h3_qpack.specs.Instructions.{BeginsBad, BeginsRefused}
@@ -193,7 +193,7 @@ cut_stands capacity w s stream fields e new st size h =
       (h.0, (h.1.0, h.1.1, refl)),
       subst (λ x. Stands capacity x (without_section s stream front)) (sym h.1.3) (record {
         sound = insertions_kept s stream front st.sound;
-        encoder = ap (λ (x : EncoderHistory). record x { inserted = (draft_of (writing_on x stream) front).inserted }) st.encoder;
+        encoder = ap (λ (x : EncoderHistory). having_inserted x stream front) st.encoder;
         capacity_is = st.capacity_is;
         announced_is = st.announced_is;
         count = st.count;

@@ -116,15 +116,15 @@ nothing_new counts most announced limit events s stream rest run is = nothing_to
 pub same_bytes : (s : EncoderHistory) (counts : Bool) (stream : ℕ) (fields : List Field) → encoded_section (writing_on (record s { counts_acknowledgments = counts }) stream) fields ≡ encoded_section (writing_on s stream) fields
 same_bytes s counts stream fields = by_test (was_canceled s stream)
   where
-    by_test : (b : Bool) → encoded_section (if b then record s { announced = 0; capacity = 0; limit = 0; counts_acknowledgments = counts } else record s { counts_acknowledgments = counts }) fields
-        ≡ encoded_section (if b then record s { announced = 0; capacity = 0; limit = 0 } else s) fields
+    by_test : (b : Bool) → encoded_section (if b then record s { announced = 0; capacity = 0; limit = 0; economical = false; counts_acknowledgments = counts } else record s { counts_acknowledgments = counts }) fields
+        ≡ encoded_section (if b then record s { announced = 0; capacity = 0; limit = 0; economical = false } else s) fields
     by_test true = refl
     by_test false = refl
 
 pub same_instructions : (s : EncoderHistory) (counts : Bool) (stream : ℕ) (fields : List Field) → instructions_for (writing_on (record s { counts_acknowledgments = counts }) stream) fields ≡ instructions_for (writing_on s stream) fields
 same_instructions s counts stream fields = by_test (was_canceled s stream)
   where
-    by_test : (b : Bool) → instructions_for (if b then record s { announced = 0; capacity = 0; limit = 0; counts_acknowledgments = counts } else record s { counts_acknowledgments = counts }) fields
-        ≡ instructions_for (if b then record s { announced = 0; capacity = 0; limit = 0 } else s) fields
+    by_test : (b : Bool) → instructions_for (if b then record s { announced = 0; capacity = 0; limit = 0; economical = false; counts_acknowledgments = counts } else record s { counts_acknowledgments = counts }) fields
+        ≡ instructions_for (if b then record s { announced = 0; capacity = 0; limit = 0; economical = false } else s) fields
     by_test true = refl
     by_test false = refl

@@ -15,13 +15,14 @@ use Rattle.h3_field.specs.PrefixWriting.{written_prefix, encoded_bytes}
 use Rattle.h3_field.specs.PrefixLaws.{prefix_is_written}
 use Rattle.h3_qpack.specs.EncoderHistory.{EncoderHistory, UnacknowledgedSection, writing_on}
 use Rattle.h3_qpack.specs.EncoderState.{EncoderState, encoder_state, tracked_section, encoder_state_sent, least}
-use Rattle.h3_qpack.specs.SectionEncoding.{Draft, draft_of, required_insert_count, encoded_section, instructions_for}
-use Rattle.h3_qpack.specs.Drafting.{IsDraftState, IsDrafted, IsOver, IsSmall, IsSent, IsCutOff, begun, oldest_of}
+use Rattle.h3_qpack.specs.SectionEncoding.{Draft, lasting_capacity, draining, draft_of, required_insert_count, encoded_section, instructions_for}
+use Rattle.h3_qpack.specs.Drafting.{IsDraftState, IsDrafted, IsOver, IsSmall, IsSent, IsCutOff, begun, draining_in, oldest_of}
 use Rattle.h3_qpack.specs.declared.section.Section.{Section}
 use Rattle.h3_table.specs.declared.tracking.TrackedSection.{TrackedSection}
 use Rattle.h3_table.specs.InOrder.{in_order, put_last}
 use Rattle.h3_table.specs.InOrderLaws.{in_order_more}
 use Rattle.h3_qpack.proofs.EncoderStates.{blocking_counted}
+use Rattle.h3_qpack.proofs.TableStates.{table-table}
 use Rattle.h3_qpack.proofs.Canceled.{sent_draft}
 
 -- a section that names an entry is over a table that can have one
@@ -44,6 +45,10 @@ section_put before mid encoded lines capacity own count base p same is prefix al
     ∙ append_assoc before (encoded_bytes (written_prefix capacity count base)) lines
     ∙ ap (λ bytes. before ++ (bytes ++ lines)) (sym (prefix_is_written capacity count base))
 
+-- what drains, by what is kept
+draining_held : (s : EncoderHistory) → draining_in (encoder_state s) ≡ draining s
+draining_held s = ap (λ es. if s.economical then length s.inserted - length es else 0) (table-table (lasting_capacity s.capacity) s.capacity s.inserted (omega arith))
+
 -- before the first field
 pub begun_drafted : (s : EncoderHistory) (t : EncoderState) (section : Section) (lines start : List ℕ) → t ≡ encoder_state s → section ≡ begun t → lines ≡ [] → IsDrafted s (draft_of s []) t section lines start start
 begun_drafted s t section lines start e is none =
@@ -53,6 +58,7 @@ begun_drafted s t section lines start e is none =
         base = ap (λ (x : Section). x.base) is ∙ ap (λ (u : EncoderState). u.table.inserted) e;
         may_block = ap (λ (x : Section). x.may_block) is ∙ ap (λ (u : EncoderState). nat_lt (length u.blocking_counts) u.limit) e
             ∙ ap (λ n. nat_lt n s.limit) (blocking_counted (λ n. nat_lt s.known_received n) s.required_insert_counts);
+        draining = ap (λ (x : Section). x.draining) is ∙ ap draining_in e ∙ draining_held s;
         oldest = ap (λ (x : Section). x.oldest) is;
         newest = ap (λ (x : Section). x.newest) is;
       };
@@ -105,44 +111,46 @@ not_zero n some = by_test (n == 0) refl
     by_test false e = refl
 
 -- a section that names entries is counted and tracked
-pub sent_named : (s : EncoderHistory) (d : Draft) (stream : ℕ) (t new : EncoderState) (section : Section) → IsDraftState s d t section → IsSmall t → section.newest ≤ t.table.inserted → (section.newest ≡ 0 → ⊥)
+pub sent_named : (s : EncoderHistory) (d : Draft) (marks : List ℕ) (stream : ℕ) (t new : EncoderState) (section : Section) → IsDraftState s d marks t section → IsSmall t → section.newest ≤ t.table.inserted → (section.newest ≡ 0 → ⊥)
     → new ≡ encoder_state_sent t stream section.newest section.oldest
     → new ≡ encoder_state (record s {
       inserted = d.inserted;
+      marks = marks;
       required_insert_counts = s.required_insert_counts ++ required_insert_count d ∷ [];
       tracked = s.tracked ++ (if required_insert_count d == 0 then [] else record { stream = stream; references = d.references } ∷ []);
     })
-sent_named s d stream t new section k small few some is =
+sent_named s d marks stream t new section k small few some is =
     let named : required_insert_count d ≡ 0 → ⊥ = λ z. some (k.newest ∙ z) in
     let least_one : section.oldest ≡ least d.references = k.oldest ∙ least_is d.references named (omega (arith, sym k.newest, few, small.few)) in
     is ∙ ap (λ (u : EncoderState). encoder_state_sent u stream section.newest section.oldest) k.stores
-    ∙ ap (λ n. encoder_state_sent (encoder_state (record s { inserted = d.inserted })) stream n section.oldest) k.newest
-    ∙ ap (λ n. encoder_state_sent (encoder_state (record s { inserted = d.inserted })) stream (required_insert_count d) n) least_one
+    ∙ ap (λ n. encoder_state_sent (encoder_state (record s { inserted = d.inserted; marks = marks })) stream n section.oldest) k.newest
+    ∙ ap (λ n. encoder_state_sent (encoder_state (record s { inserted = d.inserted; marks = marks })) stream (required_insert_count d) n) least_one
     ∙ rw (blocking_more s.known_received (required_insert_count d) s.required_insert_counts, tracked_more (required_insert_count d == 0) stream d.references s.tracked (not_zero (required_insert_count d) named)) refl
 
 none_below : (n : ℕ) → nat_lt n 0 ≡ false
 none_below n = grind (arith, common_steps)
 
 -- one that names none is not
-pub sent_plain : (s : EncoderHistory) (d : Draft) (stream : ℕ) (t : EncoderState) (section : Section) → IsDraftState s d t section → section.newest ≡ 0
+pub sent_plain : (s : EncoderHistory) (d : Draft) (marks : List ℕ) (stream : ℕ) (t : EncoderState) (section : Section) → IsDraftState s d marks t section → section.newest ≡ 0
     → t ≡ encoder_state (record s {
       inserted = d.inserted;
+      marks = marks;
       required_insert_counts = s.required_insert_counts ++ required_insert_count d ∷ [];
       tracked = s.tracked ++ (if required_insert_count d == 0 then [] else record { stream = stream; references = d.references } ∷ []);
     })
-sent_plain s d stream t section k none =
+sent_plain s d marks stream t section k none =
     let zero_is : required_insert_count d ≡ 0 = sym k.newest ∙ none in
     let far : nat_lt s.known_received (required_insert_count d) ≡ false = ap (λ n. nat_lt s.known_received n) zero_is ∙ none_below s.known_received in
     let counts = ap (λ b. if b then put_last (λ n. n) (required_insert_count d) (in_order (λ n. n) (filter (λ c. nat_lt s.known_received c) s.required_insert_counts)) else in_order (λ n. n) (filter (λ c. nat_lt s.known_received c) s.required_insert_counts)) (sym far)
     ∙ blocking_more s.known_received (required_insert_count d) s.required_insert_counts in
     let none_named : (required_insert_count d == 0) ≡ true = rw zero_is refl in
-    k.stores ∙ ap (λ (ws : List ℕ). record (encoder_state (record s { inserted = d.inserted })) { blocking_counts = ws }) counts
-    ∙ ap (λ ts. record (encoder_state (record s { inserted = d.inserted })) { blocking_counts = in_order (λ n. n) (filter (λ c. nat_lt s.known_received c) (s.required_insert_counts ++ required_insert_count d ∷ [])); tracked = ts })
+    k.stores ∙ ap (λ (ws : List ℕ). record (encoder_state (record s { inserted = d.inserted; marks = marks })) { blocking_counts = ws }) counts
+    ∙ ap (λ ts. record (encoder_state (record s { inserted = d.inserted; marks = marks })) { blocking_counts = in_order (λ n. n) (filter (λ c. nat_lt s.known_received c) (s.required_insert_counts ++ required_insert_count d ∷ [])); tracked = ts })
     (tracked_same (required_insert_count d == 0) (record { stream = stream; references = d.references } ∷ []) s.tracked none_named)
 
 -- The section and its instructions were written, on a stream that is not canceled.
 pub section_sent : (s : EncoderHistory) (stream : ℕ) (fields : List Field) (t new : EncoderState) (section : Section) (lines before encoded start instruction_bytes : List ℕ) → writing_on s stream ≡ s → IsDrafted s (draft_of s fields) t section lines start instruction_bytes
-    → encoded ≡ before ++ (prefix_bytes t.announced section.newest section.base ++ lines) → new ≡ encoder_state (sent_draft s stream (draft_of s fields))
+    → encoded ≡ before ++ (prefix_bytes t.announced section.newest section.base ++ lines) → new ≡ encoder_state (sent_draft s s stream (draft_of s fields))
     → AllByRecursion IsFieldOfBytes fields → IsSent s stream fields section.newest new before encoded start instruction_bytes
 section_sent s stream fields t new section lines before encoded start instruction_bytes own h is kept are_bytes =
     let d = draft_of s fields in
@@ -152,7 +160,7 @@ section_sent s stream fields t new section lines before encoded start instructio
     let body : prefix_bytes t.announced section.newest section.base ++ lines ≡ encoded_section s fields =
     ap (λ p. p ++ lines) prefix ∙ ap (λ ls. prefix_bytes s.announced (required_insert_count d) (length s.inserted) ++ ls) h.lines_are in
     record {
-      stores = kept ∙ ap (λ by. encoder_state (sent_draft s stream (draft_of by fields))) (sym own);
+      stores = kept ∙ ap (λ by. encoder_state (sent_draft s by stream (draft_of by fields))) (sym own);
       count_is = h.state.newest ∙ ap (λ by. required_insert_count (draft_of by fields)) (sym own);
       are_bytes = are_bytes;
       encoded_is = is ∙ ap (λ b. before ++ b) body ∙ ap (λ by. before ++ encoded_section by fields) (sym own);

@@ -1,5 +1,5 @@
 -- Each event keeps a session sound.
-use Rattle.std.proofs.Common.{◌≡◌, ◌≢◌, ℕ, ◌^◌, ◌-◌, min, ◌+◌, ◌<◌, ◌≤◌, ⊎_elim, Bool, true, false, ◌&&◌, ◌||◌, List, [], ◌∷◌, ◌++◌, length, drop, refl, sym, ◌∙◌, ap, subst, arith, length-append, length-drop, not, filter, cond, append_assoc, append-nil, add-zero, max, Some, nat_le, nat_lt, if◌then◌else◌, unwrap_or}
+use Rattle.std.proofs.Common.{◌≡◌, ◌≢◌, ℕ, ◌^◌, ◌-◌, min, ◌+◌, ◌<◌, ◌≤◌, ⊎_elim, Bool, true, false, ◌&&◌, ◌||◌, List, [], ◌∷◌, ◌++◌, length, map, drop, refl, sym, ◌∙◌, ap, subst, arith, length-append, length-drop, not, filter, cond, append_assoc, append-nil, add-zero, max, Some, nat_le, nat_lt, if◌then◌else◌, unwrap_or}
 use Rattle.std.specs.List.{AllByRecursion, list_any, count_by, flat_map, fold}
 use Rattle.std.specs.Prelude.{◌==◌}
 use Rattle.std.proofs.lemmas.Bool.{cases_eq}
@@ -7,12 +7,13 @@ use Rattle.std.proofs.lemmas.Grind.{common_steps}
 use Rattle.std.proofs.lemmas.List.{drop-append-le, drop-drop}
 use Rattle.std.proofs.lemmas.List.Sums.{sum_by-cons, sum_by-append}
 use Rattle.h3_field.specs.Field.{Field}
+use Rattle.h3_field.specs.Section.{static_line}
 use Rattle.h3_field.specs.Instruction.{DecoderInstruction}
 use Rattle.h3_field.specs.Instruction.DecoderInstruction.{Acknowledge, CancelStream, Increment}
 use Rattle.h3_table.specs.Table.{evictions}
 use Rattle.h3_qpack.specs.EncoderHistory.{EncoderHistory, UnacknowledgedSection, acknowledged_count, known_by, released, without_stream, was_canceled, writing_on, blocks_out}
-use Rattle.h3_qpack.specs.SectionEncoding.{Draft, draft_of, required_insert_count}
-use Rattle.h3_qpack.proofs.Canceled.{canceled_more, on_static, on_other, sent_draft}
+use Rattle.h3_qpack.specs.SectionEncoding.{Draft, draft_of, marks_after, required_insert_count}
+use Rattle.h3_qpack.proofs.Canceled.{canceled_more, on_static, on_other, on_marks, sent_draft}
 use Rattle.h3_qpack.proofs.Insertions.{section_read_as}
 use Rattle.h3_qpack.proofs.Told.{released_names, released_others, without_others, one_acknowledged, other_acknowledged, told_behind, told_acknowledgment, told_more, unraised}
 use Rattle.h3_qpack.proofs.Drafts.{All-first, All-second, draft_is_draft, IsNamed}
@@ -302,7 +303,7 @@ longer_written fs gs more e (b ∷ bs) h = (
 abbrev encoded_by : Session → ℕ → List Field → EncoderHistory → Draft → Session
 encoded_by s stream fields by draft =
     record s {
-      encoder = sent_draft s.encoder stream draft;
+      encoder = sent_draft s.encoder by stream draft;
       instructions = s.instructions ++ draft.instructions;
       sections = s.sections ++ record { stream = stream; fields = fields; encoder = by } ∷ [];
     }
@@ -341,12 +342,12 @@ canceled_written s stream fields e h =
     let one : UndecodedSection = record { stream = stream; fields = fields; encoder = writing_on s.encoder stream } in
     let plain : Session = record s { encoder = record s.encoder { required_insert_counts = s.encoder.required_insert_counts ++ 0 ∷ [] }; sections = s.sections ++ one ∷ [] } in
     let same : encoded s stream fields ≡ plain =
-    ap (encoded_by s stream fields (writing_on s.encoder stream)) static ∙ rw (append-nil s.instructions, append-nil s.encoder.tracked) refl in
+    ap (encoded_by s stream fields (writing_on s.encoder stream)) static ∙ rw (append-nil s.instructions, append-nil s.encoder.tracked, on_marks s.encoder stream (map static_line fields) e) refl in
     subst IsSound (sym same) (plain_written s one (ap (λ (d : Draft). d.inserted) static) (ap required_insert_count static) h)
 
 -- a tracked section is of a stream that is not canceled
 still_untracked : (s : Session) (stream : ℕ) (draft : Draft) → was_canceled s.encoder stream ≡ false → IsSound s → (other : ℕ) → was_canceled s.encoder other ≡ true
-    → tracked_references other (sent_draft s.encoder stream draft).tracked ≡ []
+    → tracked_references other (sent_draft s.encoder s.encoder stream draft).tracked ≡ []
 still_untracked s stream draft e h other canceled =
     tracked_references-append other s.encoder.tracked (if required_insert_count draft == 0 then [] else record { stream = stream; references = draft.references } ∷ [])
     ∙ ap (λ names. names ++ tracked_references other (if required_insert_count draft == 0 then [] else record { stream = stream; references = draft.references } ∷ [])) (h.untracked other canceled)
@@ -594,11 +595,11 @@ stream_abandoned s stream h =
     same_no e = cc
 
 -- what was inserted for a section that doesn't go out
-abbrev without_by : Session → Draft → Session
-without_by s draft = record s { encoder = record s.encoder { inserted = draft.inserted }; instructions = s.instructions ++ draft.instructions }
+abbrev without_by : Session → List ℕ → Draft → Session
+without_by s marks draft = record s { encoder = record s.encoder { inserted = draft.inserted; marks = marks }; instructions = s.instructions ++ draft.instructions }
 
-other_kept : (s : Session) (fields : List Field) → IsSound s → IsSound (without_by s (draft_of s.encoder fields))
-other_kept s fields h =
+other_kept : (s : Session) (marks : List ℕ) (fields : List Field) → IsSound s → IsSound (without_by s marks (draft_of s.encoder fields))
+other_kept s marks fields h =
     let d = draft_is_draft s.encoder fields h.references_present in
     let draft = draft_of s.encoder fields in
     record {
@@ -618,11 +619,33 @@ other_kept s fields h =
       small = d.small h.small;
     }
 
+-- the marks play no part in what is sound
+with_marks : (s : Session) (marks : List ℕ) → IsSound s → IsSound (record s { encoder = record s.encoder { marks = marks } })
+with_marks s marks h =
+    record {
+      received = h.received;
+      accounted = h.accounted;
+      evictions_known = h.evictions_known;
+      references_present = h.references_present;
+      tracked = h.tracked;
+      acknowledged = h.acknowledged;
+      told = h.told;
+      written = h.written;
+      cancels = h.cancels;
+      untracked = h.untracked;
+      within_limit = h.within_limit;
+      read = h.read;
+      within_announced = h.within_announced;
+      small = h.small;
+    }
+
 pub insertions_kept : (s : Session) (stream : ℕ) (fields : List Field) → IsSound s → IsSound (without_section s stream fields)
 insertions_kept s stream fields h = by_test (was_canceled s.encoder stream) refl
   where
     by_test : (b : Bool) → was_canceled s.encoder stream ≡ b → IsSound (without_section s stream fields)
     by_test true e =
-        let same : without_section s stream fields ≡ s = ap (without_by s) (on_static s.encoder stream fields e) ∙ rw (append-nil s.instructions) refl in
-        subst IsSound (sym same) h
-    by_test false e = subst (λ by. IsSound (without_by s (draft_of by fields))) (sym (on_other s.encoder stream e)) (other_kept s fields h)
+        let marks = marks_after (writing_on s.encoder stream) (draft_of (writing_on s.encoder stream) fields).lines in
+        let same : without_by s marks (draft_of (writing_on s.encoder stream) fields) ≡ record s { encoder = record s.encoder { marks = marks } } = ap (without_by s marks) (on_static s.encoder stream fields e) ∙ rw (append-nil s.instructions) refl in
+        subst IsSound (sym same) (with_marks s marks h)
+    by_test false e =
+        subst (λ by. IsSound (without_by s (marks_after by (draft_of by fields).lines) (draft_of by fields))) (sym (on_other s.encoder stream e)) (other_kept s (marks_after s.encoder (draft_of s.encoder fields).lines) fields h)

@@ -23,7 +23,7 @@ use Rattle.h3_qpack.specs.SectionAnswers.{IsReasonFor, IsRefusal}
 use Rattle.h3_qpack.specs.Instructions.{HasRead, BeginsBad, AreDecoderInstructions}
 use Rattle.h3_qpack.specs.EncoderAnswers.{HasReadDecoderInstructions, IsLeft}
 use Rattle.h3_qpack.specs.Increments.{increment_for}
-use Rattle.h3_qpack.specs.SectionEncoding.{draft_of, instructions_for}
+use Rattle.h3_qpack.specs.SectionEncoding.{having_inserted, instructions_for}
 use Rattle.h3_qpack.specs.Drafting.{IsCutOff}
 use Rattle.h3_qpack.specs.Exchange.{EncodedSection, EncoderReads, ExchangeHistory, ExchangeState, exchange_state, unread, undelivered, arriving, reading, writing, is_given_up, is_of, section_of, without_section_of, IsPlace, HasSection, IsEvent, Happens, Exchange, Before, Then, start, Encodes, DeliversToDecoder, DeliversToEncoder, Decodes, Cancels, giving_up, refused_section}
 use Rattle.h3_qpack.specs.declared.session.SessionEvent.{SessionEvent}
@@ -47,7 +47,7 @@ encoding_cut w k stream fields encoder bytes e same cut few is =
       (ap of.Encoder is, (c.front, c.within, record { are_bytes = c.are_bytes; few = subst (λ bs. length bs < 2 ^ 63) after few }, refl)),
       ap (λ (x : ExchangeState). record x { encoder = encoder; encoder_stream = record x.encoder_stream { bytes = bytes } }) same
           ∙ ap (λ s. record (exchange_state w) { encoder = s; encoder_stream = record w.encoder_stream { bytes = bytes } }) c.stores
-          ∙ ap (λ bs. record (exchange_state w) { encoder = encoder_state (record w.encoder { inserted = (draft_of by (take c.front fields)).inserted }); encoder_stream = record w.encoder_stream { bytes = bs } }) after,
+          ∙ ap (λ bs. record (exchange_state w) { encoder = encoder_state (having_inserted w.encoder stream (take c.front fields)); encoder_stream = record w.encoder_stream { bytes = bs } }) after,
     )
 
 -- bytes came to the decoder

@@ -62,7 +62,7 @@ newest_from-append test first (f ∷ fs) gs =
     choice (Some x) b c = refl
 
 -- two tests that agree on the numbers of the list
-newest_from-same : (test other : ℕ → Field → Bool) (first : ℕ) (fs : List Field) → ((n : ℕ) (e : Field) → first ≤ n → n < first + length fs → test n e ≡ other n e)
+pub newest_from-same : (test other : ℕ → Field → Bool) (first : ℕ) (fs : List Field) → ((n : ℕ) (e : Field) → first ≤ n → n < first + length fs → test n e ≡ other n e)
     → newest_from test first fs ≡ newest_from other first fs
 newest_from-same test other first [] same = refl
 newest_from-same test other first (f ∷ fs) same =

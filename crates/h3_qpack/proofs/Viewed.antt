@@ -12,4 +12,4 @@ pub inserted_over : (t : EncoderState) (section : Section) (f : Field) (after nu
     → MayInsertInto t f section.oldest × (after ≡ evicted (with_entry t.table f)) × (evicted t.table ≤ after)
     → new ≡ record t { table = with_entry t.table f } → number ≡ t.table.inserted → next ≡ naming section (number + 1) → IsOver new.table next
 inserted_over t section f after number new next over possible table is names =
-    over_after t section f (choice.Insertion after) new next over possible table (names ∙ ap (λ n. naming section (n + 1)) is)
+    over_after t section f (choice.Insertion after 0) new next over possible table (names ∙ ap (λ n. naming section (n + 1)) is)

@@ -7,7 +7,7 @@ use Rattle.h3_qpack.specs.EncoderHistory.{EncoderHistory, UnacknowledgedSection,
 use Rattle.h3_table.specs.Tracking.{without_newest}
 use Rattle.h3_field.specs.Instruction.{DecoderInstruction}
 use Rattle.h3_field.specs.Instruction.DecoderInstruction.{Acknowledge, CancelStream, Increment}
-use Rattle.h3_qpack.specs.SectionEncoding.{draft_of, required_insert_count, sent_section}
+use Rattle.h3_qpack.specs.SectionEncoding.{draft_of, marks_after, required_insert_count, having_inserted, sent_section}
 
 last_passes : {X : Type 0} (test : X → Bool) (xs : List X) (x : X) → test x ≡ true → list_any test (xs ++ x ∷ []) ≡ true
 last_passes test [] x e = rw e refl
@@ -33,14 +33,15 @@ module _ (stream : ℕ) (old : List UnacknowledgedSection) (section : Unacknowle
   untracked false e = without_last (λ t. t.stream == stream) old section e
 
 pub withdrawn_as_cut_off : (s : EncoderHistory) (stream : ℕ) (fields : List Field)
-    → withdrawn (sent_section s stream fields) stream (required_insert_count (draft_of (writing_on s stream) fields)) ≡ record s { inserted = (draft_of (writing_on s stream) fields).inserted }
+    → withdrawn (sent_section s stream fields) stream (required_insert_count (draft_of (writing_on s stream) fields)) ≡ having_inserted s stream fields
 withdrawn_as_cut_off s stream fields =
     let draft = draft_of (writing_on s stream) fields in
     let count = required_insert_count draft in
     let section : UnacknowledgedSection = record { stream = stream; references = draft.references } in
-    ap (λ counts. record s { inserted = draft.inserted; required_insert_counts = counts; tracked = (withdrawn (sent_section s stream fields) stream count).tracked })
+    let marks = marks_after (writing_on s stream) draft.lines in
+    ap (λ counts. record s { inserted = draft.inserted; marks = marks; required_insert_counts = counts; tracked = (withdrawn (sent_section s stream fields) stream count).tracked })
     (without_last (λ other. other == count) s.required_insert_counts count (same_number count))
-    ∙ ap (λ sections. record s { inserted = draft.inserted; tracked = sections }) (untracked stream s.tracked section (count == 0) (same_number stream))
+    ∙ ap (λ sections. record s { inserted = draft.inserted; marks = marks; tracked = sections }) (untracked stream s.tracked section (count == 0) (same_number stream))
 
 pub counts_kept : (s : EncoderHistory) (i : DecoderInstruction) → (encoder_after s i).required_insert_counts ≡ s.required_insert_counts
 counts_kept s (Acknowledge stream) = refl

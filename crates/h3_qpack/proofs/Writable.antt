@@ -13,7 +13,7 @@ use Rattle.h3_field.specs.Instruction.{EncoderInstruction, encoder_bytes}
 use Rattle.h3_field.specs.InstructionAnswer.{IsSendable}
 use Rattle.h3_field.specs.StaticTableLaws.{table_length}
 use Rattle.h3_qpack.specs.EncoderHistory.{EncoderHistory}
-use Rattle.h3_qpack.specs.SectionEncoding.{Draft, found, found_name, is_insertable, remaining, insertion, add_line, add_inserted, add_ahead, add_literal, write_field, add_field, draft_of, entry_name_line}
+use Rattle.h3_qpack.specs.SectionEncoding.{Draft, found, found_name, marks_after, is_insertable, remaining, insertion, add_line, add_inserted, add_ahead, add_literal, write_field, add_field, draft_of, entry_name_line}
 use Rattle.h3_qpack.specs.Encodings.{IsWrittenLine, IsWrittenInstruction}
 use Rattle.h3_qpack.proofs.Newest.{chosen, newest_from-passes}
 use Rattle.h3_qpack.proofs.Drafts.{MayInsert, either_way, may_insert, may_insert_ahead, with_field}
@@ -94,7 +94,7 @@ line_of_field_small s d f h k =
     either_way (IsSmallDraft s) (is_insertable s d f) _ _ (λ e. inserted_small s d f h k (may_insert s d f e)) (literal_small s d f h k)))
 
 field_small : (s : EncoderHistory) (d : Draft) (f : Field) → IsSmallDraft s d → IsSmallField f → IsSmallDraft s (add_field s d f)
-field_small s d f h k = with_field (IsSmallDraft s) s d f (line_of_field_small s d f h k) (λ e test small. ahead_small s e f small k (may_insert_ahead s e f test))
+field_small s d f h k = with_field (IsSmallDraft s) s d f (line_of_field_small s d f h k) (λ e test small. ahead_small s e f small k (may_insert_ahead s (marks_after s d.lines) e f test))
 
 fields_small : (s : EncoderHistory) (d : Draft) (fields : List Field) → IsSmallDraft s d → AllByRecursion IsFieldOfBytes fields → section_size fields < 2 ^ 62 → IsSmallDraft s (fold (add_field s) d fields)
 fields_small s d [] h bytes size = h

@@ -1,5 +1,5 @@
 -- A field section under way, as an encoder keeps it: how each field is written, by what is kept (RFC 9204, section 2.1).
-use Rattle.std.specs.Prelude.{◌≡◌, ◌<◌, ◌≤◌, ℕ, ◌+◌, ◌-◌, ◌^◌, Bool, true, false, List, [], ◌∷◌, ◌++◌, length, min, max, fold, take, flat_map, nat_lt, if◌then◌else◌, Option, Some, None, option_map, unwrap_or}
+use Rattle.std.specs.Prelude.{◌≡◌, ◌<◌, ◌≤◌, ℕ, ◌+◌, ◌-◌, ◌^◌, Bool, true, false, not, List, [], ◌∷◌, ◌++◌, length, min, max, fold, take, flat_map, nat_lt, if◌then◌else◌, Option, Some, None, is_none, option_map, unwrap_or, IfSome}
 use Rattle.std.specs.List.{AllByRecursion}
 use Rattle.h3_field.specs.Field.{Field, section_size}
 use Rattle.h3_field.specs.ReadBack.{IsFieldOfBytes}
@@ -8,11 +8,13 @@ use Rattle.h3_field.specs.Line.{FieldLine, line_bytes}
 use Rattle.h3_field.specs.Line.{FieldLine as line}
 use Rattle.h3_field.specs.Instruction.{EncoderInstruction, encoder_bytes}
 use Rattle.h3_field.specs.Instruction.EncoderInstruction.{InsertWithStaticName, InsertWithEntryName, InsertLiteral, Duplicate}
+use Rattle.h3_table.specs.Table.{table}
 use Rattle.h3_table.specs.TableState.{TableState, evicted, newest_in, with_entry}
 use Rattle.h3_table.specs.Matches.{matches}
+use Rattle.h3_qpack.specs.Marks.{with_mark}
 use Rattle.h3_qpack.specs.EncoderHistory.{EncoderHistory, blocks_out, writing_on}
 use Rattle.h3_qpack.specs.EncoderState.{EncoderState, encoder_state, MayInsertInto}
-use Rattle.h3_qpack.specs.SectionEncoding.{Draft, draft_of, required_insert_count, entry_name_line, encoded_section, instructions_for, sent_section}
+use Rattle.h3_qpack.specs.SectionEncoding.{Draft, lasting_capacity, draining, is_worth, marks_after, draft_of, required_insert_count, entry_name_line, encoded_section, instructions_for, sent_section}
 use Rattle.h3_table.specs.declared.entries.Match.TheVariants as what
 use Rattle.h3_qpack.specs.declared.section.Section.{Section}
 use Rattle.h3_qpack.specs.declared.section.Choice.{Choice}
@@ -22,9 +24,13 @@ use Rattle.h3_qpack.specs.declared.section.Choice.TheVariants as choice
 abbrev pub oldest_of : List ℕ → ℕ
 oldest_of ns = fold min (2 ^ 64 - 1) ns
 
+-- Of the entries of an economical encoder's table, those up to this number drain.
+abbrev pub draining_in : EncoderState → ℕ
+draining_in t = if t.economical then t.table.inserted - length (table (lasting_capacity t.table.capacity) t.table.entries) else 0
+
 -- a section before its first field
 abbrev pub begun : EncoderState → Section
-begun t = record { base = t.table.inserted; may_block = nat_lt (length t.blocking_counts) t.limit; oldest = 2 ^ 64 - 1; newest = 0 }
+begun t = record { base = t.table.inserted; may_block = nat_lt (length t.blocking_counts) t.limit; draining = draining_in t; oldest = 2 ^ 64 - 1; newest = 0 }
 
 -- a line names this entry
 abbrev pub naming : Section → ℕ → Section
@@ -57,39 +63,63 @@ older t section f = newest_in t.table (matches what.Field f) (evicted t.table) (
 abbrev pub named : EncoderState → Section → Field → Option ℕ
 named t section f = newest_in t.table (matches what.Name f) (evicted t.table) (most_usable t section t.table.inserted)
 
+-- the same of the entries that do not drain
+abbrev pub named_lasting : EncoderState → Section → Field → Option ℕ
+named_lasting t section f = newest_in t.table (matches what.Name f) (max section.draining (evicted t.table)) (most_usable t section t.table.inserted)
+
+-- The field is worth an entry, whether an entry of it drains or not.
+abbrev pub is_worth_in : EncoderState → Bool → Field → Bool
+is_worth_in t drains f =
+    is_worth t.economical drains (section_size t.table.entries) t.table.capacity (newest_in t.table (matches what.Name f) (evicted t.table) t.table.inserted) t.marks f
+
 -- There is no equal entry that may be named.
 pub record IsNowhere (t : EncoderState) (section : Section) (f : Field) : Type 0 where
   pub no_static : static_field f ≡ None
   pub no_entry : older t section f ≡ None
 
--- There is none, and the field may not be inserted.
-pub record IsLiteral (t : EncoderState) (section : Section) (f : Field) : Type 0 where
-  pub nowhere : IsNowhere t section f
-  pub no_room : section.may_block ≡ true → MayInsertInto t f section.oldest → ⊥
+-- There is none but one that drains.
+pub record IsUnnamed (t : EncoderState) (section : Section) (f : Field) : Type 0 where
+  pub no_static : static_field f ≡ None
+  pub drains : IfSome (older t section f) (λ number. number ≤ section.draining)
 
--- An economical encoder whose sections may never be blocked inserts the field, which no entry equals and for which none has to go, for
--- later sections.
-pub record MayInsertAhead (t : EncoderState) (f : Field) (oldest : ℕ) : Type 0 where
+-- A section may be blocked on the field, which is worth an entry and may be inserted.
+pub record MayInsertFor (t : EncoderState) (section : Section) (f : Field) : Type 0 where
+  pub may_block : section.may_block ≡ true
+  pub worth : is_worth_in t (not (is_none (older t section f))) f ≡ true
+  pub may : MayInsertInto t f section.oldest
+
+-- There is none to be named, and the field is not inserted.
+pub record IsLiteral (t : EncoderState) (section : Section) (f : Field) : Type 0 where
+  pub nowhere : IsUnnamed t section f
+  pub no_room : MayInsertFor t section f → ⊥
+
+-- the newest entry that equals the field
+abbrev pub equal_in : EncoderState → Field → Option ℕ
+equal_in t f = newest_in t.table (matches what.Field f) (evicted t.table) t.table.inserted
+
+-- An economical encoder whose sections may never be blocked inserts the field, which is worth an entry and which no entry equals but such
+-- as drain, for later sections.
+pub record MayInsertAhead (t : EncoderState) (section : Section) (f : Field) : Type 0 where
   pub economical : t.economical ≡ true
   pub no_limit : t.limit ≡ 0
-  pub no_entry : newest_in t.table (matches what.Field f) (evicted t.table) t.table.inserted ≡ None
-  pub evicts_none : evicted (with_entry t.table f) ≤ evicted t.table
-  pub may : MayInsertInto t f oldest
+  pub no_entry : unwrap_or (equal_in t f) 0 ≤ section.draining
+  pub worth : is_worth_in t (not (is_none (equal_in t f))) f ≡ true
+  pub may : MayInsertInto t f section.oldest
 
 -- The field is to be written like this.
 abbrev pub IsChosen : EncoderState → Section → Field → Choice → Type 0
 IsChosen t section f (choice.Static index) = static_field f ≡ Some index
-IsChosen t section f (choice.Entry number) = (static_field f ≡ None) × (older t section f ≡ Some number)
-IsChosen t section f (choice.Insertion after) = IsNowhere t section f × (section.may_block ≡ true) × MayInsertInto t f section.oldest
+IsChosen t section f (choice.Entry number) = (static_field f ≡ None) × (older t section f ≡ Some number) × (section.draining < number)
+IsChosen t section f (choice.Insertion after searched) = IsUnnamed t section f × MayInsertFor t section f
 IsChosen t section f (choice.StaticName index) = IsLiteral t section f × (static_name f.name ≡ Some index)
-IsChosen t section f (choice.EntryName number) = IsLiteral t section f × (static_name f.name ≡ None) × (named t section f ≡ Some number)
-IsChosen t section f choice.Literal = IsLiteral t section f × (static_name f.name ≡ None) × (named t section f ≡ None)
+IsChosen t section f (choice.EntryName number) = IsLiteral t section f × (static_name f.name ≡ None) × (named_lasting t section f ≡ Some number)
+IsChosen t section f choice.Literal = IsLiteral t section f × (static_name f.name ≡ None) × (named_lasting t section f ≡ None)
 
 -- What it names is there, and what it inserts may be inserted.
 abbrev pub IsPossible : EncoderState → Section → Field → Choice → Type 0
 IsPossible t section f (choice.Static index) = index < 99
 IsPossible t section f (choice.Entry number) = (evicted t.table < number) × (number ≤ section.base)
-IsPossible t section f (choice.Insertion after) = MayInsertInto t f section.oldest × (after ≡ evicted (with_entry t.table f)) × (evicted t.table ≤ after)
+IsPossible t section f (choice.Insertion after searched) = MayInsertInto t f section.oldest × (after ≡ evicted (with_entry t.table f)) × (evicted t.table ≤ after)
 IsPossible t section f (choice.StaticName index) = index < 99
 IsPossible t section f (choice.EntryName number) = (evicted t.table < number) × (number ≤ t.table.inserted)
 IsPossible t section f choice.Literal = Unit {0}
@@ -98,7 +128,7 @@ IsPossible t section f choice.Literal = Unit {0}
 abbrev pub is_literal : Choice → Bool
 is_literal (choice.Static index) = false
 is_literal (choice.Entry number) = false
-is_literal (choice.Insertion after) = false
+is_literal (choice.Insertion after searched) = false
 is_literal (choice.StaticName index) = true
 is_literal (choice.EntryName number) = true
 is_literal choice.Literal = true
@@ -107,7 +137,7 @@ is_literal choice.Literal = true
 abbrev pub line_for : EncoderState → Section → Field → Choice → FieldLine
 line_for t section f (choice.Static index) = line.StaticField index
 line_for t section f (choice.Entry number) = line.RelativeField (section.base - number)
-line_for t section f (choice.Insertion after) = line.PostBaseField (t.table.inserted - section.base)
+line_for t section f (choice.Insertion after searched) = line.PostBaseField (t.table.inserted - section.base)
 line_for t section f (choice.StaticName index) = line.StaticName index f.value
 line_for t section f (choice.EntryName number) = entry_name_line section.base number f.value
 line_for t section f choice.Literal = line.Literal f.name f.value
@@ -116,7 +146,7 @@ line_for t section f choice.Literal = line.Literal f.name f.value
 abbrev pub section_after : EncoderState → Section → Choice → Section
 section_after t section (choice.Static index) = section
 section_after t section (choice.Entry number) = naming section number
-section_after t section (choice.Insertion after) = naming section (t.table.inserted + 1)
+section_after t section (choice.Insertion after searched) = naming section (t.table.inserted + 1)
 section_after t section (choice.StaticName index) = section
 section_after t section (choice.EntryName number) = naming section number
 section_after t section choice.Literal = section
@@ -131,33 +161,42 @@ insertion_for h after f =
 
 -- what is kept with it
 abbrev pub encoder_state_with : EncoderState → Field → Choice → EncoderState
-encoder_state_with t f (choice.Insertion after) = record t { table = with_entry t.table f }
+encoder_state_with t f (choice.Insertion after searched) = record t { table = with_entry t.table f }
 encoder_state_with t f other = t
+
+-- what is kept behind the field: a literal leaves its mark with an economical encoder
+abbrev pub noted : EncoderState → Field → EncoderState
+noted t f = record t { marks = if t.economical then with_mark t.marks f.value else t.marks }
 
 -- the instructions for it
 abbrev pub instructions_after : EncoderState → Field → Choice → List EncoderInstruction
-instructions_after t f (choice.Insertion after) = insertion_for t.table after f ∷ []
+instructions_after t f (choice.Insertion after searched) = insertion_for t.table after f ∷ []
 instructions_after t f other = []
 
 -- The field was inserted for later sections where it may be, and these are the instructions then; else nothing changed.
 pub record IsPutAhead (t : EncoderState) (section : Section) (f : Field) (new : EncoderState) (instructions after : List ℕ) : Type 0 where
-  pub inserted : MayInsertAhead t f section.oldest →
+  pub inserted : MayInsertAhead t section f →
       (new ≡ record t { table = with_entry t.table f }) × (after ≡ instructions ++ encoder_bytes (insertion_for t.table (evicted (with_entry t.table f)) f))
-  pub same : (MayInsertAhead t f section.oldest → ⊥) → (new ≡ t) × (after ≡ instructions)
+  pub same : (MayInsertAhead t section f → ⊥) → (new ≡ t) × (after ≡ instructions)
 
--- What is kept is that of a history with the draft's insertions, and the section names what the draft names.
-pub record IsDraftState (s : EncoderHistory) (d : Draft) (t : EncoderState) (section : Section) : Type 0 where
-  pub stores : t ≡ encoder_state (record s { inserted = d.inserted })
+-- What is kept is that of a history with the draft's insertions and these marks, and the section names what the draft names.
+pub record IsDraftState (s : EncoderHistory) (d : Draft) (marks : List ℕ) (t : EncoderState) (section : Section) : Type 0 where
+  pub stores : t ≡ encoder_state (record s { inserted = d.inserted; marks = marks })
   pub base : section.base ≡ length s.inserted
   pub may_block : section.may_block ≡ nat_lt (blocks_out s) s.limit
+  pub draining : section.draining ≡ draining s
   pub oldest : section.oldest ≡ oldest_of d.references
   pub newest : section.newest ≡ required_insert_count d
 
 -- These bytes are the draft's lines, and those are its instructions behind what was there.
-pub record IsDrafted (s : EncoderHistory) (d : Draft) (t : EncoderState) (section : Section) (lines start instruction_bytes : List ℕ) : Type 0 where
-  pub state : IsDraftState s d t section
+pub record IsDraftedWith (s : EncoderHistory) (d : Draft) (marks : List ℕ) (t : EncoderState) (section : Section) (lines start instruction_bytes : List ℕ) : Type 0 where
+  pub state : IsDraftState s d marks t section
   pub lines_are : lines ≡ flat_map line_bytes d.lines
   pub instructions_are : instruction_bytes ≡ start ++ flat_map encoder_bytes d.instructions
+
+-- and the marks are those behind these lines
+abbrev pub IsDrafted : EncoderHistory → Draft → EncoderState → Section → List ℕ → List ℕ → List ℕ → Type 0
+IsDrafted s d t section lines start instruction_bytes = IsDraftedWith s d (marks_after s d.lines) t section lines start instruction_bytes
 
 -- The section, which is written by the other encoder, was cut off behind some of its fields: what was inserted for them stays,
 -- and the instructions for that were written behind what was there.
@@ -165,7 +204,7 @@ pub record IsCutOff (s by : EncoderHistory) (fields : List Field) (t : EncoderSt
   pub front : ℕ
   pub within : front ≤ length fields
   pub are_bytes : AllByRecursion IsFieldOfBytes (take front fields)
-  pub stores : t ≡ encoder_state (record s { inserted = (draft_of by (take front fields)).inserted })
+  pub stores : t ≡ encoder_state (record s { inserted = (draft_of by (take front fields)).inserted; marks = marks_after by (draft_of by (take front fields)).lines })
   pub instructions_are : instruction_bytes ≡ start ++ flat_map encoder_bytes (instructions_for by (take front fields))
 
 -- The section was written behind what was there, and its instructions behind what was there; it is counted and tracked.

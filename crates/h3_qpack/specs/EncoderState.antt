@@ -29,6 +29,8 @@ pub record EncoderState : Type 0 where
   pub canceled : List ℕ
   pub counts_acknowledgments : Bool
   pub economical : Bool
+  -- marks of the last values that it wrote as literals
+  pub marks : List ℕ
 
 -- the least of some numbers
 abbrev pub least : List ℕ → ℕ
@@ -51,6 +53,7 @@ encoder_state s =
       canceled = s.canceled;
       counts_acknowledgments = s.counts_acknowledgments;
       economical = s.economical;
+      marks = s.marks;
     }
 
 -- So many insertions are known to be received.

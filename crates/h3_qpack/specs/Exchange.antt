@@ -17,7 +17,7 @@ use Rattle.h3_field.specs.declared.error.Error.{Error}
 use Rattle.h3_field.specs.declared.error.Error.TheVariants as of
 use Rattle.h3_qpack.specs.EncoderState.{EncoderState, encoder_state}
 use Rattle.h3_qpack.specs.EncoderHistory.{EncoderHistory, no_table, encoder_after_all, writing_on}
-use Rattle.h3_qpack.specs.SectionEncoding.{draft_of, required_insert_count, encoded_section, instructions_for, sent_section}
+use Rattle.h3_qpack.specs.SectionEncoding.{draft_of, required_insert_count, encoded_section, instructions_for, having_inserted, sent_section}
 use Rattle.h3_qpack.specs.DecoderState.{DecoderState, announcing}
 use Rattle.h3_qpack.specs.Meaning.{MeansFields, IsMissing, IsBadSection}
 use Rattle.h3_qpack.specs.SectionAnswers.{IsReasonFor}
@@ -138,7 +138,7 @@ Encodes w stream fields (answer.Encoded count) new =
 Encodes w stream fields (answer.Refused e) new =
     (e ≡ of.Encoder encoder_error.OutOfMemory)
     × ((front : ℕ) × (front ≤ length fields) × AreInMemory (take front fields) new.encoder_stream.bytes × (new ≡ record w {
-      encoder = record w.encoder { inserted = (draft_of (writing_on w.encoder stream) (take front fields)).inserted };
+      encoder = having_inserted w.encoder stream (take front fields);
       encoder_stream = writing w.encoder_stream (flat_map encoder_bytes (instructions_for (writing_on w.encoder stream) (take front fields)));
     }))
 Encodes w stream fields other new = ⊥

@@ -1,3 +1,4 @@
+pub mod Marks
 pub mod EncoderHistory
 pub mod SectionEncoding
 pub mod WholeInstructions

@@ -9,9 +9,9 @@ use Rattle.h3_qpack.specs.declared.section.Choice.TheVariants as choice
 
 -- No entry up to this number equals the field.
 abbrev pub IsMissed : TableState → ℕ → Field → Type 0
-IsMissed h base f = newest_in h (matches what.Field f) (evicted h) base ≡ None
+IsMissed h searched f = newest_in h (matches what.Field f) (evicted h) searched ≡ None
 
--- A field is inserted where no entry that is older than the section equals it.
-abbrev pub IsMissedFor : TableState → ℕ → Field → Choice → Type 0
-IsMissedFor h base f (choice.Insertion after) = IsMissed h base f
-IsMissedFor h base f other = Unit {0}
+-- A field is inserted where no entry up to the number that was searched equals it.
+abbrev pub IsMissedFor : TableState → Field → Choice → Type 0
+IsMissedFor h f (choice.Insertion after searched) = IsMissed h searched f
+IsMissedFor h f other = Unit {0}

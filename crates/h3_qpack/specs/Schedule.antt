@@ -3,7 +3,7 @@ use Rattle.std.specs.Prelude.{◌≡◌, ℕ, ◌+◌, ◌++◌, ◌<◌, ◌≤
 use Rattle.h3_field.specs.Field.{Field}
 use Rattle.h3_field.specs.Instruction.{DecoderInstruction}
 use Rattle.h3_qpack.specs.EncoderHistory.{no_table, using_table, writing_on}
-use Rattle.h3_qpack.specs.SectionEncoding.{draft_of, instructions_for}
+use Rattle.h3_qpack.specs.SectionEncoding.{having_inserted, instructions_for}
 use Rattle.h3_qpack.specs.Session.{Session, UndecodedSection, encoded, inserted, oldest, is_canceled, count_of, decoded, after_cancellation, after_decoder_instruction}
 
 pub data SessionEvent : Type 0 where
@@ -29,7 +29,7 @@ economizing s economical = record s { encoder = record s.encoder { economical = 
 abbrev pub without_section : Session → ℕ → List Field → Session
 without_section s stream fields =
     record s {
-      encoder = record s.encoder { inserted = (draft_of (writing_on s.encoder stream) fields).inserted };
+      encoder = having_inserted s.encoder stream fields;
       instructions = s.instructions ++ instructions_for (writing_on s.encoder stream) fields;
     }
 

@@ -1,14 +1,15 @@
 -- How a field section is written: field by field, over the plain list of insertions.
-use Rattle.std.specs.Prelude.{ℕ, ◌+◌, ◌-◌, ◌^◌, Bool, ◌&&◌, ◌||◌, List, [], ◌∷◌, ◌++◌, length, fold, flat_map, max, nat_le, nat_lt, bytes_eq, Option, option_map, unwrap_or, is_none, if◌then◌else◌, ◌==◌}
+use Rattle.std.specs.Prelude.{ℕ, ◌+◌, ◌-◌, ◌/◌, ◌^◌, Bool, not, ◌&&◌, ◌||◌, List, [], ◌∷◌, ◌++◌, length, fold, flat_map, max, nat_le, nat_lt, bytes_eq, Option, Some, None, option_map, unwrap_or, is_none, if◌then◌else◌, ◌==◌}
 use Rattle.std.specs.List.{list_all}
-use Rattle.h3_field.specs.Field.{Field, field_eq, field_size}
+use Rattle.h3_field.specs.Field.{Field, field_eq, field_size, section_size}
 use Rattle.h3_field.specs.StaticTable.{static_field, static_name}
 use Rattle.h3_field.specs.Line.{FieldLine, line_bytes}
 use Rattle.h3_field.specs.Line.FieldLine.{StaticField, RelativeField, PostBaseField, StaticName, RelativeName, PostBaseName, Literal}
 use Rattle.h3_field.specs.Instruction.{EncoderInstruction}
 use Rattle.h3_field.specs.Instruction.EncoderInstruction.{InsertWithStaticName, InsertWithEntryName, InsertLiteral, Duplicate}
 use Rattle.h3_field.specs.Prefix.{prefix_bytes}
-use Rattle.h3_table.specs.Table.{evictions, newest}
+use Rattle.h3_table.specs.Table.{table, evictions, newest}
+use Rattle.h3_qpack.specs.Marks.{with_mark, is_marked}
 use Rattle.h3_qpack.specs.EncoderHistory.{EncoderHistory, blocks_out, referenced_entries, writing_on}
 
 -- a section under way: what was inserted so far, the instructions for that, the lines, and the entries that they name
@@ -22,12 +23,64 @@ pub record Draft : Type 0 where
 abbrev pub is_usable : EncoderHistory → ℕ → Bool
 is_usable s number = nat_le number s.known_received || nat_lt (blocks_out s) s.limit
 
--- the newest entry equal to the field that is older than the section, still there and usable
-abbrev pub found : EncoderHistory → Draft → Field → Option ℕ
-found s draft f = newest
+-- all but an eighth of a capacity
+abbrev pub lasting_capacity : ℕ → ℕ
+lasting_capacity capacity = capacity - capacity / 8
+
+-- The oldest entries of an economical encoder's table drain (RFC 9204, section 2.1.1.1): of those that are older than the section, the
+-- ones behind the newest that fill all but an eighth of the capacity. No line names an entry up to this number, so that they can go.
+abbrev pub draining : EncoderHistory → ℕ
+draining s = if s.economical then evictions (lasting_capacity s.capacity) s.inserted else 0
+
+-- Entries up to this number are gone, or drain.
+abbrev pub unnamed : EncoderHistory → Draft → ℕ
+unnamed s draft = max (draining s) (evictions s.capacity draft.inserted)
+
+-- the newest entry equal to the field that is older than the section, still there and usable, whether it drains or not
+abbrev pub held : EncoderHistory → Draft → Field → Option ℕ
+held s draft f = newest
     (λ number entry. field_eq entry f && nat_lt (evictions s.capacity draft.inserted) number
     && nat_le number (length s.inserted) && is_usable s number)
     draft.inserted
+
+-- the same of the entries that do not drain
+abbrev pub found : EncoderHistory → Draft → Field → Option ℕ
+found s draft f = newest
+    (λ number entry. field_eq entry f && nat_lt (unnamed s draft) number && nat_le number (length s.inserted) && is_usable s number)
+    draft.inserted
+
+-- the value of a line that is a literal
+abbrev pub literal_value : FieldLine → Option (List ℕ)
+literal_value (StaticField index) = None
+literal_value (RelativeField index) = None
+literal_value (PostBaseField index) = None
+literal_value (StaticName index value) = Some value
+literal_value (RelativeName index value) = Some value
+literal_value (PostBaseName index value) = Some value
+literal_value (Literal name value) = Some value
+
+-- the marks behind a further line
+abbrev pub marked : Bool → List ℕ → FieldLine → List ℕ
+marked economical marks line = unwrap_or (option_map (λ value. if economical then with_mark marks value else marks) (literal_value line)) marks
+
+-- the marks behind the lines of a section
+abbrev pub marks_after : EncoderHistory → List FieldLine → List ℕ
+marks_after s lines = fold (marked s.economical) s.marks lines
+
+-- Worth an entry is what an encoder inserts that is not economical. Else it is a field whose entry drains, one with which nothing would
+-- drain, the first of its name, and one whose value was among the last literals.
+abbrev pub is_worth : (economical drains : Bool) (size capacity : ℕ) (name : Option ℕ) (marks : List ℕ) → Field → Bool
+is_worth economical drains size capacity name marks f =
+    not economical || drains || nat_le (size + field_size f) (lasting_capacity capacity) || is_none name || is_marked marks f.value
+
+-- the newest entry of the field's name that is still there
+abbrev pub any_of_name : EncoderHistory → Draft → Field → Option ℕ
+any_of_name s draft f = newest (λ number entry. bytes_eq entry.name f.name && nat_lt (evictions s.capacity draft.inserted) number) draft.inserted
+
+-- Worth an entry by the table as it is.
+abbrev pub is_worth_to : EncoderHistory → Bool → List ℕ → Draft → Field → Bool
+is_worth_to s drains marks draft f =
+    is_worth s.economical drains (section_size (table s.capacity draft.inserted)) s.capacity (any_of_name s draft f) marks f
 
 -- how many insertions are evicted once the field is inserted
 abbrev pub evictions_by : EncoderHistory → Draft → Field → ℕ
@@ -42,23 +95,24 @@ finds_room s draft f =
     && nat_le (evictions_by s draft f) (max s.known_received (evictions s.capacity draft.inserted))
     && list_all (λ number. nat_lt (evictions_by s draft f) number) (referenced_entries s ++ draft.references)
 
--- There is room, and one more section may be blocked.
+-- One more section may be blocked, the field is worth an entry, and there is room.
 abbrev pub is_insertable : EncoderHistory → Draft → Field → Bool
-is_insertable s draft f = nat_lt (blocks_out s) s.limit && finds_room s draft f
+is_insertable s draft f =
+    nat_lt (blocks_out s) s.limit && is_worth_to s (not (is_none (held s draft f))) (marks_after s draft.lines) draft f && finds_room s draft f
 
--- No entry equals the field: no static one, and none of the table.
+-- the newest entry equal to the field that is still there
+abbrev pub any_equal : EncoderHistory → Draft → Field → Option ℕ
+any_equal s draft f = newest (λ number entry. field_eq entry f && nat_lt (evictions s.capacity draft.inserted) number) draft.inserted
+
+-- No entry equals the field: no static one, and none of the table but such as drain.
 abbrev pub is_new : EncoderHistory → Draft → Field → Bool
-is_new s draft f = is_none (static_field f)
-    && is_none (newest (λ number entry. field_eq entry f && nat_lt (evictions s.capacity draft.inserted) number) draft.inserted)
+is_new s draft f = is_none (static_field f) && nat_le (unwrap_or (any_equal s draft f) 0) (draining s)
 
--- No entry has to go for it.
-abbrev pub evicts_none : EncoderHistory → Draft → Field → Bool
-evicts_none s draft f = nat_le (evictions_by s draft f) (evictions s.capacity draft.inserted)
-
--- An economical encoder whose sections may never be blocked inserts the field ahead of its use, while no entry has to go: a later section
--- may name the entry once it is known to be received (RFC 9204, section 2.1.2).
-abbrev pub is_insertable_ahead : EncoderHistory → Draft → Field → Bool
-is_insertable_ahead s draft f = s.economical && (s.limit == 0) && is_new s draft f && evicts_none s draft f && finds_room s draft f
+-- An economical encoder whose sections may never be blocked inserts the field ahead of its use: a later section may name the entry once
+-- it is known to be received (RFC 9204, section 2.1.2). The marks are those before the field.
+abbrev pub is_insertable_ahead : EncoderHistory → List ℕ → Draft → Field → Bool
+is_insertable_ahead s marks draft f =
+    s.economical && (s.limit == 0) && is_new s draft f && is_worth_to s (not (is_none (any_equal s draft f))) marks draft f && finds_room s draft f
 
 -- the newest entry that remains after the insertion and passes
 abbrev pub remaining : EncoderHistory → Draft → Field → (Field → Bool) → Option ℕ
@@ -72,10 +126,10 @@ insertion s draft f =
     unwrap_or (option_map (λ number. InsertWithEntryName (length draft.inserted - number) f.value) (remaining s draft f (λ entry. bytes_eq entry.name f.name)))
     (InsertLiteral f.name f.value)))
 
--- the newest entry of the field's name that is still there and usable
+-- the newest entry of the field's name that is still there, does not drain and is usable
 abbrev pub found_name : EncoderHistory → Draft → Field → Option ℕ
 found_name s draft f = newest
-    (λ number entry. bytes_eq entry.name f.name && nat_lt (evictions s.capacity draft.inserted) number && is_usable s number)
+    (λ number entry. bytes_eq entry.name f.name && nat_lt (unnamed s draft) number && is_usable s number)
     draft.inserted
 
 -- a further line, and the entry that it names
@@ -115,12 +169,12 @@ abbrev pub add_ahead : EncoderHistory → Draft → Field → Draft
 add_ahead s draft f = record draft { inserted = draft.inserted ++ f ∷ []; instructions = draft.instructions ++ insertion s draft f ∷ [] }
 
 -- what is inserted behind the line
-abbrev pub insert_ahead : EncoderHistory → Draft → Field → Draft
-insert_ahead s draft f = if is_insertable_ahead s draft f then add_ahead s draft f else draft
+abbrev pub insert_ahead : EncoderHistory → List ℕ → Draft → Field → Draft
+insert_ahead s marks draft f = if is_insertable_ahead s marks draft f then add_ahead s draft f else draft
 
 -- its line, and what is inserted for later sections
 abbrev pub add_field : EncoderHistory → Draft → Field → Draft
-add_field s draft f = insert_ahead s (write_field s draft f) f
+add_field s draft f = insert_ahead s (marks_after s draft.lines) (write_field s draft f) f
 
 -- all fields of a section
 abbrev pub draft_of : EncoderHistory → List Field → Draft
@@ -140,6 +194,12 @@ encoded_section s fields =
 abbrev pub instructions_for : EncoderHistory → List Field → List EncoderInstruction
 instructions_for s fields = (draft_of s fields).instructions
 
+-- the encoder after the insertions for some fields on a stream, whose section does not go out
+abbrev pub having_inserted : EncoderHistory → ℕ → List Field → EncoderHistory
+having_inserted s stream fields =
+    let draft = draft_of (writing_on s stream) fields in
+    record s { inserted = draft.inserted; marks = marks_after (writing_on s stream) draft.lines }
+
 -- the encoder after the section on a stream, which is tracked where it names an entry
 abbrev pub sent_section : EncoderHistory → ℕ → List Field → EncoderHistory
 sent_section s stream fields =
@@ -147,5 +207,6 @@ sent_section s stream fields =
     record s {
       inserted = draft.inserted;
       required_insert_counts = s.required_insert_counts ++ required_insert_count draft ∷ [];
+      marks = marks_after (writing_on s stream) draft.lines;
       tracked = s.tracked ++ (if required_insert_count draft == 0 then [] else record { stream = stream; references = draft.references } ∷ []);
     }

@@ -1,5 +1,5 @@
 -- The worked values that the definitions are tried at.
-use Rattle.std.specs.Prelude.{ℕ, Bool, true, List, [], ◌∷◌, codes}
+use Rattle.std.specs.Prelude.{ℕ, Bool, true, List, [], ◌∷◌, replicate, codes}
 use Rattle.h3_field.specs.Field.{Field}
 use Rattle.h3_field.specs.Instruction.DecoderInstruction.{Acknowledge, CancelStream, Increment}
 use Rattle.h3_qpack.specs.EncoderHistory.{EncoderHistory, no_table, using_table, encoder_after}
@@ -76,6 +76,28 @@ no_waiting capacity = record (fresh capacity 0) { economical = true }
 
 abbrev pub inserted_ahead : ℕ → EncoderHistory
 inserted_ahead capacity = sent_section (no_waiting capacity) 0 (with_header x_a)
+
+-- A section of one field, which is acknowledged, and of which one insertion is known.
+abbrev pub kept_field : EncoderHistory → ℕ → Field → EncoderHistory
+kept_field s stream f = encoder_after (encoder_after (sent_section s stream (f ∷ [])) (Increment 1)) (Acknowledge stream)
+
+abbrev pub empty_a : Field
+empty_a = record { name = codes "a"; value = [] }
+
+abbrev pub empty_b : Field
+empty_b = record { name = codes "b"; value = [] }
+
+-- of size 250
+abbrev pub x_long : Field
+x_long = record { name = codes "x"; value = replicate 217 97 }
+
+-- An economical encoder has 316 bytes in a table of 320, of which seven eighths are 280: the two oldest of its three entries drain.
+abbrev pub two_drain : EncoderHistory
+two_drain = kept_field (kept_field (kept_field (record (fresh 320 10) { economical = true }) 0 empty_a) 4 empty_b) 8 x_long
+
+-- another value of the oldest entry's name
+abbrev pub a_of_two : Field
+a_of_two = record { name = codes "a"; value = codes "2" }
 
 -- Its table has at most so much, and its decoder announced a capacity.
 abbrev pub capped : ℕ → ℕ → EncoderHistory

@@ -8,10 +8,14 @@ ghost use Rattle.h3_table.specs.Index.{IsIndexed, HasRoom};
 ghost use Rattle.h3_table.specs.Tracking.{is_of, is_free_to};
 ghost use Rattle.h3_field.specs.Instruction.DecoderInstruction.{Acknowledge, CancelStream};
 ghost use Rattle.h3_qpack.specs.EncoderState.{EncoderState, MayInsertInto, MayHaveCapacity, IsCapacityRefusal, raised, refuses_increment, encoder_state_sent, encoder_state_after, encoder_state_withdrawn};
-ghost use Rattle.h3_qpack.specs.Drafting.{begun, IsSmall, MayInsertAhead};
+ghost use Rattle.h3_qpack.specs.Marks.{no_marks};
+ghost use Rattle.h3_qpack.specs.Missed.{IsMissed};
+ghost use Rattle.h3_qpack.specs.Drafting.{begun, draining_in, is_worth_in, equal_in, noted, IsSmall, MayInsertAhead};
 ghost use Rattle.h3_field.specs.declared.dynamic.Error.TheVariants.{MaxBlockedStreamsTooLarge};
 
 use crate::encoder_view::DynamicTableEncoder;
+use crate::marks::Marks;
+use crate::section::Section;
 use crate::view::DynamicTableDecoder;
 use h3_field::HeaderField;
 pub use h3_field::dynamic::Error;
@@ -46,8 +50,10 @@ pub struct DynamicTable {
     blocking: BlockingCounts,
     // an acknowledgment tells of the insertions that its section needs
     counts_acknowledgments: bool,
-    // it inserts for later sections what the present one may not name
+    // it does not keep what never comes again, and inserts for later sections what the present one may not name
     economical: bool,
+    // of the last values that it wrote as literals
+    marks: Marks,
     alloc: Global,
 }
 
@@ -76,7 +82,7 @@ fn reserve(names: &mut Index, fields: &mut Index) -> Result<(), AllocError>
 impl DynamicTable {
     /// A table of capacity 0, whose sections may not be blocked. It may have any capacity up to 2^30 - 1.
     pub fn new(alloc: Global) -> DynamicTable
-        ensures { result ≡ record { table = no_entries; most_capacity = 2 ^ 30 - 1; announced = 0; limit = 0; known_received = 0; blocking_counts = []; tracked = []; canceled = []; counts_acknowledgments = false; economical = false } }
+        ensures { result ≡ record { table = no_entries; most_capacity = 2 ^ 30 - 1; announced = 0; limit = 0; known_received = 0; blocking_counts = []; tracked = []; canceled = []; counts_acknowledgments = false; economical = false; marks = no_marks } }
     {
         DynamicTable {
             entries: Entries::new(alloc),
@@ -90,6 +96,7 @@ impl DynamicTable {
             blocking: BlockingCounts::new(alloc),
             counts_acknowledgments: false,
             economical: false,
+            marks: Marks::new(),
             alloc,
         }
     }
@@ -315,25 +322,77 @@ impl DynamicTable {
         Some(after)
     }
 
-    /// The same for a field that is inserted for later sections alone: the encoder is economical, its sections may never be blocked, no
-    /// entry of the table equals the field, and none has to go.
-    pub(crate) fn room_ahead(&self, field: &HeaderField, oldest: usize) -> Option<usize>
-        ensures some { IfSome result (λ n. MayInsertAhead self.now field.now oldest × (n ≡ evicted (with_entry self.now.table field.now)) × (evicted self.now.table ≤ n)) }
-        ensures none { IfNone result (MayInsertAhead self.now field.now oldest → ⊥) }
+    /// The number up to which entries drain: the oldest eighth of an economical encoder's capacity.
+    pub(crate) fn draining(&self) -> usize
+        ensures { result ≡ draining_in self.now }
+    {
+        if !self.economical {
+            return 0;
+        }
+        let capacity = self.entries.capacity();
+        let inserted = self.entries.inserted();
+        self.entries.evicted();
+        match self
+            .entries
+            .evicted_within(capacity - capacity / 8, inserted)
+        {
+            Some(number) => number,
+            None => 0,
+        }
+    }
+
+    /// Whether a field is worth an entry, where an entry of it drains or none does: an economical encoder inserts anew what drains, what is
+    /// the first of its name, what was among the last literals, and anything where nothing would drain.
+    pub(crate) fn is_worth(&self, field: &HeaderField, drains: bool) -> bool
+        ensures { result ≡ is_worth_in self.now drains field.now }
+    {
+        if !self.economical || drains {
+            return true;
+        }
+        let capacity = self.entries.capacity();
+        if self.entries.size().saturating_add(size_of(field)) <= capacity - capacity / 8 {
+            return true;
+        }
+        let evicted = self.entries.evicted();
+        let inserted = self.entries.inserted();
+        match self.newest(Match::Name, field, evicted, inserted) {
+            Some(_number) => self.marks.has(field.value()),
+            None => true,
+        }
+    }
+
+    /// Keeps the mark of a field that was written as a literal, where the encoder is economical.
+    pub(crate) fn note(&mut self, field: &HeaderField)
+        ensures { self.new ≡ noted self.old field.now }
+    {
+        if self.economical {
+            self.marks.add(field.value());
+        }
+    }
+
+    /// The same as `room_for` for a field that is inserted for later sections alone: the encoder is economical, its sections may never be
+    /// blocked, the field is worth an entry, and no entry equals it but such as drain. It also answers up to which number none does.
+    pub(crate) fn room_ahead(
+        &self,
+        field: &HeaderField,
+        section: &Section,
+    ) -> Option<(usize, usize)>
+        ensures some { IfSome result (λ p. MayInsertAhead self.now section.now field.now × (p.0 ≡ evicted (with_entry self.now.table field.now)) × (evicted self.now.table ≤ p.0)) }
+        ensures missed { IfSome result (λ p. IsMissed self.now.table p.1 field.now) }
+        ensures none { IfNone result (MayInsertAhead self.now section.now field.now → ⊥) }
     {
         if !self.economical || self.limit != 0 {
             return None;
         }
         let evicted = self.entries.evicted();
         let inserted = self.entries.inserted();
-        if let Some(_number) = self.newest(Match::Field, field, evicted, inserted) {
+        let equal = self.newest(Match::Field, field, evicted, inserted);
+        if equal.unwrap_or(0) > section.draining || !self.is_worth(field, equal.is_some()) {
             return None;
         }
-        let after = self.room_for(field, oldest)?;
-        if after > evicted {
-            return None;
-        }
-        Some(after)
+        let after = self.room_for(field, section.oldest)?;
+        let searched = if equal.is_some() { 0 } else { inserted };
+        Some((after, searched))
     }
 
     /// The sum of increments grows, and stops at the greatest number. Sections whose insertions are known to be received
@@ -405,7 +464,7 @@ impl DynamicTable {
         self.counts_acknowledgments = counted;
     }
 
-    /// From now on the encoder inserts for later sections, where no section may be blocked, or does not.
+    /// From now on the encoder is economical with the table, or is not.
     pub(crate) fn economize(&mut self, economical: bool)
         ensures { self.new ≡ record self.old { economical = economical } }
     {

@@ -71,9 +71,11 @@ impl Encoder {
         self.table.count_acknowledgments(counted);
     }
 
-    /// From now on the encoder is economical with its table, or is not. Where the decoder lets no section wait (a limit of 0), an
-    /// economical encoder inserts a field that it writes as a literal, and names its entry once the insertion is known to be received
-    /// (RFC 9204, section 2.1.2); one that is not never inserts there. Off at first.
+    /// From now on the encoder is economical with its table, or is not. An economical encoder names no entry of the oldest eighth of its
+    /// table, and inserts such a field anew (RFC 9204, section 2.1.1.1). Else it inserts a field with which nothing would drain, the first
+    /// of its name, and one whose value seems to be among the last 32 that were written as literals. Where the decoder lets no section
+    /// wait (a limit of 0), it inserts such a field behind its literal line, and names the entry once the insertion is known to be
+    /// received (section 2.1.2); one that is not economical never inserts there. Off at first.
     pub fn economize(&mut self, economical: bool)
         ensures { (s : EncoderHistory) → self.old ≡ encoder_state s → self.new ≡ encoder_state (record s { economical = economical }) }
     {
@@ -324,7 +326,7 @@ impl Encoder {
     }
 
     /// Takes back the newest section of a stream, where `count` is its required insert count, as if it had not been
-    /// written: for a section that is not sent after all. Its insertions stay.
+    /// written: for a section that is not sent after all. Its insertions stay, and so do the marks of its literals.
     pub fn withdraw(&mut self, stream: u64, count: usize)
         ensures { (s : EncoderHistory) → self.old ≡ encoder_state s → self.new ≡ encoder_state (withdrawn s stream count) }
     {

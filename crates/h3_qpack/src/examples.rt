@@ -1,17 +1,19 @@
 //! What the definitions give at values worked out by hand. These functions do nothing: the check computes their contracts.
-ghost use Rattle.std.specs.Prelude.{◌≡◌, ℕ, ◌∷◌, ◌++◌, [], List, codes, flat_map};
+ghost use Rattle.std.specs.Prelude.{◌≡◌, ℕ, ◌∷◌, ◌++◌, [], List, replicate, codes, flat_map};
 ghost use Rattle.h3_field.specs.Field.{Field};
 ghost use Rattle.h3_field.specs.Instruction.{encoder_bytes};
 ghost use Rattle.h3_field.specs.Instruction.DecoderInstruction.{CancelStream, Increment};
 ghost use Rattle.h3_qpack.specs.EncoderHistory.{blocks_out, encoder_after, writing_on};
-ghost use Rattle.h3_qpack.specs.SectionEncoding.{encoded_section, instructions_for, sent_section};
+ghost use Rattle.h3_qpack.specs.Marks.{value_mark};
+ghost use Rattle.h3_qpack.specs.SectionEncoding.{draining, draft_of, encoded_section, instructions_for, sent_section};
 ghost use Rattle.std.specs.Prelude.{Some, None, option_map, true, false};
 ghost use Rattle.h3_field.specs.Instruction.DecoderInstruction.{Acknowledge};
-ghost use Rattle.h3_field.specs.Instruction.EncoderInstruction.{SetCapacity, InsertWithEntryName};
+ghost use Rattle.h3_field.specs.Line.FieldLine.{RelativeField, PostBaseField, Literal};
+ghost use Rattle.h3_field.specs.Instruction.EncoderInstruction.{SetCapacity, InsertWithEntryName, InsertLiteral, Duplicate};
 ghost use Rattle.h3_qpack.specs.EncoderHistory.{is_refused, encoder_after_front, withdrawn};
 ghost use Rattle.h3_table.specs.Table.{table};
 ghost use Rattle.h3_qpack.specs.DecoderState.{announcing, decoder_after, decoder_after_all};
-ghost use Rattle.h3_qpack.specs.Worked.{three, fresh, sample, host_text, path_text, with_header, x_a, x_b, x_a_of, older_known, three_canceled, canceled_first, one_waits, one_acknowledged, two_on_a_stream, no_waiting, inserted_ahead, capped, twice_inserted};
+ghost use Rattle.h3_qpack.specs.Worked.{three, fresh, sample, host_text, path_text, with_header, x_a, x_b, x_a_of, older_known, three_canceled, canceled_first, one_waits, one_acknowledged, two_on_a_stream, no_waiting, inserted_ahead, capped, twice_inserted, empty_b, x_long, two_drain, a_of_two};
 
 /// Three requests for the same page: the first inserts two fields, the second names them, and the third may not.
 #[tactic(auto, unfolding(h3_field::specs::StaticTable::static_table, h3_field::specs::StaticTable::static_field, h3_field::specs::StaticTable::static_name, h3_huffman::specs::Huffman::huffman, h3_huffman::specs::Huffman::octets, h3_huffman::specs::Huffman::code_word, h3_huffman::specs::Huffman::bits))]
@@ -115,7 +117,8 @@ pub fn capped_tables()
 {}
 
 /// No section may wait. An economical encoder writes a literal and inserts the field behind it, once; it names the entry when it is known
-/// to be received. Where an entry would have to go for it nothing is inserted, and one that is not economical never inserts there.
+/// to be received. For the first field of a name an entry goes, and for another value of a name none does. An encoder that is not
+/// economical never inserts there.
 #[tactic(auto, unfolding(h3_field::specs::StaticTable::static_table, h3_field::specs::StaticTable::static_field, h3_field::specs::StaticTable::static_name, h3_huffman::specs::Huffman::huffman, h3_huffman::specs::Huffman::octets, h3_huffman::specs::Huffman::code_word, h3_huffman::specs::Huffman::bits))]
 pub fn economical_tables()
     ensures first { encoded_section (no_waiting 64) (with_header x_a) ≡ 0 ∷ 0 ∷ 217 ∷ 43 ∷ 242 ∷ 176 ∷ 255 ∷ 129 ∷ 15 ∷ [] }
@@ -123,6 +126,29 @@ pub fn economical_tables()
     ensures unknown { encoded_section (inserted_ahead 64) (with_header x_a) ≡ 0 ∷ 0 ∷ 217 ∷ 43 ∷ 242 ∷ 176 ∷ 255 ∷ 129 ∷ 15 ∷ [] }
     ensures once { instructions_for (inserted_ahead 64) (with_header x_a) ≡ [] }
     ensures known { encoded_section (encoder_after (inserted_ahead 64) (Increment 1)) (with_header x_a) ≡ 2 ∷ 0 ∷ 217 ∷ 128 ∷ [] }
-    ensures full { instructions_for (encoder_after (inserted_ahead 64) (Increment 1)) (with_header x_b) ≡ [] }
+    ensures first_of_name { instructions_for (encoder_after (inserted_ahead 64) (Increment 1)) (with_header x_b) ≡ InsertLiteral (codes "x-b") (codes "2") ∷ [] }
+    ensures spared { instructions_for (encoder_after (inserted_ahead 64) (Increment 1)) (x_a_of (codes "2") ∷ []) ≡ [] }
     ensures other { instructions_for (fresh 64 0) (with_header x_a) ≡ [] }
+{}
+
+/// An economical encoder names no entry that drains: it inserts such a field anew as a copy, and names what lasts. Another value of a name
+/// that is there is inserted only when it comes a second time. An encoder that is not economical names what is there.
+#[tactic(auto, unfolding(h3_field::specs::StaticTable::static_table, h3_field::specs::StaticTable::static_field, h3_field::specs::StaticTable::static_name, h3_huffman::specs::Huffman::huffman, h3_huffman::specs::Huffman::octets, h3_huffman::specs::Huffman::code_word, h3_huffman::specs::Huffman::bits))]
+pub fn draining_tables()
+    ensures drain { draining two_drain ≡ 2 }
+    ensures renewed { instructions_for two_drain (empty_b ∷ []) ≡ Duplicate 1 ∷ [] }
+    ensures new_entry { (draft_of two_drain (empty_b ∷ [])).lines ≡ PostBaseField 0 ∷ [] }
+    ensures lasts { (draft_of two_drain (x_long ∷ [])).lines ≡ RelativeField 0 ∷ [] }
+    ensures spared { instructions_for two_drain (a_of_two ∷ []) ≡ [] }
+    ensures literal { (draft_of two_drain (a_of_two ∷ [])).lines ≡ Literal (codes "a") (codes "2") ∷ [] }
+    ensures second_time { instructions_for (sent_section two_drain 12 (a_of_two ∷ [])) (a_of_two ∷ []) ≡ InsertLiteral (codes "a") (codes "2") ∷ [] }
+    ensures plain { (draft_of (record two_drain { economical = false }) (empty_b ∷ [])).lines ≡ RelativeField 1 ∷ [] }
+{}
+
+/// The mark of a value goes by its length and its last 16 bytes.
+pub fn marks()
+    ensures empty { value_mark [] ≡ 0 }
+    ensures one { value_mark (codes "2") ≡ 81 }
+    ensures two { value_mark (codes "ab") ≡ 5027 }
+    ensures long { value_mark (1 ∷ replicate 16 0) ≡ value_mark (2 ∷ replicate 16 0) }
 {}

@@ -20,7 +20,7 @@ ghost use Rattle.h3_qpack.specs.TableHistory.{IsReadAs, table_after_all, table_o
 ghost use Rattle.h3_qpack.specs.Meaning.{MeansFields, IsMissing};
 ghost use Rattle.h3_qpack.specs.DecodedSection.{DecodedSection, decode_section, IsDecodedAs};
 ghost use Rattle.h3_qpack.specs.Hearing.{Heard, heard, hear, heard_then, IsHeardAs, Listened, listened, listen, listened_then, IsListenedAs};
-ghost use Rattle.h3_qpack.specs.SectionEncoding.{draft_of, encoded_section, instructions_for, required_insert_count, sent_section};
+ghost use Rattle.h3_qpack.specs.SectionEncoding.{draft_of, encoded_section, instructions_for, required_insert_count, having_inserted, sent_section};
 ghost use Rattle.h3_qpack.specs.Encodings.{decoder_of, HasInsertions, IsDecoderAt, IsWritten, IsWrittenInstruction, tried};
 ghost use Rattle.h3_field.specs.Prefix.{most_entries, IsRequiredCount};
 ghost use Rattle.h3_qpack.specs.Session.{Session, UndecodedSection, oldest, is_canceled, count_of, tracked_references, IsSound, DecodesTo};
@@ -128,11 +128,11 @@ pub fn written_instructions_are_accepted()
         × HasInsertions announced capacity (take (k - length (opening capacity)) inserted) r }
 {}
 
-/// A section that is withdrawn as soon as it was written leaves what one leaves that was cut off: its insertions. Of the required
-/// insert counts that an encoder keeps, a section that was sent adds its own, and no decoder instruction takes one away.
+/// A section that is withdrawn as soon as it was written leaves what one leaves that was cut off: its insertions and its marks. Of the
+/// required insert counts that an encoder keeps, a section that was sent adds its own, and no decoder instruction takes one away.
 pub fn sections_leave_their_counts()
     ensures withdrawn { (s : EncoderHistory) (stream : ℕ) (fields : List Field) →
-        withdrawn (sent_section s stream fields) stream (required_insert_count (draft_of (writing_on s stream) fields)) ≡ record s { inserted = (draft_of (writing_on s stream) fields).inserted } }
+        withdrawn (sent_section s stream fields) stream (required_insert_count (draft_of (writing_on s stream) fields)) ≡ having_inserted s stream fields }
     ensures sent { (s : EncoderHistory) (stream : ℕ) (fields : List Field) →
         (sent_section s stream fields).required_insert_counts ≡ s.required_insert_counts ++ required_insert_count (draft_of (writing_on s stream) fields) ∷ [] }
     ensures read { (s : EncoderHistory) (i : DecoderInstruction) → (encoder_after s i).required_insert_counts ≡ s.required_insert_counts }

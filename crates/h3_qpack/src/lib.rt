@@ -10,6 +10,7 @@ mod increment;
 pub mod laws;
 mod lines;
 pub mod listing;
+mod marks;
 mod pending_section;
 mod section;
 pub mod session;

@@ -1,7 +1,7 @@
 //! A field section under way, and the choice of how each field is written (RFC 9204, section 2.1).
 ghost use Rattle.std.specs.Prelude.{◌≡◌, ◌+◌, ◌<◌, ◌≤◌};
 ghost use Rattle.h3_qpack.specs.EncoderState.{EncoderState};
-ghost use Rattle.h3_qpack.specs.Drafting.{begun, naming, most_usable, IsOver, IsNowhere, IsLiteral, IsChosen, IsPossible, is_literal};
+ghost use Rattle.h3_qpack.specs.Drafting.{begun, naming, most_usable, IsOver, IsLiteral, IsChosen, IsPossible, is_literal};
 ghost use Rattle.h3_qpack.specs.Missed.{IsMissedFor};
 
 use crate::dynamic::DynamicTable;
@@ -16,8 +16,9 @@ pub(crate) enum Choice {
     Static(usize),
     /// A line that is the dynamic entry of that number, which is older than the section.
     Entry(usize),
-    /// An insertion, after which so many entries are evicted, and a line that is the new entry.
-    Insertion(usize),
+    /// An insertion, after which so many entries are evicted, and a line that is the new entry. No entry up to the second number equals
+    /// the field.
+    Insertion(usize, usize),
     /// A literal value with the name of the static entry of that index.
     StaticName(usize),
     /// A literal value with the name of the dynamic entry of that number.
@@ -38,14 +39,16 @@ impl Choice {
     }
 }
 
-/// A section under way: how many insertions there were before it, whether it may be blocked at the decoder, and the oldest and
-/// the newest entry that its lines name so far. Where they name none, these are the greatest number and 0.
+/// A section under way: how many insertions there were before it, whether it may be blocked at the decoder, which entries drain, and the
+/// oldest and the newest entry that its lines name so far. Where they name none, these are the greatest number and 0.
 #[derive(Clone, Copy)]
 pub(crate) struct Section {
     /// How many insertions there were before it.
     pub base: usize,
     /// Whether it may be blocked at the decoder.
     pub may_block: bool,
+    /// Its lines name no entry up to this number, 0 where the encoder is not economical.
+    pub draining: usize,
     /// The oldest entry that it names.
     pub oldest: usize,
     /// The newest entry that it names.
@@ -61,6 +64,7 @@ impl Section {
         Section {
             base: table.inserted(),
             may_block: table.blocks_out() < table.limit(),
+            draining: table.draining(),
             oldest: usize::MAX,
             newest: 0,
         }
@@ -89,35 +93,40 @@ impl Section {
         requires { IsLiteral table.now self.now field.now }
         ensures rule { IsChosen table.now self.now field.now result }
         ensures possible { IsPossible table.now self.now field.now result }
-        ensures missed { IsMissedFor table.now.table self.now.base field.now result }
+        ensures missed { IsMissedFor table.now.table field.now result }
     {
         if let Some(index) = StaticTable::find_name(field.name()) {
             return Choice::StaticName(index);
         }
         let most = self.most_usable(table, table.inserted());
-        if let Some(number) = table.newest(Match::Name, field, table.evicted(), most) {
+        let above = table.evicted().max(self.draining);
+        if let Some(number) = table.newest(Match::Name, field, above, most) {
             return Choice::EntryName(number);
         }
         Choice::Literal
     }
 
-    /// How a field is written: a static entry, else an older entry, else a new one, else a literal.
+    /// How a field is written: a static entry, else an older entry that does not drain, else a new one, else a literal.
     pub(crate) fn choose(&self, table: &DynamicTable, field: &HeaderField) -> Choice
         requires { self.now.base ≤ table.now.table.inserted }
         ensures rule { IsChosen table.now self.now field.now result }
         ensures possible { IsPossible table.now self.now field.now result }
-        ensures missed { IsMissedFor table.now.table self.now.base field.now result }
+        ensures missed { IsMissedFor table.now.table field.now result }
     {
         if let Some(index) = StaticTable::find(field) {
             return Choice::Static(index);
         }
         let most = self.most_usable(table, self.base);
-        if let Some(number) = table.newest(Match::Field, field, table.evicted(), most) {
-            return Choice::Entry(number);
+        let older = table.newest(Match::Field, field, table.evicted(), most);
+        if let Some(number) = older {
+            if number > self.draining {
+                return Choice::Entry(number);
+            }
         }
-        if self.may_block {
+        if self.may_block && table.is_worth(field, older.is_some()) {
             if let Some(after) = table.room_for(field, self.oldest) {
-                return Choice::Insertion(after);
+                let searched = if older.is_some() { 0 } else { self.base };
+                return Choice::Insertion(after, searched);
             }
         }
         self.choose_literal(table, field)

@@ -29,12 +29,12 @@ use h3_field::{EncoderError, HeaderField};
 use h3_table::entries::Match;
 use std::alloc::AllocError;
 
-/// Appends the instruction that inserts a field, after which so many entries are evicted. No entry up to the base equals the
-/// field, so none is searched there. The index is that of the static entry with its name.
+/// Appends the instruction that inserts a field, after which so many entries are evicted. No entry up to the number that was searched
+/// equals the field, so none is searched there. The index is that of the static entry with its name.
 #[tactic(auto, using(crate::proofs::Missed::missed))]
 fn put_insertion(
     table: &DynamicTable,
-    base: usize,
+    searched: usize,
     field: &HeaderField,
     static_index: Option<usize>,
     after: usize,
@@ -43,14 +43,14 @@ fn put_insertion(
     requires index { static_index ≡ static_name field.now.name }
     requires below { IfSome static_index (λ index. index < 99) }
     requires after { evicted table.now.table ≤ after }
-    requires missed { IsMissed table.now.table base field.now }
+    requires missed { IsMissed table.now.table searched field.now }
     requires size { field_size field.now < 2 ^ 62 }
     ensures memory { IsOkUnless result OutOfMemory }
     ensures ok { OnOk result (encoder_buf.new.items ≡ encoder_buf.old.items ++ encoder_bytes (insertion_for table.now.table after field.now)) }
     ensures err { OnErr result (encoder_buf.new.items ≡ encoder_buf.old.items) }
 {
     let inserted = table.inserted();
-    if let Some(number) = table.newest(Match::Field, field, after.max(base), inserted) {
+    if let Some(number) = table.newest(Match::Field, field, after.max(searched), inserted) {
         Duplicate(inserted - number).encode(encoder_buf)?;
         return Ok(());
     }
@@ -66,10 +66,11 @@ fn put_insertion(
     Ok(())
 }
 
-/// Inserts a field that may be, and appends the instruction for it. No entry up to the base equals the field. A refusal changes nothing.
+/// Inserts a field that may be, and appends the instruction for it. No entry up to the number that was searched equals the field. A refusal
+/// changes nothing.
 fn put_entry(
     table: &mut DynamicTable,
-    base: usize,
+    searched: usize,
     field: &HeaderField,
     after: usize,
     encoder_buf: &mut Vec<u8>,
@@ -77,7 +78,7 @@ fn put_entry(
     requires may { (oldest : ℕ) × MayInsertInto table.old field.now oldest }
     requires after { after ≡ evicted (with_entry table.old.table field.now) }
     requires from { evicted table.old.table ≤ after }
-    requires missed { IsMissed table.old.table base field.now }
+    requires missed { IsMissed table.old.table searched field.now }
     requires size { field_size field.now < 2 ^ 62 }
     ensures memory { IsOkUnless result OutOfMemory }
     ensures ok { OnOk result (table.new ≡ record table.old { table = with_entry table.old.table field.now }) }
@@ -86,7 +87,7 @@ fn put_entry(
 {
     let static_index = StaticTable::find_name(field.name());
     let start = encoder_buf.len();
-    put_insertion(table, base, field, static_index, after, encoder_buf)?;
+    put_insertion(table, searched, field, static_index, after, encoder_buf)?;
     if table.insert(field, after).is_err() {
         encoder_buf.truncate(start);
         return Err(EncoderError::OutOfMemory);
@@ -101,13 +102,14 @@ fn put_inserted(
     base: usize,
     field: &HeaderField,
     after: usize,
+    searched: usize,
     lines: &mut Vec<u8>,
     encoder_buf: &mut Vec<u8>,
 ) -> Result<(), EncoderError>
     requires may { (oldest : ℕ) × MayInsertInto table.old field.now oldest }
     requires after { after ≡ evicted (with_entry table.old.table field.now) }
     requires from { evicted table.old.table ≤ after }
-    requires missed { IsMissed table.old.table base field.now }
+    requires missed { IsMissed table.old.table searched field.now }
     requires size { field_size field.now < 2 ^ 62 }
     requires base { base ≤ table.old.table.inserted }
     ensures memory { IsOkUnless result OutOfMemory }
@@ -117,7 +119,7 @@ fn put_inserted(
     ensures err { OnErr result ((table.new ≡ table.old) × (encoder_buf.new.items ≡ encoder_buf.old.items)) }
 {
     IndexedWithPostBase(table.inserted() - base).encode(lines)?;
-    put_entry(table, base, field, after, encoder_buf)
+    put_entry(table, searched, field, after, encoder_buf)
 }
 
 /// Appends the line of a literal value with the name of a dynamic entry.
@@ -152,7 +154,7 @@ fn put_chosen(
 ) -> Result<(), EncoderError>
     requires over { IsOver table.old.table section.old }
     requires possible { IsPossible table.old section.old field.now choice }
-    requires missed { IsMissedFor table.old.table section.old.base field.now choice }
+    requires missed { IsMissedFor table.old.table field.now choice }
     requires size { field_size field.now < 2 ^ 62 }
     ensures memory { IsOkUnless result OutOfMemory }
     ensures table { OnOk result (table.new ≡ encoder_state_with table.old field.now choice) }
@@ -168,8 +170,16 @@ fn put_chosen(
             Indexed::Dynamic(section.base - number).encode(lines)?;
             section.name(number);
         }
-        Choice::Insertion(after) => {
-            put_inserted(table, section.base, field, after, lines, encoder_buf)?;
+        Choice::Insertion(after, searched) => {
+            put_inserted(
+                table,
+                section.base,
+                field,
+                after,
+                searched,
+                lines,
+                encoder_buf,
+            )?;
             section.name(inserted + 1);
         }
         Choice::StaticName(index) => {
@@ -200,11 +210,10 @@ fn put_ahead(
     ensures ok { OnOk result (IsPutAhead table.old section.now field.now table.new encoder_buf.old.items encoder_buf.new.items) }
     ensures err { OnErr result ((table.new ≡ table.old) × (encoder_buf.new.items ≡ encoder_buf.old.items)) }
 {
-    let Some(after) = table.room_ahead(field, section.oldest) else {
+    let Some((after, searched)) = table.room_ahead(field, section) else {
         return Ok(());
     };
-    let inserted = table.inserted();
-    put_entry(table, inserted, field, after, encoder_buf)
+    put_entry(table, searched, field, after, encoder_buf)
 }
 
 /// Writes a field: its line, and the instruction where it is inserted. A refusal inserts nothing, and may leave a line.
@@ -230,7 +239,9 @@ fn put_field(
     if !choice.is_literal() {
         return Ok(());
     }
-    put_ahead(table, section, field, encoder_buf)
+    put_ahead(table, section, field, encoder_buf)?;
+    table.note(field);
+    Ok(())
 }
 
 /// Writes the fields of a section, one behind the other. A refusal leaves whole instructions, those of the insertions made.

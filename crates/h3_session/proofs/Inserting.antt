@@ -1,13 +1,13 @@
 -- An encoder of capacity 0 inserts nothing: before the peer's settings came no field goes into a table.
 use Rattle.std.proofs.Common.{arith, ◌≡◌, ◌≤◌, ℕ, ◌+◌, ◌-◌, Bool, true, false, nat_lt, nat_le, if◌then◌else◌, List, [], ◌∷◌, ◌++◌, length, fold, Option, Some, None, refl, ap, ◌∙◌}
-use Rattle.std.specs.Prelude.{◌&&◌, ◌^◌, ◌==◌, max, option_map, unwrap_or}
+use Rattle.std.specs.Prelude.{not, is_none, ◌&&◌, ◌^◌, ◌==◌, max, option_map, unwrap_or}
 use Rattle.std.specs.List.{list_all}
 use Rattle.std.proofs.lemmas.Grind.{common_steps}
 use Rattle.h3_field.specs.Field.{Field, field_size}
 use Rattle.h3_field.specs.Line.FieldLine.{StaticField, RelativeField, StaticName, Literal}
 use Rattle.h3_field.specs.StaticTable.{static_field, static_name}
 use Rattle.h3_qpack.specs.EncoderHistory.{EncoderHistory, blocks_out, referenced_entries, was_canceled, writing_on}
-use Rattle.h3_qpack.specs.SectionEncoding.{Draft, draft_of, add_ahead, add_field, add_line, add_inserted, add_literal, entry_name_line, evictions_by, evicts_none, finds_room, found, found_name, is_insertable, is_insertable_ahead, is_new, write_field}
+use Rattle.h3_qpack.specs.SectionEncoding.{Draft, draft_of, add_ahead, add_field, add_line, add_inserted, add_literal, any_equal, entry_name_line, evictions_by, finds_room, found, found_name, having_inserted, held, is_insertable, is_insertable_ahead, is_new, is_worth_to, marks_after, write_field}
 use Rattle.h3_table.specs.Table.{evictions}
 
 -- a choice whose ways all keep what was inserted
@@ -41,10 +41,12 @@ no_room s d f h =
     (too_small (field_size f) s.capacity h (omega arith))
 
 not_insertable : (s : EncoderHistory) (d : Draft) (f : Field) → s.capacity ≡ 0 → is_insertable s d f ≡ false
-not_insertable s d f h = last (nat_lt (blocks_out s) s.limit) (finds_room s d f) (no_room s d f h)
+not_insertable s d f h =
+    last (nat_lt (blocks_out s) s.limit && is_worth_to s (not (is_none (held s d f))) (marks_after s d.lines) d f) (finds_room s d f) (no_room s d f h)
 
-not_ahead : (s : EncoderHistory) (d : Draft) (f : Field) → s.capacity ≡ 0 → is_insertable_ahead s d f ≡ false
-not_ahead s d f h = last (s.economical && (s.limit == 0) && is_new s d f && evicts_none s d f) (finds_room s d f) (no_room s d f h)
+not_ahead : (s : EncoderHistory) (marks : List ℕ) (d : Draft) (f : Field) → s.capacity ≡ 0 → is_insertable_ahead s marks d f ≡ false
+not_ahead s marks d f h =
+    last (s.economical && (s.limit == 0) && is_new s d f && is_worth_to s (not (is_none (any_equal s d f))) marks d f) (finds_room s d f) (no_room s d f h)
 
 line_kept : (s : EncoderHistory) (d : Draft) (f : Field) → s.capacity ≡ 0 → (write_field s d f).inserted ≡ d.inserted
 line_kept s d f h =
@@ -54,23 +56,32 @@ line_kept s d f h =
 
 field_kept : (s : EncoderHistory) (d : Draft) (f : Field) → s.capacity ≡ 0 → (add_field s d f).inserted ≡ d.inserted
 field_kept s d f h =
-    let e = write_field s d f in ap (λ b. (if b then add_ahead s e f else e).inserted) (not_ahead s e f h) ∙ line_kept s d f h
+    let e = write_field s d f in ap (λ b. (if b then add_ahead s e f else e).inserted) (not_ahead s (marks_after s d.lines) e f h) ∙ line_kept s d f h
 
 fields_kept : (s : EncoderHistory) (d : Draft) (fields : List Field) → s.capacity ≡ 0 → (fold (add_field s) d fields).inserted ≡ d.inserted
 fields_kept s d [] h = refl
 fields_kept s d (f ∷ fields) h = fields_kept s (add_field s d f) fields h ∙ field_kept s d f h
 
-same_inserted : (s : EncoderHistory) (b : Bool) → (if b then record s { announced = 0; capacity = 0; limit = 0 } else s).inserted ≡ s.inserted
+same_inserted : (s : EncoderHistory) (b : Bool) → (if b then record s { announced = 0; capacity = 0; limit = 0; economical = false } else s).inserted ≡ s.inserted
 same_inserted s true = refl
 same_inserted s false = refl
 
-no_capacity : (s : EncoderHistory) (b : Bool) → s.capacity ≡ 0 → (if b then record s { announced = 0; capacity = 0; limit = 0 } else s).capacity ≡ 0
+no_capacity : (s : EncoderHistory) (b : Bool) → s.capacity ≡ 0 → (if b then record s { announced = 0; capacity = 0; limit = 0; economical = false } else s).capacity ≡ 0
 no_capacity s true h = refl
 no_capacity s false h = h
 
+same_marks : (s : EncoderHistory) (b : Bool) → (if b then record s { announced = 0; capacity = 0; limit = 0; economical = false } else s).marks ≡ s.marks
+same_marks s true = refl
+same_marks s false = refl
+
 -- what a section on the stream begins with
-pub begins_with : (s : EncoderHistory) (stream : ℕ) → (writing_on s stream).inserted ≡ s.inserted
+begins_with : (s : EncoderHistory) (stream : ℕ) → (writing_on s stream).inserted ≡ s.inserted
 begins_with s stream = same_inserted s (was_canceled s stream)
+
+-- no field leaves what was there
+pub none_inserted : (s : EncoderHistory) (stream : ℕ) → having_inserted s stream [] ≡ s
+none_inserted s stream =
+    ap (λ fs. record s { inserted = fs; marks = (writing_on s stream).marks }) (begins_with s stream) ∙ ap (λ m. record s { marks = m }) (same_marks s (was_canceled s stream))
 
 pub nothing_inserted : (s : EncoderHistory) (stream : ℕ) (fields : List Field) → s.capacity ≡ 0 → s.inserted ≡ [] → (draft_of (writing_on s stream) fields).inserted ≡ []
 nothing_inserted s stream fields none empty =

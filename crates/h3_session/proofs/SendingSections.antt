@@ -25,7 +25,7 @@ use Rattle.h3_connection.specs.declared.place.SendPlace.{SendPlace}
 use Rattle.h3_session.specs.OpenedLaws.{stands_same}
 use Rattle.h3_session.specs.Refused.{streams_of}
 use Rattle.h3_session.specs.SendingFields.{Encodes, StopsEncoding, SameStreams, IsPart, Queues}
-use Rattle.h3_session.proofs.Inserting.{begins_with, nothing_inserted}
+use Rattle.h3_session.proofs.Inserting.{none_inserted, nothing_inserted}
 use Rattle.h3_session.proofs.SendingCalls.{sender_of}
 use Rattle.h3_session.proofs.SendingStands.{encoding_stands}
 
@@ -35,7 +35,7 @@ take_all [] = refl
 take_all (f ∷ fields) = ap (λ l. f ∷ l) (take_all fields)
 
 pub withdrawn_stops : (s : EncoderHistory) (id : ℕ) (fields : List Field) (section : List ℕ) (count : ℕ) (before inside now : StreamsState) (encoding : Encoding) → inside ≡ now
-    → withdrawn (sent_section s id fields) id (required_insert_count (draft_of (writing_on s id) fields)) ≡ record s { inserted = (draft_of (writing_on s id) fields).inserted }
+    → withdrawn (sent_section s id fields) id (required_insert_count (draft_of (writing_on s id) fields)) ≡ having_inserted s id fields
     → ((h : EncoderHistory) → inside.encoding.encoder ≡ encoder_state h → encoding.encoder ≡ encoder_state (withdrawn h id count)) → encoding.unread ≡ inside.encoding.unread
     → Encodes s id fields section count before now → StopsEncoding s id fields before (record inside { encoding = encoding })
 withdrawn_stops s id fields section count before inside now encoding view law stores unread h =
@@ -73,7 +73,7 @@ unlearned_after e id fields h none = ((h none).0, nothing_inserted e.encoder id 
 -- Nothing was inserted.
 pub not_begun : (s : EndpointState) (e : EndpointHistory) (id : ℕ) (fields : List Field) → StandsFor s e → CutsOff e id fields s
 not_begun s e id fields h =
-    let inserted : having_inserted e.encoder id [] ≡ e.encoder = ap (λ l. record e.encoder { inserted = l }) (begins_with e.encoder id) in
+    let inserted : having_inserted e.encoder id [] ≡ e.encoder = none_inserted e.encoder id in
     let none : with_insertions e id [] ≡ e
     = ap (λ encoder. record e { encoder = encoder; own = record e.own { instructions = e.own.instructions ++ [] } }) inserted ∙ ap (λ l. record e { own = record e.own { instructions = l } }) (append-nil e.own.instructions) in
     record { front = 0; within = omega arith; stands = subst (StandsFor s) (sym none) h }

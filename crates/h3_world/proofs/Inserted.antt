@@ -9,7 +9,7 @@ use Rattle.h3_field.specs.Field.{Field}
 use Rattle.h3_field.specs.StaticTable.{static_field, static_name}
 use Rattle.h3_field.specs.Instruction.{EncoderInstruction, encoder_bytes}
 use Rattle.h3_qpack.specs.EncoderHistory.{EncoderHistory, writing_on}
-use Rattle.h3_qpack.specs.SectionEncoding.{Draft, add_ahead, add_field, add_literal, draft_of, found, found_name, insertion, remaining, is_insertable, is_insertable_ahead, required_insert_count, instructions_for, sent_section, write_field}
+use Rattle.h3_qpack.specs.SectionEncoding.{Draft, add_ahead, add_field, add_literal, draft_of, found, found_name, insertion, remaining, marks_after, is_insertable, is_insertable_ahead, required_insert_count, instructions_for, sent_section, write_field}
 use Rattle.h3_qpack.specs.Session.{Session}
 use Rattle.h3_qpack.specs.Schedule.{SessionEvent, SessionStep, SessionRun, beginning}
 use Rattle.h3_qpack.specs.Schedule.SessionEvent.{UseTable, Economize, Encode, CutOff, InsertionsRead, Decode, Cancel, DecoderInstructionRead}
@@ -63,7 +63,7 @@ literal_inserts s d f h =
 
 -- what holds of a draft with the line of a field holds of it with the field, where an insertion for later sections keeps it
 pub with_field : (P : Draft → Type 0) (s : EncoderHistory) (d : Draft) (f : Field) → P (write_field s d f) → ((e : Draft) → P e → P (add_ahead s e f)) → P (add_field s d f)
-with_field P s d f h ahead = either_way P (is_insertable_ahead s (write_field s d f) f) _ _ (ahead (write_field s d f) h) h
+with_field P s d f h ahead = either_way P (is_insertable_ahead s (marks_after s d.lines) (write_field s d f) f) _ _ (ahead (write_field s d f) h) h
 
 line_of_field_inserts : (s : EncoderHistory) (d : Draft) (f : Field) → InsertsOnly d → InsertsOnly (write_field s d f)
 line_of_field_inserts s d f h =

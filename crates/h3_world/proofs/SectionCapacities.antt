@@ -55,7 +55,7 @@ new_section canceled s stream fields = by_test (was_canceled s stream) refl
   where
     by_test : (t : Bool) → was_canceled s stream ≡ t → HasItsAnnounced s.announced (record { stream = stream; fields = fields; encoder = writing_on s stream })
     by_test true e = λ some. absurd (omega (arith, some, ap (λ names. fold max 0 names) (canceled s stream fields e)))
-    by_test false e = λ some. ap (λ t. (if t then record s { announced = 0; capacity = 0; limit = 0 } else s).announced) e
+    by_test false e = λ some. ap (λ t. (if t then record s { announced = 0; capacity = 0; limit = 0; economical = false } else s).announced) e
 
 read_announced : (s : EncoderHistory) (i : DecoderInstruction) → (encoder_after s i).announced ≡ s.announced
 read_announced s (Acknowledge stream) = refl

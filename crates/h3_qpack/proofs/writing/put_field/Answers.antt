@@ -1,5 +1,5 @@
 use Rattle.std.proofs.Common.{◌∙◌, sym}
-use Rattle.h3_qpack.proofs.Ahead.{alone_after, ahead_after, on_one}
+use Rattle.h3_qpack.proofs.Ahead.{alone_after, noted_after}
 use Rattle.h3_qpack.proofs.Fieldwise.{over_after}
 use Rattle.h3_qpack.proofs.writing.put_field.Goals as goal
 
@@ -13,8 +13,6 @@ returns-then-not-is_literal-clause-ok c = λ s d start h.
     c.in_ok-put_chosen.ensures.table c.in_ok-put_chosen.ensures.section c.in_ok-put_chosen.ensures.line c.in_ok-put_chosen.ensures.instructions
 
 pub returns-clause-ok : goal.returns-clause-ok
-returns-clause-ok c =
-    on_one c.put_ahead.result (λ put. λ s d start h.
-    ahead_after s d start _ _ _ _ _ _ _ _ _ _ _ _ h c.is_small.ensures c.choose-choice.ensures.rule c.choose-choice.ensures.possible (sym c.is_literal.ensures ∙ c.if-not-is_literal.false)
-    c.in_ok-put_chosen.ensures.table c.in_ok-put_chosen.ensures.section c.in_ok-put_chosen.ensures.line c.in_ok-put_chosen.ensures.instructions put)
-    c.put_ahead.ensures.ok
+returns-clause-ok c = λ s d start h.
+    noted_after s d start _ _ _ _ _ _ _ _ _ _ _ _ _ h c.is_small.ensures c.choose-choice.ensures.rule c.choose-choice.ensures.possible (sym c.is_literal.ensures ∙ c.if-not-is_literal.false)
+    c.in_ok-put_chosen.ensures.table c.in_ok-put_chosen.ensures.section c.in_ok-put_chosen.ensures.line c.in_ok-put_chosen.ensures.instructions c.in_ok-put_ahead.ensures.ok c.note.ensures

@@ -40,7 +40,7 @@ returns-in-Ok-clause-sent c =
     let h = c.in_ok-put_fields.ensures.ok s _ (begun_drafted s _ _ _ _ (c.self.view_is ∙ e) c.begin-section.ensures.value c.clear.ensures.items) in
     let own = on_other s c.args.stream (kept_id s c.self.inside.table c.args.stream false (c.self.view_is ∙ e) (sym c.if-is_canceled.false ∙ c.is_canceled.ensures)) in
     section_sent s c.args.stream c.args.fields.now _ _ _ _ _ _ _ _ own h put
-    (sent_named s _ c.args.stream _ _ _ h.state c.is_small.ensures c.in_ok-put_fields.ensures.over.newest c.if-section-ne0.true c.in-Ok.ensures.ok) c.in_ok-put_fields.ensures.bytes
+    (sent_named s _ _ c.args.stream _ _ _ h.state c.is_small.ensures c.in_ok-put_fields.ensures.over.newest c.if-section-ne0.true c.in-Ok.ensures.ok) c.in_ok-put_fields.ensures.bytes
 
 pub returns-else-section-ne0-clause-sent : goal.returns-else-section-ne0-clause-sent
 returns-else-section-ne0-clause-sent c =
@@ -49,4 +49,4 @@ returns-else-section-ne0-clause-sent c =
     let h = c.in_ok-put_fields.ensures.ok s _ (begun_drafted s _ _ _ _ (c.self.view_is ∙ e) c.begin-section.ensures.value c.clear.ensures.items) in
     let own = on_other s c.args.stream (kept_id s c.self.inside.table c.args.stream false (c.self.view_is ∙ e) (sym c.if-is_canceled.false ∙ c.is_canceled.ensures)) in
     section_sent s c.args.stream c.args.fields.now _ _ _ _ _ _ _ _ own h put
-    (sent_plain s _ c.args.stream _ _ h.state c.if-section-ne0.false) c.in_ok-put_fields.ensures.bytes
+    (sent_plain s _ _ c.args.stream _ _ h.state c.if-section-ne0.false) c.in_ok-put_fields.ensures.bytes

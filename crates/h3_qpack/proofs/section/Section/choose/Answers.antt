@@ -1,12 +1,7 @@
-use Rattle.std.proofs.Common.{arith}
-use Rattle.std.proofs.lemmas.Grind.{common_steps}
+use Rattle.h3_table.specs.Matches.{matches}
+use Rattle.h3_table.specs.declared.entries.Match.TheVariants as what
+use Rattle.h3_qpack.proofs.Missed.{none_at_zero}
 use Rattle.h3_qpack.proofs.section.Section.choose.Goals as goal
 
-pub returns-in-Some-room_for-clause-rule : goal.returns-in-Some-room_for-clause-rule
-returns-in-Some-room_for-clause-rule c = grind (arith, common_steps)
-
-pub returns-in-Some-room_for-clause-possible : goal.returns-in-Some-room_for-clause-possible
-returns-in-Some-room_for-clause-possible c = grind (arith, common_steps)
-
-pub returns-in-Some-room_for-clause-missed : goal.returns-in-Some-room_for-clause-missed
-returns-in-Some-room_for-clause-missed c = grind (arith, common_steps)
+pub returns-then-is_some-clause-missed : goal.returns-then-is_some-clause-missed
+returns-then-is_some-clause-missed c = none_at_zero c.args.table.now.table (matches what.Field c.args.field.now)

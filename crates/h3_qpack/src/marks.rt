@@ -1,0 +1,67 @@
+//! What an economical encoder keeps of the values that it wrote as literals.
+ghost use Rattle.std.specs.Prelude.{◌≡◌, ◌<◌, ◌^◌, ℕ, List};
+ghost use Rattle.h3_qpack.specs.Marks.{value_mark, no_marks, with_mark, is_marked};
+
+use std::marker::Model;
+
+/// How many marks are kept.
+const MARKS: usize = 32;
+
+/// How many bytes at the end of a value its mark goes by.
+const MARKED_BYTES: usize = 16;
+
+/// The mark of a value: of its length and its last bytes, so that a long value costs no more.
+fn value_mark(value: &[u8]) -> u32
+    ensures { result ≡ value_mark value.now }
+{
+    let len = value.len();
+    let last = &value[len.saturating_sub(MARKED_BYTES)..];
+    let mut mark = (len as u64) % 4294967296;
+    'bytes: for byte in last {
+        mark = (31 * mark + *byte as u64) % 4294967296;
+    }
+    mark as u32
+}
+
+/// The marks of the last values, the newest first. A contract sees them as a list of 32 numbers.
+#[derive(Drop)]
+pub(crate) struct Marks {
+    marks: [u32; MARKS],
+}
+
+impl Model for Marks {
+    ghost use Rattle.std.specs.Prelude.{◌≡◌, ℕ, List, length};
+
+    ghost Value = { List ℕ };
+
+    ghost view = { λ m. m.marks };
+
+    ghost invariant = { λ m. length m.marks ≡ 32 };
+}
+
+impl Marks {
+    /// Before the first value.
+    pub(crate) fn new() -> Marks
+        ensures { result ≡ no_marks }
+    {
+        Marks { marks: [0; MARKS] }
+    }
+
+    /// Whether a value of this mark is among the last ones.
+    pub(crate) fn has(&self, value: &[u8]) -> bool
+        ensures { result ≡ is_marked self.now value.now }
+    {
+        let mark = value_mark(value);
+        self.marks.contains(&mark)
+    }
+
+    /// Keeps the mark of a value in place of the oldest one.
+    pub(crate) fn add(&mut self, value: &[u8])
+        ensures { self.new ≡ with_mark self.old value.now }
+    {
+        let mark = value_mark(value);
+        let all = &mut self.marks[..];
+        all.copy_within(0..MARKS - 1, 1);
+        all[0] = mark;
+    }
+}
