@@ -10,7 +10,7 @@ type Config struct {
 	Table                   uint64 // capacity of the own decoder's dynamic table in bytes; 0: none
 	Blocked                 uint64 // how many streams may wait for its insertions
 	EncoderTable            uint64 // the most bytes that the table of the own encoder has; 0: it uses none
-	EconomicalTable         bool   // the own encoder uses its table also where the peer lets no stream wait
+	EconomicalTable         bool   // the own encoder's table does not freeze and keeps out what never comes again; it serves also where the peer lets no stream wait
 	Strict                  bool   // messages are judged by all of RFC 9114, sections 4.1.2 and 4.2 to 4.5
 	CountAcknowledgments    bool   // an acknowledgment tells the encoder of insertions (RFC 9204, section 2.1.4)
 	SendGrease              bool   // a reserved setting is sent (RFC 9114, section 7.2.4.1)

@@ -16,7 +16,7 @@ pub struct Config {
     pub blocked: u64,
     /// The most bytes that the dynamic table of the own encoder has (RFC 9204, section 3.2.3); 0: it uses none.
     pub encoder_table: u64,
-    /// The own encoder uses its table also where the peer lets no stream wait.
+    /// The own encoder's table does not freeze and keeps out what never comes again; it serves also where the peer lets no stream wait.
     pub economical_table: bool,
     /// Messages are judged by all of RFC 9114, sections 4.1.2 and 4.2 to 4.5.
     pub strict: bool,
