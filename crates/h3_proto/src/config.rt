@@ -87,7 +87,8 @@ pub struct Choices {
     pub acknowledgments_counted: bool,
     /// The most bytes that the table of the own encoder has, however many its peer announces (RFC 9204, section 3.2.3).
     pub encoder_table: u64,
-    /// The own encoder inserts for later sections what it may not name yet, where its peer lets no section wait.
+    /// The own encoder keeps out of its table what never comes again, and does not name what is soon to go. Where its peer lets no section
+    /// wait, it inserts for later sections what it may not name yet.
     pub economical_table: bool,
 }
 
@@ -211,9 +212,10 @@ impl Config {
         self
     }
 
-    /// Whether the own encoder is economical with its table. Where the peer lets no section wait (RFC 9204, section 2.1.2), it inserts a
-    /// field that it writes as a literal, and names the entry once the insertion is known to be received; else it never inserts there.
-    /// Off by default.
+    /// Whether the own encoder is economical with its table. It then keeps out of the table what never comes again, and does not name what
+    /// is soon to go, so that the table does not freeze (RFC 9204, section 2.1.1.1). Where the peer lets no section wait (section 2.1.2),
+    /// it inserts such a field behind its literal line, and names the entry once the insertion is known to be received; else it never
+    /// inserts there. Off by default.
     pub fn with_economical_table(mut self, economical: bool) -> Self
         ensures { result ≡ record self { choices = record self.choices { economical_table = economical } } }
     {

@@ -236,7 +236,7 @@ sent_draft s by stream draft =
     }
 
 -- A section on a canceled stream leaves no mark.
-plain_lines : (marks : List ℕ) (lines : List FieldLine) → fold (marked false) marks lines ≡ marks
+pub plain_lines : (marks : List ℕ) (lines : List FieldLine) → fold (marked false) marks lines ≡ marks
 plain_lines marks [] = refl
 plain_lines marks (l ∷ lines) = ap (λ m. fold (marked false) m lines) (one (literal_value l)) ∙ plain_lines marks lines
   where

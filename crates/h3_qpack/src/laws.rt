@@ -1,6 +1,6 @@
 //! Laws over the definitions.
 
-ghost use Rattle.std.specs.Prelude.{◌≡◌, ◌==◌, ◌||◌, ℕ, ◌+◌, ◌-◌, ◌*◌, ◌%◌, ◌^◌, ◌<◌, ◌≤◌, ◌∷◌, Bool, true, false, List, Some};
+ghost use Rattle.std.specs.Prelude.{◌≡◌, ◌==◌, ◌&&◌, ◌||◌, nat_lt, ℕ, ◌+◌, ◌-◌, ◌*◌, ◌%◌, ◌^◌, ◌<◌, ◌≤◌, ◌∷◌, Bool, true, false, List, Some};
 ghost use Rattle.h3_field.specs.Field.{Field, section_size};
 ghost use Rattle.h3_field.specs.ReadBack.{IsFieldOfBytes};
 ghost use Rattle.h3_field.specs.Section.{section_bytes};
@@ -20,7 +20,8 @@ ghost use Rattle.h3_qpack.specs.TableHistory.{IsReadAs, table_after_all, table_o
 ghost use Rattle.h3_qpack.specs.Meaning.{MeansFields, IsMissing};
 ghost use Rattle.h3_qpack.specs.DecodedSection.{DecodedSection, decode_section, IsDecodedAs};
 ghost use Rattle.h3_qpack.specs.Hearing.{Heard, heard, hear, heard_then, IsHeardAs, Listened, listened, listen, listened_then, IsListenedAs};
-ghost use Rattle.h3_qpack.specs.SectionEncoding.{draft_of, encoded_section, instructions_for, required_insert_count, having_inserted, sent_section};
+ghost use Rattle.h3_qpack.specs.SectionEncoding.{Draft, draft_of, encoded_section, finds_room, found, having_inserted, held, instructions_for, is_insertable, is_insertable_ahead, marks_after, required_insert_count, sent_section};
+ghost use Rattle.h3_field.specs.Line.{FieldLine};
 ghost use Rattle.h3_qpack.specs.Encodings.{decoder_of, HasInsertions, IsDecoderAt, IsWritten, IsWrittenInstruction, tried};
 ghost use Rattle.h3_field.specs.Prefix.{most_entries, IsRequiredCount};
 ghost use Rattle.h3_qpack.specs.Session.{Session, UndecodedSection, oldest, is_canceled, count_of, tracked_references, IsSound, DecodesTo};
@@ -60,6 +61,15 @@ pub fn plain_encoders_of_limit_zero_use_no_table()
     ensures bytes { (s : EncoderHistory) (stream : ℕ) (fields : List Field) → s.limit ≡ 0 → s.economical ≡ false → s.inserted ≡ [] → encoded_section (writing_on s stream) fields ≡ section_bytes fields }
     ensures inserts { (s : EncoderHistory) (stream : ℕ) (fields : List Field) → s.limit ≡ 0 → s.economical ≡ false → s.inserted ≡ [] → instructions_for (writing_on s stream) fields ≡ [] }
     ensures still { (s : EncoderHistory) (stream : ℕ) (fields : List Field) → s.limit ≡ 0 → s.economical ≡ false → s.inserted ≡ [] → (sent_section s stream fields).inserted ≡ [] }
+{}
+
+/// An encoder that is not economical goes by its table alone: it names the newest equal entry that it may, inserts whatever there is room
+/// for where one more section may be blocked, inserts nothing ahead, and leaves no mark.
+pub fn plain_encoders_go_by_their_table()
+    ensures names { (s : EncoderHistory) (d : Draft) (f : Field) → s.economical ≡ false → found s d f ≡ held s d f }
+    ensures inserts { (s : EncoderHistory) (d : Draft) (f : Field) → s.economical ≡ false → is_insertable s d f ≡ (nat_lt (blocks_out s) s.limit && finds_room s d f) }
+    ensures ahead { (s : EncoderHistory) (marks : List ℕ) (d : Draft) (f : Field) → s.economical ≡ false → is_insertable_ahead s marks d f ≡ false }
+    ensures marks { (s : EncoderHistory) (lines : List FieldLine) → s.economical ≡ false → marks_after s lines ≡ s.marks }
 {}
 
 /// Every cancellation that was read is kept, and nothing else is.
