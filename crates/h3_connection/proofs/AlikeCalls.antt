@@ -18,7 +18,7 @@ use Rattle.h3_connection.specs.Delivering.{incoming_at, taken, closed_by, delive
 use Rattle.h3_connection.specs.Endpoint.{EndpointHistory, Kind, Own, kind_of, own_waiting, bytes_waiting, is_critical_of}
 use Rattle.h3_connection.specs.Incoming.{Incoming, nothing_came, awaiting}
 use Rattle.h3_connection.specs.OwnIds.{control_id, encoder_id, decoder_id}
-use Rattle.h3_connection.specs.Outgoing.{Outgoing as Out, is_end_next, part_bytes_waiting}
+use Rattle.h3_connection.specs.Outgoing.{Outgoing as Out, is_end_next, part_bytes_waiting, with_finish, with_reset}
 use Rattle.h3_connection.specs.Outgoing.OwnPart.{OwnTrailer}
 use Rattle.h3_connection.specs.PullCuts.{DifferInCuts}
 use Rattle.h3_connection.specs.Sections.{encoded_section}
@@ -133,8 +133,8 @@ module _ (e : EndpointHistory) (s : Streams Incoming) (t : Streams Unidirectiona
       (beside_alike new others t r (record { incoming = asks_alike id content remembered; unidirectional = b.unidirectional; replies = b.replies })))
 
   sends_body : (id : ℕ) (bytes : List ℕ) → AlikeCalled (λ one two. one ≡ two) (called e (SendBody id bytes)) (called two (SendBody id bytes))
-  sends_body id [] = sends Done (body_refusal e id) (counted (sent_bytes e id []) 0) (as_is _ refl refl refl)
-  sends_body id (byte ∷ bytes) = sends Done (body_refusal e id) (counted (sent_bytes e id (byte ∷ bytes)) (length (byte ∷ bytes))) (as_is _ refl refl refl)
+  sends_body id [] = sends Done (body_refusal e id 0) (counted (sent_bytes e id []) 0) (as_is _ refl refl refl)
+  sends_body id (byte ∷ bytes) = sends Done (body_refusal e id (length (byte ∷ bytes))) (counted (sent_bytes e id (byte ∷ bytes)) (length (byte ∷ bytes))) (as_is _ refl refl refl)
 
   same_here : (result : Result) → AlikeCalled (λ one two. one ≡ two) (result, e) (result, two)
   same_here result = record { answer = refl; closed = refl; left = λ none. here }
@@ -223,8 +223,8 @@ module _ (e : EndpointHistory) (s : Streams Incoming) (t : Streams Unidirectiona
   called_alike (SendHead id head) none pulled = sends_head id head
   called_alike (SendBody id bytes) none pulled = sends_body id bytes
   called_alike (SendTrailer id head) none pulled = sends Done (trailer_refusal e id head) _ (as_is (counted (appended (encoded e id (head_fields head)) id (OwnTrailer (encoded_section e.encoder id (head_fields head)))) (fields_cost (head_fields head))) refl refl refl)
-  called_alike (Finish id) none pulled = sends Done (finish_refusal e id) _ (as_is (with_outgoing e id (record (outgoing_at e id) { is_finished = true })) refl refl refl)
-  called_alike (Reset id) none pulled = sends Done (reset_refusal e id) _ (as_is (with_outgoing e id (record (outgoing_at e id) { is_reset = true; is_finished = false })) refl refl refl)
+  called_alike (Finish id) none pulled = sends Done (finish_refusal e id) _ (as_is (with_outgoing e id (with_finish (outgoing_at e id))) refl refl refl)
+  called_alike (Reset id) none pulled = sends Done (reset_refusal e id) _ (as_is (with_outgoing e id (with_reset (outgoing_at e id))) refl refl refl)
   called_alike (Goaway id) none pulled = sends Done (goaway_refusal e id) _ (as_is (record e { own = record e.own { goaways = e.own.goaways ++ id ∷ [] } }) refl refl refl)
   called_alike (Advance id count) none pulled = advances id count (stream_at e.outgoing id)
   called_alike (TakeEnd id) none pulled = ends id (stream_at e.outgoing id)

@@ -227,8 +227,8 @@ module _ (id : ℕ) (o : Option Unidirectional) where
     ends_both q None = record { answer = refl; left = here }
 
     body_both : (q : ℕ) (bytes : List ℕ) → Both (called e (SendBody q bytes)) (called two (SendBody q bytes))
-    body_both q [] = does_both Done (body_refusal e q) e two _ _ here (but _ t h)
-    body_both q (byte ∷ bytes) = does_both Done (body_refusal e q) e two _ _ here (but _ t h)
+    body_both q [] = does_both Done (body_refusal e q 0) e two _ _ here (but _ t h)
+    body_both q (byte ∷ bytes) = does_both Done (body_refusal e q (length (byte ∷ bytes))) e two _ _ here (but _ t h)
 
     -- a call that is not on the stream
     pub other_call : (c : Call) → is_on id c ≡ false → Both (called e c) (called two c)

@@ -29,12 +29,12 @@ sends_well_formed_heads e peer id head strict sent =
 pub sends_well_formed_trailers : SendsWellFormedTrailers
 sends_well_formed_trailers e peer id trailer strict sent =
     let fields = head_fields trailer in
-    let broken = broken_trailer e.announced fields in
+    let broken = broken_trailer e.announced (outgoing_at e id).content fields in
     let size = (is_too_large e.peer.settings fields, refusal.TooLarge (section_size fields)) ∷ [] in
     let pseudo = (has_pseudo trailer, refusal.PseudoInTrailer) ∷ unless_malformed broken size in
     let after = counted (appended (encoded e id fields) id (OwnTrailer (encoded_section e.encoder id fields))) (fields_cost fields) in
     let allowed = not_closed e.closed _ (was_allowed (trailer_refusal e id trailer) e after sent) in
     let there = passed (not (is_open e id)) refusal.NotOpen ((not (takes_body (outgoing_at e id)), refusal.OutOfOrder) ∷ pseudo) allowed in
     let placed = passed (not (takes_body (outgoing_at e id))) refusal.OutOfOrder pseudo there in
-    trailer_taken (other e.side) e.announced peer fields strict.strict
+    trailer_taken (other e.side) e.announced peer (outgoing_at e id).content fields strict.strict
     (not_malformed broken size (passed (has_pseudo trailer) refusal.PseudoInTrailer (unless_malformed broken size) placed))

@@ -21,7 +21,7 @@ use Rattle.h3_requests.specs.Marks.{HaveSameMarks, IsOneMark}
 use Rattle.h3_requests.specs.Over.{AddsWays, AreAlike, AreMarked, HasWays, IsOver, IsPaired, IsWay, codeless, ended_way, over_in, over_so, reset_with, way_at, with_end_taken, without_code, ReceivesAlike, SendsAlike}
 use Rattle.h3_requests.specs.declared.over.Way.{Way}
 use Rattle.h3_connection.specs.declared.event.StreamFault.TheVariants.{Reset}
-use Rattle.h3_requests.specs.Refused.{refused_over, head_refused_at, body_refused_at, end_refused_at, reset_refused_at, cancel_refused_at}
+use Rattle.h3_requests.specs.Refused.{or_later, too_much_at, refused_over, head_refused_at, body_refused_at, end_refused_at, reset_refused_at, cancel_refused_at}
 use Rattle.h3_requests.proofs.Found.{few, found, sets, takes_out}
 use Rattle.h3_requests.proofs.Listed as listed
 
@@ -80,8 +80,8 @@ received_alike a b unread section body_left waits_for same =
 
 sent_alike : (a b : OutgoingState) → a.pieces ≡ [] → b.pieces ≡ [] → SendsAlike a b → a ≡ b
 sent_alike a b an bn same =
-    let left : a ≡ record { pieces = []; place = b.place; is_finished = b.is_finished; is_reset = b.is_reset; end_taken = b.end_taken } = rw (sym an, sym same.place, sym same.is_finished, sym same.is_reset, sym same.end_taken) refl in
-    let right : record { pieces = []; place = b.place; is_finished = b.is_finished; is_reset = b.is_reset; end_taken = b.end_taken } ≡ b = rw (sym bn) refl in
+    let left : a ≡ record { pieces = []; place = b.place; content = b.content; is_finished = b.is_finished; is_reset = b.is_reset; end_taken = b.end_taken } = rw (sym an, sym same.place, sym same.content, sym same.is_finished, sym same.is_reset, sym same.end_taken) refl in
+    let right : record { pieces = []; place = b.place; content = b.content; is_finished = b.is_finished; is_reset = b.is_reset; end_taken = b.end_taken } ≡ b = rw (sym bn) refl in
     left ∙ right
 
 -- Streams that are over alike are the same.
@@ -501,6 +501,11 @@ refused_head (Some r) h = rw (over_takes_head r h) refl
 pub refused_body : (o : Option RequestState) → IfSome o IsOver → Some (refused_over o refusal.OutOfOrder) ≡ body_refused_at o
 refused_body None h = refl
 refused_body (Some r) h = rw (over_takes_body r h) refl
+
+-- and it comes before what refuses a body by its size
+pub refused_data : (o : Option RequestState) (size : ℕ) → IfSome o IsOver → Some (refused_over o refusal.OutOfOrder) ≡ or_later (body_refused_at o) (too_much_at o size)
+refused_data None size h = refl
+refused_data (Some r) size h = rw (over_takes_body r h) refl
 
 pub refused_end : (o : Option RequestState) → IfSome o IsOver → Some (refused_over o refusal.OutOfOrder) ≡ end_refused_at o
 refused_end None h = refl

@@ -79,6 +79,7 @@ pub record ReceivesAlike (a b : Incoming) : Type 0 where
 -- and at the sender
 pub record SendsAlike (a b : OutgoingState) : Type 0 where
   pub place : a.place ≡ b.place
+  pub content : a.content ≡ b.content
   pub is_finished : a.is_finished ≡ b.is_finished
   pub is_reset : a.is_reset ≡ b.is_reset
   pub end_taken : a.end_taken ≡ b.end_taken
