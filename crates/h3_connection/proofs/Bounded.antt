@@ -23,7 +23,7 @@ use Rattle.h3_connection.specs.Unidirectional.{Unidirectional, Role, with_bytes,
 use Rattle.h3_connection.specs.Unidirectional.Role.{Untold, Control, Encoder, Decoder, Session, Push, Ignored}
 use Rattle.h3_connection.specs.Outgoing.{Outgoing as Out, is_end_next, with_finish, with_reset}
 use Rattle.h3_connection.specs.Delivering.{deliver, deliver_end, deliver_reset, delivery_refusal, opened_at, opened, incoming_at, with_incoming, taken, closed_by, heard_as, unless_second, read_unidirectional, unidirectional_at, with_unidirectional, bytes_at, end_at, reset_at, kept, with_end, give_up, given_up_once, given_up_by}
-use Rattle.h3_connection.specs.Sending.{open_request, open_refusal, send_head, head_refusal, encoded, appended, head_part, fields_cost, body_refusal, send_trailer, trailer_refusal, finish, finish_refusal, reset, reset_refusal, with_outgoing, outgoing_at, goaway, goaway_refusal, cancel, cancel_refusal, pull, does, pull_at, pull_unless, pull_request, pull_peer, pulled, if_too_many, after_answer, advance_at, sent_bytes, counted, asked, awaiting_at, saying_at, remembers}
+use Rattle.h3_connection.specs.Sending.{open_request, open_refusal, send_head, head_refusal, encoded, appended, head_part, fields_cost, body_refusal, send_trailer, trailer_refusal, finish, finish_refusal, reset, reset_refusal, with_outgoing, outgoing_at, goaway, goaway_refusal, cancel, cancel_refusal, pull, does, pull_at, pull_unless, pull_request, pull_peer, pulled, if_too_many, after_answer, advance_at, sent_bytes, counted, asked, awaiting_at, remembers}
 use Rattle.h3_connection.specs.Pulling.{Pulled, pull_stream}
 use Rattle.h3_connection.specs.Keeping.{read_arrival, read_all, unless_faulty, unkept, arrives_behind, arrives, pulls_behind, pulls, pulled_after, settles}
 use Rattle.h3_connection.specs.Shown.{block_tries}
@@ -47,7 +47,7 @@ use Rattle.h3_connection.proofs.Quiet.{Quiet, quiet_control, quiet_decoder}
 use Rattle.h3_connection.proofs.ReadingStays.{all_stays}
 use Rattle.h3_connection.proofs.Seen.{opened_here}
 use Rattle.h3_connection.proofs.WaitingCounts.{waits_at, count_set, count_inserted}
-use Rattle.h3_messages.specs.Content.{awaited_by, content_of_request}
+use Rattle.h3_messages.specs.Content.{awaited_by}
 use Rattle.h3_messages.specs.declared.content.Content.{Content}
 
 -- the bounds rest on these alone, and nothing is open that was closed
@@ -395,14 +395,11 @@ asked_on e q fields h = by_choice (remembers e.side e.announced)
         let calms : Calms i (awaiting i content) = record { tries = refl; waits = omega arith } in
         changes_at e q (awaiting i content) h (subst (λ at. Calms (unwrap_or at nothing_came) (awaiting i content)) (sym is) calms)
 
-    sent : Bool → Streams Out
-    sent b = if b then saying_at e.outgoing q (content_of_request fields) (stream_at e.outgoing q) else e.outgoing
-
-    by_choice : (b : Bool) → IsBounded (record e { incoming = if b then awaiting_at e.incoming q content (stream_at e.incoming q) else e.incoming; outgoing = sent b })
+    by_choice : (b : Bool) → IsBounded (record e { incoming = if b then awaiting_at e.incoming q content (stream_at e.incoming q) else e.incoming; outgoing = (asked e q fields).outgoing })
     by_choice true =
         let f = record e { incoming = awaiting_at e.incoming q content (stream_at e.incoming q) } in
-        rests f (record f { outgoing = sent true }) refl refl refl refl (at_stream (stream_at e.incoming q) refl)
-    by_choice false = h
+        rests f (record f { outgoing = (asked e q fields).outgoing }) refl refl refl refl (at_stream (stream_at e.incoming q) refl)
+    by_choice false = rests e (record e { outgoing = (asked e q fields).outgoing }) refl refl refl refl h
 
 sends_head : (e : EndpointHistory) (q : ℕ) (head : Head) → IsBounded e → IsBounded (done Done (send_head e q head)).1
 sends_head e q head h =

@@ -9,6 +9,7 @@ use Rattle.h3_connection.specs.Lasts.{last_id}
 use Rattle.h3_header.specs.Head.{Head, head_fields, has_pseudo}
 use Rattle.h3_connection.specs.OwnIds.{control_id, encoder_id, decoder_id, other}
 use Rattle.h3_proto.specs.declared.stream.Side.{Side}
+use Rattle.h3_proto.specs.declared.stream.Side.TheVariants.{Client, Server}
 use Rattle.h3_connection.specs.declared.event.Malformation.TheVariants as malformation
 use Rattle.h3_connection.specs.declared.event.Refusal.{Refusal}
 use Rattle.h3_connection.specs.declared.event.Refusal.TheVariants as refusal
@@ -21,8 +22,9 @@ use Rattle.h3_connection.specs.Codes.{decompression_failed}
 use Rattle.h3_connection.specs.StreamSets.{Streams, stream_at, set_stream}
 use Rattle.h3_connection.specs.StrictSending.{broken_head, broken_trailer, passes_content, unless_malformed}
 use Rattle.h3_connection.specs.Incoming.{Incoming, awaiting}
-use Rattle.h3_messages.specs.Content.{awaited_by, content_of_request, may_end}
+use Rattle.h3_messages.specs.Content.{awaited_by, content_behind_response, content_of_request, may_end}
 use Rattle.h3_messages.specs.declared.content.Content.{Content}
+use Rattle.h3_messages.specs.declared.content.Content.TheVariants.{Unsaid}
 use Rattle.h3_connection.specs.declared.setup.Announced.{Announced}
 use Rattle.h3_connection.specs.Pulling.{Pulled, pull_stream}
 use Rattle.h3_connection.specs.Unidirectional.{Unidirectional, pull_unidirectional}
@@ -129,15 +131,28 @@ encoded e id fields =
 abbrev pub head_part : Head → List ℕ → OwnPart
 head_part head section = if is_interim head.status then OwnInterim section else OwnHead section
 
--- A client that asks for strict messages remembers of a request what its response may have as content (RFC 9110, sections 9.3.2 and 9.3.6), and
--- how much content it has itself. A server does not: it does not know here what was asked of it, so no head of its own says how much
--- content is to follow
+-- A client that asks for strict messages remembers of a request what its response may have as content (RFC 9110, sections 9.3.2 and 9.3.6)
 abbrev pub remembers : Side → Announced → Bool
 remembers side own = own.choices.strict_messages && is_client side
 
 abbrev pub awaiting_at : Streams Incoming → ℕ → Content → Option Incoming → Streams Incoming
 awaiting_at streams id expected None = streams
 awaiting_at streams id expected (Some i) = set_stream streams id (awaiting i expected)
+
+-- How much content follows a head (RFC 9114, section 4.1.2): that of a request says it, and that of a response where it is known what was
+-- asked
+abbrev pub content_of_response_to : Option Content → List Field → Content
+content_of_response_to None fields = Unsaid
+content_of_response_to (Some awaited) fields = content_behind_response awaited fields
+
+abbrev pub content_of_own : Side → Option Content → List Field → Content
+content_of_own Client known fields = content_of_request fields
+content_of_own Server known fields = content_of_response_to known fields
+
+-- A server knows what was asked once it read the request's head, as long as the stream was not given up
+abbrev pub known_of : Option Incoming → Option Content
+known_of None = None
+known_of (Some i) = i.response
 
 abbrev pub saying_at : Streams Outgoing → ℕ → Content → Option Outgoing → Streams Outgoing
 saying_at streams id content None = streams
@@ -147,7 +162,7 @@ abbrev pub asked : EndpointHistory → ℕ → List Field → EndpointHistory
 asked e id fields =
     record e {
       incoming = if remembers e.side e.announced then awaiting_at e.incoming id (awaited_by fields) (stream_at e.incoming id) else e.incoming;
-      outgoing = if remembers e.side e.announced then saying_at e.outgoing id (content_of_request fields) (stream_at e.outgoing id) else e.outgoing;
+      outgoing = if e.announced.choices.strict_messages then saying_at e.outgoing id (content_of_own e.side (known_of (stream_at e.incoming id)) fields) (stream_at e.outgoing id) else e.outgoing;
     }
 
 abbrev pub send_head : EndpointHistory → ℕ → Head → Option Refusal × EndpointHistory

@@ -1,9 +1,11 @@
 -- What came on a stream that is there, by a call that may be refused memory.
-use Rattle.std.proofs.Common.{◌≡◌, ℕ, Bool, true, false, if◌then◌else◌, refl, sym, ap, subst, ◌∙◌}
+use Rattle.std.proofs.Common.{◌≡◌, ℕ, Bool, true, false, if◌then◌else◌, List, refl, sym, ap, subst, ◌∙◌}
 use Rattle.std.specs.Prelude.{◌&&◌, ◌||◌, not, Result, Ok, Err, Option, Some, None, IfSome, OnOk, is_some, unwrap_or}
 use Rattle.h3_messages.specs.declared.content.Content.{Content}
+use Rattle.h3_field.specs.Field.{Field}
 use Rattle.h3_connection.specs.Calls.{Sets, fresh_request}
 use Rattle.h3_connection.specs.Incoming.{Incoming, awaiting, awaits_head, is_before_head}
+use Rattle.h3_connection.specs.Sending.{content_of_response_to}
 use Rattle.h3_connection.specs.State.{RequestState, kept_at}
 use Rattle.h3_connection.specs.StreamSets.{Streams}
 use Rattle.h3_outgoing.specs.Sent.{is_open, is_to_have}
@@ -72,3 +74,18 @@ pub awaits_over : (old new : Streams RequestState) (id : ℕ) (expected said : C
 awaits_over old new id expected said None was over same = tt
 awaits_over old new id expected said (Some r) was over same =
     subst (λ s. Sets old s id (asks expected said r)) (sym same) (record { here = was ∙ ap Some (sym (over_awaits r expected said over)); others = λ q ne. refl })
+
+-- Nothing is sent on it either.
+abbrev pub says : List Field → RequestState → RequestState
+says fields r = record r { outgoing = is_to_have r.outgoing (content_of_response_to r.incoming.response fields) }
+
+over_says : (r : RequestState) (fields : List Field) → IsOver r → says fields r ≡ r
+over_says r fields h =
+    let closed : is_open r.outgoing ≡ false = over_closed r h in
+    ap (λ b. let q : RequestState = record r { outgoing = record r.outgoing { content = if b then content_of_response_to r.incoming.response fields else r.outgoing.content } } in q) closed
+
+pub says_over : (old new : Streams RequestState) (id : ℕ) (fields : List Field) (there : Option RequestState) → kept_at old id ≡ there → IfSome there IsOver → new ≡ old
+    → IfSome there (λ r. Sets old new id (says fields r))
+says_over old new id fields None was over same = tt
+says_over old new id fields (Some r) was over same =
+    subst (λ s. Sets old s id (says fields r)) (sym same) (record { here = was ∙ ap Some (sym (over_says r fields over)); others = λ q ne. refl })

@@ -73,9 +73,9 @@ parts r h =
 
 received_alike : (a b : Incoming) → a.unread ≡ b.unread → a.section ≡ b.section → a.body_left ≡ b.body_left → a.waits_for ≡ b.waits_for → ReceivesAlike a b → a ≡ b
 received_alike a b unread section body_left waits_for same =
-    let e : record { unread = a.unread; section = a.section; body_left = a.body_left; content = a.content; place = a.place; waits_for = a.waits_for; tries = a.tries; ended = a.ended; was_reset = a.was_reset; is_over = a.is_over; fault = a.fault }
-    ≡ record { unread = b.unread; section = b.section; body_left = b.body_left; content = b.content; place = b.place; waits_for = b.waits_for; tries = b.tries; ended = b.ended; was_reset = b.was_reset; is_over = b.is_over; fault = b.fault } =
-    rw (unread, section, body_left, waits_for, same.content, same.place, same.tries, same.ended, same.was_reset, same.is_over, same.fault) refl in
+    let e : record { unread = a.unread; section = a.section; body_left = a.body_left; content = a.content; response = a.response; place = a.place; waits_for = a.waits_for; tries = a.tries; ended = a.ended; was_reset = a.was_reset; is_over = a.is_over; fault = a.fault }
+    ≡ record { unread = b.unread; section = b.section; body_left = b.body_left; content = b.content; response = b.response; place = b.place; waits_for = b.waits_for; tries = b.tries; ended = b.ended; was_reset = b.was_reset; is_over = b.is_over; fault = b.fault } =
+    rw (unread, section, body_left, waits_for, same.content, same.response, same.place, same.tries, same.ended, same.was_reset, same.is_over, same.fault) refl in
     e
 
 sent_alike : (a b : OutgoingState) → a.pieces ≡ [] → b.pieces ≡ [] → SendsAlike a b → a ≡ b

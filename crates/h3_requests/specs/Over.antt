@@ -70,6 +70,7 @@ pub record AddsWays (ways others : List Way) : Type 0 where
 pub record ReceivesAlike (a b : Incoming) : Type 0 where
   pub place : a.place ≡ b.place
   pub content : a.content ≡ b.content
+  pub response : a.response ≡ b.response
   pub tries : a.tries ≡ b.tries
   pub ended : a.ended ≡ b.ended
   pub was_reset : a.was_reset ≡ b.was_reset

@@ -163,6 +163,7 @@ fn receives_alike(stream: &IncomingStream, other: &IncomingStream) -> bool
 {
     stream.place() == other.place()
         && stream.content() == other.content()
+        && stream.response() == other.response()
         && stream.tries() == other.tries()
         && stream.ended() == other.ended()
         && stream.was_reset() == other.was_reset()
