@@ -20,7 +20,7 @@ use Rattle.h3_connection.specs.declared.event.Fault.TheVariants as fault
 use Rattle.h3_connection.specs.declared.event.StreamFault.TheVariants as stream_fault
 use Rattle.h3_connection.specs.Codes.{decompression_failed}
 use Rattle.h3_connection.specs.StreamSets.{Streams, stream_at, set_stream}
-use Rattle.h3_connection.specs.StrictSending.{broken_head, broken_trailer, passes_content, unless_malformed}
+use Rattle.h3_connection.specs.StrictSending.{broken_head, broken_trailer, early_trailer, passes_content, unless_malformed}
 use Rattle.h3_connection.specs.Incoming.{Incoming, awaiting}
 use Rattle.h3_messages.specs.Content.{awaited_by, content_behind_response, content_of_request, may_end}
 use Rattle.h3_messages.specs.declared.content.Content.{Content}
@@ -95,8 +95,8 @@ trailer_refusal e id head = unless_closed e (first_of (
     (not (is_open e id), refusal.NotOpen) ∷
     (not (takes_body (outgoing_at e id)), refusal.OutOfOrder) ∷
     (has_pseudo head, refusal.PseudoInTrailer) ∷
-    unless_malformed (broken_trailer e.announced (outgoing_at e id).content (head_fields head)) (
-    (is_too_large e.peer.settings (head_fields head), refusal.TooLarge (section_size (head_fields head))) ∷ [])))
+    unless_malformed (early_trailer (outgoing_at e id).content) (unless_malformed (broken_trailer e.announced (head_fields head)) (
+    (is_too_large e.peer.settings (head_fields head), refusal.TooLarge (section_size (head_fields head))) ∷ []))))
 
 abbrev pub finish_refusal : EndpointHistory → ℕ → Option Refusal
 finish_refusal e id = unless_closed e (first_of (
@@ -155,8 +155,8 @@ known_of None = None
 known_of (Some i) = i.response
 
 abbrev pub saying_at : Streams Outgoing → ℕ → Content → Option Outgoing → Streams Outgoing
-saying_at streams id content None = streams
-saying_at streams id content (Some o) = set_stream streams id (with_said o content)
+saying_at streams id said None = streams
+saying_at streams id said (Some o) = set_stream streams id (with_said o said)
 
 abbrev pub asked : EndpointHistory → ℕ → List Field → EndpointHistory
 asked e id fields =

@@ -3,8 +3,6 @@ use Rattle.std.proofs.Common.{◌≡◌, ℕ, Bool, true, false, List, [], ◌�
 use Rattle.std.specs.Prelude.{not, ◌&&◌, ◌||◌, codes, option_map, if◌then◌else◌}
 use Rattle.std.specs.List.{list_any}
 use Rattle.h3_field.specs.Field.{Field}
-use Rattle.h3_messages.specs.Content.{may_end, takes_trailer}
-use Rattle.h3_messages.specs.declared.content.Content.{Content}
 use Rattle.h3_messages.specs.Messages.{first_broken, violation_of_request, violation_of_response, violation_of_trailer, holds, pseudo_first, only_pseudo_of, request_names, repeats_pseudo, has_connection_field, is_te_wrong, is_length_wrong, is_protocol_wrong, is_connect, is_connect_wrong, misses_pseudo, is_scheme_wrong, is_authority_wrong, is_path_wrong, has_space_around}
 use Rattle.h3_messages.specs.declared.violation.Violation.{Violation}
 use Rattle.h3_messages.specs.declared.violation.Violation.TheVariants.{PseudoOrder, RepeatedPseudo, WrongPseudo, MissingPseudo, ConnectionField, Protocol, Connect, Scheme, Authority, Path, ContentLength, Value}
@@ -15,9 +13,8 @@ use Rattle.h3_connection.specs.OwnIds.{other}
 use Rattle.h3_connection.specs.Sending.{closed_or, does, first_of}
 use Rattle.h3_connection.specs.Endpoint.{EndpointHistory}
 use Rattle.h3_connection.specs.StrictMessages.{broken_rule, malformation_by}
-use Rattle.h3_connection.specs.StrictSending.{broken_head, broken_trailer, peer_connects, unless_malformed, unless_tunnel}
+use Rattle.h3_connection.specs.StrictSending.{broken_head, broken_trailer, peer_connects, unless_malformed}
 use Rattle.h3_connection.specs.declared.event.Malformation.{Malformation}
-use Rattle.h3_connection.specs.declared.event.Malformation.TheVariants as malformation
 use Rattle.h3_connection.specs.declared.event.Refusal.{Refusal}
 use Rattle.h3_connection.specs.declared.place.Place.TheVariants.{BeforeHead, InBody}
 use Rattle.h3_connection.specs.declared.setup.Announced.{Announced}
@@ -84,19 +81,9 @@ head_taken Client own peer settings fields strict knows e =
 head_taken Server own peer settings fields strict knows e =
     no_rule peer.choices.strict_messages (violation_of_response fields) (told own.choices.strict_messages (violation_of_response fields) strict e)
 
--- a trailer that may come here breaks no rule of its list
-whole_list : (takes may : Bool) (broken : Option Malformation) → (if takes then (if may then broken else Some malformation.ContentLength) else Some malformation.Connect) ≡ None → broken ≡ None
-whole_list true true broken e = e
-whole_list true false broken e = absurd (cc)
-whole_list false may broken e = absurd (cc)
-
-told_behind : (strict : Bool) (content : Content) (v : Option Violation) → strict ≡ true → (let rule : Option Malformation = if strict then unless_tunnel content (option_map malformation_by v) else None in rule) ≡ None → v ≡ None
-told_behind true content v is e = no_violation v (whole_list (takes_trailer content) (may_end content) (option_map malformation_by v) e)
-told_behind false content v is e = absurd (cc)
-
-pub trailer_taken : (reader : Side) (own peer : Announced) (content : Content) (fields : List Field) → own.choices.strict_messages ≡ true → broken_trailer own content fields ≡ None → broken_rule reader peer InBody fields ≡ None
-trailer_taken reader own peer content fields strict e =
-    no_rule peer.choices.strict_messages (violation_of_trailer fields) (told_behind own.choices.strict_messages content (violation_of_trailer fields) strict e)
+pub trailer_taken : (reader : Side) (own peer : Announced) (fields : List Field) → own.choices.strict_messages ≡ true → broken_trailer own fields ≡ None → broken_rule reader peer InBody fields ≡ None
+trailer_taken reader own peer fields strict e =
+    no_rule peer.choices.strict_messages (violation_of_trailer fields) (told own.choices.strict_messages (violation_of_trailer fields) strict e)
 
 -- A call that its rules do not refuse.
 pub not_closed : (closed : Option ℕ) (o : Option Refusal) → closed_or closed o ≡ None → o ≡ None
@@ -110,6 +97,11 @@ passed false r rules e = e
 pub not_malformed : (broken : Option Malformation) (later : List (Bool × Refusal)) → first_of (unless_malformed broken later) ≡ None → broken ≡ None
 not_malformed None later e = refl
 not_malformed (Some why) later e = absurd (cc)
+
+-- what stands behind it is left
+pub not_early : (early : Option Malformation) (later : List (Bool × Refusal)) → first_of (unless_malformed early later) ≡ None → first_of later ≡ None
+not_early None later e = e
+not_early (Some why) later e = absurd (cc)
 
 pub was_allowed : (rule : Option Refusal) (old new : EndpointHistory) → (does rule old new).0 ≡ None → rule ≡ None
 was_allowed None old new e = refl

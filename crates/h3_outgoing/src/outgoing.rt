@@ -4,12 +4,13 @@ ghost use Rattle.std.specs.VecDeque.{deque_len, deque_capacity};
 ghost use Rattle.h3_wire.specs.Outgoing.{all_of};
 ghost use Rattle.h3_connection.specs.WaitingPieces.{bytes_of, lent, without_front};
 ghost use Rattle.h3_connection.specs.State.{nothing_waits};
-ghost use Rattle.h3_connection.specs.StrictSending.{passes_content};
+ghost use Rattle.h3_connection.specs.StrictSending.{early_trailer, passes_content};
 ghost use Rattle.h3_outgoing.specs.Copied.{put};
 ghost use Rattle.h3_outgoing.specs.Sent.{has_section, has_body, is_to_have, has_ended, was_cut_off, taken_from, takes_head, takes_body, takes_end, is_sent_off, end_waits, is_end_next, has_end_taken};
 
 use crate::room::FrameRoom;
 use bytes::{Buf, Bytes};
+use h3_connection::event::Malformation;
 use h3_connection::place::SendPlace;
 use h3_messages::Content;
 use h3_wire::stream::MessageBuf;
@@ -155,6 +156,20 @@ impl OutgoingStream {
         ensures { result ≡ passes_content self.now.content size }
     {
         self.content.left_behind(size as u64).is_exceeded()
+    }
+
+    /// Why no trailer may come here, whatever its list: content is left to be sent (RFC 9114, section 4.1.2), or it would stand in a tunnel
+    /// (section 4.4).
+    pub fn early_trailer(&self) -> Option<Malformation>
+        ensures { result ≡ early_trailer self.now.content }
+    {
+        if !self.content.takes_trailer() {
+            return Some(Malformation::Connect);
+        }
+        if self.content.may_end() {
+            return None;
+        }
+        Some(Malformation::ContentLength)
     }
 
     /// A body goes out as the payload of a DATA frame; an empty one writes nothing. An `Err` changes nothing, and hands the body back.

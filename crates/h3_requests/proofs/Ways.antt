@@ -13,6 +13,7 @@ use Rattle.h3_connection.specs.Incoming.{Incoming}
 use Rattle.h3_connection.specs.State.{OutgoingState, RequestState, kept_at}
 use Rattle.h3_connection.specs.StreamSets.{Streams}
 use Rattle.h3_connection.specs.WaitingPieces.{bytes_of, without_front}
+use Rattle.h3_connection.specs.declared.event.Refusal.{Refusal}
 use Rattle.h3_connection.specs.declared.event.Refusal.TheVariants as refusal
 use Rattle.h3_outgoing.specs.Sent.{end_waits, is_sent_off, is_open, takes_head, takes_body, takes_end, taken_from}
 use Rattle.h3_requests.specs.HasBytes.{has_bytes}
@@ -502,7 +503,12 @@ pub refused_body : (o : Option RequestState) → IfSome o IsOver → Some (refus
 refused_body None h = refl
 refused_body (Some r) h = rw (over_takes_body r h) refl
 
--- and it comes before what refuses a body by its size
+-- and it comes before what refuses a trailer,
+pub refused_trailer : (o : Option RequestState) (later : Option Refusal) → IfSome o IsOver → Some (refused_over o refusal.OutOfOrder) ≡ or_later (body_refused_at o) later
+refused_trailer None later h = refl
+refused_trailer (Some r) later h = rw (over_takes_body r h) refl
+
+-- or a body by its size
 pub refused_data : (o : Option RequestState) (size : ℕ) → IfSome o IsOver → Some (refused_over o refusal.OutOfOrder) ≡ or_later (body_refused_at o) (too_much_at o size)
 refused_data None size h = refl
 refused_data (Some r) size h = rw (over_takes_body r h) refl

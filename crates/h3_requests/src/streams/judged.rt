@@ -8,7 +8,7 @@ ghost use Rattle.h3_connection.specs.declared.event.Refusal.TheVariants.{OutOfMe
 ghost use Rattle.h3_connection.specs.declared.event.StreamFault.TheVariants.{Canceled};
 ghost use Rattle.h3_incoming.specs.Replying.{encodings};
 ghost use Rattle.h3_outgoing.specs.Sent.{has_body, has_ended, was_cut_off};
-ghost use Rattle.h3_requests.specs.Refused.{or_later, head_refused_at, body_refused_at, too_much_at, end_refused_at, reset_refused_at, cancel_refused_at};
+ghost use Rattle.h3_requests.specs.Refused.{or_later, head_refused_at, body_refused_at, early_trailer_at, too_much_at, end_refused_at, reset_refused_at, cancel_refused_at};
 
 use super::RequestStreams;
 use crate::room::SectionRoom;
@@ -49,15 +49,16 @@ impl RequestStreams {
     }
 
     /// Room for the frame of a trailer, so that sending it needs no memory. Refused are, in this order, a stream that is not there,
-    /// one whose final head was not sent, or whose trailer or end was, what `later` refuses, and want of memory.
+    /// one whose final head was not sent, or whose trailer or end was, what `later` refuses, a trailer in front of which less content was
+    /// sent than the head said, or that would stand in a tunnel, and want of memory.
     pub fn reserve_trailer(
         &mut self,
         id: StreamId,
         later: Option<Refusal>,
     ) -> Result<SectionRoom, Refusal>
         ensures room { IfOk result (λ room. room ≡ id) }
-        ensures taken { OnOk result (or_later (body_refused_at (kept_at self.old id)) later ≡ None) }
-        ensures why { IfErr result (λ r. r ≡ unwrap_or (or_later (body_refused_at (kept_at self.old id)) later) OutOfMemory) }
+        ensures taken { OnOk result (or_later (body_refused_at (kept_at self.old id)) (or_later later (early_trailer_at (kept_at self.old id))) ≡ None) }
+        ensures why { IfErr result (λ r. r ≡ unwrap_or (or_later (body_refused_at (kept_at self.old id)) (or_later later (early_trailer_at (kept_at self.old id)))) OutOfMemory) }
         ensures same { AllSame self.old self.new }
     {
         let Some(stream) = self.streams.get_mut(id) else {
@@ -68,6 +69,9 @@ impl RequestStreams {
         }
         if let Some(refusal) = later {
             return Err(refusal);
+        }
+        if let Some(why) = stream.outgoing.early_trailer() {
+            return Err(Refusal::Malformed(why));
         }
         let Ok(frame) = stream.outgoing.reserve() else {
             return Err(Refusal::OutOfMemory);
