@@ -53,7 +53,7 @@ at_set e id o = ap (λ at. unwrap_or at nothing_sent) (set-here e.outgoing id o)
 
 -- what it leaves
 left_by : (e : EndpointHistory) (id : ℕ) (bytes : List ℕ) (left : ℕ) → left_to_send e id ≡ Exactly left → Fits left (length bytes) → left_to_send (counted (sent_bytes e id bytes) (length bytes)) id ≡ Exactly (left - length bytes)
-left_by e id [] left is f = is
+left_by e id [] left is f = let same : left ≡ left - 0 = omega arith in is ∙ ap Exactly same
 left_by e id (byte ∷ bytes) left is f =
     ap (λ (o : Outgoing). o.content) (at_set e id (with_body (outgoing_at e id) (byte ∷ bytes))) ∙ ap (λ c. left_behind c (length (byte ∷ bytes))) is ∙ f.behind
 
@@ -81,8 +81,8 @@ counts id all n e (Sends {n = before} {e = old} bytes h sent) =
     }
 
 -- none is left where the message may end
-none_left : (left n all : ℕ) (content : Content) → content ≡ Exactly left → left + n ≡ all → may_end content ≡ true → n ≡ all
-none_left left n all content is sum may =
+none_left : (left n all : ℕ) (k : Content) → k ≡ Exactly left → left + n ≡ all → may_end k ≡ true → n ≡ all
+none_left left n all k is sum may =
     let zero : (left == 0) ≡ true = sym (ap may_end is) ∙ may in
     let none : left ≡ 0 = grind (arith, common_steps, zero) in
     omega (arith, none, sum)
@@ -98,8 +98,8 @@ ends e id sent =
     let there = passed (not (is_open e id)) refusal.NotOpen ((not (takes_end (outgoing_at e id)), refusal.OutOfOrder) ∷ last) allowed in
     is_true (may_end (left_to_send e id)) (not_last (not (may_end (left_to_send e id))) (refusal.Malformed malformation.ContentLength) (passed (not (takes_end (outgoing_at e id))) refusal.OutOfOrder last there))
 
-early_none : (left : ℕ) (content : Content) → content ≡ Exactly left → early_trailer content ≡ None → may_end content ≡ true
-early_none left content is h = ap may_end is ∙ by_test (left == 0) (sym (ap early_trailer is) ∙ h)
+early_none : (left : ℕ) (k : Content) → k ≡ Exactly left → early_trailer k ≡ None → may_end k ≡ true
+early_none left k is h = ap may_end is ∙ by_test (left == 0) (sym (ap early_trailer is) ∙ h)
   where
     by_test : (b : Bool) → (if b then None else Some malformation.ContentLength) ≡ None → b ≡ true
     by_test true none = refl

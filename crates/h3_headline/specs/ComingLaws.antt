@@ -7,6 +7,7 @@ use Rattle.h3_field.specs.Instruction.{DecoderInstruction}
 use Rattle.h3_proto.specs.StreamIds.{is_request, index_of}
 use Rattle.h3_proto.specs.declared.stream.Side.{Side}
 use Rattle.h3_proto.specs.declared.stream.Side.TheVariants.{Client, Server}
+use Rattle.h3_messages.specs.declared.content.Content.TheVariants.{Unsaid}
 use Rattle.h3_connection.specs.Delivering.{opened, opened_at, incoming_at, with_incoming, closed_refusal, request_refusal, refusal_at, delivery_refusal}
 use Rattle.h3_connection.specs.Endpoint.{EndpointHistory, Own, kind_of}
 use Rattle.h3_connection.specs.Endpoint.Kind.{Request}
@@ -48,7 +49,7 @@ pub record IsUnseen (w : World) (side : Side) (id : ℕ) : Type 0 where
   pub kept : ReceivesFlow (flow w (other side) id) nothing_came
 
 abbrev made : List OwnPart → ℕ → Bool → Bool → Outgoing
-made parts taken finished reset = record { parts = parts; taken = taken; is_finished = finished; is_reset = reset; end_taken = false }
+made parts taken finished reset = record { parts = parts; taken = taken; content = Unsaid; is_finished = finished; is_reset = reset; end_taken = false }
 
 sent_nothing : (p : Party) (g : Flow) → IsSoundFlow p g → g.sent ≡ [] → g.is_reset ≡ false → outgoing_of g ≡ nothing_sent
 sent_nothing p g sound none whole =

@@ -4,6 +4,7 @@ use Rattle.std.specs.Prelude.{not, ◌&&◌, slice_get, nat_lt}
 use Rattle.std.specs.List.{AllByRecursion, concat, flat_map}
 use Rattle.std.proofs.lemmas.Grind.{flat_map-append}
 use Rattle.h3_proto.specs.declared.stream.Side.{Side}
+use Rattle.h3_messages.specs.declared.content.Content.TheVariants.{Unsaid}
 use Rattle.h3_connection.specs.Incoming.{Incoming}
 use Rattle.h3_connection.specs.Outgoing.{Outgoing, OwnPart}
 use Rattle.h3_connection.specs.OwnIds.{other}
@@ -156,7 +157,7 @@ last_appended (p ∷ []) part = refl
 last_appended (p ∷ q ∷ parts) part = last_appended (q ∷ parts) part
 
 abbrev made : List OwnPart → ℕ → Bool → Bool → Outgoing
-made parts taken finished reset = record { parts = parts; taken = taken; is_finished = finished; is_reset = reset; end_taken = false }
+made parts taken finished reset = record { parts = parts; taken = taken; content = Unsaid; is_finished = finished; is_reset = reset; end_taken = false }
 
 parts_appended : (f : Flow) (part : Part) → flat_map own_part (f.sent ++ part ∷ []) ≡ flat_map own_part f.sent ++ own_part part
 parts_appended f part = flat_map-append own_part f.sent (part ∷ []) ∙ ap (λ l. flat_map own_part f.sent ++ l) (append-nil (own_part part))

@@ -139,11 +139,11 @@ appended o w part at h here is =
     }
 
 -- So much content is to be sent.
-pub said : (o : Outgoing) (w : OutgoingState) (content : Content) → IsOfOutgoing o w → IsOfOutgoing (with_said o content) (is_to_have w content)
-said o w content h = record {
+pub said : (o : Outgoing) (w : OutgoingState) (k : Content) → IsOfOutgoing o w → IsOfOutgoing (with_said o k) (is_to_have w k)
+said o w k h = record {
   pieces = h.pieces;
   place = h.place;
-  content = ap (λ b. if b then content else w.content) (opened o w h) ∙ ap (λ c. if history.is_open o then content else c) h.content;
+  content = ap (λ b. if b then k else w.content) (opened o w h) ∙ ap (λ c. if history.is_open o then k else c) h.content;
   is_finished = h.is_finished;
   is_reset = h.is_reset;
   end_taken = h.end_taken;
