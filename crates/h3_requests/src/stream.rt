@@ -175,8 +175,8 @@ fn receives_alike(stream: &IncomingStream, other: &IncomingStream) -> bool
 fn sends_alike(stream: &OutgoingStream, other: &OutgoingStream) -> bool
     ensures { result ≡ true → SendsAlike stream.now other.now }
 {
-    stream.place() == other.place()
-        && stream.content() == other.content()
+    stream.content() == other.content()
+        && stream.place() == other.place()
         && stream.is_finished() == other.is_finished()
         && stream.is_reset() == other.is_reset()
         && stream.end_taken() == other.end_taken()
