@@ -90,9 +90,11 @@ still_open s id bytes closed = ap (λ c. closed_or c (data_refused s id bytes)) 
 pub body_closed : (s : EndpointState) (id : ℕ) (bytes : List ℕ) (code : ℕ) → s.closed ≡ Some code → SendsBody s s id bytes (Err (refusal.Closed code, bytes))
 body_closed s id bytes code closed = body_refuses s id bytes (refusal.Closed code) (ap (λ c. closed_or c (data_refused s id bytes)) closed)
 
-pub body_uncounted : (s : EndpointState) (id : ℕ) (bytes : List ℕ) (r : Refusal) → s.closed ≡ None → r ≡ unwrap_or (data_refused s id bytes) refusal.OutOfMemory
-    → SendsBody s s id bytes (Err (r, bytes))
-body_uncounted s id bytes r closed is = subst (λ r. SendsBody s s id bytes (Err (r, bytes))) (sym is) (body_refused_by s id bytes (data_refused s id bytes) (still_open s id bytes closed))
+pub body_uncounted : (s : EndpointState) (id : ℕ) (bytes : List ℕ) (size : ℕ) (r : Refusal) → s.closed ≡ None → size ≡ length bytes
+    → r ≡ unwrap_or (or_later (body_refused_at (kept_at s.requests id)) (too_much_at (kept_at s.requests id) size)) refusal.OutOfMemory → SendsBody s s id bytes (Err (r, bytes))
+body_uncounted s id bytes size r closed same is =
+    let so : r ≡ unwrap_or (data_refused s id bytes) refusal.OutOfMemory = is ∙ ap (λ n. unwrap_or (or_later (body_refused_at (kept_at s.requests id)) (too_much_at (kept_at s.requests id) n)) refusal.OutOfMemory) same in
+    subst (λ r. SendsBody s s id bytes (Err (r, bytes))) (sym so) (body_refused_by s id bytes (data_refused s id bytes) (still_open s id bytes closed))
 
 sends_here : (s : EndpointState) (new : Streams RequestState) (id : ℕ) (bytes : List ℕ) → IfSome (kept_at s.requests id) (λ r. Sets s.requests new id (record r { outgoing = sent.has_body r.outgoing bytes })) → body_refused s id (length bytes) ≡ None
     → SendsBody s (record s { requests = new; sent = s.sent + length bytes + 64 }) id bytes (Ok tt)
@@ -125,4 +127,4 @@ sends_body s n id bytes total (Ok done) closed sum rest same sets taken why back
 sends_body s n id bytes total (Err (r, handed)) closed sum rest same sets taken why back =
     subst (λ v. SendsBody s v id bytes (Err (r, handed))) (sym same)
     (subst (λ l. SendsBody s (record s { requests = n.requests }) id bytes (Err (r, l))) (sym back.0)
-    (body_alike s n.requests id bytes r back.1 (body_uncounted s id bytes r closed why)))
+    (body_alike s n.requests id bytes r back.1 (body_uncounted s id bytes (length bytes) r closed refl why)))

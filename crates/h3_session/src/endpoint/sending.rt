@@ -84,8 +84,9 @@ impl Endpoint {
         if let Some(code) = self.closed {
             return Err((Refusal::Closed(code), body));
         }
-        let Some(sent) = self.sent_with(body.len() as u64) else {
-            return Err((self.uncounted_refusal(id, body.len()), body));
+        let size = body.len();
+        let Some(sent) = self.sent_with(size as u64) else {
+            return Err((self.uncounted_refusal(id, size), body));
         };
         self.append_body(id, body, sent)
     }
