@@ -64,8 +64,11 @@ module _ (mine : List Delivery) (held : Held) (kept : List Arrival) (side : Side
   head_alike plain id head =
       leaving (send_head behind id head) (send_head f id head) (head_ahead mine held incoming kept behind plain id head)
       (leaves_unless (head_refusal behind id head) behind (asked sent id (head_fields head))
-      (record { announced = refl; incoming = ap (λ (e : EndpointHistory). e.incoming) (asks_nothing sent id (head_fields head) plain); peer = refl;
-      distinct = λ d. subst HaveDistinctIds (sym (ap (λ (e : EndpointHistory). e.outgoing) (asks_nothing sent id (head_fields head) plain))) (set-distinct behind.outgoing id _ d);
+      (record {
+        announced = refl;
+        incoming = ap (λ (e : EndpointHistory). e.incoming) (asks_nothing sent id (head_fields head) plain);
+        peer = refl;
+        distinct = λ d. subst HaveDistinctIds (sym (ap (λ (e : EndpointHistory). e.outgoing) (asks_nothing sent id (head_fields head) plain))) (set-distinct behind.outgoing id _ d);
       }))
     where
       sent : EndpointHistory

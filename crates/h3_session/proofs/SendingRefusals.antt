@@ -47,7 +47,6 @@ head_at (Some o) (Some r) b later h =
 head_at None (Some r) b later h = absurd h.same
 head_at (Some o) None b later h = absurd h.same
 
-
 order_at : (o : Option Outgoing) (r : Option RequestState) → SameSender o r
     → body_refused_at r ≡ first_of ((not (is_some o), refusal.NotOpen) ∷ (not (takes_body (unwrap_or o nothing_sent)), refusal.OutOfOrder) ∷ [])
 order_at None None h = refl
