@@ -57,9 +57,19 @@ pub(crate) fn judge(
 {
     match decoded {
         DecodedWithin::Fields(decoded) => {
-            judge_fields(alloc, side, announced, place, content, known, decoded.fields)
+            judge_fields(
+                alloc,
+                side,
+                announced,
+                place,
+                content,
+                known,
+                decoded.fields,
+            )
         }
-        DecodedWithin::TooLarge(large) => Ok(judge_large(side, announced, place, content, known, large)),
+        DecodedWithin::TooLarge(large) => Ok(judge_large(
+            side, announced, place, content, known, large,
+        )),
     }
 }
 
