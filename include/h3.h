@@ -124,8 +124,11 @@
  *     and no H3_TRAILER comes before all of it: H3_BAD_CONTENT_LENGTH. A client: none comes in a response to HEAD or with status 204 or 304, whatever
  *     content-length says; it goes by what it sent on the stream before the response came.
  *   In a tunnel only DATA comes (section 4.4): at a server behind the head of a CONNECT request, at a client behind a 2xx response to one.
- * You must check: of a head that is too large, that content is as long as it says; that the content that you send is as long as your content-length
- * says; and where `strict` is 0 the whole list above. What was handed out of a body stays handed out where the message turns out malformed later: act on
+ *   content that you send is as long as your content-length says: a body that passes it, and an end or a trailer before it is reached, is H3_MALFORMED
+ *     with H3_BAD_CONTENT_LENGTH. So is a body in a response to HEAD or with status 204 or 304. A server counts where it handed out the request's head
+ *     before it sends the response's, and did not give the stream up since. A trailer in a tunnel is H3_BAD_CONNECT.
+ * You must check: of a head that is too large, that content is as long as it says; at a server that answers before it pulls the request's head, that
+ * its content is as long as it says; and where `strict` is 0 the whole list above. What was handed out of a body stays handed out where the message turns out malformed later: act on
  * a request that must be whole behind its H3_END.
  *
  * HOW A FAULT ENDS A STREAM OR THE CONNECTION
@@ -332,16 +335,18 @@ static inline uint32_t h3_send_trailer_fields(h3_endpoint *endpoint, uint64_t id
                                               size_t len, uint64_t *detail);
 
 /* Sends a piece of a body, as one DATA frame; no bytes write nothing. Refused, in this order: H3_ARGUMENT (id not below 2^62), H3_CLOSED,
- * H3_NOT_OPEN, H3_OUT_OF_ORDER, H3_MEMORY. (Where the copy of the bytes itself is refused memory, H3_MEMORY comes before H3_CLOSED.) */
+ * H3_NOT_OPEN, H3_OUT_OF_ORDER, H3_MALFORMED (where `strict` is set: more than content-length says), H3_MEMORY. (Where the copy of the bytes itself is
+ * refused memory, H3_MEMORY comes before H3_CLOSED.) */
 static inline uint32_t h3_send_body(h3_endpoint *endpoint, uint64_t id, const void *bytes, size_t len, uint64_t *detail);
 
 /* Sends a piece of a body as h3_send_body does, with no copy: the library reads the bytes where they lie. The caller leaves them there unchanged
  * until h3_advance has taken all that waits on the stream (`waiting` of h3_stream is 0), or h3_reset of the stream was answered H3_OK, or the
- * endpoint was freed. A refused call keeps nothing. Refused, in this order: H3_ARGUMENT, H3_CLOSED, H3_NOT_OPEN, H3_OUT_OF_ORDER, H3_MEMORY. */
+ * endpoint was freed. A refused call keeps nothing. Refused, in this order: H3_ARGUMENT, H3_CLOSED, H3_NOT_OPEN, H3_OUT_OF_ORDER, H3_MALFORMED,
+ * H3_MEMORY. */
 static inline uint32_t h3_send_body_lent(h3_endpoint *endpoint, uint64_t id, const void *bytes, size_t len, uint64_t *detail);
 
 /* The message is whole: FIN goes behind what waits (h3_outgoing says when). Takes no memory. Refused, in this order: H3_ARGUMENT, H3_CLOSED,
- * H3_NOT_OPEN, H3_OUT_OF_ORDER. */
+ * H3_NOT_OPEN, H3_OUT_OF_ORDER, H3_MALFORMED (where `strict` is set: less was sent than content-length says). */
 static inline uint32_t h3_finish(h3_endpoint *endpoint, uint64_t id, uint64_t *detail);
 
 /* Sending on a stream ends here, and what waits is dropped: send RESET_STREAM with a code of the caller's choice. Takes no memory. Refused, in

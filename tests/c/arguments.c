@@ -393,6 +393,49 @@ static void of_strict_lists(void) {
   h3_free(&client);
 }
 
+/* a strict endpoint sends as much content as its head says: a server by what was asked */
+static void of_strict_content(void) {
+  h3_endpoint client = H3_NONE_YET, server = H3_NONE_YET;
+  h3_config c;
+  h3_item item;
+  uint64_t id, rule = 99;
+  h3_field_size post[5] = {{7, 4}, {7, 5}, {10, 1}, {5, 1}, {14, 1}}, ok[2] = {{7, 3}, {14, 1}}, trailer = {3, 1};
+  h3_config_default(&c);
+  IS(h3_new(&client, &c, NULL), H3_OK);
+  IS(h3_open_request(&client, &id, NULL), H3_OK);
+  IS(h3_send_fields(&client, id, post, 5, ":methodPOST:schemehttps:authoritya:path/content-length3", 55, NULL), H3_OK);
+  IS(h3_send_body(&client, id, "ab", 2, NULL), H3_OK);
+  IS(h3_send_body(&client, id, "cd", 2, &rule), H3_MALFORMED);
+  HOLDS(rule == H3_BAD_CONTENT_LENGTH);
+  IS(h3_send_body_lent(&client, id, "cd", 2, &rule), H3_MALFORMED);
+  IS(h3_finish(&client, id, &rule), H3_MALFORMED);
+  HOLDS(rule == H3_BAD_CONTENT_LENGTH);
+  IS(h3_send_trailer_fields(&client, id, &trailer, 1, "x-a1", 4, &rule), H3_MALFORMED);
+  HOLDS(rule == H3_BAD_CONTENT_LENGTH);
+  IS(h3_send_body(&client, id, "c", 1, NULL), H3_OK);
+  IS(h3_send_trailer_fields(&client, id, &trailer, 1, "x-a1", 4, NULL), H3_OK);
+  IS(h3_finish(&client, id, NULL), H3_OK);
+  h3_free(&client);
+
+  c.server = 1;
+  IS(h3_new(&server, &c, NULL), H3_OK);
+  /* HEAD has a response without content, whatever its length; GET has one with it */
+  IS(h3_deliver(&server, 0, "\x01\x08\x00\x00\xd2\xd7\x50\x01\x61\xc1", 10, NULL), H3_OK);
+  IS(h3_deliver(&server, 4, "\x01\x08\x00\x00\xd1\xd7\x50\x01\x61\xc1", 10, NULL), H3_OK);
+  for (id = 0; id <= 4; id += 4) {
+    IS(h3_pull(&server, id, &item), H3_OK);
+    HOLDS(item.kind == H3_HEAD && item.fields == 4);
+    IS(h3_send_fields(&server, id, ok, 2, ":status200content-length5", 25, NULL), H3_OK);
+    IS(h3_send_body(&server, id, "abcdef", 6, &rule), H3_MALFORMED);
+    HOLDS(rule == H3_BAD_CONTENT_LENGTH);
+  }
+  IS(h3_finish(&server, 0, NULL), H3_OK);
+  IS(h3_finish(&server, 4, &rule), H3_MALFORMED);
+  IS(h3_send_body(&server, 4, "abcde", 5, NULL), H3_OK);
+  IS(h3_finish(&server, 4, NULL), H3_OK);
+  h3_free(&server);
+}
+
 static void of_counts(h3_endpoint *e, uint64_t id) {
   h3_stream_state s;
   size_t n = 0, m = 0;
@@ -690,6 +733,7 @@ int main(int argc, char **argv) {
   of_fields(&e, id);
   of_lists();
   of_strict_lists();
+  of_strict_content();
   of_counts(&e, id);
   of_pointers(&e, id);
   h3_free(&e);

@@ -18,11 +18,11 @@ use Rattle.h3_connection.specs.Delivering.{incoming_at, taken, closed_by, delive
 use Rattle.h3_connection.specs.Endpoint.{EndpointHistory, Kind, Own, kind_of, own_waiting, bytes_waiting, is_critical_of}
 use Rattle.h3_connection.specs.Incoming.{Incoming, nothing_came, awaiting}
 use Rattle.h3_connection.specs.OwnIds.{control_id, encoder_id, decoder_id}
-use Rattle.h3_connection.specs.Outgoing.{Outgoing as Out, is_end_next, part_bytes_waiting}
+use Rattle.h3_connection.specs.Outgoing.{Outgoing as Out, is_end_next, part_bytes_waiting, with_finish, with_reset}
 use Rattle.h3_connection.specs.Outgoing.OwnPart.{OwnTrailer}
 use Rattle.h3_connection.specs.PullCuts.{DifferInCuts}
 use Rattle.h3_connection.specs.Sections.{encoded_section}
-use Rattle.h3_connection.specs.Sending.{does, first_of, closed_or, open_refusal, head_refusal, body_refusal, trailer_refusal, finish_refusal, reset_refusal, goaway_refusal, own_advanced, advance_at, cancel_refusal, cancel, sent_bytes, counted, encoded, appended, head_part, fields_cost, with_outgoing, outgoing_at, asked, awaiting_at, remembers}
+use Rattle.h3_connection.specs.Sending.{does, first_of, closed_or, open_refusal, head_refusal, body_refusal, trailer_refusal, finish_refusal, reset_refusal, goaway_refusal, own_advanced, advance_at, cancel_refusal, cancel, sent_bytes, counted, encoded, appended, head_part, fields_cost, with_outgoing, outgoing_at, asked, awaiting_at, content_of_own, known_of, remembers, saying_at}
 use Rattle.h3_connection.specs.Shown.{peer_limits, table_sizes}
 use Rattle.h3_connection.specs.StreamSets.{Streams, stream_at}
 use Rattle.h3_connection.specs.StreamSetLaws.{other_id}
@@ -117,6 +117,13 @@ module _ (e : EndpointHistory) (s : Streams Incoming) (t : Streams Unidirectiona
       set_both DifferInCuts e.incoming s id (awaiting i expected) (awaiting j expected) b.incoming
       (record { bytes = h.bytes; same = ap (λ x. awaiting x expected) h.same; first = h.first; second = h.second })
 
+  -- what was asked of both is known alike
+  knows_alike : (x y : Option Incoming) → OfBoth DifferInCuts x y → known_of x ≡ known_of y
+  knows_alike None None h = refl
+  knows_alike None (Some j) h = absurd h
+  knows_alike (Some i) None h = absurd h
+  knows_alike (Some i) (Some j) h = sym (ap (λ (x : Incoming). x.response) h.same)
+
   asks_alike : (id : ℕ) (expected : Content) (remembered : Bool)
       → EachStream DifferInCuts (if remembered then awaiting_at e.incoming id expected (stream_at e.incoming id) else e.incoming) (if remembered then awaiting_at s id expected (stream_at s id) else s)
   asks_alike id expected true = awaits_alike id expected (stream_at e.incoming id) (stream_at s id) (requests_here e s t r id b)
@@ -129,12 +136,15 @@ module _ (e : EndpointHistory) (s : Streams Incoming) (t : Streams Unidirectiona
       let plain = counted (appended (encoded e id (head_fields head)) id (head_part head (encoded_section e.encoder id (head_fields head)))) (fields_cost (head_fields head)) in
       let new : EndpointHistory = asked plain id (head_fields head) in
       let others : Streams Incoming = if remembered then awaiting_at s id content (stream_at s id) else s in
-      of_done Done _ _ (does_alike (head_refusal e id head) e two new (with_streams new others t r) here
-      (beside_alike new others t r (record { incoming = asks_alike id content remembered; unidirectional = b.unidirectional; replies = b.replies })))
+      let other : Option Content → EndpointHistory = λ known.
+      with_streams (record new { outgoing = if e.announced.choices.strict_messages then saying_at plain.outgoing id (content_of_own e.side known (head_fields head)) (stream_at plain.outgoing id) else plain.outgoing }) others t r in
+      subst (λ known. AlikeCalled (λ one two. one ≡ two) (called e (SendHead id head)) (done Done (does (head_refusal e id head) two (other known)))) (knows_alike (stream_at e.incoming id) (stream_at s id) (requests_here e s t r id b))
+      (of_done Done _ _ (does_alike (head_refusal e id head) e two new (other (known_of (stream_at e.incoming id))) here
+      (beside_alike new others t r (record { incoming = asks_alike id content remembered; unidirectional = b.unidirectional; replies = b.replies }))))
 
   sends_body : (id : ℕ) (bytes : List ℕ) → AlikeCalled (λ one two. one ≡ two) (called e (SendBody id bytes)) (called two (SendBody id bytes))
-  sends_body id [] = sends Done (body_refusal e id) (counted (sent_bytes e id []) 0) (as_is _ refl refl refl)
-  sends_body id (byte ∷ bytes) = sends Done (body_refusal e id) (counted (sent_bytes e id (byte ∷ bytes)) (length (byte ∷ bytes))) (as_is _ refl refl refl)
+  sends_body id [] = sends Done (body_refusal e id 0) (counted (sent_bytes e id []) 0) (as_is _ refl refl refl)
+  sends_body id (byte ∷ bytes) = sends Done (body_refusal e id (length (byte ∷ bytes))) (counted (sent_bytes e id (byte ∷ bytes)) (length (byte ∷ bytes))) (as_is _ refl refl refl)
 
   same_here : (result : Result) → AlikeCalled (λ one two. one ≡ two) (result, e) (result, two)
   same_here result = record { answer = refl; closed = refl; left = λ none. here }
@@ -223,8 +233,8 @@ module _ (e : EndpointHistory) (s : Streams Incoming) (t : Streams Unidirectiona
   called_alike (SendHead id head) none pulled = sends_head id head
   called_alike (SendBody id bytes) none pulled = sends_body id bytes
   called_alike (SendTrailer id head) none pulled = sends Done (trailer_refusal e id head) _ (as_is (counted (appended (encoded e id (head_fields head)) id (OwnTrailer (encoded_section e.encoder id (head_fields head)))) (fields_cost (head_fields head))) refl refl refl)
-  called_alike (Finish id) none pulled = sends Done (finish_refusal e id) _ (as_is (with_outgoing e id (record (outgoing_at e id) { is_finished = true })) refl refl refl)
-  called_alike (Reset id) none pulled = sends Done (reset_refusal e id) _ (as_is (with_outgoing e id (record (outgoing_at e id) { is_reset = true; is_finished = false })) refl refl refl)
+  called_alike (Finish id) none pulled = sends Done (finish_refusal e id) _ (as_is (with_outgoing e id (with_finish (outgoing_at e id))) refl refl refl)
+  called_alike (Reset id) none pulled = sends Done (reset_refusal e id) _ (as_is (with_outgoing e id (with_reset (outgoing_at e id))) refl refl refl)
   called_alike (Goaway id) none pulled = sends Done (goaway_refusal e id) _ (as_is (record e { own = record e.own { goaways = e.own.goaways ++ id ∷ [] } }) refl refl refl)
   called_alike (Advance id count) none pulled = advances id count (stream_at e.outgoing id)
   called_alike (TakeEnd id) none pulled = ends id (stream_at e.outgoing id)

@@ -21,7 +21,7 @@ use Rattle.h3_connection.specs.Endpoint.Kind.{Request, ServerOpened, OwnUnidirec
 use Rattle.h3_connection.specs.Control.{Found, read_control, read_encoder, read_decoder}
 use Rattle.h3_connection.specs.Unidirectional.{Unidirectional, Role, with_bytes, role_after}
 use Rattle.h3_connection.specs.Unidirectional.Role.{Untold, Control, Encoder, Decoder, Session, Push, Ignored}
-use Rattle.h3_connection.specs.Outgoing.{Outgoing as Out, is_end_next}
+use Rattle.h3_connection.specs.Outgoing.{Outgoing as Out, is_end_next, with_finish, with_reset}
 use Rattle.h3_connection.specs.Delivering.{deliver, deliver_end, deliver_reset, delivery_refusal, opened_at, opened, incoming_at, with_incoming, taken, closed_by, heard_as, unless_second, read_unidirectional, unidirectional_at, with_unidirectional, bytes_at, end_at, reset_at, kept, with_end, give_up, given_up_once, given_up_by}
 use Rattle.h3_connection.specs.Sending.{open_request, open_refusal, send_head, head_refusal, encoded, appended, head_part, fields_cost, body_refusal, send_trailer, trailer_refusal, finish, finish_refusal, reset, reset_refusal, with_outgoing, outgoing_at, goaway, goaway_refusal, cancel, cancel_refusal, pull, does, pull_at, pull_unless, pull_request, pull_peer, pulled, if_too_many, after_answer, advance_at, sent_bytes, counted, asked, awaiting_at, remembers}
 use Rattle.h3_connection.specs.Pulling.{Pulled, pull_stream}
@@ -395,9 +395,11 @@ asked_on e q fields h = by_choice (remembers e.side e.announced)
         let calms : Calms i (awaiting i content) = record { tries = refl; waits = omega arith } in
         changes_at e q (awaiting i content) h (subst (λ at. Calms (unwrap_or at nothing_came) (awaiting i content)) (sym is) calms)
 
-    by_choice : (b : Bool) → IsBounded (record e { incoming = if b then awaiting_at e.incoming q content (stream_at e.incoming q) else e.incoming })
-    by_choice true = at_stream (stream_at e.incoming q) refl
-    by_choice false = h
+    by_choice : (b : Bool) → IsBounded (record e { incoming = if b then awaiting_at e.incoming q content (stream_at e.incoming q) else e.incoming; outgoing = (asked e q fields).outgoing })
+    by_choice true =
+        let f = record e { incoming = awaiting_at e.incoming q content (stream_at e.incoming q) } in
+        rests f (record f { outgoing = (asked e q fields).outgoing }) refl refl refl refl (at_stream (stream_at e.incoming q) refl)
+    by_choice false = rests e (record e { outgoing = (asked e q fields).outgoing }) refl refl refl refl h
 
 sends_head : (e : EndpointHistory) (q : ℕ) (head : Head) → IsBounded e → IsBounded (done Done (send_head e q head)).1
 sends_head e q head h =
@@ -417,12 +419,12 @@ opens_next e h =
 
 finishes : (e : EndpointHistory) (q : ℕ) → IsBounded e → IsBounded (done Done (finish e q)).1
 finishes e q h =
-    let f = with_outgoing e q (record (outgoing_at e q) { is_finished = true }) in
+    let f = with_outgoing e q (with_finish (outgoing_at e q)) in
     does_on Done (finish_refusal e q) e f h (rests e f refl refl refl refl h)
 
 resets : (e : EndpointHistory) (q : ℕ) → IsBounded e → IsBounded (done Done (reset e q)).1
 resets e q h =
-    let f = with_outgoing e q (record (outgoing_at e q) { is_reset = true; is_finished = false }) in
+    let f = with_outgoing e q (with_reset (outgoing_at e q)) in
     does_on Done (reset_refusal e q) e f h (rests e f refl refl refl refl h)
 
 goes_away : (e : EndpointHistory) (n : ℕ) → IsBounded e → IsBounded (done Done (goaway e n)).1
@@ -440,7 +442,7 @@ cancels e q h =
 pub call_on : (e : EndpointHistory) (c : Call) → IsBounded e → IsBounded (called e c).1
 call_on e OpenRequest h = opens_next e h
 call_on e (SendHead q head) h = sends_head e q head h
-call_on e (SendBody q bytes) h = does_on Done (body_refusal e q) e (counted (sent_bytes e q bytes) (length bytes)) h (body_on e q bytes h)
+call_on e (SendBody q bytes) h = does_on Done (body_refusal e q (length bytes)) e (counted (sent_bytes e q bytes) (length bytes)) h (body_on e q bytes h)
 call_on e (SendTrailer q head) h = sends_trailer e q head h
 call_on e (Finish q) h = finishes e q h
 call_on e (Reset q) h = resets e q h

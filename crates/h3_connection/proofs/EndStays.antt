@@ -16,7 +16,7 @@ use Rattle.h3_connection.specs.Bounds.{IsBounded}
 use Rattle.h3_connection.specs.HandedOut.{IsOver, IsOverSession, RequestIsOver, SessionIsOver, EndsSoundly}
 use Rattle.h3_connection.specs.Incoming.{Incoming, nothing_came, awaiting, awaits_head, is_before_head}
 use Rattle.h3_connection.specs.Unidirectional.{Unidirectional, pull_unidirectional, if_over, role_after}
-use Rattle.h3_connection.specs.Outgoing.{Outgoing as Out, is_end_next}
+use Rattle.h3_connection.specs.Outgoing.{Outgoing as Out, is_end_next, with_finish, with_reset}
 use Rattle.h3_connection.specs.Endpoint.{EndpointHistory, Kind, kind_of, heads_waiting, replied}
 use Rattle.h3_connection.specs.Endpoint.Kind.{Request, ServerOpened, OwnUnidirectional, PeerUnidirectional}
 use Rattle.h3_connection.specs.Control.{Found}
@@ -278,12 +278,12 @@ trailer_left e q id head =
 
 finish_left : (e : EndpointHistory) (q id : ℕ) → Leaves e (done Done (finish e q)).1 id
 finish_left e q id =
-    let f = with_outgoing e q (record (outgoing_at e q) { is_finished = true }) in
+    let f = with_outgoing e q (with_finish (outgoing_at e q)) in
     does_leave (finish_refusal e q) e f Done id (leaves_same e f id refl refl)
 
 reset_left : (e : EndpointHistory) (q id : ℕ) → Leaves e (done Done (reset e q)).1 id
 reset_left e q id =
-    let f = with_outgoing e q (record (outgoing_at e q) { is_reset = true; is_finished = false }) in
+    let f = with_outgoing e q (with_reset (outgoing_at e q)) in
     does_leave (reset_refusal e q) e f Done id (leaves_same e f id refl refl)
 
 goaway_left : (e : EndpointHistory) (n id : ℕ) → Leaves e (done Done (goaway e n)).1 id
@@ -294,7 +294,7 @@ goaway_left e n id =
 call_leaves : (e : EndpointHistory) (c : Call) (id : ℕ) → IsBounded e → RequestIsOver e id → e.closed ≡ None → (called e c).1.closed ≡ None → Leaves e (called e c).1 id
 call_leaves e OpenRequest id b h o p = open_left e id h
 call_leaves e (SendHead q head) id b h o p = head_left e q id head h
-call_leaves e (SendBody q bytes) id b h o p = does_leave (body_refusal e q) e (counted (sent_bytes e q bytes) (length bytes)) Done id (body_left e q id bytes)
+call_leaves e (SendBody q bytes) id b h o p = does_leave (body_refusal e q (length bytes)) e (counted (sent_bytes e q bytes) (length bytes)) Done id (body_left e q id bytes)
 call_leaves e (SendTrailer q head) id b h o p = trailer_left e q id head
 call_leaves e (Finish q) id b h o p = finish_left e q id
 call_leaves e (Reset q) id b h o p = reset_left e q id

@@ -23,7 +23,7 @@ use Rattle.h3_connection.specs.Endpoint.{EndpointHistory, Kind, kind_of, new_end
 use Rattle.h3_connection.specs.Endpoint.Kind.{Request, ServerOpened, OwnUnidirectional, PeerUnidirectional}
 use Rattle.h3_connection.specs.Control.{Found}
 use Rattle.h3_connection.specs.Delivering.{opened_at, unidirectional_at, incoming_at, opened, with_incoming, taken, refusal_at, server_opened_refusal, bytes_at, end_at, reset_at, kept, with_end, give_up, given_up_once, request_refusal}
-use Rattle.h3_connection.specs.Sending.{does, first_of, open_refusal, advance_at, pull_at, pull_unless, pull_request, pull_peer, pulled, within_limit, if_too_many, after_answer, cancel_refusal, closed_or, sent_bytes, counted, remembers, awaiting_at, head_refusal, appended, encoded, head_part, fields_cost}
+use Rattle.h3_connection.specs.Sending.{does, first_of, open_refusal, advance_at, pull_at, pull_unless, pull_request, pull_peer, pulled, within_limit, if_too_many, after_answer, cancel_refusal, closed_or, sent_bytes, counted, remembers, awaiting_at, asked, head_refusal, appended, encoded, head_part, fields_cost}
 use Rattle.h3_connection.specs.CallLists.{Call, Result, called, endpoint_after, done, was_pulled}
 use Rattle.h3_connection.specs.EndsWaiting.{end_taken_at, end_taken_if}
 use Rattle.h3_connection.specs.CallLists.Call.{OpenRequest, SendHead, SendBody, SendTrailer, Finish, Reset, Goaway, Advance, TakeEnd, Outgoing, Deliver, DeliverEnd, DeliverReset, PullStream, Cancel, Show}
@@ -358,8 +358,11 @@ head_step T id e s q head b = by_choice (remembers e.side e.announced) refl
     plain : EndpointHistory
     plain = counted (appended (encoded e q (head_fields head)) q (head_part head (encoded_section e.encoder q (head_fields head)))) (fields_cost (head_fields head))
 
+    said : Streams Out
+    said = (asked plain q (head_fields head)).outgoing
+
     told : EndpointHistory
-    told = record plain { incoming = awaiting_at e.incoming q expected (stream_at e.incoming q) }
+    told = record plain { incoming = awaiting_at e.incoming q expected (stream_at e.incoming q); outgoing = said }
 
     here : (q == id) ≡ true → q ≡ id → IsSight T id told (with_awaited s expected s.incoming)
     here is same =
@@ -375,9 +378,9 @@ head_step T id e s q head b = by_choice (remembers e.side e.announced) refl
         (sight_same T id e told s b.sight (awaits_other e.incoming q id expected (stream_at e.incoming q) ne) refl refl)) refl
 
     by_choice : (x : Bool) → remembers e.side e.announced ≡ x
-        → let f : EndpointHistory = record plain { incoming = if x then awaiting_at e.incoming q expected (stream_at e.incoming q) else e.incoming } in
+        → let f : EndpointHistory = record plain { incoming = if x then awaiting_at e.incoming q expected (stream_at e.incoming q) else e.incoming; outgoing = said } in
         StepIsSeen T id e (done Done (does (head_refusal e q head) e f)).1 s (SendHead q head) (done Done (does (head_refusal e q head) e f)).0
-    by_choice false silent = unseen_quiet T id e _ s _ _ (rw silent refl) b.sight (quiet_does _ e plain (shut e plain refl refl refl refl refl refl refl))
+    by_choice false silent = unseen_quiet T id e _ s _ _ (rw silent refl) b.sight (quiet_does _ e (record plain { outgoing = said }) (shut e (record plain { outgoing = said }) refl refl refl refl refl refl refl))
     by_choice true told_so = by_refusal (head_refusal e q head) refl told_so
 
 -- One call of any kind.

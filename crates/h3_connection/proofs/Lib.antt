@@ -41,3 +41,4 @@ pub mod CountedContent
 pub mod HeadContent
 pub mod NoContent
 pub mod WellSent
+pub mod SentAsSaid

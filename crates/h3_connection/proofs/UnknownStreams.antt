@@ -1,5 +1,5 @@
 -- A unidirectional stream of unknown type changes the answers of no other calls.
-use Rattle.std.proofs.Common.{◌≡◌, ℕ, Bool, true, false, if◌then◌else◌, List, [], ◌∷◌, ◌++◌, refl, ap, sym, ◌∙◌, subst, Option, Some, None}
+use Rattle.std.proofs.Common.{◌≡◌, ℕ, Bool, true, false, if◌then◌else◌, List, [], ◌∷◌, ◌++◌, length, refl, ap, sym, ◌∙◌, subst, Option, Some, None}
 use Rattle.std.specs.Prelude.{◌==◌, is_some, unwrap_or}
 use Rattle.h3_connection.specs.declared.event.Refusal.{Refusal}
 use Rattle.h3_connection.specs.declared.event.Refusal.TheVariants as refusal
@@ -227,8 +227,8 @@ module _ (id : ℕ) (o : Option Unidirectional) where
     ends_both q None = record { answer = refl; left = here }
 
     body_both : (q : ℕ) (bytes : List ℕ) → Both (called e (SendBody q bytes)) (called two (SendBody q bytes))
-    body_both q [] = does_both Done (body_refusal e q) e two _ _ here (but _ t h)
-    body_both q (byte ∷ bytes) = does_both Done (body_refusal e q) e two _ _ here (but _ t h)
+    body_both q [] = does_both Done (body_refusal e q 0) e two _ _ here (but _ t h)
+    body_both q (byte ∷ bytes) = does_both Done (body_refusal e q (length (byte ∷ bytes))) e two _ _ here (but _ t h)
 
     -- a call that is not on the stream
     pub other_call : (c : Call) → is_on id c ≡ false → Both (called e c) (called two c)

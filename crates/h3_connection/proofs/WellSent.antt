@@ -8,9 +8,9 @@ use Rattle.h3_connection.specs.OwnIds.{other}
 use Rattle.h3_connection.specs.Pulling.{is_for}
 use Rattle.h3_connection.specs.Sections.{encoded_section}
 use Rattle.h3_connection.specs.Sending.{appended, asked, counted, encoded, fields_cost, head_part, head_refusal, is_open, is_too_large, outgoing_at, trailer_refusal}
-use Rattle.h3_connection.specs.StrictSending.{broken_head, broken_trailer, unless_malformed}
+use Rattle.h3_connection.specs.StrictSending.{broken_head, broken_trailer, early_trailer, unless_malformed}
 use Rattle.h3_connection.specs.StrictSends.{SendsWellFormedHeads, SendsWellFormedTrailers}
-use Rattle.h3_connection.specs.StrictSendingLaws.{head_taken, trailer_taken, not_closed, passed, not_malformed, was_allowed}
+use Rattle.h3_connection.specs.StrictSendingLaws.{head_taken, trailer_taken, not_closed, passed, not_early, not_malformed, was_allowed}
 use Rattle.h3_connection.specs.declared.event.Refusal.TheVariants as refusal
 
 pub sends_well_formed_heads : SendsWellFormedHeads
@@ -31,10 +31,12 @@ sends_well_formed_trailers e peer id trailer strict sent =
     let fields = head_fields trailer in
     let broken = broken_trailer e.announced fields in
     let size = (is_too_large e.peer.settings fields, refusal.TooLarge (section_size fields)) ∷ [] in
-    let pseudo = (has_pseudo trailer, refusal.PseudoInTrailer) ∷ unless_malformed broken size in
+    let early = early_trailer (outgoing_at e id).content in
+    let behind = unless_malformed broken size in
+    let pseudo = (has_pseudo trailer, refusal.PseudoInTrailer) ∷ unless_malformed early behind in
     let after = counted (appended (encoded e id fields) id (OwnTrailer (encoded_section e.encoder id fields))) (fields_cost fields) in
     let allowed = not_closed e.closed _ (was_allowed (trailer_refusal e id trailer) e after sent) in
     let there = passed (not (is_open e id)) refusal.NotOpen ((not (takes_body (outgoing_at e id)), refusal.OutOfOrder) ∷ pseudo) allowed in
     let placed = passed (not (takes_body (outgoing_at e id))) refusal.OutOfOrder pseudo there in
     trailer_taken (other e.side) e.announced peer fields strict.strict
-    (not_malformed broken size (passed (has_pseudo trailer) refusal.PseudoInTrailer (unless_malformed broken size) placed))
+    (not_malformed broken size (not_early early behind (passed (has_pseudo trailer) refusal.PseudoInTrailer (unless_malformed early behind) placed)))

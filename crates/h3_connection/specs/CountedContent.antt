@@ -1,5 +1,5 @@
 -- What is handed out of a message whose head says how long its content is (RFC 9114, section 4.1.2).
-use Rattle.std.specs.Prelude.{◌≡◌, ℕ, ◌+◌, ◌≤◌, true, false, List, length, None}
+use Rattle.std.specs.Prelude.{◌≡◌, ℕ, ◌+◌, ◌≤◌, true, false, List, length, Option, None}
 use Rattle.h3_field.specs.Field.{Field}
 use Rattle.h3_header.specs.HeadRead.{IsHead, head_of}
 use Rattle.h3_messages.specs.declared.content.Content.{Content}
@@ -9,7 +9,7 @@ use Rattle.h3_qpack.specs.DecoderState.{DecoderState}
 use Rattle.h3_connection.specs.Delivering.{kept, with_end}
 use Rattle.h3_connection.specs.Incoming.{Incoming}
 use Rattle.h3_connection.specs.Pulling.{pull_stream}
-use Rattle.h3_connection.specs.StrictMessages.{content_of_head}
+use Rattle.h3_connection.specs.StrictMessages.{content_of_head, response_of_head}
 use Rattle.h3_connection.specs.declared.event.Item.TheVariants as item
 use Rattle.h3_connection.specs.declared.event.Pull.{Pull}
 use Rattle.h3_connection.specs.declared.event.Pull.TheVariants as pull
@@ -47,12 +47,14 @@ abbrev pub CountsContent : Type 0
 CountsContent =
     (side : Side) (own : Announced) (id all n : ℕ) (r : DecoderState) (i : Incoming) → HandsOut side own id all n i → (n ≤ all) × IsWholeAt all n (pull_stream side own id r i).answer
 
--- Behind a head stands the content that its list says: of a response, by what its request asked.
-abbrev pub HasItsContent : Side → Content → Pull → Incoming → Type 0
-HasItsContent side awaited (pull.Item (item.Head h)) i = (fields : List Field) × (head_of fields ≡ IsHead h) × (i.content ≡ content_of_head side awaited fields) × (i.place ≡ InBody)
-HasItsContent side awaited _ i = Unit {0}
+-- Behind a head stands the content that its list says, of a response by what its request asked; and behind that of a request, what its
+-- response may have.
+abbrev pub HasItsContent : Side → Content → Option Content → Pull → Incoming → Type 0
+HasItsContent side awaited known (pull.Item (item.Head h)) i =
+    (fields : List Field) × (head_of fields ≡ IsHead h) × (i.content ≡ content_of_head side awaited fields) × (i.place ≡ InBody) × (i.response ≡ response_of_head side known fields)
+HasItsContent side awaited known _ i = Unit {0}
 
 abbrev pub HeadsHaveTheirContent : Type 0
 HeadsHaveTheirContent =
     (side : Side) (own : Announced) (id : ℕ) (r : DecoderState) (i : Incoming) → own.choices.strict_messages ≡ true
-    → HasItsContent side i.content (pull_stream side own id r i).answer (pull_stream side own id r i).incoming
+    → HasItsContent side i.content i.response (pull_stream side own id r i).answer (pull_stream side own id r i).incoming

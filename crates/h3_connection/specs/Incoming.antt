@@ -17,6 +17,9 @@ pub record Incoming : Type 0 where
   -- how much content is left behind that, where the endpoint asks for strict messages: as long as nothing says it, any. In front of the
   -- head of a response it is what the request said of it
   pub content : Content
+  -- what a response to it may have as content, as its client awaits it: nothing is known of that where no head of a request was read by a
+  -- server that asks for strict messages
+  pub response : Option Content
   pub place : Place
   -- the required insert count that the section waited for, or 0
   pub waits_for : ℕ
@@ -36,6 +39,7 @@ nothing_came =
       section = None;
       body_left = 0;
       content = Unsaid;
+      response = None;
       place = BeforeHead;
       waits_for = 0;
       tries = 0;
@@ -47,7 +51,7 @@ nothing_came =
 
 -- nothing more of it is read, and what is there is thrown away
 abbrev pub given_up : Incoming → StreamFault → Incoming
-given_up i fault = record i { unread = []; section = None; body_left = 0; content = Unsaid; waits_for = 0; fault = Some fault }
+given_up i fault = record i { unread = []; section = None; body_left = 0; content = Unsaid; response = None; waits_for = 0; fault = Some fault }
 
 -- some bytes at the front were passed, and nothing else has changed
 pub record Passes (old new : Incoming) : Type 0 where

@@ -55,4 +55,5 @@ pub mod UnknownStreams
 pub mod Shown
 pub mod StandsLaws
 pub mod StrictSends
+pub mod SentContent
 pub mod StrictSendingLaws

@@ -23,7 +23,7 @@ use Rattle.h3_connection.specs.Incoming.{Incoming, given_up, is_body}
 use Rattle.h3_connection.specs.declared.place.Place.{Place}
 use Rattle.h3_connection.specs.declared.place.Place.TheVariants.{BeforeHead, InBody, AfterTrailer, InSession}
 use Rattle.h3_connection.specs.Skipping.{skipped}
-use Rattle.h3_connection.specs.StrictMessages.{broken_rule, content_at, large_content_at, if_whole}
+use Rattle.h3_connection.specs.StrictMessages.{broken_rule, content_at, large_content_at, response_at, if_whole}
 pub use Rattle.h3_messages.specs.Content.{is_digit}
 use Rattle.h3_messages.specs.Content.{is_interim_status, left_behind, is_exceeded, may_end, takes_trailer}
 use Rattle.h3_connection.specs.declared.setup.Announced.{Announced}
@@ -136,7 +136,8 @@ begun_payload i size = record i { body_left = size; content = left_behind i.cont
 
 -- the head or trailer of these fields was read
 abbrev pub with_content : Side → Announced → Incoming → List Field → Incoming
-with_content side own i fields = record i { content = content_at side own i.place i.content fields }
+with_content side own i fields =
+    record i { content = content_at side own i.place i.content fields; response = response_at side own i.place i.response fields }
 
 -- one of these fields was, which is too large
 abbrev pub past_large : Side → Announced → Incoming → List Field → Incoming

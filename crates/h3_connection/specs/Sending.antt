@@ -9,6 +9,8 @@ use Rattle.h3_connection.specs.Lasts.{last_id}
 use Rattle.h3_header.specs.Head.{Head, head_fields, has_pseudo}
 use Rattle.h3_connection.specs.OwnIds.{control_id, encoder_id, decoder_id, other}
 use Rattle.h3_proto.specs.declared.stream.Side.{Side}
+use Rattle.h3_proto.specs.declared.stream.Side.TheVariants.{Client, Server}
+use Rattle.h3_connection.specs.declared.event.Malformation.TheVariants as malformation
 use Rattle.h3_connection.specs.declared.event.Refusal.{Refusal}
 use Rattle.h3_connection.specs.declared.event.Refusal.TheVariants as refusal
 use Rattle.h3_connection.specs.declared.event.Pull.{Pull}
@@ -18,15 +20,16 @@ use Rattle.h3_connection.specs.declared.event.Fault.TheVariants as fault
 use Rattle.h3_connection.specs.declared.event.StreamFault.TheVariants as stream_fault
 use Rattle.h3_connection.specs.Codes.{decompression_failed}
 use Rattle.h3_connection.specs.StreamSets.{Streams, stream_at, set_stream}
-use Rattle.h3_connection.specs.StrictSending.{broken_head, broken_trailer, unless_malformed}
+use Rattle.h3_connection.specs.StrictSending.{broken_head, broken_trailer, early_trailer, passes_content, unless_malformed}
 use Rattle.h3_connection.specs.Incoming.{Incoming, awaiting}
-use Rattle.h3_messages.specs.Content.{awaited_by}
+use Rattle.h3_messages.specs.Content.{awaited_by, content_behind_response, content_of_request, may_end}
 use Rattle.h3_messages.specs.declared.content.Content.{Content}
+use Rattle.h3_messages.specs.declared.content.Content.TheVariants.{Unsaid}
 use Rattle.h3_connection.specs.declared.setup.Announced.{Announced}
 use Rattle.h3_connection.specs.Pulling.{Pulled, pull_stream}
 use Rattle.h3_connection.specs.Unidirectional.{Unidirectional, pull_unidirectional}
-use Rattle.h3_connection.specs.Outgoing.{Outgoing, OwnPart, nothing_sent, takes_head, takes_body, takes_end, is_sent_off}
-use Rattle.h3_connection.specs.Outgoing.OwnPart.{OwnInterim, OwnHead, OwnBody, OwnTrailer}
+use Rattle.h3_connection.specs.Outgoing.{Outgoing, OwnPart, nothing_sent, takes_head, takes_body, takes_end, is_sent_off, with_body, with_finish, with_reset, with_said}
+use Rattle.h3_connection.specs.Outgoing.OwnPart.{OwnInterim, OwnHead, OwnTrailer}
 use Rattle.h3_connection.specs.Endpoint.{EndpointHistory, Kind, Own, replied, kind_of, is_critical_id, heads_waiting}
 use Rattle.h3_connection.specs.Endpoint.Kind.{Request, PeerUnidirectional}
 use Rattle.h3_connection.specs.Delivering.{with_incoming, with_unidirectional, give_up, incoming_at, opened_at}
@@ -80,23 +83,26 @@ head_refusal e id head = unless_closed e (first_of (
     unless_malformed (broken_head e.side e.announced e.peer.settings (head_fields head)) (
     (is_too_large e.peer.settings (head_fields head), refusal.TooLarge (section_size (head_fields head))) ∷ [])))
 
-abbrev pub body_refusal : EndpointHistory → ℕ → Option Refusal
-body_refusal e id = unless_closed e (first_of (
+-- a body of so many bytes
+abbrev pub body_refusal : EndpointHistory → ℕ → ℕ → Option Refusal
+body_refusal e id size = unless_closed e (first_of (
     (not (is_open e id), refusal.NotOpen) ∷
-    (not (takes_body (outgoing_at e id)), refusal.OutOfOrder) ∷ []))
+    (not (takes_body (outgoing_at e id)), refusal.OutOfOrder) ∷
+    (passes_content (outgoing_at e id).content size, refusal.Malformed malformation.ContentLength) ∷ []))
 
 abbrev pub trailer_refusal : EndpointHistory → ℕ → Head → Option Refusal
 trailer_refusal e id head = unless_closed e (first_of (
     (not (is_open e id), refusal.NotOpen) ∷
     (not (takes_body (outgoing_at e id)), refusal.OutOfOrder) ∷
     (has_pseudo head, refusal.PseudoInTrailer) ∷
-    unless_malformed (broken_trailer e.announced (head_fields head)) (
-    (is_too_large e.peer.settings (head_fields head), refusal.TooLarge (section_size (head_fields head))) ∷ [])))
+    unless_malformed (early_trailer (outgoing_at e id).content) (unless_malformed (broken_trailer e.announced (head_fields head)) (
+    (is_too_large e.peer.settings (head_fields head), refusal.TooLarge (section_size (head_fields head))) ∷ []))))
 
 abbrev pub finish_refusal : EndpointHistory → ℕ → Option Refusal
 finish_refusal e id = unless_closed e (first_of (
     (not (is_open e id), refusal.NotOpen) ∷
-    (not (takes_end (outgoing_at e id)), refusal.OutOfOrder) ∷ []))
+    (not (takes_end (outgoing_at e id)), refusal.OutOfOrder) ∷
+    (not (may_end (outgoing_at e id).content), refusal.Malformed malformation.ContentLength) ∷ []))
 
 abbrev pub with_outgoing : EndpointHistory → ℕ → Outgoing → EndpointHistory
 with_outgoing e id o = record e { outgoing = set_stream e.outgoing id o }
@@ -133,9 +139,31 @@ abbrev pub awaiting_at : Streams Incoming → ℕ → Content → Option Incomin
 awaiting_at streams id expected None = streams
 awaiting_at streams id expected (Some i) = set_stream streams id (awaiting i expected)
 
+-- How much content follows a head (RFC 9114, section 4.1.2): that of a request says it, and that of a response where it is known what was
+-- asked
+abbrev pub content_of_response_to : Option Content → List Field → Content
+content_of_response_to None fields = Unsaid
+content_of_response_to (Some awaited) fields = content_behind_response awaited fields
+
+abbrev pub content_of_own : Side → Option Content → List Field → Content
+content_of_own Client known fields = content_of_request fields
+content_of_own Server known fields = content_of_response_to known fields
+
+-- A server knows what was asked once it read the request's head, as long as the stream was not given up
+abbrev pub known_of : Option Incoming → Option Content
+known_of None = None
+known_of (Some i) = i.response
+
+abbrev pub saying_at : Streams Outgoing → ℕ → Content → Option Outgoing → Streams Outgoing
+saying_at streams id said None = streams
+saying_at streams id said (Some o) = set_stream streams id (with_said o said)
+
 abbrev pub asked : EndpointHistory → ℕ → List Field → EndpointHistory
 asked e id fields =
-    record e { incoming = if remembers e.side e.announced then awaiting_at e.incoming id (awaited_by fields) (stream_at e.incoming id) else e.incoming }
+    record e {
+      incoming = if remembers e.side e.announced then awaiting_at e.incoming id (awaited_by fields) (stream_at e.incoming id) else e.incoming;
+      outgoing = if e.announced.choices.strict_messages then saying_at e.outgoing id (content_of_own e.side (known_of (stream_at e.incoming id)) fields) (stream_at e.outgoing id) else e.outgoing;
+    }
 
 abbrev pub send_head : EndpointHistory → ℕ → Head → Option Refusal × EndpointHistory
 send_head e id head = does (head_refusal e id head) e (asked (
@@ -144,17 +172,17 @@ send_head e id head = does (head_refusal e id head) e (asked (
 
 abbrev pub sent_bytes : EndpointHistory → ℕ → List ℕ → EndpointHistory
 sent_bytes e id [] = e
-sent_bytes e id (byte ∷ bytes) = appended e id (OwnBody (byte ∷ bytes))
+sent_bytes e id (byte ∷ bytes) = with_outgoing e id (with_body (outgoing_at e id) (byte ∷ bytes))
 
 abbrev pub send_body : EndpointHistory → ℕ → List ℕ → Option Refusal × EndpointHistory
-send_body e id bytes = does (body_refusal e id) e (counted (sent_bytes e id bytes) (length bytes))
+send_body e id bytes = does (body_refusal e id (length bytes)) e (counted (sent_bytes e id bytes) (length bytes))
 
 abbrev pub send_trailer : EndpointHistory → ℕ → Head → Option Refusal × EndpointHistory
 send_trailer e id head = does (trailer_refusal e id head) e (
     counted (appended (encoded e id (head_fields head)) id (OwnTrailer (encoded_section e.encoder id (head_fields head)))) (fields_cost (head_fields head)))
 
 abbrev pub finish : EndpointHistory → ℕ → Option Refusal × EndpointHistory
-finish e id = does (finish_refusal e id) e (with_outgoing e id (record (outgoing_at e id) { is_finished = true }))
+finish e id = does (finish_refusal e id) e (with_outgoing e id (with_finish (outgoing_at e id)))
 
 abbrev pub reset_refusal : EndpointHistory → ℕ → Option Refusal
 reset_refusal e id = unless_closed e (first_of (
@@ -163,7 +191,7 @@ reset_refusal e id = unless_closed e (first_of (
     (is_sent_off (outgoing_at e id), refusal.Ended) ∷ []))
 
 abbrev pub reset : EndpointHistory → ℕ → Option Refusal × EndpointHistory
-reset e id = does (reset_refusal e id) e (with_outgoing e id (record (outgoing_at e id) { is_reset = true; is_finished = false }))
+reset e id = does (reset_refusal e id) e (with_outgoing e id (with_reset (outgoing_at e id)))
 
 abbrev pub raised : ℕ → Option ℕ → Option Refusal
 raised id None = None

@@ -139,6 +139,35 @@ stands_receiving s e new id before x h was same sets =
       reached = reached_receiving e id x.incoming h.reached;
     }
 
+-- Both parts of it change.
+pub stands_both : (s : EndpointState) (e : EndpointHistory) (new : Streams RequestState) (id : ℕ) (x : RequestState) (o : Outgoing) → StandsFor s e
+    → IsOfOutgoing o x.outgoing → Sets s.requests new id x
+    → StandsFor (record s { requests = new }) (record e { incoming = set_stream e.incoming id x.incoming; outgoing = set_stream e.outgoing id o })
+stands_both s e new id x o h is sets =
+    let after : EndpointHistory = record e { incoming = set_stream e.incoming id x.incoming; outgoing = set_stream e.outgoing id o } in
+    record {
+      side = h.side;
+      announced = h.announced;
+      closed = h.closed;
+      next_id = h.next_id;
+      incoming = part_set (λ r. r.incoming) s.requests new e.incoming id x h.incoming sets;
+      outgoing = sent_set s.requests new e.outgoing id x o h.outgoing is sets;
+      unidirectional = h.unidirectional;
+      distinct = set-distinct e.incoming id x.incoming h.distinct;
+      control_on = h.control_on;
+      encoder_on = h.encoder_on;
+      decoder_on = h.decoder_on;
+      peer = h.peer;
+      decoding = h.decoding;
+      encoder = h.encoder;
+      decoder_unread = h.decoder_unread;
+      own = own_same s.own e after refl h.own;
+      last_goaway = h.last_goaway;
+      kept = h.kept;
+      sent = h.sent;
+      reached = reached_same (with_incoming e id x.incoming) after refl (reached_receiving e id x.incoming h.reached);
+    }
+
 -- A stream that is read as one of the connection's is one still where a stream changes that stays told.
 told_at : (streams : Streams Unidirectional) (id q : ℕ) (o : Unidirectional) → q ≡ id ⊎ q ≢ id → (is_critical (unwrap_or (stream_at streams id) untold).role ≡ true → is_critical o.role ≡ true)
     → is_critical (unwrap_or (stream_at streams q) untold).role ≡ true → is_critical (unwrap_or (stream_at (set_stream streams id o) q) untold).role ≡ true

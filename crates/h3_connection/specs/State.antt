@@ -1,6 +1,8 @@
 -- What an endpoint stores, and which histories that stands for.
 use Rattle.std.specs.Prelude.{if◌then◌else◌, ◌≡◌, ℕ, Bool, List, [], length, Option, Some, None, option_map, ◌≤◌, flat_map, ◌++◌, true, false, unwrap_or, All, IsSome, IfSome}
 use Rattle.h3_coding.specs.Encodings.{encoding}
+use Rattle.h3_messages.specs.declared.content.Content.{Content}
+use Rattle.h3_messages.specs.declared.content.Content.TheVariants.{Unsaid}
 use Rattle.h3_wire.specs.StreamHeaders.{control_encoding}
 use Rattle.h3_field.specs.Instruction.{encoder_bytes, decoder_bytes}
 use Rattle.std.specs.Map.{lookup}
@@ -29,13 +31,15 @@ use Rattle.h3_connection.specs.declared.place.SendPlace.TheVariants.{NothingSent
 pub record OutgoingState : Type 0 where
   pub pieces : List Piece
   pub place : SendPlace
+  -- how much content is still to be sent
+  pub content : Content
   pub is_finished : Bool
   pub is_reset : Bool
   pub end_taken : Bool
 
 -- nothing was sent
 abbrev pub nothing_waits : OutgoingState
-nothing_waits = record { pieces = []; place = NothingSent; is_finished = false; is_reset = false; end_taken = false }
+nothing_waits = record { pieces = []; place = NothingSent; content = Unsaid; is_finished = false; is_reset = false; end_taken = false }
 
 -- a request stream, both ways
 pub record RequestState : Type 0 where
@@ -73,6 +77,7 @@ place_of parts = if is_unsent parts then NothingSent else (if last_is_trailer pa
 pub record IsOfOutgoing (o : Outgoing) (w : OutgoingState) : Type 0 where
   pub pieces : w.pieces ≡ pieces_waiting o
   pub place : w.place ≡ place_of o.parts
+  pub content : w.content ≡ o.content
   pub is_finished : w.is_finished ≡ o.is_finished
   pub is_reset : w.is_reset ≡ o.is_reset
   pub end_taken : w.end_taken ≡ o.end_taken

@@ -2,7 +2,7 @@
 -- content follows it. One that does not asks for none, and for any content.
 use Rattle.std.specs.Prelude.{ℕ, Bool, List, [], if◌then◌else◌, option_map, unwrap_or, Option, Some, None}
 use Rattle.h3_field.specs.Field.{Field}
-use Rattle.h3_messages.specs.Content.{content_of_request, content_behind_response, content_behind_status, may_end}
+use Rattle.h3_messages.specs.Content.{awaited_by, content_of_request, content_behind_response, content_behind_status, may_end}
 use Rattle.h3_messages.specs.declared.content.Content.{Content}
 use Rattle.h3_messages.specs.declared.content.Content.TheVariants.{Unsaid}
 use Rattle.h3_messages.specs.Messages.{violation_of_request, violation_of_response, violation_of_trailer}
@@ -59,6 +59,18 @@ content_behind side _ content fields = content
 
 abbrev pub content_at : Side → Announced → Place → Content → List Field → Content
 content_at side own place content fields = if own.choices.strict_messages then content_behind side place content fields else content
+
+-- A request's head says what its response may have as content, and a trailer nothing of it
+abbrev pub response_of_head : Side → Option Content → List Field → Option Content
+response_of_head Client known fields = known
+response_of_head Server known fields = Some (awaited_by fields)
+
+abbrev pub response_behind : Side → Place → Option Content → List Field → Option Content
+response_behind side BeforeHead known fields = response_of_head side known fields
+response_behind side _ known fields = known
+
+abbrev pub response_at : Side → Announced → Place → Option Content → List Field → Option Content
+response_at side own place known fields = if own.choices.strict_messages then response_behind side place known fields else known
 
 -- Of a section that is too large only the last status is known: that of a response tells whether content may follow
 abbrev pub content_behind_large : Side → Place → Content → Option (List ℕ) → Content

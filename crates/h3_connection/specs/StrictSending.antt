@@ -2,6 +2,8 @@
 -- (RFC 9114, sections 4.1.2 and 4.2 to 4.5). One that asks for none sends any list.
 use Rattle.std.specs.Prelude.{ℕ, Bool, true, false, List, ◌∷◌, if◌then◌else◌, option_map, Option, Some, None}
 use Rattle.h3_field.specs.Field.{Field}
+use Rattle.h3_messages.specs.Content.{is_exceeded, left_behind, may_end, takes_trailer}
+use Rattle.h3_messages.specs.declared.content.Content.{Content}
 use Rattle.h3_messages.specs.Messages.{violation_of_request, violation_of_response, violation_of_trailer}
 use Rattle.h3_messages.specs.declared.violation.Violation.{Violation}
 use Rattle.h3_proto.specs.Config.{is_enabled}
@@ -9,6 +11,7 @@ use Rattle.h3_proto.specs.declared.stream.Side.{Side}
 use Rattle.h3_proto.specs.declared.stream.Side.TheVariants.{Client, Server}
 use Rattle.h3_connection.specs.StrictMessages.{malformation_by}
 use Rattle.h3_connection.specs.declared.event.Malformation.{Malformation}
+use Rattle.h3_connection.specs.declared.event.Malformation.TheVariants as malformation
 use Rattle.h3_connection.specs.declared.event.Refusal.{Refusal}
 use Rattle.h3_connection.specs.declared.event.Refusal.TheVariants as refusal
 use Rattle.h3_connection.specs.declared.setup.Announced.{Announced}
@@ -30,6 +33,14 @@ broken_head side own settings fields =
 
 abbrev pub broken_trailer : Announced → List Field → Option Malformation
 broken_trailer own fields = if own.choices.strict_messages then option_map malformation_by (violation_of_trailer fields) else None
+
+-- so many bytes more are more content than the head says (RFC 9114, section 4.1.2)
+abbrev pub passes_content : Content → ℕ → Bool
+passes_content content size = is_exceeded (left_behind content size)
+
+-- a trailer comes behind all content that the head says (RFC 9114, section 4.1.2), and in a tunnel none comes (section 4.4)
+abbrev pub early_trailer : Content → Option Malformation
+early_trailer content = if takes_trailer content then (if may_end content then None else Some malformation.ContentLength) else Some malformation.Connect
 
 -- the rule that is broken refuses the list, and where none is the rules behind
 abbrev pub unless_malformed : Option Malformation → List (Bool × Refusal) → List (Bool × Refusal)

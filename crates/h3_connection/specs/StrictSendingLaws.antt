@@ -98,6 +98,11 @@ pub not_malformed : (broken : Option Malformation) (later : List (Bool × Refusa
 not_malformed None later e = refl
 not_malformed (Some why) later e = absurd (cc)
 
+-- what stands behind it is left
+pub not_early : (early : Option Malformation) (later : List (Bool × Refusal)) → first_of (unless_malformed early later) ≡ None → first_of later ≡ None
+not_early None later e = e
+not_early (Some why) later e = absurd (cc)
+
 pub was_allowed : (rule : Option Refusal) (old new : EndpointHistory) → (does rule old new).0 ≡ None → rule ≡ None
 was_allowed None old new e = refl
 was_allowed (Some r) old new e = absurd (cc)

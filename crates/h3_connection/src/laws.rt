@@ -224,7 +224,8 @@ ghost use Rattle.h3_connection.specs.CountedContent.{CountsContent, HeadsHaveThe
 
 /// Of a message whose head says how long its content is, no more is handed out than that, however it comes and is pulled; and its end, and a
 /// trailer, are handed out behind exactly as much (RFC 9114, section 4.1.2). Behind a head that a strict endpoint hands out stands the content that
-/// its field list says: for a server that of a request, and for a client that of a response to what was asked.
+/// its field list says: for a server that of a request, and for a client that of a response to what was asked. Behind that of a request the server
+/// also knows what its response may have.
 pub fn content_is_as_long_as_was_said()
     ensures counts { CountsContent }
     ensures heads { HeadsHaveTheirContent }
@@ -247,4 +248,15 @@ ghost use Rattle.h3_connection.specs.StrictSends.{SendsWellFormedHeads, SendsWel
 pub fn strict_endpoints_send_no_broken_list()
     ensures heads { SendsWellFormedHeads }
     ensures trailers { SendsWellFormedTrailers }
+{}
+
+ghost use Rattle.h3_connection.specs.SentContent.{HeadsSayTheirContent, PeersExpectAsMuch, SendsAsMuchAsSaid};
+
+/// What a strict endpoint sends of content is as long as its head said (RFC 9114, section 4.1.2): no more is sent, and the end, and a trailer, go
+/// out behind exactly as much. Behind a head that it sends, as much is to be sent as a strict peer expects there: of a response, where the server
+/// handed out the head of its request before, and did not give the stream up since. Where it did not, no length is held against what it sends.
+pub fn strict_endpoints_send_as_much_content_as_was_said()
+    ensures heads { HeadsSayTheirContent }
+    ensures peers { PeersExpectAsMuch }
+    ensures sent { SendsAsMuchAsSaid }
 {}

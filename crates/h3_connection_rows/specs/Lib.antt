@@ -12,6 +12,7 @@ pub mod ClientCases3
 pub mod ClientCases4
 pub mod ClientCases5
 pub mod ClientCases6
+pub mod SendingRows
 pub mod ServerCases1
 pub mod ServerCases2
 pub mod ServerCases3

@@ -12,6 +12,7 @@ pub mod fault_rows;
 pub mod isolation_rows;
 pub mod kept_rows;
 pub mod message_rows;
+pub mod sending_rows;
 pub mod server_cases_1;
 pub mod server_cases_2;
 pub mod server_cases_3;

@@ -13,6 +13,7 @@ use Rattle.h3_world.specs.Streams.{flow, is_open}
 use Rattle.h3_world.specs.Order.{outgoing_of}
 use Rattle.h3_field.specs.Instruction.{DecoderInstruction}
 use Rattle.h3_proto.specs.declared.stream.Side.TheVariants.{Server}
+use Rattle.h3_messages.specs.declared.content.Content.TheVariants.{Unsaid}
 use Rattle.h3_connection.specs.Incoming.{nothing_came}
 use Rattle.h3_connection.specs.Outgoing.{nothing_sent, OwnPart, Outgoing}
 use Rattle.h3_connection.specs.Shown as shown
@@ -74,7 +75,7 @@ pub record IsUnseen (w : World) (side : Side) (id : ℕ) : Type 0 where
   pub kept : ReceivesFlow (flow w (other side) id) nothing_came
 
 abbrev pub made : List OwnPart → ℕ → Bool → Bool → Outgoing
-made parts taken finished reset = record { parts = parts; taken = taken; is_finished = finished; is_reset = reset; end_taken = false }
+made parts taken finished reset = record { parts = parts; taken = taken; content = Unsaid; is_finished = finished; is_reset = reset; end_taken = false }
 
 abbrev pub with_replies : Own → List DecoderInstruction → Own
 with_replies o replies = record o { replies = replies }

@@ -15,10 +15,11 @@ use Rattle.h3_world.specs.Order.{outgoing_of, is_end, last_part}
 use Rattle.std.proofs.lemmas.Grind.{common_steps}
 use Rattle.h3_connection.specs.Delivering.{opened, closed_refusal, request_refusal, refusal_at, delivery_refusal, opened_at, incoming_at, with_incoming}
 use Rattle.h3_connection.specs.Endpoint.{EndpointHistory, kind_of, Own}
+use Rattle.h3_messages.specs.declared.content.Content.TheVariants.{Unsaid}
+use Rattle.h3_connection.specs.Endpoint.Kind.{Request}
 use Rattle.h3_connection.specs.Incoming.{Incoming, nothing_came}
 use Rattle.h3_connection.specs.OwnIds.{other}
 use Rattle.h3_connection.specs.StreamSets.{stream_at}
-use Rattle.h3_connection.specs.Endpoint.Kind.{Request}
 use Rattle.h3_field.specs.Instruction.{DecoderInstruction}
 use Rattle.h3_headline.specs.Arriving.{IsUnseen, Receives, made, saying, with_replies}
 use Rattle.h3_headline.specs.FlowLaws.{there_open}

@@ -8,8 +8,8 @@ use Rattle.h3_connection.specs.Endpoint.{Own, EndpointHistory}
 use Rattle.h3_connection.specs.Outgoing.{OwnPart, takes_head, is_unsent, takes_body, last_is_trailer}
 use Rattle.h3_connection.specs.OwnIds.{other, encoder_id}
 use Rattle.h3_connection.specs.Sections.{encoded_section, instructions_for}
-use Rattle.h3_connection.specs.Sending.{appended as part_appended, counted, encoded, fields_cost, is_too_large, asked, awaiting_at, first_of, head_part, does}
-use Rattle.h3_connection.specs.StreamSets.{stream_at}
+use Rattle.h3_connection.specs.Sending.{appended as part_appended, counted, encoded, fields_cost, is_too_large, asked, awaiting_at, first_of, head_part, does, outgoing_at, content_of_own, known_of, saying_at}
+use Rattle.h3_connection.specs.StreamSets.{stream_at, set_stream}
 use Rattle.h3_world.specs.declared.setup.Setup.{Setup}
 use Rattle.h3_world.specs.declared.event.Answer.TheVariants as answer
 use Rattle.h3_world.specs.Ends.{Ends, end_at, answered}
@@ -22,7 +22,8 @@ use Rattle.h3_world.specs.Came.{settings_known}
 use Rattle.h3_world.specs.Setup.{announced_at, IsPlain}
 use Rattle.std.specs.Prelude.{option_map, not, ◌&&◌, is_some, ◌||◌}
 use Rattle.h3_connection.specs.StrictMessages.{malformation_by}
-use Rattle.h3_connection.specs.StrictSending.{broken_head, violation_of_own_head, broken_trailer, unless_malformed}
+use Rattle.h3_connection.specs.StrictSending.{broken_head, violation_of_own_head, broken_trailer, unless_malformed, early_trailer}
+use Rattle.h3_connection.specs.Sending as sender
 use Rattle.h3_connection.specs.declared.event.Malformation.{Malformation}
 use Rattle.h3_connection.specs.declared.setup.Announced.{Announced}
 use Rattle.h3_messages.specs.Messages.{violation_of_trailer}
@@ -33,7 +34,6 @@ use Rattle.h3_header.specs.ReadsBack.{as_read}
 use Rattle.h3_messages.specs.Content.{awaited_by}
 use Rattle.h3_header.specs.Reads.{head_of_fields}
 use Rattle.h3_connection.specs.Outgoing.OwnPart.{OwnInterim, OwnHead, OwnTrailer}
-use Rattle.h3_connection.specs.Sending as sender
 use Rattle.h3_connection.specs.declared.event.Refusal.TheVariants as refusal
 use Rattle.h3_world.specs.declared.event.Event.TheVariants as event
 use Rattle.h3_world.specs.Ends as ends_of
@@ -141,11 +141,14 @@ turned : (b : Bool) → not b ≡ false → b ≡ true
 turned true e = refl
 turned false e = cc
 
--- an end that judges plainly remembers nothing of a request
+-- an end that judges plainly remembers nothing of a head
 unasked : (setup : Setup) (w : World) (side : Side) (e f : EndpointHistory) (id : ℕ) (fields : List Field) → IsPlain (announced_at setup side) → StandsAt setup w side e → f.announced ≡ e.announced → asked f id fields ≡ f
 unasked setup w side e f id fields plain h same =
     let is : f.announced.choices.strict_messages ≡ false = ap (λ (a : Announced). a.choices.strict_messages) (same ∙ h.announced) ∙ plain in
-    ap (λ b. let g : EndpointHistory = record f { incoming = if b && is_client f.side then awaiting_at f.incoming id (awaited_by fields) (stream_at f.incoming id) else f.incoming } in g) is
+    ap (λ b. let g : EndpointHistory = record f {
+      incoming = if b && is_client f.side then awaiting_at f.incoming id (awaited_by fields) (stream_at f.incoming id) else f.incoming;
+      outgoing = if b then saying_at f.outgoing id (content_of_own f.side (known_of (stream_at f.incoming id)) fields) (stream_at f.outgoing id) else f.outgoing;
+    } in g) is
 
 -- **A head.**
 pub head_served : (setup : Setup) (w : World) (ends : Ends) (side : Side) (id : ℕ) (head : Fields) → IsPlain (announced_at setup side) → Stands setup w ends → IsWritableHead w side id head
@@ -208,7 +211,7 @@ trailer_served setup w ends side id head plain h writable =
     let to = outgoing_of (flow w side id) in
     call_agrees setup w (sent_trailer w side id head) ends side answer.Done answer.Done (sender.trailer_refusal e id head) (trailer_refusal setup w side id head)
     (counted (part_appended (encoded e id fields) id (OwnTrailer (encoded_section e.encoder id fields))) (fields_cost fields)) h
-    (refusal_agrees setup w side id e (λ o. (not (takes_body o), refusal.OutOfOrder) ∷ (has_pseudo head, refusal.PseudoInTrailer) ∷ unless_malformed (broken_trailer e.announced fields) ((is_too_large e.peer.settings fields, size) ∷ [])) b.here
+    (refusal_agrees setup w side id e (λ o. (not (takes_body o), refusal.OutOfOrder) ∷ (has_pseudo head, refusal.PseudoInTrailer) ∷ unless_malformed (early_trailer o.content) (unless_malformed (broken_trailer e.announced fields) ((is_too_large e.peer.settings fields, size) ∷ []))) b.here
     ∙ ap (λ m. first_of ((not (is_open w side id), refusal.NotOpen) ∷ (not (takes_body to), refusal.OutOfOrder) ∷ (has_pseudo head, refusal.PseudoInTrailer) ∷ unless_malformed m ((is_too_large e.peer.settings fields, size) ∷ [])))
     (no_broken_trailer setup w side e fields plain b.here)
     ∙ ap (λ t. first_of ((not (is_open w side id), refusal.NotOpen) ∷ (not (takes_body to), refusal.OutOfOrder) ∷ (has_pseudo head, refusal.PseudoInTrailer) ∷ (t, size) ∷ [])) (too_large_agrees setup w side e fields b.here))

@@ -25,8 +25,9 @@ use Rattle.h3_proto.specs.declared.stream.Side.{Side}
 use Rattle.h3_proto.specs.declared.stream.Side.TheVariants.{Client, Server}
 use Rattle.h3_connection.specs.Announcing.{section_of}
 use Rattle.h3_messages.specs.declared.content.Content.TheVariants.{Unsaid}
-use Rattle.h3_connection.specs.StrictMessages.{broken_rule, content_behind, if_whole, malformation_by, violation_at, content_behind_large}
-use Rattle.h3_connection.specs.Pulling.{Pulled, is_client, is_interim, next_place, judged, with_content, malformed, head_or_trailer, past_large, just, decoded, at_section, acknowledgment, past_section, tried, connection_fault}
+use Rattle.h3_connection.specs.StrictMessages.{broken_rule, content_behind, if_whole, malformation_by, violation_at, content_behind_large, response_behind}
+use Rattle.h3_connection.specs.Pulling.{Pulled, is_client, is_interim, next_place, judged, with_content, malformed, head_or_trailer, past_large, just, decoded, at_section, acknowledgment, past_section, tried, connection_fault, read_section}
+use Rattle.h3_connection.specs.Codes.{decompression_failed}
 use Rattle.h3_connection.specs.declared.event.Malformation.{Malformation}
 use Rattle.h3_connection.specs.declared.event.Malformation.TheVariants as malformation
 use Rattle.h3_connection.specs.declared.place.Place.TheVariants.{BeforeHead, InBody, AfterTrailer}
@@ -35,7 +36,6 @@ use Rattle.h3_world.specs.Items.{IsSectionItem}
 use Rattle.h3_world.specs.Setup.{IsPlain}
 use Rattle.h3_qpack.specs.DecodedSection.{Fields, Missing, decode_section}
 use Rattle.h3_wire.specs.Encoded.{frame_encoding}
-use Rattle.h3_connection.specs.Codes.{decompression_failed}
 use Rattle.h3_headline.specs.Cited.{ListsAreTheirValue}
 use Rattle.h3_headline.specs.PulledLaws.{receives_on, stands_at}
 use Rattle.h3_headline.specs.Pulling.{ComesTo, HandsOut, IsAtSection, IsReadAs, IsSectionPart, Pauses, behind_section, placed, tried_as}
@@ -93,7 +93,7 @@ module _ (lists : ListsAreTheirValue) (side : Side) (announced : Announced) (pla
       → judged side id (with_content side announced x fields) replies (if_whole x.content (broken_rule side announced x.place fields)) (head_of fields)
       ≡ head_or_trailer side id x replies None x.place (head_of_fields fields)
   judged_is x replies fields unsaid back =
-      ap (λ b. let y : Incoming = record x { content = if b then content_behind side x.place x.content fields else x.content } in
+      ap (λ b. let y : Incoming = record x { content = if b then content_behind side x.place x.content fields else x.content; response = if b then response_behind side x.place x.response fields else x.response } in
       judged side id y replies (if_whole x.content (broken_rule side announced x.place fields)) (head_of fields)) plain
       ∙ ap (λ c. judged side id x replies (if_whole c (broken_rule side announced x.place fields)) (head_of fields)) unsaid
       ∙ ap (λ b. judged side id x replies b (head_of fields)) (none_broken x.place fields) ∙ ap (judged side id x replies None) (lists fields (head_of_fields fields) (back.0, refl))

@@ -3,13 +3,21 @@ use Rattle.std.proofs.Common.{◌≡◌, Bool, true, false, refl, ℕ, [], ◌�
 use Rattle.std.specs.Prelude.{not, ◌&&◌, unwrap_or, ◌==◌, ◌||◌, drop}
 use Rattle.h3_proto.specs.declared.stream.Side.{Side}
 use Rattle.h3_connection.specs.Endpoint.{EndpointHistory, is_read_as, Kind, kind_of, is_critical_id, is_critical_of}
+use Rattle.h3_proto.specs.declared.stream.Side.TheVariants.{Client, Server}
+use Rattle.h3_connection.specs.Endpoint.Kind.{Request, ServerOpened, OwnUnidirectional, PeerUnidirectional}
+use Rattle.h3_connection.specs.Outgoing.{Outgoing, nothing_sent, takes_body, takes_end, is_sent_off, is_unsent, last_is_trailer, with_finish, with_reset}
+use Rattle.h3_connection.specs.Outgoing as sender_part
+use Rattle.h3_connection.specs.Outgoing.OwnPart.{OwnBody}
+use Rattle.h3_connection.specs.OwnIds.{other, control_id, encoder_id, decoder_id, is_own}
+use Rattle.h3_connection.specs.Sending.{first_of, outgoing_at, with_outgoing, counted}
+use Rattle.h3_connection.specs.Sending as sender
+use Rattle.h3_connection.specs.StreamSets.{set_stream}
+use Rattle.h3_messages.specs.Content.{may_end}
+use Rattle.h3_connection.specs.StrictSending.{passes_content}
+use Rattle.h3_connection.specs.declared.event.Malformation.TheVariants as malformation
+use Rattle.h3_connection.specs.declared.event.Refusal.TheVariants as refusal
 use Rattle.h3_world.specs.declared.setup.Setup.{Setup}
 use Rattle.h3_world.specs.World.{World, party}
-use Rattle.h3_connection.specs.Outgoing.{Outgoing, nothing_sent, takes_end, is_unsent, takes_body, last_is_trailer, is_sent_off}
-use Rattle.h3_connection.specs.OwnIds.{other, control_id, encoder_id, decoder_id, is_own}
-use Rattle.h3_connection.specs.Sending.{outgoing_at, with_outgoing, counted, first_of}
-use Rattle.h3_connection.specs.Sending as sender
-use Rattle.h3_connection.specs.declared.event.Refusal.TheVariants as refusal
 use Rattle.h3_world.specs.declared.event.Event.TheVariants as event
 use Rattle.h3_world.specs.declared.event.Answer.TheVariants as answer
 use Rattle.h3_world.specs.Ends.{Ends, end_at, answered}
@@ -20,11 +28,8 @@ use Rattle.h3_world.specs.Refusals.{finish_refusal, body_refusal, is_critical, r
 use Rattle.h3_world.specs.Sending.{appended, finished, sent_body, cut_off}
 use Rattle.h3_world.specs.Streams.{flow, is_open}
 use Rattle.h3_wire.specs.Encoded.{frame_encoding}
-use Rattle.h3_connection.specs.Outgoing.OwnPart.{OwnBody}
 use Rattle.h3_world.specs.Flow.{flow_bytes, Flow}
 use Rattle.std.proofs.lemmas.Grind.{common_steps}
-use Rattle.h3_connection.specs.Endpoint.Kind.{Request, ServerOpened, OwnUnidirectional, PeerUnidirectional}
-use Rattle.h3_proto.specs.declared.stream.Side.TheVariants.{Client, Server}
 use Rattle.h3_world.specs.Order as order
 use Rattle.h3_headline.specs.Arriving.{cut}
 use Rattle.h3_headline.specs.Calls.{Both, Does, Serves, seen_by, sending}
@@ -79,16 +84,16 @@ finish_served setup w ends side id h =
     let f = flow w side id in
     let b = both_of setup w side ends h in
     let v = finished w side id in
-    let new = with_outgoing e id (record (outgoing_at e id) { is_finished = true }) in
+    let new = with_outgoing e id (with_finish (outgoing_at e id)) in
     call_agrees setup w v ends side answer.Done answer.Done (sender.finish_refusal e id) (finish_refusal w side id) new h
-    (refusal_agrees setup w side id e (λ o. (not (takes_end o), refusal.OutOfOrder) ∷ []) b.here)
+    (refusal_agrees setup w side id e (λ o. (not (takes_end o), refusal.OutOfOrder) ∷ (not (may_end o.content), refusal.Malformed malformation.ContentLength) ∷ []) b.here)
     (λ goes.
     let o = not_refused_open (is_open w side id) ((not (takes_end (outgoing_of f)), refusal.OutOfOrder) ∷ []) goes in
     let t = not_refused (not (takes_end (outgoing_of f))) refusal.OutOfOrder [] o.1 in
     let k = open_parts (outgoing_of f).is_finished f.is_reset (not (is_unsent (outgoing_of f).parts)) t.0 in
     let stream = (sends_at setup w side id e b.here o.0).stream in
     let is : new ≡ sending e id e.sent (outgoing_of (appended f End)) =
-    ap (λ (x : Option Outgoing). sending e id e.sent (record (unwrap_or x nothing_sent) { is_finished = true })) stream ∙ ap (sending e id e.sent) (sends_end f k.1) in
+    ap (λ (x : Option Outgoing). sending e id e.sent (with_finish (unwrap_or x nothing_sent))) stream ∙ ap (sending e id e.sent) (sends_end f k.1) in
     does_on setup w v ends side answer.Done new h refl (flow_count w side id (appended f End))
     (subst (λ x. Both setup v side x (end_at ends (other side))) (sym is)
     (flow_extended setup w side id e.sent (appended f End) e (end_at ends (other side)) b o.0
@@ -98,9 +103,9 @@ finish_served setup w ends side id h =
 pub body_served : (setup : Setup) (w : World) (ends : Ends) (side : Side) (id : ℕ) (bytes : List ℕ) → Stands setup w ends
     → Serves setup (answered ends (event.Body side id bytes)) (served setup w (event.Body side id bytes))
 body_served setup w ends side id bytes h =
-    call_agrees setup w (sent_body w side id bytes) ends side answer.Done answer.Done (sender.body_refusal (end_at ends side) id) (body_refusal w side id)
+    call_agrees setup w (sent_body w side id bytes) ends side answer.Done answer.Done (sender.body_refusal (end_at ends side) id (length bytes)) (body_refusal w side id)
     (counted (sender.sent_bytes (end_at ends side) id bytes) (length bytes)) h
-    (refusal_agrees setup w side id (end_at ends side) (λ o. (not (takes_body o), refusal.OutOfOrder) ∷ []) (both_of setup w side ends h).here)
+    (refusal_agrees setup w side id (end_at ends side) (λ o. (not (takes_body o), refusal.OutOfOrder) ∷ (passes_content o.content (length bytes), refusal.Malformed malformation.ContentLength) ∷ []) (both_of setup w side ends h).here)
     (λ goes. by_bytes bytes goes)
   where
     by_bytes : (bytes : List ℕ) → body_refusal w side id ≡ None
@@ -122,7 +127,7 @@ body_served setup w ends side id bytes h =
         let k = with_body (outgoing_of f).is_finished f.is_reset (not (is_unsent (outgoing_of f).parts)) (not (last_is_trailer (outgoing_of f).parts)) t.0 in
         let stream = (sends_at setup w side id e b.here o.0).stream in
         let is : new ≡ sending e id new.sent (outgoing_of (appended f part)) =
-        ap (λ (x : Option Outgoing). sending e id new.sent (record (unwrap_or x nothing_sent) { parts = (unwrap_or x nothing_sent).parts ++ OwnBody bytes ∷ [] })) stream
+        ap (λ (x : Option Outgoing). sending e id new.sent (sender_part.with_body (unwrap_or x nothing_sent) bytes)) stream
         ∙ ap (sending e id new.sent) (sends_part f part (OwnBody bytes) refl refl k.0) in
         does_on setup w v ends side answer.Done new h refl (flow_count w side id (appended f part))
         (subst (λ x. Both setup v side x (end_at ends (other side))) (sym is)
@@ -209,7 +214,7 @@ reset_served setup w ends side id h =
     let f = flow w side id in
     let b = both_of setup w side ends h in
     let v = cut_off w side id in
-    let new = with_outgoing e id (record (outgoing_at e id) { is_reset = true; is_finished = false }) in
+    let new = with_outgoing e id (with_reset (outgoing_at e id)) in
     call_agrees setup w v ends side answer.Done answer.Done (sender.reset_refusal e id) (reset_refusal w side id) new h
     (goes_unclosed setup w side e _ b.here
     ∙ ap (λ t. first_of ((t, refusal.Critical) ∷ (not (sender.is_open e id), refusal.NotOpen) ∷ (is_sent_off (outgoing_at e id), refusal.Ended) ∷ [])) (critical_agrees setup w side id e b.here)
@@ -221,7 +226,7 @@ reset_served setup w ends side id h =
     let o = not_refused_open (is_open w side id) ((order.is_sent_off f, refusal.Ended) ∷ []) c.1 in
     let stream = (sends_at setup w side id e b.here o.0).stream in
     let is : new ≡ sending e id e.sent (outgoing_of (cut f)) =
-    ap (λ (x : Option Outgoing). sending e id e.sent (record (unwrap_or x nothing_sent) { is_reset = true; is_finished = false })) stream in
+    ap (λ (x : Option Outgoing). sending e id e.sent (with_reset (unwrap_or x nothing_sent))) stream in
     does_on setup w v ends side answer.Done new h refl (flow_count w side id (cut f))
     (subst (λ x. Both setup v side x (end_at ends (other side))) (sym is)
     (flow_extended setup w side id e.sent (cut f) e (end_at ends (other side)) b o.0 (cut_extends side f))))

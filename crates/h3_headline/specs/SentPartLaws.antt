@@ -5,14 +5,15 @@ use Rattle.h3_world.specs.Flow.{Part, Flow, part_bytes, flow_bytes, Section, own
 use Rattle.std.proofs.lemmas.Grind.{flat_map-append}
 use Rattle.h3_world.specs.Sending.{appended}
 use Rattle.std.specs.List.{flat_map, concat, AllByRecursion}
+use Rattle.h3_proto.specs.declared.stream.Side.{Side}
+use Rattle.h3_messages.specs.declared.content.Content.TheVariants.{Unsaid}
+use Rattle.h3_connection.specs.Incoming.{Incoming}
+use Rattle.h3_connection.specs.Outgoing.{Outgoing, OwnPart}
+use Rattle.h3_connection.specs.OwnIds.{other}
 use Rattle.h3_world.specs.Flow.Part.{Interim, Head, Body, Trailer, End}
 use Rattle.h3_world.specs.Order.{next_part, is_end, last_part, outgoing_of}
-use Rattle.h3_connection.specs.Incoming.{Incoming}
 use Rattle.h3_world.specs.Sound.{IsSoundFlow}
 use Rattle.h3_world.specs.World.{Party}
-use Rattle.h3_proto.specs.declared.stream.Side.{Side}
-use Rattle.h3_connection.specs.OwnIds.{other}
-use Rattle.h3_connection.specs.Outgoing.{OwnPart}
 use Rattle.h3_headline.specs.Arriving.{cut, made}
 use Rattle.h3_headline.specs.Calls.{Extends}
 use Rattle.h3_headline.specs.Standing.{IsReadable, ReceivesFlow, StandsBefore, WaitsIn, place_after, section_frame, section_of_part}

@@ -56,36 +56,37 @@ tells_none fields e why law (inl here) = law here
 tells_none fields e why law (inr is) = is
 
 -- what is said of the fields that are kept is said of the section
-pub judged_within : {E : Type 0} (result : Result Judged E) (side : Side) (own : Announced) (place : Place) (content : Content) (d : Decoded) (w : DecodedWithin) → w ≡ within.Fields d
-    → IfOk result (λ j. (id : ℕ) (r : DecoderState) (i : Incoming) (replies : List DecoderInstruction) → told_size d.fields.items ≤ section_of own → i.place ≡ place → i.content ≡ content
+pub judged_within : {E : Type 0} (result : Result Judged E) (side : Side) (own : Announced) (place : Place) (content : Content) (known : Option Content) (d : Decoded) (w : DecodedWithin) → w ≡ within.Fields d
+    → IfOk result (λ j. (id : ℕ) (r : DecoderState) (i : Incoming) (replies : List DecoderInstruction) → told_size d.fields.items ≤ section_of own → i.place ≡ place → i.content ≡ content → i.response ≡ known
     → read_section side own id r i replies d.fields.items ≡ judged_as id i replies j)
     → IfOk result (λ j. (id : ℕ) (r : DecoderState) (i : Incoming) (replies : List DecoderInstruction) (dyn_ref : Bool) (fields : List Field)
-    → IsWithin (section_of own) (codes ":status") dyn_ref fields w → i.place ≡ place → i.content ≡ content → read_section side own id r i replies fields ≡ judged_as id i replies j)
-judged_within (Err e) side own place content d w is h = h
-judged_within (Ok j) side own place content d w is h = λ id r i replies dyn_ref fields k at left.
+    → IsWithin (section_of own) (codes ":status") dyn_ref fields w → i.place ≡ place → i.content ≡ content → i.response ≡ known → read_section side own id r i replies fields ≡ judged_as id i replies j)
+judged_within (Err e) side own place content known d w is h = h
+judged_within (Ok j) side own place content known d w is h = λ id r i replies dyn_ref fields k at left told.
     let size = subst (λ x. IsWithin (section_of own) (codes ":status") dyn_ref fields x) is k in
-    subst (λ fs. read_section side own id r i replies fs ≡ judged_as id i replies j) size.1 (h id r i replies (subst (λ fs. told_size fs ≤ section_of own) (sym size.1) size.0) at left)
+    subst (λ fs. read_section side own id r i replies fs ≡ judged_as id i replies j) size.1 (h id r i replies (subst (λ fs. told_size fs ≤ section_of own) (sym size.1) size.0) at left told)
 
 -- what is made of it overwrites the content
-pub judged_behind : (id : ℕ) (i : Incoming) (content : Content) (replies : List DecoderInstruction) (j : Judged) → judged_as id (record i { content = content }) replies j ≡ judged_as id i replies j
-judged_behind id i content replies (judge.HandsOut item place left) = refl
-judged_behind id i content replies (judge.Malformed why) = refl
+pub judged_behind : (id : ℕ) (i : Incoming) (content : Content) (known : Option Content) (replies : List DecoderInstruction) (j : Judged) → judged_as id (record i { content = content; response = known }) replies j ≡ judged_as id i replies j
+judged_behind id i content known replies (judge.HandsOut item place left told) = refl
+judged_behind id i content known replies (judge.Malformed why) = refl
 
 module _ (side : Side) (own : Announced) (id : ℕ) (r : DecoderState) where
   -- a section that is too large
-  abbrev large_as : ℕ → Incoming → Place → Content → List DecoderInstruction → Pulled
-  large_as size i place content replies = record { answer = pull.Item (item.TooLarge size); incoming = record i { place = place; content = content }; replies = replies }
+  abbrev large_as : ℕ → Incoming → Place → Content → Option Content → List DecoderInstruction → Pulled
+  large_as size i place content known replies = record { answer = pull.Item (item.TooLarge size); incoming = record i { place = place; content = content; response = known }; replies = replies }
 
-  pub read_large : (i : Incoming) (replies : List DecoderInstruction) (fields : List Field) (place behind : Place) (content expected : Content) (size : ℕ) → section_of own < told_size fields
-      → size ≡ told_size fields → i.place ≡ place → i.content ≡ content → behind ≡ next_place side place fields → expected ≡ large_content_at side own place content (last_value (codes ":status") fields)
-      → read_section side own id r i replies fields ≡ large_as size i behind expected replies
-  read_large i replies fields place behind content expected size large is at left next says =
+  pub read_large : (i : Incoming) (replies : List DecoderInstruction) (fields : List Field) (place behind : Place) (content expected : Content) (known : Option Content) (size : ℕ) → section_of own < told_size fields
+      → size ≡ told_size fields → i.place ≡ place → i.content ≡ content → i.response ≡ known → behind ≡ next_place side place fields → expected ≡ large_content_at side own place content (last_value (codes ":status") fields)
+      → read_section side own id r i replies fields ≡ large_as size i behind expected known replies
+  read_large i replies fields place behind content expected known size large is at left told next says =
       let status = last_value (codes ":status") fields in
-      ap (λ b. if b then large_as (told_size fields) i (next_place side i.place fields) (large_content_at side own i.place i.content status) replies else judged side id (with_content side own i fields) replies (if_whole i.content (broken_rule side own i.place fields)) (head_of fields)) (lt-ltb (section_of own) (told_size fields) large)
-      ∙ ap (λ n. large_as n i (next_place side i.place fields) (large_content_at side own i.place i.content status) replies) (sym is)
-      ∙ ap (λ q. large_as size i (next_place side q fields) (large_content_at side own q i.content status) replies) at
-      ∙ ap (λ c. large_as size i (next_place side place fields) (large_content_at side own place c status) replies) left
-      ∙ ap (λ q. large_as size i q (large_content_at side own place content status) replies) (sym next) ∙ ap (λ c. large_as size i behind c replies) (sym says)
+      ap (λ b. if b then large_as (told_size fields) i (next_place side i.place fields) (large_content_at side own i.place i.content status) i.response replies else judged side id (with_content side own i fields) replies (if_whole i.content (broken_rule side own i.place fields)) (head_of fields)) (lt-ltb (section_of own) (told_size fields) large)
+      ∙ ap (λ n. large_as n i (next_place side i.place fields) (large_content_at side own i.place i.content status) i.response replies) (sym is)
+      ∙ ap (λ q. large_as size i (next_place side q fields) (large_content_at side own q i.content status) i.response replies) at
+      ∙ ap (λ c. large_as size i (next_place side place fields) (large_content_at side own place c status) i.response replies) left
+      ∙ ap (λ q. large_as size i q (large_content_at side own place content status) i.response replies) (sym next) ∙ ap (λ c. large_as size i behind c i.response replies) (sym says)
+      ∙ ap (λ k. large_as size i behind expected k replies) told
 
   -- one that is not, and that is no head
   pub read_none : (i : Incoming) (replies : List DecoderInstruction) (fields : List Field) (why : HeadRefusal) → told_size fields ≤ section_of own → head_of fields ≡ IsNone why

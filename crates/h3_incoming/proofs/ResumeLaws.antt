@@ -32,6 +32,7 @@ resumes_same old new e = subst (λ x. Resumes old x) (sym e) (record {
   pulls = λ side own id r pieces ends. refl;
   gives_up = λ fault. refl;
   place = refl;
+  response = refl;
   is_over = refl;
   waits_for = refl;
   tries = refl;
@@ -78,6 +79,7 @@ resumes_passed old new b p skips = record {
   pulls = λ side own id r pieces ends. goes_on_alike side own id r pieces ends;
   gives_up = λ fault. ap {A = Incoming} (λ i. given_up i fault) p.same;
   place = ap {A = Incoming} (λ i. i.place) p.same;
+  response = ap {A = Incoming} (λ i. i.response) p.same;
   is_over = ap {A = Incoming} (λ i. i.is_over) p.same;
   waits_for = ap {A = Incoming} (λ i. i.waits_for) p.same;
   tries = ap {A = Incoming} (λ i. i.tries) p.same;
@@ -150,6 +152,7 @@ begun_alike side own id r pieces ends mid new (frame.Grease kind) place b h some
 record IsBegun (old new : Incoming) : Type 0 where
   gives_up : (fault : StreamFault) → given_up new fault ≡ given_up old fault
   place : new.place ≡ old.place
+  response : new.response ≡ old.response
   is_over : new.is_over ≡ old.is_over
   waits_for : new.waits_for ≡ 0
   tries : new.tries ≡ old.tries
@@ -158,10 +161,10 @@ record IsBegun (old new : Incoming) : Type 0 where
   fault : new.fault ≡ old.fault
 
 section_begun : (mid : Incoming) (bytes : List ℕ) → IsBegun mid (begun_section mid bytes)
-section_begun mid bytes = record { gives_up = λ fault. refl; place = refl; is_over = refl; waits_for = refl; tries = refl; ended = refl; was_reset = refl; fault = refl }
+section_begun mid bytes = record { gives_up = λ fault. refl; place = refl; response = refl; is_over = refl; waits_for = refl; tries = refl; ended = refl; was_reset = refl; fault = refl }
 
 payload_begun : (mid : Incoming) (size : ℕ) → mid.waits_for ≡ 0 → IsBegun mid (begun_payload mid size)
-payload_begun mid size none = record { gives_up = λ fault. refl; place = refl; is_over = refl; waits_for = none; tries = refl; ended = refl; was_reset = refl; fault = refl }
+payload_begun mid size none = record { gives_up = λ fault. refl; place = refl; response = refl; is_over = refl; waits_for = none; tries = refl; ended = refl; was_reset = refl; fault = refl }
 
 is_begun : (mid new : Incoming) (f : Frame PayloadLen) (place : Place) → mid.waits_for ≡ 0 → Begins place f mid new → IsBegun mid new
 is_begun mid new (frame.Headers bytes) place none h = subst (λ x. IsBegun mid x) (sym h.1) (section_begun mid bytes)
@@ -183,6 +186,7 @@ resumes_begun old mid new f b p finds begins =
       pulls = λ side own id r pieces ends. goes_on_alike side own id r pieces ends here;
       gives_up = λ fault. begun.gives_up fault ∙ ap {A = Incoming} (λ i. given_up i fault) p.same;
       place = begun.place ∙ ap {A = Incoming} (λ i. i.place) p.same;
+      response = begun.response ∙ ap {A = Incoming} (λ i. i.response) p.same;
       is_over = begun.is_over ∙ ap {A = Incoming} (λ i. i.is_over) p.same;
       waits_for = begun.waits_for ∙ sym b.waits;
       tries = begun.tries ∙ ap {A = Incoming} (λ i. i.tries) p.same;

@@ -12,7 +12,8 @@ use Rattle.h3_incoming.specs.declared.judge.Judged.TheVariants as judged
 
 -- what a pull makes of it
 abbrev pub judged_as : ℕ → Incoming → List DecoderInstruction → Judged → Pulled
-judged_as id i replies (judged.HandsOut item place expected) = record { answer = pull.Item item; incoming = record i { place = place; content = expected }; replies = replies }
+judged_as id i replies (judged.HandsOut item place expected known) =
+    record { answer = pull.Item item; incoming = record i { place = place; content = expected; response = known }; replies = replies }
 judged_as id i replies (judged.Malformed why) = malformed id why i replies
 
 -- The list is no head for this, as its reading told, or as the list says itself.

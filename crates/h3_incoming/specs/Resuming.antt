@@ -37,6 +37,8 @@ pub record Resumes (old new : Incoming) : Type 0 where
   pub gives_up : (fault : StreamFault) → given_up new fault ≡ given_up old fault
   -- where its message is
   pub place : new.place ≡ old.place
+  -- what of the content of its response is known
+  pub response : new.response ≡ old.response
   pub is_over : new.is_over ≡ old.is_over
   -- what the endpoint sees of it
   pub waits_for : new.waits_for ≡ old.waits_for

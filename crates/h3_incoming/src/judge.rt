@@ -13,7 +13,7 @@ ghost use Rattle.h3_connection.specs.Pulling.{read_section, whole_head, whole_tr
 ghost use Rattle.h3_field.specs.Field.{Field};
 ghost use Rattle.h3_incoming.specs.Judging.{Tells, judged_as};
 
-use crate::strict::{broken_rule, content_at, if_whole, large_content_at};
+use crate::strict::{broken_rule, content_at, if_whole, large_content_at, response_at};
 use h3_connection::event::{Item, Malformation};
 use h3_connection::place::Place;
 use h3_connection::setup::Announced;
@@ -26,8 +26,9 @@ use std::alloc::{AllocError, Global};
 /// What a field section is at its place.
 #[derive(Drop)]
 pub(crate) enum Judged {
-    /// It is handed out as this item, and this is the place behind it, and the content that is left to come.
-    HandsOut(Item, Place, Content),
+    /// It is handed out as this item, and this is the place behind it, the content that is left to come, and what is known of that of a
+    /// response.
+    HandsOut(Item, Place, Content, Option<Content>),
     Malformed(Malformation),
 }
 
@@ -48,16 +49,27 @@ pub(crate) fn judge(
     announced: &Announced,
     place: Place,
     content: Content,
+    known: Option<Content>,
     decoded: DecodedWithin,
 ) -> Result<Judged, AllocError>
     ensures { IfOk result (λ j. (id : ℕ) (r : DecoderState) (i : Incoming) (replies : List DecoderInstruction) (dyn_ref : Bool) (fields : List Field)
-        → IsWithin (section_of announced.now) (codes ":status") dyn_ref fields decoded → i.place ≡ place → i.content ≡ content → read_section side announced.now id r i replies fields ≡ judged_as id i replies j) }
+        → IsWithin (section_of announced.now) (codes ":status") dyn_ref fields decoded → i.place ≡ place → i.content ≡ content → i.response ≡ known → read_section side announced.now id r i replies fields ≡ judged_as id i replies j) }
 {
     match decoded {
         DecodedWithin::Fields(decoded) => {
-            judge_fields(alloc, side, announced, place, content, decoded.fields)
+            judge_fields(
+                alloc,
+                side,
+                announced,
+                place,
+                content,
+                known,
+                decoded.fields,
+            )
         }
-        DecodedWithin::TooLarge(large) => Ok(judge_large(side, announced, place, content, large)),
+        DecodedWithin::TooLarge(large) => Ok(judge_large(
+            side, announced, place, content, known, large,
+        )),
     }
 }
 
@@ -67,15 +79,16 @@ fn judge_large(
     announced: &Announced,
     place: Place,
     content: Content,
+    known: Option<Content>,
     large: LargeSection,
 ) -> Judged
     ensures { (id : ℕ) (r : DecoderState) (i : Incoming) (replies : List DecoderInstruction) (dyn_ref : Bool) (fields : List Field)
-        → section_of announced.now < told_size fields → IsLarge (codes ":status") dyn_ref fields large → i.place ≡ place → i.content ≡ content
+        → section_of announced.now < told_size fields → IsLarge (codes ":status") dyn_ref fields large → i.place ≡ place → i.content ≡ content → i.response ≡ known
         → read_section side announced.now id r i replies fields ≡ judged_as id i replies result }
 {
     let expected = large_content_at(side, announced, place, content, &large.last_value);
     let behind = place_behind(side, place, large.last_value);
-    Judged::HandsOut(Item::TooLarge(large.mem_size), behind, expected)
+    Judged::HandsOut(Item::TooLarge(large.mem_size), behind, expected, known)
 }
 
 // A section that is not. Want of memory is told only of a list of which a front is good, and whose next field may ask for memory; and of no
@@ -86,10 +99,11 @@ fn judge_fields(
     announced: &Announced,
     place: Place,
     content: Content,
+    known: Option<Content>,
     fields: Vec<HeaderField>,
 ) -> Result<Judged, AllocError>
     ensures ok { IfOk result (λ j. (id : ℕ) (r : DecoderState) (i : Incoming) (replies : List DecoderInstruction)
-        → told_size fields.items ≤ section_of announced.now → i.place ≡ place → i.content ≡ content → read_section side announced.now id r i replies fields.items ≡ judged_as id i replies j) }
+        → told_size fields.items ≤ section_of announced.now → i.place ≡ place → i.content ≡ content → i.response ≡ known → read_section side announced.now id r i replies fields.items ≡ judged_as id i replies j) }
     ensures memory { OnErr result (RefusesOne (trailer_head []) fields.items HeaderError.OutOfMemory) }
     ensures good { OnErr result (IsHeadUnlessMany fields.items) }
 {
@@ -97,8 +111,9 @@ fn judge_fields(
     let list = fields.as_slice();
     let broken = if_whole(content, broken_rule(side, announced, place, list));
     let behind = content_at(side, announced, place, content, list);
+    let response = response_at(side, announced, place, known, list);
     match Header::of_fields(alloc, list) {
-        Ok(header) => Ok(judge_header(side, place, behind, broken, header)),
+        Ok(header) => Ok(judge_header(side, place, behind, response, broken, header)),
         Err(e) => judge_refusal(list, e),
     }
 }
@@ -134,23 +149,30 @@ fn judge_header(
     side: Side,
     place: Place,
     behind: Content,
+    known: Option<Content>,
     broken: Option<Malformation>,
     header: Header,
 ) -> Judged
-    ensures { (id : ℕ) (i : Incoming) (replies : List DecoderInstruction) → i.place ≡ place → i.content ≡ behind
+    ensures { (id : ℕ) (i : Incoming) (replies : List DecoderInstruction) → i.place ≡ place → i.content ≡ behind → i.response ≡ known
         → head_or_trailer side id i replies broken place header ≡ judged_as id i replies result }
 {
     match place {
-        Place::BeforeHead => judge_head(side, behind, broken, header),
+        Place::BeforeHead => judge_head(side, behind, known, broken, header),
         Place::InBody | Place::AfterTrailer | Place::InSession => {
-            judge_trailer(behind, broken, header)
+            judge_trailer(behind, known, broken, header)
         }
     }
 }
 
 // A head: a client reads responses, interim ones among them, and a server requests.
-fn judge_head(side: Side, behind: Content, broken: Option<Malformation>, header: Header) -> Judged
-    ensures { (id : ℕ) (i : Incoming) (replies : List DecoderInstruction) → i.place ≡ Place.BeforeHead → i.content ≡ behind
+fn judge_head(
+    side: Side,
+    behind: Content,
+    known: Option<Content>,
+    broken: Option<Malformation>,
+    header: Header,
+) -> Judged
+    ensures { (id : ℕ) (i : Incoming) (replies : List DecoderInstruction) → i.place ≡ Place.BeforeHead → i.content ≡ behind → i.response ≡ known
         → whole_head side id i replies broken header ≡ judged_as id i replies result }
 {
     if !is_for(side, &header) {
@@ -160,9 +182,9 @@ fn judge_head(side: Side, behind: Content, broken: Option<Malformation>, header:
         drop(header);
         Judged::Malformed(why)
     } else if is_client(side) && is_interim(&header) {
-        Judged::HandsOut(Item::Interim(header), Place::BeforeHead, behind)
+        Judged::HandsOut(Item::Interim(header), Place::BeforeHead, behind, known)
     } else {
-        Judged::HandsOut(Item::Head(header), Place::InBody, behind)
+        Judged::HandsOut(Item::Head(header), Place::InBody, behind, known)
     }
 }
 
@@ -186,8 +208,13 @@ fn is_client(side: Side) -> bool
 }
 
 // A trailer, which has no pseudo-header field (RFC 9114, section 4.3).
-fn judge_trailer(behind: Content, broken: Option<Malformation>, header: Header) -> Judged
-    ensures { (id : ℕ) (i : Incoming) (replies : List DecoderInstruction) → i.content ≡ behind → whole_trailer id i replies broken header ≡ judged_as id i replies result }
+fn judge_trailer(
+    behind: Content,
+    known: Option<Content>,
+    broken: Option<Malformation>,
+    header: Header,
+) -> Judged
+    ensures { (id : ℕ) (i : Incoming) (replies : List DecoderInstruction) → i.content ≡ behind → i.response ≡ known → whole_trailer id i replies broken header ≡ judged_as id i replies result }
 {
     if header.has_pseudo() {
         return Judged::Malformed(Malformation::PseudoInTrailer);
@@ -195,7 +222,7 @@ fn judge_trailer(behind: Content, broken: Option<Malformation>, header: Header) 
     if let Some(why) = broken {
         return Judged::Malformed(why);
     }
-    Judged::HandsOut(Item::Trailer(header), Place::AfterTrailer, behind)
+    Judged::HandsOut(Item::Trailer(header), Place::AfterTrailer, behind, known)
 }
 
 // A status from 100 to 199 (RFC 9110, section 15.2).

@@ -35,6 +35,8 @@ pub struct IncomingStream {
     body_left: usize,
     // how much content is left behind that; in front of a response's head what its request said of it
     content: Content,
+    // what of the content of its response is known at a server
+    response: Option<Content>,
     place: Place,
     // the required insert count that the section waited for, or 0
     waits_for: usize,
@@ -59,6 +61,7 @@ impl Model for IncomingStream {
       section = s.section;
       body_left = s.body_left;
       content = s.content;
+      response = s.response;
       place = s.place;
       waits_for = s.waits_for;
       tries = s.tries;
@@ -91,6 +94,7 @@ impl IncomingStream {
             section: None,
             body_left: 0,
             content: Content::Unsaid,
+            response: None,
             place: Place::BeforeHead,
             waits_for: 0,
             tries: 0,
@@ -191,6 +195,7 @@ impl IncomingStream {
         self.section = None;
         self.body_left = 0;
         self.content = Content::Unsaid;
+        self.response = None;
         self.waits_for = 0;
         self.fault = Some(fault);
     }

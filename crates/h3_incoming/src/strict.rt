@@ -1,7 +1,7 @@
 //! Which rule of well-formed messages a field list breaks, and how much content follows it, where the endpoint asks for them (RFC 9114, sections
 //! 4.1.2 and 4.2 to 4.5).
 ghost use Rattle.std.specs.Prelude.{◌≡◌, option_map};
-ghost use Rattle.h3_connection.specs.StrictMessages.{broken_rule, violation_at, content_of_head, content_behind, content_behind_large, content_at, large_content_at, if_whole};
+ghost use Rattle.h3_connection.specs.StrictMessages.{broken_rule, violation_at, content_of_head, content_behind, content_behind_large, content_at, large_content_at, response_of_head, response_behind, response_at, if_whole};
 
 use h3_connection::event::Malformation;
 use h3_connection::place::Place;
@@ -80,6 +80,47 @@ fn content_of_head(side: Side, awaited: Content, fields: &[HeaderField]) -> Cont
     match side {
         Side::Client => awaited.behind_response(fields),
         Side::Server => Content::of_request(fields),
+    }
+}
+
+/// What is known of the content of a response behind a field list at its place, where so much was known in front of it. An endpoint that asks
+/// for no strict messages looks at no field.
+pub(crate) fn response_at(
+    side: Side,
+    announced: &Announced,
+    place: Place,
+    known: Option<Content>,
+    fields: &[HeaderField],
+) -> Option<Content>
+    ensures { result ≡ response_at side announced.now place known fields.now }
+{
+    if announced.choices.strict_messages {
+        return response_behind(side, place, known, fields);
+    }
+    known
+}
+
+// A request's head tells it, and a trailer tells nothing.
+fn response_behind(
+    side: Side,
+    place: Place,
+    known: Option<Content>,
+    fields: &[HeaderField],
+) -> Option<Content>
+    ensures { result ≡ response_behind side place known fields.now }
+{
+    match place {
+        Place::BeforeHead => response_of_head(side, known, fields),
+        Place::InBody | Place::AfterTrailer | Place::InSession => known,
+    }
+}
+
+fn response_of_head(side: Side, known: Option<Content>, fields: &[HeaderField]) -> Option<Content>
+    ensures { result ≡ response_of_head side known fields.now }
+{
+    match side {
+        Side::Client => known,
+        Side::Server => Some(Content::awaited_by(fields)),
     }
 }
 

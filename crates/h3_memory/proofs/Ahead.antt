@@ -5,8 +5,9 @@ use Rattle.h3_connection.specs.declared.arrival.Arrival.{Arrival}
 use Rattle.h3_connection.specs.Control.{Found, read_encoder}
 use Rattle.h3_connection.specs.Endpoint.{EndpointHistory}
 use Rattle.h3_connection.specs.Incoming.{Incoming}
-use Rattle.h3_connection.specs.Outgoing.{Outgoing, nothing_sent, takes_body}
-use Rattle.h3_connection.specs.Outgoing.OwnPart.{OwnBody}
+use Rattle.h3_connection.specs.Outgoing.{Outgoing, nothing_sent, takes_body, with_body}
+use Rattle.h3_connection.specs.StrictSending.{passes_content}
+use Rattle.h3_connection.specs.declared.event.Malformation.TheVariants as malformation
 use Rattle.h3_connection.specs.Sending.{does, first_of, closed_or, body_refusal, counted, sent_bytes, send_body}
 use Rattle.h3_connection.specs.StreamSets.{Streams, stream_at, set_stream}
 use Rattle.h3_connection.specs.declared.event.Refusal.{Refusal}
@@ -44,15 +45,15 @@ module _ (mine : List Delivery) (held : Held) (incoming : Streams Incoming) (kep
 
   -- **A body.**
   pub body_ahead : (behind : EndpointHistory) (id : ℕ) (bytes : List ℕ) → send_body (ahead behind mine held incoming kept) id bytes ≡ lifted (send_body behind id bytes)
-  body_ahead behind id bytes = ap (λ r. does r f (counted (sent_bytes f id bytes) (length bytes))) same ∙ by_refusal (body_refusal behind id) refl
+  body_ahead behind id bytes = ap (λ r. does r f (counted (sent_bytes f id bytes) (length bytes))) same ∙ by_refusal (body_refusal behind id (length bytes)) refl
     where
       f : EndpointHistory
       f = ahead behind mine held incoming kept
 
       judged : Option Outgoing → Option Refusal
-      judged o = closed_or behind.closed (first_of ((not (is_some o), refusal.NotOpen) ∷ (not (takes_body (unwrap_or o nothing_sent)), refusal.OutOfOrder) ∷ []))
+      judged o = closed_or behind.closed (first_of ((not (is_some o), refusal.NotOpen) ∷ (not (takes_body (unwrap_or o nothing_sent)), refusal.OutOfOrder) ∷ (passes_content (unwrap_or o nothing_sent).content (length bytes), refusal.Malformed malformation.ContentLength) ∷ []))
 
-      same : body_refusal f id ≡ body_refusal behind id
+      same : body_refusal f id (length bytes) ≡ body_refusal behind id (length bytes)
       same = ap judged (at_mapped mine behind.outgoing id) ∙ by_stream (stream_at behind.outgoing id)
         where
           by_stream : (o : Option Outgoing) → judged (option_map (further_taken mine id) o) ≡ judged o
@@ -64,10 +65,10 @@ module _ (mine : List Delivery) (held : Held) (incoming : Streams Incoming) (kep
       goes (byte ∷ more) None e there_is = cc
       goes (byte ∷ more) (Some o) e there_is =
           let there : stream_at f.outgoing id ≡ Some (further_taken mine id o) = at_mapped mine behind.outgoing id ∙ ap (option_map (further_taken mine id)) e in
-          let g : Outgoing = record o { parts = o.parts ++ OwnBody (byte ∷ more) ∷ [] } in
-          ap (λ x. counted (record f { outgoing = set_stream f.outgoing id (record (unwrap_or x nothing_sent) { parts = (unwrap_or x nothing_sent).parts ++ OwnBody (byte ∷ more) ∷ [] }) }) (length (byte ∷ more))) there
+          let g : Outgoing = with_body o (byte ∷ more) in
+          ap (λ x. counted (record f { outgoing = set_stream f.outgoing id (with_body (unwrap_or x nothing_sent) (byte ∷ more)) }) (length (byte ∷ more))) there
           ∙ ap (λ l. counted (record f { outgoing = l }) (length (byte ∷ more))) (set_mapped mine behind.outgoing id g)
-          ∙ sym (ap (λ x. ahead (counted (record behind { outgoing = set_stream behind.outgoing id (record (unwrap_or x nothing_sent) { parts = (unwrap_or x nothing_sent).parts ++ OwnBody (byte ∷ more) ∷ [] }) }) (length (byte ∷ more))) mine held incoming kept) e)
+          ∙ sym (ap (λ x. ahead (counted (record behind { outgoing = set_stream behind.outgoing id (with_body (unwrap_or x nothing_sent) (byte ∷ more)) }) (length (byte ∷ more))) mine held incoming kept) e)
 
       open_if : (o : Option Outgoing) → judged o ≡ None → is_some o ≡ true
       open_if (Some o) e = refl
@@ -77,7 +78,7 @@ module _ (mine : List Delivery) (held : Held) (incoming : Streams Incoming) (kep
           by_closed None e = cc
           by_closed (Some code) e = cc
 
-      by_refusal : (r : Option Refusal) → body_refusal behind id ≡ r
+      by_refusal : (r : Option Refusal) → body_refusal behind id (length bytes) ≡ r
           → does r f (counted (sent_bytes f id bytes) (length bytes)) ≡ lifted (does r behind (counted (sent_bytes behind id bytes) (length bytes)))
       by_refusal (Some x) e = refl
       by_refusal None e = ap (λ x. (None, x)) (goes bytes (stream_at behind.outgoing id) refl (open_if (stream_at behind.outgoing id) e))

@@ -8,13 +8,15 @@ use Rattle.h3_connection.specs.OwnIds.{other}
 use Rattle.h3_connection.specs.declared.arrival.Arrival.{Arrival}
 use Rattle.h3_connection.specs.Endpoint.{EndpointHistory}
 use Rattle.h3_connection.specs.Incoming.{Incoming}
-use Rattle.h3_connection.specs.Outgoing.{Outgoing, OwnPart, nothing_sent, takes_head, takes_body, takes_end}
+use Rattle.h3_connection.specs.Outgoing.{Outgoing, OwnPart, nothing_sent, takes_head, takes_body, takes_end, with_finish, with_reset}
 use Rattle.h3_connection.specs.Outgoing.OwnPart.{OwnTrailer}
 use Rattle.h3_connection.specs.Pulling.{is_client, is_for}
 use Rattle.h3_connection.specs.Sections.{encoded_section}
 use Rattle.h3_connection.specs.Sending.{does, first_of, closed_or, is_too_large, head_refusal, trailer_refusal, finish_refusal, goaway_refusal, with_outgoing, outgoing_at, counted, encoded, appended, fields_cost, head_part, asked, send_head, send_trailer, finish, goaway}
 use Rattle.h3_connection.specs.StreamSets.{Streams, stream_at, set_stream}
-use Rattle.h3_connection.specs.StrictSending.{broken_head, broken_trailer, unless_malformed}
+use Rattle.h3_connection.specs.StrictSending.{broken_head, broken_trailer, early_trailer, unless_malformed}
+use Rattle.h3_messages.specs.Content.{may_end}
+use Rattle.h3_connection.specs.declared.event.Malformation.TheVariants as malformation
 use Rattle.h3_connection.specs.declared.event.Refusal.{Refusal}
 use Rattle.h3_connection.specs.declared.event.Refusal.TheVariants as refusal
 use Rattle.h3_memory.specs.Kept.{Delivery}
@@ -53,12 +55,13 @@ module _ (mine : List Delivery) where
       by_stream None e = cc
       by_stream (Some o) e = ap (set_stream (map (handed_stream mine) streams) id) (moves o) ∙ set_mapped mine streams id (change o)
 
-unless_set : (e : EndpointHistory) (there : Streams Incoming) (b c : Bool) → b ≡ false → record e { incoming = if b && c then there else e.incoming } ≡ e
-unless_set e there b c none = ap (λ t. let g : EndpointHistory = record e { incoming = if t && c then there else e.incoming } in g) none
+unless_set : (e : EndpointHistory) (there : Streams Incoming) (sent : Streams Outgoing) (b c : Bool) → b ≡ false
+    → record e { incoming = if b && c then there else e.incoming; outgoing = if b then sent else e.outgoing } ≡ e
+unless_set e there sent b c none = ap (λ t. let g : EndpointHistory = record e { incoming = if t && c then there else e.incoming; outgoing = if t then sent else e.outgoing } in g) none
 
--- An end that asks for no strict messages remembers nothing of a request.
+-- An end that asks for no strict messages remembers nothing of a head.
 pub asks_nothing : (e : EndpointHistory) (id : ℕ) (fields : List Field) → e.announced.choices.strict_messages ≡ false → asked e id fields ≡ e
-asks_nothing e id fields plain = unless_set e _ e.announced.choices.strict_messages (is_client e.side) plain
+asks_nothing e id fields plain = unless_set e _ _ e.announced.choices.strict_messages (is_client e.side) plain
 
 module _ (mine : List Delivery) (held : Held) (incoming : Streams Incoming) (kept : List Arrival) (behind : EndpointHistory) where
   abbrev f : EndpointHistory
@@ -113,23 +116,23 @@ module _ (mine : List Delivery) (held : Held) (incoming : Streams Incoming) (kep
       rules : Outgoing → List (Bool × Refusal)
       rules o =
           (not (takes_body o), refusal.OutOfOrder) ∷ (has_pseudo head, refusal.PseudoInTrailer)
-          ∷ unless_malformed (broken_trailer behind.announced fields) ((is_too_large behind.peer.settings fields, refusal.TooLarge (section_size fields)) ∷ [])
+          ∷ unless_malformed (early_trailer o.content) (unless_malformed (broken_trailer behind.announced fields) ((is_too_large behind.peer.settings fields, refusal.TooLarge (section_size fields)) ∷ []))
 
   -- **The end of a message.**
   pub finish_ahead : (id : ℕ) → finish (ahead behind mine held incoming kept) id ≡ lifted (finish behind id)
   finish_ahead id =
-      ap (λ r. does r f (with_outgoing f id (record (outgoing_at f id) { is_finished = true }))) (judged_ahead mine behind.closed rules behind.outgoing id (λ o. refl))
-      ∙ done_ahead (finish_refusal behind id) (with_outgoing f id (record (outgoing_at f id) { is_finished = true })) (with_outgoing behind id (record (outgoing_at behind id) { is_finished = true }))
-      (λ goes. ap (λ l. record f { outgoing = l }) (changed_ahead mine behind.outgoing id (λ o. record o { is_finished = true }) (λ o. refl) (goes_open behind.closed rules (stream_at behind.outgoing id) goes)))
+      ap (λ r. does r f (with_outgoing f id (with_finish (outgoing_at f id)))) (judged_ahead mine behind.closed rules behind.outgoing id (λ o. refl))
+      ∙ done_ahead (finish_refusal behind id) (with_outgoing f id (with_finish (outgoing_at f id))) (with_outgoing behind id (with_finish (outgoing_at behind id)))
+      (λ goes. ap (λ l. record f { outgoing = l }) (changed_ahead mine behind.outgoing id with_finish (λ o. refl) (goes_open behind.closed rules (stream_at behind.outgoing id) goes)))
     where
       rules : Outgoing → List (Bool × Refusal)
-      rules o = (not (takes_end o), refusal.OutOfOrder) ∷ []
+      rules o = (not (takes_end o), refusal.OutOfOrder) ∷ (not (may_end o.content), refusal.Malformed malformation.ContentLength) ∷ []
 
   -- what a reset leaves, where the stream is open
   pub cut_ahead : (id : ℕ) → is_some (stream_at behind.outgoing id) ≡ true
-      → with_outgoing (ahead behind mine held incoming kept) id (record (outgoing_at (ahead behind mine held incoming kept) id) { is_reset = true; is_finished = false })
-      ≡ ahead (with_outgoing behind id (record (outgoing_at behind id) { is_reset = true; is_finished = false })) mine held incoming kept
-  cut_ahead id there = ap (λ l. record f { outgoing = l }) (changed_ahead mine behind.outgoing id (λ o. record o { is_reset = true; is_finished = false }) (λ o. refl) there)
+      → with_outgoing (ahead behind mine held incoming kept) id (with_reset (outgoing_at (ahead behind mine held incoming kept) id))
+      ≡ ahead (with_outgoing behind id (with_reset (outgoing_at behind id))) mine held incoming kept
+  cut_ahead id there = ap (λ l. record f { outgoing = l }) (changed_ahead mine behind.outgoing id with_reset (λ o. refl) there)
 
   -- **A GOAWAY frame.**
   pub goaway_ahead : (id : ℕ) → goaway (ahead behind mine held incoming kept) id ≡ lifted (goaway behind id)

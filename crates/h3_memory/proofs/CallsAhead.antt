@@ -64,7 +64,12 @@ module _ (mine : List Delivery) (held : Held) (kept : List Arrival) (side : Side
   head_alike plain id head =
       leaving (send_head behind id head) (send_head f id head) (head_ahead mine held incoming kept behind plain id head)
       (leaves_unless (head_refusal behind id head) behind (asked sent id (head_fields head))
-      (record { announced = refl; incoming = ap (λ (e : EndpointHistory). e.incoming) (asks_nothing sent id (head_fields head) plain); peer = refl; distinct = set-distinct behind.outgoing id _ }))
+      (record {
+        announced = refl;
+        incoming = ap (λ (e : EndpointHistory). e.incoming) (asks_nothing sent id (head_fields head) plain);
+        peer = refl;
+        distinct = λ d. subst HaveDistinctIds (sym (ap (λ (e : EndpointHistory). e.outgoing) (asks_nothing sent id (head_fields head) plain))) (set-distinct behind.outgoing id _ d);
+      }))
     where
       sent : EndpointHistory
       sent = counted (appended (encoded behind id (head_fields head)) id (head_part head (encoded_section behind.encoder id (head_fields head)))) (fields_cost (head_fields head))
@@ -77,7 +82,7 @@ module _ (mine : List Delivery) (held : Held) (kept : List Arrival) (side : Side
   pub body_alike : (id : ℕ) (bytes : List ℕ) → Alike (send_body behind id bytes) (send_body (ahead behind mine held incoming kept) id bytes)
   body_alike id bytes =
       leaving (send_body behind id bytes) (send_body f id bytes) (body_ahead mine held incoming kept behind id bytes)
-      (leaves_unless (body_refusal behind id) behind (counted (sent_bytes behind id bytes) (length bytes)) (by_bytes bytes (length bytes)))
+      (leaves_unless (body_refusal behind id (length bytes)) behind (counted (sent_bytes behind id bytes) (length bytes)) (by_bytes bytes (length bytes)))
     where
       by_bytes : (bytes : List ℕ) (n : ℕ) → LeavesComing behind (counted (sent_bytes behind id bytes) n)
       by_bytes [] n = record { announced = refl; incoming = refl; peer = refl; distinct = λ d. d }

@@ -3,6 +3,7 @@ use Rattle.std.proofs.Common.{◌≡◌, ℕ, true, false, refl, sym, ap, ◌∙
 use Rattle.std.specs.Prelude.{is_some}
 use Rattle.h3_proto.specs.declared.stream.Side.{Side}
 use Rattle.h3_proto.specs.declared.stream.Side.TheVariants.{Client, Server}
+use Rattle.h3_connection.specs.Outgoing.{with_reset}
 use Rattle.h3_connection.specs.Endpoint.{EndpointHistory}
 use Rattle.h3_connection.specs.OwnIds.{other}
 use Rattle.h3_connection.specs.Sending.{does, with_outgoing, outgoing_at}
@@ -42,7 +43,7 @@ use Rattle.h3_memory.proofs.SendsHappen.{Answered}
 
 -- the endpoint that cut the stream off
 abbrev cut : EndpointHistory → ℕ → EndpointHistory
-cut e id = with_outgoing e id (record (outgoing_at e id) { is_reset = true; is_finished = false })
+cut e id = with_outgoing e id (with_reset (outgoing_at e id))
 
 same_ends : (ends : Ends) (side : Side) → with_end ends side (end_at ends side) ≡ ends
 same_ends ends Client = refl

@@ -5,13 +5,15 @@ use Rattle.std.proofs.lemmas.Grind.{flat_map-append}
 use Rattle.std.proofs.lemmas.List.{length-drop}
 use Rattle.h3_wire.specs.Outgoing.{Outgoing as Piece, all_of}
 use Rattle.h3_connection.specs.Outgoing as history
-use Rattle.h3_connection.specs.Outgoing.{Outgoing, OwnPart, OwnInterim, OwnHead, OwnBody, OwnTrailer, part_bytes, part_bytes_waiting, is_unsent, last_is_trailer}
+use Rattle.h3_connection.specs.Outgoing.{Outgoing, OwnPart, OwnInterim, OwnHead, OwnBody, OwnTrailer, part_bytes, part_bytes_waiting, is_unsent, last_is_trailer, with_body, with_finish, with_reset, with_said}
+use Rattle.h3_messages.specs.Content.{left_behind}
+use Rattle.h3_messages.specs.declared.content.Content.{Content}
 use Rattle.h3_connection.specs.State.{OutgoingState, IsOfOutgoing, place_of}
 use Rattle.h3_connection.specs.WaitingPieces.{piece_of, bytes_of, pieces_waiting, without_front}
 use Rattle.h3_connection.specs.WaitingPieceLaws.{bytes-without, without-append, without-without}
 use Rattle.h3_connection.specs.declared.place.SendPlace.{SendPlace}
 use Rattle.h3_connection.specs.declared.place.SendPlace.TheVariants.{NothingSent, HeadSent, TrailerSent}
-use Rattle.h3_outgoing.specs.Sent.{is_open, is_before_head, is_in_body, takes_head, takes_body, takes_end, is_sent_off, has_ended, was_cut_off, taken_from, end_waits, is_end_next, has_end_taken}
+use Rattle.h3_outgoing.specs.Sent.{is_open, is_before_head, is_in_body, takes_head, takes_body, takes_end, is_sent_off, has_ended, was_cut_off, taken_from, end_waits, is_end_next, is_to_have, has_end_taken}
 
 -- the place of a message by its parts
 abbrev place : Bool → Bool → SendPlace
@@ -78,15 +80,15 @@ end_next o w h = ap (λ b. b && (length (bytes_of w.pieces) == 0)) (end_waiting 
 
 -- Its FIN was taken.
 pub end_gone : (o : Outgoing) (w : OutgoingState) → IsOfOutgoing o w → IsOfOutgoing (record o { end_taken = true }) (has_end_taken w)
-end_gone o w h = record { pieces = h.pieces; place = h.place; is_finished = h.is_finished; is_reset = h.is_reset; end_taken = refl; taken = h.taken }
+end_gone o w h = record { pieces = h.pieces; place = h.place; content = h.content; is_finished = h.is_finished; is_reset = h.is_reset; end_taken = refl; taken = h.taken }
 
 -- The message is whole.
-pub ended : (o : Outgoing) (w : OutgoingState) → IsOfOutgoing o w → IsOfOutgoing (record o { is_finished = true }) (has_ended w)
-ended o w h = record { pieces = h.pieces; place = h.place; is_finished = refl; is_reset = h.is_reset; end_taken = h.end_taken; taken = h.taken }
+pub ended : (o : Outgoing) (w : OutgoingState) → IsOfOutgoing o w → IsOfOutgoing (with_finish o) (has_ended w)
+ended o w h = record { pieces = h.pieces; place = h.place; content = refl; is_finished = refl; is_reset = h.is_reset; end_taken = h.end_taken; taken = h.taken }
 
 -- Sending is cut off.
-pub cut_off : (o : Outgoing) (w : OutgoingState) → IsOfOutgoing o w → IsOfOutgoing (record o { is_reset = true; is_finished = false }) (was_cut_off w)
-cut_off o w h = record { pieces = refl; place = h.place; is_finished = refl; is_reset = refl; end_taken = h.end_taken; taken = λ never. absurd (cc) }
+pub cut_off : (o : Outgoing) (w : OutgoingState) → IsOfOutgoing o w → IsOfOutgoing (with_reset o) (was_cut_off w)
+cut_off o w h = record { pieces = refl; place = h.place; content = refl; is_finished = refl; is_reset = refl; end_taken = h.end_taken; taken = λ never. absurd (cc) }
 
 -- Some bytes are taken.
 taken_by : (reset : Bool) (taken count : ℕ) (parts : List OwnPart) → without_front count (if reset then [] else without_front taken (map piece_of parts)) ≡ (if reset then [] else without_front (taken + count) (map piece_of parts))
@@ -103,6 +105,7 @@ advanced o w count h few =
     record {
       pieces = ap (without_front count) h.pieces ∙ taken_by o.is_reset o.taken count o.parts;
       place = h.place;
+      content = h.content;
       is_finished = h.is_finished;
       is_reset = h.is_reset;
       end_taken = h.end_taken;
@@ -127,9 +130,37 @@ appended o w part at h here is =
     record {
       pieces = ap (λ l. l ++ piece_of part ∷ []) h.pieces ∙ pushed_by o.is_reset o.taken o.parts part here (h.taken here);
       place = is;
+      content = h.content;
       is_finished = h.is_finished;
       is_reset = h.is_reset;
       end_taken = h.end_taken;
       taken = λ again. let all = flat_map-append part_bytes o.parts (part ∷ []) in
           omega (arith, h.taken again, ap length all, length-append (flat_map part_bytes o.parts) (flat_map part_bytes (part ∷ [])));
+    }
+
+-- So much content is to be sent.
+pub said : (o : Outgoing) (w : OutgoingState) (k : Content) → IsOfOutgoing o w → IsOfOutgoing (with_said o k) (is_to_have w k)
+said o w k h = record {
+  pieces = h.pieces;
+  place = h.place;
+  content = ap (λ b. if b then k else w.content) (opened o w h) ∙ ap (λ c. if history.is_open o then k else c) h.content;
+  is_finished = h.is_finished;
+  is_reset = h.is_reset;
+  end_taken = h.end_taken;
+  taken = h.taken;
+}
+
+-- A body more, of which what is left of the content is known.
+pub body_appended : (o : Outgoing) (w : OutgoingState) (bytes : List ℕ) → IsOfOutgoing o w → o.is_reset ≡ false → w.place ≡ place_of (o.parts ++ OwnBody bytes ∷ [])
+    → IsOfOutgoing (with_body o bytes) (record w { pieces = w.pieces ++ piece_of (OwnBody bytes) ∷ []; content = left_behind w.content (length bytes) })
+body_appended o w bytes h here is =
+    let put = appended o w (OwnBody bytes) w.place h here is in
+    record {
+      pieces = put.pieces;
+      place = put.place;
+      content = ap (λ c. left_behind c (length bytes)) h.content;
+      is_finished = put.is_finished;
+      is_reset = put.is_reset;
+      end_taken = put.end_taken;
+      taken = put.taken;
     }

@@ -1,5 +1,8 @@
 -- What the calls on a request stream at its sender do to what is kept of it.
-use Rattle.std.specs.Prelude.{ℕ, Bool, true, false, not, ◌&&◌, ◌||◌, List, [], ◌∷◌, ◌++◌, length, ◌==◌}
+use Rattle.std.specs.Prelude.{ℕ, Bool, true, false, not, ◌&&◌, ◌||◌, List, [], ◌∷◌, ◌++◌, length, if◌then◌else◌, ◌==◌}
+use Rattle.h3_messages.specs.Content.{left_behind}
+use Rattle.h3_messages.specs.declared.content.Content.{Content}
+use Rattle.h3_messages.specs.declared.content.Content.TheVariants.{Unsaid}
 use Rattle.h3_connection.specs.State.{OutgoingState}
 use Rattle.h3_connection.specs.WaitingPieces.{bytes_of, frame_piece, without_front}
 use Rattle.h3_connection.specs.declared.place.SendPlace.{SendPlace}
@@ -33,13 +36,17 @@ has_section s section place = record s { pieces = s.pieces ++ frame_piece 1 sect
 -- a DATA frame (RFC 9114, section 7.2.1), and none for no bytes
 abbrev pub has_body : OutgoingState → List ℕ → OutgoingState
 has_body s [] = s
-has_body s (byte ∷ bytes) = record s { pieces = s.pieces ++ frame_piece 0 (byte ∷ bytes) ∷ [] }
+has_body s (byte ∷ bytes) = record s { pieces = s.pieces ++ frame_piece 0 (byte ∷ bytes) ∷ []; content = left_behind s.content (length (byte ∷ bytes)) }
+
+-- so much content is to be sent on it, where it is open
+abbrev pub is_to_have : OutgoingState → Content → OutgoingState
+is_to_have s content = record s { content = if is_open s then content else s.content }
 
 abbrev pub has_ended : OutgoingState → OutgoingState
-has_ended s = record s { is_finished = true }
+has_ended s = record s { is_finished = true; content = Unsaid }
 
 abbrev pub was_cut_off : OutgoingState → OutgoingState
-was_cut_off s = record s { pieces = []; is_reset = true; is_finished = false }
+was_cut_off s = record s { pieces = []; is_reset = true; is_finished = false; content = Unsaid }
 
 abbrev pub taken_from : OutgoingState → ℕ → OutgoingState
 taken_from s count = record s { pieces = without_front count s.pieces }

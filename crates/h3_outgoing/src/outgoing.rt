@@ -4,12 +4,15 @@ ghost use Rattle.std.specs.VecDeque.{deque_len, deque_capacity};
 ghost use Rattle.h3_wire.specs.Outgoing.{all_of};
 ghost use Rattle.h3_connection.specs.WaitingPieces.{bytes_of, lent, without_front};
 ghost use Rattle.h3_connection.specs.State.{nothing_waits};
+ghost use Rattle.h3_connection.specs.StrictSending.{early_trailer, passes_content};
 ghost use Rattle.h3_outgoing.specs.Copied.{put};
-ghost use Rattle.h3_outgoing.specs.Sent.{has_section, has_body, has_ended, was_cut_off, taken_from, takes_head, takes_body, takes_end, is_sent_off, end_waits, is_end_next, has_end_taken};
+ghost use Rattle.h3_outgoing.specs.Sent.{has_section, has_body, is_to_have, has_ended, was_cut_off, taken_from, takes_head, takes_body, takes_end, is_sent_off, end_waits, is_end_next, has_end_taken};
 
 use crate::room::FrameRoom;
 use bytes::{Buf, Bytes};
+use h3_connection::event::Malformation;
 use h3_connection::place::SendPlace;
+use h3_messages::Content;
 use h3_wire::stream::MessageBuf;
 use std::alloc::{AllocError, Global};
 use std::collections::VecDeque;
@@ -25,6 +28,8 @@ pub struct OutgoingStream {
     pieces: VecDeque<MessageBuf<Bytes>>,
     waiting: usize,
     place: SendPlace,
+    // how much content is still to be sent, where the endpoint holds that against what the head said
+    content: Content,
     is_finished: bool,
     is_reset: bool,
     end_taken: bool,
@@ -41,6 +46,7 @@ impl Model for OutgoingStream {
     ghost view = { λ s. record {
       pieces = s.pieces.items;
       place = s.place;
+      content = s.content;
       is_finished = s.is_finished;
       is_reset = s.is_reset;
       end_taken = s.end_taken;
@@ -58,6 +64,7 @@ impl OutgoingStream {
             pieces: VecDeque::new(alloc),
             waiting: 0,
             place: SendPlace::NothingSent,
+            content: Content::Unsaid,
             is_finished: false,
             is_reset: false,
             end_taken: false,
@@ -128,6 +135,43 @@ impl OutgoingStream {
         Ok(())
     }
 
+    /// So much content is to be sent behind the head. A stream whose sending has ended stays as it is.
+    pub fn expect(&mut self, content: Content)
+        ensures { self.new ≡ is_to_have self.old content }
+    {
+        if !self.is_finished && !self.is_reset {
+            self.content = content;
+        }
+    }
+
+    /// How much content is still to be sent: any, where nothing says it or the endpoint does not ask.
+    pub fn content(&self) -> Content
+        ensures { result ≡ self.now.content }
+    {
+        self.content
+    }
+
+    /// Whether so many bytes more are more content than the head said (RFC 9114, section 4.1.2).
+    pub fn passes_content(&self, size: usize) -> bool
+        ensures { result ≡ passes_content self.now.content size }
+    {
+        self.content.left_behind(size as u64).is_exceeded()
+    }
+
+    /// Why no trailer may come here, whatever its list: content is left to be sent (RFC 9114, section 4.1.2), or it would stand in a tunnel
+    /// (section 4.4).
+    pub fn early_trailer(&self) -> Option<Malformation>
+        ensures { result ≡ early_trailer self.now.content }
+    {
+        if !self.content.takes_trailer() {
+            return Some(Malformation::Connect);
+        }
+        if self.content.may_end() {
+            return None;
+        }
+        Some(Malformation::ContentLength)
+    }
+
     /// A body goes out as the payload of a DATA frame; an empty one writes nothing. An `Err` changes nothing, and hands the body back.
     pub fn send_body(&mut self, body: Bytes) -> Result<(), Bytes>
         ensures ok { OnOk result (self.new ≡ has_body self.old body) }
@@ -142,6 +186,7 @@ impl OutgoingStream {
         let Ok(()) = take_place(&mut self.pieces) else {
             return Err(body);
         };
+        self.content = self.content.left_behind(body.len() as u64);
         let piece = MessageBuf::data(body);
         self.waiting += piece.remaining();
         self.pieces.push_back_reserved(piece);
@@ -153,6 +198,7 @@ impl OutgoingStream {
         ensures { self.new ≡ has_ended self.old }
     {
         self.is_finished = true;
+        self.content = Content::Unsaid;
         self.release();
     }
 
@@ -191,6 +237,7 @@ impl OutgoingStream {
         self.waiting = 0;
         self.is_reset = true;
         self.is_finished = false;
+        self.content = Content::Unsaid;
         self.release();
     }
 
@@ -307,6 +354,7 @@ impl OutgoingStream {
             pieces: VecDeque::new(alloc),
             waiting: 0,
             place: self.place,
+            content: self.content,
             is_finished: self.is_finished,
             is_reset: self.is_reset,
             end_taken: self.end_taken,

@@ -109,6 +109,16 @@ written counts s old new id before after writes there same sent h =
     (bytes_before counts s s old id before after was (λ q. refl) (ap (λ o. o.pieces) sent) h) (end_before counts s s old id before after was refl (ap end_waits sent) h)
     (places_stay s s id refl) (place_before counts s s old id before after was refl (ap takes_end sent) h) h
 
+-- the same where no more is known than that its bytes and its end wait as before
+pub written_so : {under_way : Option RequestState} (counts : Blocked) (s : ReadyStreams) (old new : Streams RequestState) (id : ℕ) (before after : RequestState) → Writes old new under_way id after → under_way ≡ Some before
+    → after.incoming.waits_for ≡ before.incoming.waits_for → after.outgoing.pieces ≡ before.outgoing.pieces → end_waits after.outgoing ≡ end_waits before.outgoing
+    → takes_end after.outgoing ≡ takes_end before.outgoing → AreKept counts s old → AreKept counts s new
+written_so counts s old new id before after writes there same pieces end takes h =
+    let was = counting.kept_there old new id before after writes there in
+    after_call counts counts s s old new id after (writes.0 (ap is_some there)) (counting.written counts old new id before after writes there same h.counted)
+    (bytes_before counts s s old id before after was (λ q. refl) pieces h) (end_before counts s s old id before after was refl end h)
+    (places_stay s s id refl) (place_before counts s s old id before after was refl takes h) h
+
 -- or its count was replaced
 pub replaced : {under_way : Option RequestState} (counts others : Blocked) (s : ReadyStreams) (old new : Streams RequestState) (id : ℕ) (before after : RequestState) → Writes old new under_way id after → under_way ≡ Some before
     → IsSound others → Replaces counts others before.incoming.waits_for after.incoming.waits_for → after.outgoing ≡ before.outgoing → AreKept counts s old

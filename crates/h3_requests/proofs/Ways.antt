@@ -13,6 +13,7 @@ use Rattle.h3_connection.specs.Incoming.{Incoming}
 use Rattle.h3_connection.specs.State.{OutgoingState, RequestState, kept_at}
 use Rattle.h3_connection.specs.StreamSets.{Streams}
 use Rattle.h3_connection.specs.WaitingPieces.{bytes_of, without_front}
+use Rattle.h3_connection.specs.declared.event.Refusal.{Refusal}
 use Rattle.h3_connection.specs.declared.event.Refusal.TheVariants as refusal
 use Rattle.h3_outgoing.specs.Sent.{end_waits, is_sent_off, is_open, takes_head, takes_body, takes_end, taken_from}
 use Rattle.h3_requests.specs.HasBytes.{has_bytes}
@@ -21,7 +22,7 @@ use Rattle.h3_requests.specs.Marks.{HaveSameMarks, IsOneMark}
 use Rattle.h3_requests.specs.Over.{AddsWays, AreAlike, AreMarked, HasWays, IsOver, IsPaired, IsWay, codeless, ended_way, over_in, over_so, reset_with, way_at, with_end_taken, without_code, ReceivesAlike, SendsAlike}
 use Rattle.h3_requests.specs.declared.over.Way.{Way}
 use Rattle.h3_connection.specs.declared.event.StreamFault.TheVariants.{Reset}
-use Rattle.h3_requests.specs.Refused.{refused_over, head_refused_at, body_refused_at, end_refused_at, reset_refused_at, cancel_refused_at}
+use Rattle.h3_requests.specs.Refused.{or_later, too_much_at, refused_over, head_refused_at, body_refused_at, end_refused_at, reset_refused_at, cancel_refused_at}
 use Rattle.h3_requests.proofs.Found.{few, found, sets, takes_out}
 use Rattle.h3_requests.proofs.Listed as listed
 
@@ -73,15 +74,15 @@ parts r h =
 
 received_alike : (a b : Incoming) → a.unread ≡ b.unread → a.section ≡ b.section → a.body_left ≡ b.body_left → a.waits_for ≡ b.waits_for → ReceivesAlike a b → a ≡ b
 received_alike a b unread section body_left waits_for same =
-    let e : record { unread = a.unread; section = a.section; body_left = a.body_left; content = a.content; place = a.place; waits_for = a.waits_for; tries = a.tries; ended = a.ended; was_reset = a.was_reset; is_over = a.is_over; fault = a.fault }
-    ≡ record { unread = b.unread; section = b.section; body_left = b.body_left; content = b.content; place = b.place; waits_for = b.waits_for; tries = b.tries; ended = b.ended; was_reset = b.was_reset; is_over = b.is_over; fault = b.fault } =
-    rw (unread, section, body_left, waits_for, same.content, same.place, same.tries, same.ended, same.was_reset, same.is_over, same.fault) refl in
+    let e : record { unread = a.unread; section = a.section; body_left = a.body_left; content = a.content; response = a.response; place = a.place; waits_for = a.waits_for; tries = a.tries; ended = a.ended; was_reset = a.was_reset; is_over = a.is_over; fault = a.fault }
+    ≡ record { unread = b.unread; section = b.section; body_left = b.body_left; content = b.content; response = b.response; place = b.place; waits_for = b.waits_for; tries = b.tries; ended = b.ended; was_reset = b.was_reset; is_over = b.is_over; fault = b.fault } =
+    rw (unread, section, body_left, waits_for, same.content, same.response, same.place, same.tries, same.ended, same.was_reset, same.is_over, same.fault) refl in
     e
 
 sent_alike : (a b : OutgoingState) → a.pieces ≡ [] → b.pieces ≡ [] → SendsAlike a b → a ≡ b
 sent_alike a b an bn same =
-    let left : a ≡ record { pieces = []; place = b.place; is_finished = b.is_finished; is_reset = b.is_reset; end_taken = b.end_taken } = rw (sym an, sym same.place, sym same.is_finished, sym same.is_reset, sym same.end_taken) refl in
-    let right : record { pieces = []; place = b.place; is_finished = b.is_finished; is_reset = b.is_reset; end_taken = b.end_taken } ≡ b = rw (sym bn) refl in
+    let left : a ≡ record { pieces = []; place = b.place; content = b.content; is_finished = b.is_finished; is_reset = b.is_reset; end_taken = b.end_taken } = rw (sym an, sym same.place, sym same.content, sym same.is_finished, sym same.is_reset, sym same.end_taken) refl in
+    let right : record { pieces = []; place = b.place; content = b.content; is_finished = b.is_finished; is_reset = b.is_reset; end_taken = b.end_taken } ≡ b = rw (sym bn) refl in
     left ∙ right
 
 -- Streams that are over alike are the same.
@@ -501,6 +502,16 @@ refused_head (Some r) h = rw (over_takes_head r h) refl
 pub refused_body : (o : Option RequestState) → IfSome o IsOver → Some (refused_over o refusal.OutOfOrder) ≡ body_refused_at o
 refused_body None h = refl
 refused_body (Some r) h = rw (over_takes_body r h) refl
+
+-- and it comes before what refuses a trailer,
+pub refused_trailer : (o : Option RequestState) (later : Option Refusal) → IfSome o IsOver → Some (refused_over o refusal.OutOfOrder) ≡ or_later (body_refused_at o) later
+refused_trailer None later h = refl
+refused_trailer (Some r) later h = rw (over_takes_body r h) refl
+
+-- or a body by its size
+pub refused_data : (o : Option RequestState) (size : ℕ) → IfSome o IsOver → Some (refused_over o refusal.OutOfOrder) ≡ or_later (body_refused_at o) (too_much_at o size)
+refused_data None size h = refl
+refused_data (Some r) size h = rw (over_takes_body r h) refl
 
 pub refused_end : (o : Option RequestState) → IfSome o IsOver → Some (refused_over o refusal.OutOfOrder) ≡ end_refused_at o
 refused_end None h = refl

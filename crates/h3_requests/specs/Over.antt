@@ -70,6 +70,7 @@ pub record AddsWays (ways others : List Way) : Type 0 where
 pub record ReceivesAlike (a b : Incoming) : Type 0 where
   pub place : a.place ≡ b.place
   pub content : a.content ≡ b.content
+  pub response : a.response ≡ b.response
   pub tries : a.tries ≡ b.tries
   pub ended : a.ended ≡ b.ended
   pub was_reset : a.was_reset ≡ b.was_reset
@@ -79,6 +80,7 @@ pub record ReceivesAlike (a b : Incoming) : Type 0 where
 -- and at the sender
 pub record SendsAlike (a b : OutgoingState) : Type 0 where
   pub place : a.place ≡ b.place
+  pub content : a.content ≡ b.content
   pub is_finished : a.is_finished ≡ b.is_finished
   pub is_reset : a.is_reset ≡ b.is_reset
   pub end_taken : a.end_taken ≡ b.end_taken

@@ -1,7 +1,10 @@
 -- Why a call on a request stream is refused, by what is stored of it.
-use Rattle.std.specs.Prelude.{Bool, not, ◌||◌, if◌then◌else◌, Option, Some, None, is_some}
+use Rattle.std.specs.Prelude.{ℕ, Bool, not, ◌||◌, if◌then◌else◌, Option, Some, None, is_some, option_map}
 use Rattle.h3_outgoing.specs.Sent.{takes_head, takes_body, takes_end, is_sent_off}
+use Rattle.h3_messages.specs.Content.{may_end}
 use Rattle.h3_connection.specs.State.{RequestState}
+use Rattle.h3_connection.specs.StrictSending.{early_trailer, passes_content}
+use Rattle.h3_connection.specs.declared.event.Malformation.TheVariants as malformation
 use Rattle.h3_connection.specs.declared.event.Refusal.{Refusal}
 use Rattle.h3_connection.specs.declared.event.Refusal.TheVariants as refusal
 
@@ -22,9 +25,21 @@ abbrev pub body_refused_at : Option RequestState → Option Refusal
 body_refused_at None = Some refusal.NotOpen
 body_refused_at (Some r) = refused_if (not (takes_body r.outgoing)) refusal.OutOfOrder
 
+-- so many bytes more are more content than the head said (RFC 9114, section 4.1.2)
+abbrev pub too_much_at : Option RequestState → ℕ → Option Refusal
+too_much_at None size = None
+too_much_at (Some r) size = refused_if (passes_content r.outgoing.content size) (refusal.Malformed malformation.ContentLength)
+
+-- a trailer, in front of which all content was sent
+abbrev pub early_trailer_at : Option RequestState → Option Refusal
+early_trailer_at None = None
+early_trailer_at (Some r) = option_map refusal.Malformed (early_trailer r.outgoing.content)
+
+-- the end, behind which no content is left
 abbrev pub end_refused_at : Option RequestState → Option Refusal
 end_refused_at None = Some refusal.NotOpen
-end_refused_at (Some r) = refused_if (not (takes_end r.outgoing)) refusal.OutOfOrder
+end_refused_at (Some r) =
+    or_later (refused_if (not (takes_end r.outgoing)) refusal.OutOfOrder) (refused_if (not (may_end r.outgoing.content)) (refusal.Malformed malformation.ContentLength))
 
 abbrev pub reset_refused_at : Option RequestState → Option Refusal
 reset_refused_at None = Some refusal.NotOpen

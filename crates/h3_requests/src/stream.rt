@@ -163,6 +163,7 @@ fn receives_alike(stream: &IncomingStream, other: &IncomingStream) -> bool
 {
     stream.place() == other.place()
         && stream.content() == other.content()
+        && stream.response() == other.response()
         && stream.tries() == other.tries()
         && stream.ended() == other.ended()
         && stream.was_reset() == other.was_reset()
@@ -174,7 +175,8 @@ fn receives_alike(stream: &IncomingStream, other: &IncomingStream) -> bool
 fn sends_alike(stream: &OutgoingStream, other: &OutgoingStream) -> bool
     ensures { result ≡ true → SendsAlike stream.now other.now }
 {
-    stream.place() == other.place()
+    stream.content() == other.content()
+        && stream.place() == other.place()
         && stream.is_finished() == other.is_finished()
         && stream.is_reset() == other.is_reset()
         && stream.end_taken() == other.end_taken()

@@ -13,6 +13,7 @@ use h3_proto::stream::StreamId;
 use std::alloc::{AllocError, Global};
 use std::marker::Model;
 
+mod answering;
 mod judged;
 mod owning;
 mod pulling;

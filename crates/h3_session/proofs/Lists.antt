@@ -11,10 +11,10 @@ use Rattle.h3_connection.specs.Endpoint.{EndpointHistory}
 use Rattle.h3_connection.specs.OwnIds.{other}
 use Rattle.h3_connection.specs.Pulling.{is_for, is_interim}
 use Rattle.h3_connection.specs.Outgoing.{takes_head, takes_body}
-use Rattle.h3_connection.specs.Sending.{does, closed_or, first_of, is_open, is_too_large, outgoing_at, body_refusal}
+use Rattle.h3_connection.specs.Sending.{does, closed_or, first_of, is_open, is_too_large, outgoing_at}
 use Rattle.h3_connection.specs.SendingContracts.{MayLackMemory, SendsSection}
 use Rattle.h3_connection.specs.State.{EndpointState, RequestState, StandsFor, kept_at}
-use Rattle.h3_connection.specs.StrictSending.{broken_head, broken_trailer, unless_malformed}
+use Rattle.h3_connection.specs.StrictSending.{broken_head, broken_trailer, early_trailer, unless_malformed}
 use Rattle.h3_connection.specs.declared.event.Malformation.{Malformation}
 use Rattle.h3_connection.specs.declared.event.Refusal.{Refusal}
 use Rattle.h3_connection.specs.declared.event.Refusal.TheVariants as refusal
@@ -23,11 +23,11 @@ use Rattle.h3_connection.specs.declared.place.SendPlace.TheVariants.{NothingSent
 use Rattle.h3_requests.specs.Refused.{refused_if, head_refused_at, body_refused_at}
 use Rattle.h3_session.specs.JudgedLists.{head_list_error, trailer_list_error, IsHeadAt, IsTrailer}
 use Rattle.h3_session.specs.Refused.{side_refused, pseudo_refused}
-use Rattle.h3_session.specs.SendingLists.{SendsList, SendsFieldList, SendsTrailerList, SendsListedHead, SendsListedTrailer, IsReadable, MayLackSize, MayLackMap, as_error, error_after, error_of, list_told, malformed, no_memory, place_refusal, send_fields, send_trailer_fields, send_read_head, send_read_trailer, send_listed_head, send_listed_trailer, listed_head_refusal, listed_trailer_refusal, after_head, after_trailer}
+use Rattle.h3_session.specs.SendingLists.{SendsList, SendsFieldList, SendsTrailerList, SendsListedHead, SendsListedTrailer, IsReadable, MayLackSize, MayLackMap, as_error, error_after, error_of, list_told, malformed, no_memory, order_refusal, place_refusal, send_fields, send_trailer_fields, send_read_head, send_read_trailer, send_listed_head, send_listed_trailer, listed_head_refusal, listed_trailer_refusal, after_head, after_trailer}
 use Rattle.h3_session.specs.declared.endpoint.lists.FieldsError.{FieldsError}
 use Rattle.h3_session.specs.declared.endpoint.lists.FieldsError.TheVariants as error
 use Rattle.h3_session.proofs.SendingCalls.{same_itself}
-use Rattle.h3_session.proofs.SendingRefusals.{place_refusal_is, body_refusal_is}
+use Rattle.h3_session.proofs.SendingRefusals.{place_refusal_is, order_refusal_is}
 use Rattle.h3_session.proofs.SendingSections.{not_begun}
 
 -- The call with a header of these fields, as one with the list.
@@ -182,6 +182,15 @@ may_behind : (a : Bool) (p : Refusal) (broken : Option Malformation) (b : Bool) 
 may_behind true p broken b size may = may
 may_behind false p broken b size may = may_last broken b size
 
+-- the same of a trailer, behind the rule of what was sent in front of it
+abbrev judged_trailer : Option Malformation → Option Malformation → Bool → ℕ → Option Refusal
+judged_trailer early broken b size = first_of (unless_malformed early (unless_malformed broken ((b, refusal.TooLarge size) ∷ [])))
+
+may_behind_early : (a : Bool) (p : Refusal) (early broken : Option Malformation) (b : Bool) (size : ℕ) → MayLackMap (Some (error_of p)) → MayLackMap (option_map error_of (if a then Some p else judged_trailer early broken b size))
+may_behind_early true p early broken b size may = may
+may_behind_early false p (Some why) broken b size may = tt
+may_behind_early false p None broken b size may = may_last broken b size
+
 behind_rule : (a : Bool) (p : Refusal) (rest : Option Refusal) (later : FieldsError) → option_map error.Refused (refused_if a p) ≡ Some later → (if a then Some p else rest) ≡ Some p
 behind_rule true p rest later is = refl
 behind_rule false p rest later is = absurd (cc)
@@ -254,33 +263,33 @@ module _ (s : EndpointState) (id : ℕ) (fields : List Field) where
       by (IsNone why) here = absurd here
 
   -- a list in the place of a trailer
-  trailer_first : (r : HeadRead) (e : EndpointHistory) (x : Refusal) → body_refusal e id ≡ Some x → send_read_trailer e id fields r ≡ (Some (error.Refused x), e)
+  trailer_first : (r : HeadRead) (e : EndpointHistory) (x : Refusal) → order_refusal e id ≡ Some x → send_read_trailer e id fields r ≡ (Some (error.Refused x), e)
   trailer_first (IsHead trailer) e x is =
       ap (λ o. as_error (does o e (after_trailer e id fields)))
       (sized_first e.closed (not (is_open e id)) (not (takes_body (outgoing_at e id))) refusal.NotOpen refusal.OutOfOrder
-      (if has_pseudo trailer then Some refusal.PseudoInTrailer else judged_last (broken_trailer e.announced fields) (is_too_large e.peer.settings fields) (section_size fields)) x is)
+      (if has_pseudo trailer then Some refusal.PseudoInTrailer else judged_trailer (early_trailer (outgoing_at e id).content) (broken_trailer e.announced fields) (is_too_large e.peer.settings fields) (section_size fields)) x is)
       ∙ ap (λ t. (Some t, e)) (plain_first e.closed (not (is_open e id)) (not (takes_body (outgoing_at e id))) x is)
   trailer_first (IsNone why) e x is = ap (λ o. (Some (error_after o (malformed why)), e)) is
 
-  trailer_behind : (e : EndpointHistory) (trailer : Head) → body_refusal e id ≡ None
-      → listed_trailer_refusal e id trailer fields ≡ (if has_pseudo trailer then Some refusal.PseudoInTrailer else judged_last (broken_trailer e.announced fields) (is_too_large e.peer.settings fields) (section_size fields))
+  trailer_behind : (e : EndpointHistory) (trailer : Head) → order_refusal e id ≡ None
+      → listed_trailer_refusal e id trailer fields ≡ (if has_pseudo trailer then Some refusal.PseudoInTrailer else judged_trailer (early_trailer (outgoing_at e id).content) (broken_trailer e.announced fields) (is_too_large e.peer.settings fields) (section_size fields))
   trailer_behind e trailer is = sized_rest e.closed (not (is_open e id)) (not (takes_body (outgoing_at e id))) refusal.NotOpen refusal.OutOfOrder _ is
 
   trailer_begins : (r : HeadRead) (later : FieldsError) → (later ≢ no_memory → trailer_list_error r ≡ Some later) → (later ≡ no_memory → 24576 < length fields)
-      → Begins (λ e. send_read_trailer e id fields r) (λ e. body_refusal e id) s id fields later
+      → Begins (λ e. send_read_trailer e id fields r) (λ e. order_refusal e id) s id fields later
   trailer_begins (IsHead trailer) later errs many =
       record {
         first = trailer_first (IsHead trailer);
         told = λ differs e stands is.
             ap (λ o. as_error (does o e (after_trailer e id fields)))
-            (trailer_behind e trailer is ∙ behind_rule (has_pseudo trailer) refusal.PseudoInTrailer (judged_last (broken_trailer e.announced fields) (is_too_large e.peer.settings fields) (section_size fields)) later (errs differs))
+            (trailer_behind e trailer is ∙ behind_rule (has_pseudo trailer) refusal.PseudoInTrailer (judged_trailer (early_trailer (outgoing_at e id).content) (broken_trailer e.announced fields) (is_too_large e.peer.settings fields) (section_size fields)) later (errs differs))
             ∙ ap (λ t. (Some t, e)) (refused_later (has_pseudo trailer) refusal.PseudoInTrailer later (errs differs));
         map = λ memory. (
           many memory,
           λ e is.
               subst MayLackMap (ap (option_map error_of) (sym (trailer_behind e trailer is))
               ∙ sym (told_of (listed_trailer_refusal e id trailer fields) e (after_trailer e id fields)))
-              (may_behind (has_pseudo trailer) refusal.PseudoInTrailer (broken_trailer e.announced fields) (is_too_large e.peer.settings fields) (section_size fields) tt),
+              (may_behind_early (has_pseudo trailer) refusal.PseudoInTrailer (early_trailer (outgoing_at e id).content) (broken_trailer e.announced fields) (is_too_large e.peer.settings fields) (section_size fields) tt),
         );
       }
   trailer_begins (IsNone why) later errs many =
@@ -300,8 +309,8 @@ module _ (s : EndpointState) (id : ℕ) (fields : List Field) where
       → told ≡ error_after (body_refused_at (kept_at s.requests id)) later → SendsTrailerList s s id fields (Err told)
   trailer_list_refused later told closed errs many is =
       subst (λ t. SendsTrailerList s s id fields (Err t)) (sym is)
-      (by_stream (λ e. send_trailer_fields e id fields) (λ e. body_refusal e id) s id fields later (body_refused_at (kept_at s.requests id)) (trailer_begins (head_of fields) later errs many)
-      (λ e stands. sym (body_refusal_is s e id stands) ∙ ap (λ c. closed_or c (body_refused_at (kept_at s.requests id))) closed) (body_not_memory (kept_at s.requests id)))
+      (by_stream (λ e. send_trailer_fields e id fields) (λ e. order_refusal e id) s id fields later (body_refused_at (kept_at s.requests id)) (trailer_begins (head_of fields) later errs many)
+      (λ e stands. sym (order_refusal_is s e id stands) ∙ ap (λ c. closed_or c (body_refused_at (kept_at s.requests id))) closed) (body_not_memory (kept_at s.requests id)))
 
   pub trailer_list_sent : (new : EndpointState) (answer : Result Unit Refusal) (result : Result Unit FieldsError) → IsTrailer (head_of fields)
       → ((trailer : Head) → pseudo_refused trailer ≡ None → SendsListedTrailer s new id trailer fields answer) → list_told result ≡ option_map error_of (call_refused answer) → SendsTrailerList s new id fields result

@@ -1,5 +1,5 @@
 -- No call is refused for memory by its rules: an answer that tells of refused memory is none of the definitions.
-use Rattle.std.proofs.Common.{◌≡◌, ◌⊎◌, inl, inr, ℕ, List, [], ◌∷◌, Bool, true, false, Option, Some, None, refl, sym, subst}
+use Rattle.std.proofs.Common.{◌≡◌, ◌⊎◌, inl, inr, ℕ, List, [], ◌∷◌, length, Bool, true, false, Option, Some, None, refl, sym, subst}
 use Rattle.std.specs.Prelude.{◌&&◌, ◌||◌, not, ◌++◌, ◌%◌, ◌==◌, ◌^◌, nat_le, nat_lt, if◌then◌else◌, is_some}
 use Rattle.h3_field.specs.Field.{section_size}
 use Rattle.h3_header.specs.Head.{Head, head_fields, has_pseudo}
@@ -18,10 +18,12 @@ use Rattle.h3_connection.specs.OwnIds.{other}
 use Rattle.h3_connection.specs.Pulling.{is_client, is_for}
 use Rattle.h3_connection.specs.Sending as sender
 use Rattle.h3_connection.specs.StreamSets.{stream_at}
-use Rattle.h3_connection.specs.StrictSending.{broken_head, broken_trailer, unless_malformed}
+use Rattle.h3_connection.specs.StrictSending.{broken_head, broken_trailer, early_trailer, passes_content, unless_malformed}
 use Rattle.h3_connection.specs.Unidirectional.{is_closed}
 use Rattle.h3_connection.specs.declared.arrival.Arrival.{Arrival}
+use Rattle.h3_messages.specs.Content.{may_end}
 use Rattle.h3_connection.specs.declared.event.Malformation.{Malformation}
+use Rattle.h3_connection.specs.declared.event.Malformation.TheVariants as malformation
 use Rattle.h3_connection.specs.declared.event.Refusal.{Refusal}
 use Rattle.h3_connection.specs.declared.event.Refusal.TheVariants as refusal
 use Rattle.h3_world.specs.Headline.{is_memory}
@@ -112,6 +114,14 @@ list_tells : (broken : Option Malformation) (large : Bool) (size : ℕ) → Tell
 list_tells (Some why) large size = refl
 list_tells None large size = if_tells large (Some (refusal.TooLarge size)) None refl tt
 
+-- or what was sent in front of it
+abbrev by_both : Option Malformation → Option Malformation → Bool → ℕ → Option Refusal
+by_both early broken large size = sender.first_of (unless_malformed early (unless_malformed broken ((large, refusal.TooLarge size) ∷ [])))
+
+both_tell : (early broken : Option Malformation) (large : Bool) (size : ℕ) → TellsNoMemory (by_both early broken large size)
+both_tell (Some why) broken large size = refl
+both_tell None broken large size = list_tells broken large size
+
 pub head_tells : (e : EndpointHistory) (id : ℕ) (head : Head) → TellsNoMemory (sender.send_head e id head).0
 head_tells e id head =
     let broken = broken_head e.side e.announced e.peer.settings (head_fields head) in
@@ -122,23 +132,31 @@ head_tells e id head =
     (if_tells (not (is_for (other e.side) head)) (Some refusal.WrongSide) listed refl
     (list_tells broken (sender.is_too_large e.peer.settings (head_fields head)) (section_size (head_fields head))))))
 
+-- more content than the head said, or less
+content_tells : (b : Bool) → TellsNoMemory (if b then Some (refusal.Malformed malformation.ContentLength) else None)
+content_tells true = refl
+content_tells false = tt
+
 pub body_tells : (e : EndpointHistory) (id : ℕ) (bytes : List ℕ) → TellsNoMemory (sender.send_body e id bytes).0
 body_tells e id bytes =
-    does_tells (sender.body_refusal e id) e _ (unless_closed_tells e.closed _ (unordered_tells (not (sender.is_open e id)) (not (takes_body (sender.outgoing_at e id))) None tt))
+    does_tells (sender.body_refusal e id (length bytes)) e _
+    (unless_closed_tells e.closed _
+    (unordered_tells (not (sender.is_open e id)) (not (takes_body (sender.outgoing_at e id))) _ (content_tells (passes_content (sender.outgoing_at e id).content (length bytes)))))
 
 pub trailer_tells : (e : EndpointHistory) (id : ℕ) (head : Head) → TellsNoMemory (sender.send_trailer e id head).0
 trailer_tells e id head =
     let broken = broken_trailer e.announced (head_fields head) in
-    let listed = by_list broken (sender.is_too_large e.peer.settings (head_fields head)) (section_size (head_fields head)) in
+    let early = early_trailer (sender.outgoing_at e id).content in
+    let listed = by_both early broken (sender.is_too_large e.peer.settings (head_fields head)) (section_size (head_fields head)) in
     does_tells (sender.trailer_refusal e id head) e _
     (unless_closed_tells e.closed _
     (unordered_tells (not (sender.is_open e id)) (not (takes_body (sender.outgoing_at e id))) (if has_pseudo head then Some refusal.PseudoInTrailer else listed)
     (if_tells (has_pseudo head) (Some refusal.PseudoInTrailer) listed refl
-    (list_tells broken (sender.is_too_large e.peer.settings (head_fields head)) (section_size (head_fields head))))))
+    (both_tell early broken (sender.is_too_large e.peer.settings (head_fields head)) (section_size (head_fields head))))))
 
 pub finish_tells : (e : EndpointHistory) (id : ℕ) → TellsNoMemory (sender.finish e id).0
 finish_tells e id =
-    does_tells (sender.finish_refusal e id) e _ (unless_closed_tells e.closed _ (unordered_tells (not (sender.is_open e id)) (not (takes_end (sender.outgoing_at e id))) None tt))
+    does_tells (sender.finish_refusal e id) e _ (unless_closed_tells e.closed _ (unordered_tells (not (sender.is_open e id)) (not (takes_end (sender.outgoing_at e id))) _ (content_tells (not (may_end (sender.outgoing_at e id).content)))))
 
 -- a stream that the connection needs, one that is not open, and one that has ended
 ended_tells : (b c d : Bool) → TellsNoMemory (if b then Some refusal.Critical else (if c then Some refusal.NotOpen else (if d then Some refusal.Ended else None)))

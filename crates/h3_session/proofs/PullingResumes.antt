@@ -45,13 +45,14 @@ more_is i pieces false none = pieces_are i pieces none ∙ ap (λ b. record i { 
 
 same_but : (old new : Incoming) → Resumes old new → new ≡ record old { unread = new.unread; section = new.section; body_left = new.body_left; content = new.content }
 same_but old new h =
-    ap (λ x. record new { place = x }) h.place
-    ∙ ap (λ x. record new { place = old.place; waits_for = x }) h.waits_for
-    ∙ ap (λ x. record new { place = old.place; waits_for = old.waits_for; tries = x }) h.tries
-    ∙ ap (λ x. record new { place = old.place; waits_for = old.waits_for; tries = old.tries; ended = x }) h.ended
-    ∙ ap (λ x. record new { place = old.place; waits_for = old.waits_for; tries = old.tries; ended = old.ended; was_reset = x }) h.was_reset
-    ∙ ap (λ x. record new { place = old.place; waits_for = old.waits_for; tries = old.tries; ended = old.ended; was_reset = old.was_reset; is_over = x }) h.is_over
-    ∙ ap (λ x. record new { place = old.place; waits_for = old.waits_for; tries = old.tries; ended = old.ended; was_reset = old.was_reset; is_over = old.is_over; fault = x }) h.fault
+    ap (λ x. record new { response = x }) h.response
+    ∙ ap (λ x. record new { response = old.response; place = x }) h.place
+    ∙ ap (λ x. record new { response = old.response; place = old.place; waits_for = x }) h.waits_for
+    ∙ ap (λ x. record new { response = old.response; place = old.place; waits_for = old.waits_for; tries = x }) h.tries
+    ∙ ap (λ x. record new { response = old.response; place = old.place; waits_for = old.waits_for; tries = old.tries; ended = x }) h.ended
+    ∙ ap (λ x. record new { response = old.response; place = old.place; waits_for = old.waits_for; tries = old.tries; ended = old.ended; was_reset = x }) h.was_reset
+    ∙ ap (λ x. record new { response = old.response; place = old.place; waits_for = old.waits_for; tries = old.tries; ended = old.ended; was_reset = old.was_reset; is_over = x }) h.is_over
+    ∙ ap (λ x. record new { response = old.response; place = old.place; waits_for = old.waits_for; tries = old.tries; ended = old.ended; was_reset = old.was_reset; is_over = old.is_over; fault = x }) h.fault
 
 pub goes_on_as_before : (side : Side) (own : Announced) (id : ℕ) (old new : Incoming) → Resumes old new → old.fault ≡ None → GoesOnAsBefore side own id old new
 goes_on_as_before side own id old new h none = record {

@@ -14,7 +14,7 @@ use Rattle.h3_connection.specs.Outgoing.{takes_head, takes_body}
 use Rattle.h3_connection.specs.OwnIds.{other}
 use Rattle.h3_connection.specs.Pulling.{is_for}
 use Rattle.h3_connection.specs.Sending.{does, first_of, unless_closed, is_open, is_too_large, outgoing_at, send_head, send_trailer}
-use Rattle.h3_connection.specs.StrictSending.{broken_head, broken_trailer, unless_malformed}
+use Rattle.h3_connection.specs.StrictSending.{broken_head, broken_trailer, early_trailer, unless_malformed}
 use Rattle.h3_connection.specs.declared.event.Refusal.TheVariants as refusal
 use Rattle.h3_session.specs.SendingLists.{as_error, after_head, after_trailer, send_fields, send_trailer_fields, send_read_head, send_read_trailer}
 
@@ -47,5 +47,5 @@ trailer_as_list h back read law e id =
     (not (is_open e id), refusal.NotOpen) ∷
     (not (takes_body (outgoing_at e id)), refusal.OutOfOrder) ∷
     (b, refusal.PseudoInTrailer) ∷
-    unless_malformed (broken_trailer e.announced fields) (
-    (is_too_large e.peer.settings fields, refusal.TooLarge (section_size fields)) ∷ [])))) e (after_trailer e id fields))) (same_has_pseudo h)
+    unless_malformed (early_trailer (outgoing_at e id).content) (unless_malformed (broken_trailer e.announced fields) (
+    (is_too_large e.peer.settings fields, refusal.TooLarge (section_size fields)) ∷ []))))) e (after_trailer e id fields))) (same_has_pseudo h)

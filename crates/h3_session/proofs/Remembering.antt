@@ -1,62 +1,146 @@
--- What a strict client remembers of a request is what the history says.
+-- What a head says is remembered where the endpoint asks for strict messages.
 use Rattle.std.proofs.Common.{◌≡◌, ℕ, Bool, true, false, if◌then◌else◌, List, Option, Some, None, refl, ap, sym, subst, ◌∙◌}
-use Rattle.std.specs.Prelude.{IfSome, option_map}
+use Rattle.std.specs.Prelude.{◌&&◌, not, IfSome, option_map}
 use Rattle.h3_field.specs.Field.{Field}
-use Rattle.h3_messages.specs.Content.{awaited_by}
+use Rattle.h3_messages.specs.Content.{awaited_by, content_of_request}
 use Rattle.h3_messages.specs.declared.content.Content.{Content}
+use Rattle.h3_proto.specs.declared.stream.Side.{Side}
+use Rattle.h3_proto.specs.declared.stream.Side.TheVariants.{Client, Server}
+use Rattle.h3_outgoing.specs.HistoryLaws.{said}
+use Rattle.h3_outgoing.specs.Sent.{is_to_have}
 use Rattle.h3_connection.specs.Calls.{AllSame, Sets}
 use Rattle.h3_connection.specs.Endpoint.{EndpointHistory}
 use Rattle.h3_connection.specs.Incoming.{Incoming, awaiting}
-use Rattle.h3_connection.specs.Sending.{asked, awaiting_at, remembers}
-use Rattle.h3_connection.specs.StandsLaws.{stands_receiving}
-use Rattle.h3_connection.specs.State.{EndpointState, RequestState, StandsFor, kept_at}
+use Rattle.h3_connection.specs.Outgoing.{Outgoing, with_said}
+use Rattle.h3_connection.specs.Pulling.{is_client}
+use Rattle.h3_connection.specs.Sending.{asked, awaiting_at, content_of_own, content_of_response_to, known_of, remembers, saying_at}
+use Rattle.h3_connection.specs.StandsLaws.{stands_both, stands_sending}
+use Rattle.h3_connection.specs.State.{EndpointState, IsOfOutgoing, OutgoingState, RequestState, SameAt, StandsFor, kept_at}
 use Rattle.h3_connection.specs.StreamSets.{Streams, stream_at}
 use Rattle.h3_connection.specs.declared.event.Refusal.{Refusal}
 use Rattle.h3_connection.specs.declared.place.SendPlace.{SendPlace}
 use Rattle.h3_session.specs.OpenedLaws.{stands_same}
-use Rattle.h3_session.specs.SendingFields.{Remembers, SendsFields, asking}
+use Rattle.h3_session.specs.SendingFields.{Remembers, SendsFields, asking, counts_responses}
 
 received_at : (s : EndpointState) (e : EndpointHistory) (id : ℕ) (there : Option RequestState) → StandsFor s e → kept_at s.requests id ≡ there → stream_at e.incoming id ≡ option_map (λ r. r.incoming) there
 received_at s e id there h was = sym (h.incoming id) ∙ ap (option_map (λ r. r.incoming)) was
 
-abbrev with_received : EndpointHistory → ℕ → Content → Option Incoming → EndpointHistory
-with_received e id expected at = record e { incoming = awaiting_at e.incoming id expected at }
+-- what a history has of the sender's part
+record Sender (o : Option Outgoing) (w : OutgoingState) : Type 0 where
+  here : Outgoing
+  is : o ≡ Some here
+  stands : IsOfOutgoing here w
 
-awaited_stands : (s : EndpointState) (e : EndpointHistory) (new : Streams RequestState) (id : ℕ) (expected : Content) (there : Option RequestState) → StandsFor s e → kept_at s.requests id ≡ there
-    → IfSome there (λ r. Sets s.requests new id (record r { incoming = awaiting r.incoming expected })) → (there ≡ None → AllSame s.requests new)
-    → StandsFor (record s { requests = new }) (with_received e id expected (stream_at e.incoming id))
-awaited_stands s e new id expected None h was sets same =
-    subst (λ at. StandsFor (record s { requests = new }) (with_received e id expected at)) (sym (received_at s e id None h was)) (stands_same s e new h (same refl))
-awaited_stands s e new id expected (Some r) h was sets same =
-    subst (λ at. StandsFor (record s { requests = new }) (with_received e id expected at)) (sym (received_at s e id (Some r) h was))
-    (stands_receiving s e new id r (record r { incoming = awaiting r.incoming expected }) h was refl sets)
+sender_by : (o : Option Outgoing) (w : OutgoingState) → SameAt IsOfOutgoing o (Some w) → Sender o w
+sender_by None w h = absurd h
+sender_by (Some o) w h = record { here = o; is = refl; stands = h }
 
-remembers_alike : (s : EndpointState) (e : EndpointHistory) → StandsFor s e → remembers e.side e.announced ≡ remembers s.side s.announced
-remembers_alike s e h = ap (λ a. remembers a e.announced) (sym h.side) ∙ ap (remembers s.side) (sym h.announced)
+sender_at : (s : EndpointState) (e : EndpointHistory) (id : ℕ) (r : RequestState) → StandsFor s e → kept_at s.requests id ≡ Some r → Sender (stream_at e.outgoing id) r.outgoing
+sender_at s e id r h was = sender_by (stream_at e.outgoing id) r.outgoing (subst (λ o. SameAt IsOfOutgoing (stream_at e.outgoing id) (option_map (λ r. r.outgoing) o)) was (h.outgoing id))
 
-same_rule : (s now : EndpointState) → s ≡ now → remembers s.side s.announced ≡ remembers now.side now.announced
-same_rule s now view = ap (λ (v : EndpointState). remembers v.side v.announced) view
+none_by : (o : Option Outgoing) → SameAt IsOfOutgoing o None → o ≡ None
+none_by None h = refl
+none_by (Some o) h = absurd h
 
--- a client that asks for strict messages,
-pub told : (s now : EndpointState) (new : Streams RequestState) (id : ℕ) (fields : List Field) (expected : Content) → s ≡ now → true ≡ remembers now.side now.announced → expected ≡ awaited_by fields
-    → IfSome (kept_at s.requests id) (λ r. Sets s.requests new id (record r { incoming = awaiting r.incoming expected })) → (kept_at s.requests id ≡ None → AllSame s.requests new)
+no_sender : (s : EndpointState) (e : EndpointHistory) (id : ℕ) → StandsFor s e → kept_at s.requests id ≡ None → stream_at e.outgoing id ≡ None
+no_sender s e id h was = none_by (stream_at e.outgoing id) (subst (λ o. SameAt IsOfOutgoing (stream_at e.outgoing id) (option_map (λ r. r.outgoing) o)) was (h.outgoing id))
+
+-- what a head of this side says, by whether rules are asked
+abbrev said_at : Bool → Side → EndpointHistory → ℕ → List Field → EndpointHistory
+said_at strict side e id fields =
+    record e {
+      incoming = if strict && is_client side then awaiting_at e.incoming id (awaited_by fields) (stream_at e.incoming id) else e.incoming;
+      outgoing = if strict then saying_at e.outgoing id (content_of_own side (known_of (stream_at e.incoming id)) fields) (stream_at e.outgoing id) else e.outgoing;
+    }
+
+asked_is : (s : EndpointState) (e : EndpointHistory) (id : ℕ) (fields : List Field) → StandsFor s e → said_at s.announced.choices.strict_messages s.side e id fields ≡ asked e id fields
+asked_is s e id fields h = ap (λ own. said_at own.choices.strict_messages s.side e id fields) h.announced ∙ ap (λ side. said_at e.announced.choices.strict_messages side e id fields) h.side
+
+-- a client,
+abbrev with_both : EndpointHistory → ℕ → Content → Content → Option Incoming → Option Outgoing → EndpointHistory
+with_both e id expected said i o = record e { incoming = awaiting_at e.incoming id expected i; outgoing = saying_at e.outgoing id said o }
+
+awaited_stands : (s : EndpointState) (e : EndpointHistory) (new : Streams RequestState) (id : ℕ) (expected sent : Content) (there : Option RequestState) → StandsFor s e → kept_at s.requests id ≡ there
+    → IfSome there (λ r. Sets s.requests new id (record r { incoming = awaiting r.incoming expected; outgoing = is_to_have r.outgoing sent })) → (there ≡ None → AllSame s.requests new)
+    → StandsFor (record s { requests = new }) (with_both e id expected sent (stream_at e.incoming id) (stream_at e.outgoing id))
+awaited_stands s e new id expected sent None h was sets same =
+    subst (λ i. StandsFor (record s { requests = new }) (with_both e id expected sent i (stream_at e.outgoing id))) (sym (received_at s e id None h was))
+    (subst (λ o. StandsFor (record s { requests = new }) (with_both e id expected sent None o)) (sym (no_sender s e id h was)) (stands_same s e new h (same refl)))
+awaited_stands s e new id expected sent (Some r) h was sets same =
+    let sender = sender_at s e id r h was in
+    subst (λ i. StandsFor (record s { requests = new }) (with_both e id expected sent i (stream_at e.outgoing id))) (sym (received_at s e id (Some r) h was))
+    (subst (λ o. StandsFor (record s { requests = new }) (with_both e id expected sent (Some r.incoming) o)) (sym sender.is)
+    (stands_both s e new id (record r { incoming = awaiting r.incoming expected; outgoing = is_to_have r.outgoing sent }) (with_said sender.here sent) h (said sender.here r.outgoing sent sender.stands) sets))
+
+-- and a server
+abbrev with_sent : EndpointHistory → ℕ → List Field → Option Incoming → Option Outgoing → EndpointHistory
+with_sent e id fields i o = record e { outgoing = saying_at e.outgoing id (content_of_response_to (known_of i) fields) o }
+
+answered_stands : (s : EndpointState) (e : EndpointHistory) (new : Streams RequestState) (id : ℕ) (fields : List Field) (there : Option RequestState) → StandsFor s e → kept_at s.requests id ≡ there
+    → IfSome there (λ r. Sets s.requests new id (record r { outgoing = is_to_have r.outgoing (content_of_response_to r.incoming.response fields) })) → (there ≡ None → AllSame s.requests new)
+    → StandsFor (record s { requests = new }) (with_sent e id fields (stream_at e.incoming id) (stream_at e.outgoing id))
+answered_stands s e new id fields None h was sets same =
+    subst (λ o. StandsFor (record s { requests = new }) (with_sent e id fields (stream_at e.incoming id) o)) (sym (no_sender s e id h was)) (stands_same s e new h (same refl))
+answered_stands s e new id fields (Some r) h was sets same =
+    let sender = sender_at s e id r h was in
+    let content = content_of_response_to r.incoming.response fields in
+    subst (λ i. StandsFor (record s { requests = new }) (with_sent e id fields i (stream_at e.outgoing id))) (sym (received_at s e id (Some r) h was))
+    (subst (λ o. StandsFor (record s { requests = new }) (with_sent e id fields (Some r.incoming) o)) (sym sender.is)
+    (stands_sending s e new id r (record r { outgoing = is_to_have r.outgoing content }) (with_said sender.here content) h was refl (said sender.here r.outgoing content sender.stands) sets))
+
+-- whether rules are asked, and by which side
+is_strict_client : (strict : Bool) (side : Side) → true ≡ (strict && is_client side) → (strict ≡ true) × (side ≡ Client)
+is_strict_client true Client h = (refl, refl)
+is_strict_client true Server h = absurd (cc)
+is_strict_client false side h = absurd (cc)
+
+is_strict_server : (strict : Bool) (side : Side) → true ≡ (strict && not (is_client side)) → (strict ≡ true) × (side ≡ Server)
+is_strict_server true Server h = (refl, refl)
+is_strict_server true Client h = absurd (cc)
+is_strict_server false side h = absurd (cc)
+
+is_plain : (strict : Bool) (side : Side) → false ≡ (strict && is_client side) → false ≡ (strict && not (is_client side)) → strict ≡ false
+is_plain false side h k = refl
+is_plain true Client h k = absurd (cc)
+is_plain true Server h k = absurd (cc)
+
+said_so : (s : EndpointState) (new : Streams RequestState) (id : ℕ) (fields : List Field) (strict : Bool) (side : Side) → (s.announced.choices.strict_messages ≡ strict) × (s.side ≡ side)
+    → ((e : EndpointHistory) → StandsFor s e → StandsFor (record s { requests = new }) (said_at strict side e id fields)) → Remembers s (record s { requests = new }) id fields
+said_so s new id fields strict side is stands = record {
+  stands = λ e h.
+      subst (StandsFor (record s { requests = new })) (asked_is s e id fields h)
+      (subst (λ b. StandsFor (record s { requests = new }) (said_at b s.side e id fields)) (sym is.0)
+      (subst (λ d. StandsFor (record s { requests = new }) (said_at strict d e id fields)) (sym is.1) (stands e h)));
+}
+
+-- A client that asks for strict messages,
+pub told : (s now : EndpointState) (new : Streams RequestState) (id : ℕ) (fields : List Field) (expected sent : Content) → s ≡ now → true ≡ remembers now.side now.announced → expected ≡ awaited_by fields
+    → sent ≡ content_of_request fields
+    → IfSome (kept_at s.requests id) (λ r. Sets s.requests new id (record r { incoming = awaiting r.incoming expected; outgoing = is_to_have r.outgoing sent })) → (kept_at s.requests id ≡ None → AllSame s.requests new)
     → Remembers now (record s { requests = new }) id fields
-told s now new id fields expected view strict says sets same =
+told s now new id fields expected sent view strict says has sets same =
     subst (λ v. Remembers v (record s { requests = new }) id fields) view
-    (record {
-      stands = λ e h.
-          subst (λ b. StandsFor (record s { requests = new }) (record e { incoming = if b then awaiting_at e.incoming id (awaited_by fields) (stream_at e.incoming id) else e.incoming })) (strict ∙ sym (same_rule s now view) ∙ sym (remembers_alike s e h))
-          (subst (λ c. StandsFor (record s { requests = new }) (with_received e id c (stream_at e.incoming id))) says (awaited_stands s e new id expected (kept_at s.requests id) h refl sets same));
-    })
+    (said_so s new id fields true Client (is_strict_client s.announced.choices.strict_messages s.side (strict ∙ sym (ap (λ (v : EndpointState). remembers v.side v.announced) view)))
+    (λ e h.
+    subst (λ c. StandsFor (record s { requests = new }) (with_both e id c (content_of_request fields) (stream_at e.incoming id) (stream_at e.outgoing id))) says
+    (subst (λ c. StandsFor (record s { requests = new }) (with_both e id expected c (stream_at e.incoming id) (stream_at e.outgoing id))) has (awaited_stands s e new id expected sent (kept_at s.requests id) h refl sets same))))
+
+-- a server that does,
+pub answered : (s now : EndpointState) (new : Streams RequestState) (id : ℕ) (fields : List Field) → s ≡ now → true ≡ counts_responses now.side now.announced
+    → IfSome (kept_at s.requests id) (λ r. Sets s.requests new id (record r { outgoing = is_to_have r.outgoing (content_of_response_to r.incoming.response fields) })) → (kept_at s.requests id ≡ None → AllSame s.requests new)
+    → Remembers now (record s { requests = new }) id fields
+answered s now new id fields view strict sets same =
+    subst (λ v. Remembers v (record s { requests = new }) id fields) view
+    (said_so s new id fields true Server (is_strict_server s.announced.choices.strict_messages s.side (strict ∙ sym (ap (λ (v : EndpointState). counts_responses v.side v.announced) view)))
+    (λ e h. answered_stands s e new id fields (kept_at s.requests id) h refl sets same))
 
 -- and any other
-pub silent : (s now : EndpointState) (id : ℕ) (fields : List Field) → s ≡ now → false ≡ remembers now.side now.announced → Remembers now s id fields
-silent s now id fields view plain =
+pub silent : (s now : EndpointState) (id : ℕ) (fields : List Field) → s ≡ now → false ≡ remembers now.side now.announced → false ≡ counts_responses now.side now.announced → Remembers now s id fields
+silent s now id fields view plain unasked =
     subst (λ v. Remembers v s id fields) view
-    (record {
-      stands = λ e h.
-          subst (λ b. StandsFor s (record e { incoming = if b then awaiting_at e.incoming id (awaited_by fields) (stream_at e.incoming id) else e.incoming })) (plain ∙ sym (same_rule s now view) ∙ sym (remembers_alike s e h)) h;
-    })
+    (said_so s s.requests id fields false s.side
+    (is_plain s.announced.choices.strict_messages s.side (plain ∙ sym (ap (λ (v : EndpointState). remembers v.side v.announced) view)) (unasked ∙ sym (ap (λ (v : EndpointState). counts_responses v.side v.announced) view)), refl)
+    (λ e h. h))
 
 -- A head was sent, and that is remembered;
 pub head_goes : (old mid new : EndpointState) (id : ℕ) (fields : List Field) (place : SendPlace) → SendsFields (λ e. e) old mid id fields place None → Remembers mid new id fields → SendsFields (asking id fields) old new id fields place None

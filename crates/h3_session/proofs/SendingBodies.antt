@@ -1,11 +1,11 @@
 -- What a body that is sent does to what is stored.
 use Rattle.std.proofs.Common.{◌≡◌, ℕ, ◌+◌, Bool, true, false, List, [], ◌∷◌, ◌++◌, length, Option, Some, None, Result, Ok, Err, refl, ap, sym, subst, ◌∙◌}
 use Rattle.std.specs.Prelude.{not, IfSome, OnOk, OnErr, IfErr, unwrap_or}
-use Rattle.h3_outgoing.specs.HistoryLaws.{appended}
+use Rattle.h3_outgoing.specs.HistoryLaws.{body_appended}
 use Rattle.h3_outgoing.specs.Sent as sent
 use Rattle.h3_connection.specs.Calls.{Sets, AllSame}
 use Rattle.h3_connection.specs.Endpoint.{EndpointHistory}
-use Rattle.h3_connection.specs.Outgoing.{OwnBody}
+use Rattle.h3_connection.specs.Outgoing.{OwnBody, with_body}
 use Rattle.h3_connection.specs.Sending.{closed_or, counted, outgoing_at, sent_bytes, body_refusal, send_body}
 use Rattle.h3_connection.specs.SendingContracts.{SendsBody}
 use Rattle.h3_connection.specs.StandsLaws.{stands_sending}
@@ -14,7 +14,7 @@ use Rattle.h3_connection.specs.StreamSets.{Streams}
 use Rattle.h3_connection.specs.declared.event.Refusal.{Refusal}
 use Rattle.h3_connection.specs.declared.event.Refusal.TheVariants as refusal
 use Rattle.h3_session.specs.OpenedLaws.{stands_same}
-use Rattle.h3_requests.specs.Refused.{refused_if, body_refused_at}
+use Rattle.h3_requests.specs.Refused.{or_later, refused_if, body_refused_at, too_much_at}
 use Rattle.h3_session.specs.Refused.{body_refused}
 use Rattle.h3_session.proofs.Parts.{in_body, body_stays}
 use Rattle.h3_session.proofs.SendingCalls.{sender_of, refuses, acts, alike, lacks, all_same}
@@ -30,10 +30,18 @@ not_refused : (b : Bool) (r : Refusal) → refused_if (not b) r ≡ None → b �
 not_refused true r h = refl
 not_refused false r h = absurd (cc)
 
-pub body_allowed : (closed : Option ℕ) (there : Option RequestState) → closed_or closed (body_refused_at there) ≡ None → TakesBody there
-body_allowed (Some code) there h = absurd (cc)
-body_allowed None None h = absurd (cc)
-body_allowed None (Some r) h = not_refused (sent.takes_body r.outgoing) refusal.OutOfOrder h
+pub order_allowed : (closed : Option ℕ) (there : Option RequestState) → closed_or closed (body_refused_at there) ≡ None → TakesBody there
+order_allowed (Some code) there h = absurd (cc)
+order_allowed None None h = absurd (cc)
+order_allowed None (Some r) h = not_refused (sent.takes_body r.outgoing) refusal.OutOfOrder h
+
+first_passed : (o later : Option Refusal) → or_later o later ≡ None → o ≡ None
+first_passed None later h = refl
+first_passed (Some r) later h = absurd (cc)
+
+pub body_allowed : (closed : Option ℕ) (there : Option RequestState) (later : Option Refusal) → closed_or closed (or_later (body_refused_at there) later) ≡ None → TakesBody there
+body_allowed (Some code) there later h = absurd (cc)
+body_allowed None there later h = order_allowed None there (first_passed (body_refused_at there) later h)
 
 -- a body behind the parts of a stream
 stands_with : (s : EndpointState) (new : Streams RequestState) (id : ℕ) (bytes : List ℕ) (there : Option RequestState) → kept_at s.requests id ≡ there → TakesBody there
@@ -45,50 +53,56 @@ stands_with s new id (byte ∷ bytes) (Some r) was takes sets e h =
     let o = outgoing_at e id in
     let is = sender_of s e id r h was in
     let here = in_body o r.outgoing is takes in
-    stands_sending s e new id r (record r { outgoing = sent.has_body r.outgoing (byte ∷ bytes) }) (record o { parts = o.parts ++ OwnBody (byte ∷ bytes) ∷ [] }) h was refl
-    (appended o r.outgoing (OwnBody (byte ∷ bytes)) r.outgoing.place is here.here (body_stays o r.outgoing (OwnBody (byte ∷ bytes)) is here refl refl)) sets
+    stands_sending s e new id r (record r { outgoing = sent.has_body r.outgoing (byte ∷ bytes) }) (with_body o (byte ∷ bytes)) h was refl
+    (body_appended o r.outgoing (byte ∷ bytes) is here.here (body_stays o r.outgoing (OwnBody (byte ∷ bytes)) is here refl refl)) sets
 
 handed_back : (r : Refusal) (bytes : List ℕ) (again : Refusal) (handed : List ℕ) → ◌≡◌ {A = Result Unit (Refusal × List ℕ)} (Err (r, bytes)) (Err (again, handed)) → handed ≡ bytes
 handed_back r bytes again handed same =
     let pair : ◌≡◌ {A = Refusal × List ℕ} (r, bytes) (again, handed) = cc in
     sym (ap (λ p. p.1) pair)
 
-body_refuses : (s : EndpointState) (id : ℕ) (bytes : List ℕ) (r : Refusal) → body_refused s id ≡ Some r → SendsBody s s id bytes (Err (r, bytes))
+body_refuses : (s : EndpointState) (id : ℕ) (bytes : List ℕ) (r : Refusal) → body_refused s id (length bytes) ≡ Some r → SendsBody s s id bytes (Err (r, bytes))
 body_refuses s id bytes r is =
     record {
-      sends = refuses (λ e. body_refusal e id) (λ e. counted (sent_bytes e id bytes) (length bytes)) s r (λ e h. sym (body_refusal_is s e id h) ∙ is) (λ memory. body_takes_none s id (is ∙ ap Some memory));
+      sends = refuses (λ e. body_refusal e id (length bytes)) (λ e. counted (sent_bytes e id bytes) (length bytes)) s r (λ e h. sym (body_refusal_is s e id (length bytes) h) ∙ is) (λ memory. body_takes_none s id (length bytes) (is ∙ ap Some memory));
       back = handed_back r bytes;
     }
 
-body_lacks : (s : EndpointState) (id : ℕ) (bytes : List ℕ) → body_refused s id ≡ None → SendsBody s s id bytes (Err (refusal.OutOfMemory, bytes))
+body_lacks : (s : EndpointState) (id : ℕ) (bytes : List ℕ) → body_refused s id (length bytes) ≡ None → SendsBody s s id bytes (Err (refusal.OutOfMemory, bytes))
 body_lacks s id bytes is =
     record {
-      sends = lacks (λ e. body_refusal e id) (λ e. counted (sent_bytes e id bytes) (length bytes)) s (λ e h. sym (body_refusal_is s e id h) ∙ is);
+      sends = lacks (λ e. body_refusal e id (length bytes)) (λ e. counted (sent_bytes e id bytes) (length bytes)) s (λ e h. sym (body_refusal_is s e id (length bytes) h) ∙ is);
       back = handed_back refusal.OutOfMemory bytes;
     }
 
 -- what refuses it, and else want of memory
-body_refused_by : (s : EndpointState) (id : ℕ) (bytes : List ℕ) (rule : Option Refusal) → body_refused s id ≡ rule → SendsBody s s id bytes (Err (unwrap_or rule refusal.OutOfMemory, bytes))
+body_refused_by : (s : EndpointState) (id : ℕ) (bytes : List ℕ) (rule : Option Refusal) → body_refused s id (length bytes) ≡ rule → SendsBody s s id bytes (Err (unwrap_or rule refusal.OutOfMemory, bytes))
 body_refused_by s id bytes (Some r) is = body_refuses s id bytes r is
 body_refused_by s id bytes None is = body_lacks s id bytes is
 
-still_open : (s : EndpointState) (id : ℕ) → s.closed ≡ None → body_refused s id ≡ body_refused_at (kept_at s.requests id)
-still_open s id closed = ap (λ c. closed_or c (body_refused_at (kept_at s.requests id))) closed
+-- what refuses it on its stream
+abbrev data_refused : EndpointState → ℕ → List ℕ → Option Refusal
+data_refused s id bytes = or_later (body_refused_at (kept_at s.requests id)) (too_much_at (kept_at s.requests id) (length bytes))
+
+still_open : (s : EndpointState) (id : ℕ) (bytes : List ℕ) → s.closed ≡ None → body_refused s id (length bytes) ≡ data_refused s id bytes
+still_open s id bytes closed = ap (λ c. closed_or c (data_refused s id bytes)) closed
 
 pub body_closed : (s : EndpointState) (id : ℕ) (bytes : List ℕ) (code : ℕ) → s.closed ≡ Some code → SendsBody s s id bytes (Err (refusal.Closed code, bytes))
-body_closed s id bytes code closed = body_refuses s id bytes (refusal.Closed code) (ap (λ c. closed_or c (body_refused_at (kept_at s.requests id))) closed)
+body_closed s id bytes code closed = body_refuses s id bytes (refusal.Closed code) (ap (λ c. closed_or c (data_refused s id bytes)) closed)
 
-pub body_uncounted : (s : EndpointState) (id : ℕ) (bytes : List ℕ) (r : Refusal) → s.closed ≡ None → r ≡ unwrap_or (body_refused_at (kept_at s.requests id)) refusal.OutOfMemory
-    → SendsBody s s id bytes (Err (r, bytes))
-body_uncounted s id bytes r closed is = subst (λ r. SendsBody s s id bytes (Err (r, bytes))) (sym is) (body_refused_by s id bytes (body_refused_at (kept_at s.requests id)) (still_open s id closed))
+pub body_uncounted : (s : EndpointState) (id : ℕ) (bytes : List ℕ) (size : ℕ) (r : Refusal) → s.closed ≡ None → size ≡ length bytes
+    → r ≡ unwrap_or (or_later (body_refused_at (kept_at s.requests id)) (too_much_at (kept_at s.requests id) size)) refusal.OutOfMemory → SendsBody s s id bytes (Err (r, bytes))
+body_uncounted s id bytes size r closed same is =
+    let so : r ≡ unwrap_or (data_refused s id bytes) refusal.OutOfMemory = is ∙ ap (λ n. unwrap_or (or_later (body_refused_at (kept_at s.requests id)) (too_much_at (kept_at s.requests id) n)) refusal.OutOfMemory) same in
+    subst (λ r. SendsBody s s id bytes (Err (r, bytes))) (sym so) (body_refused_by s id bytes (data_refused s id bytes) (still_open s id bytes closed))
 
-sends_here : (s : EndpointState) (new : Streams RequestState) (id : ℕ) (bytes : List ℕ) → IfSome (kept_at s.requests id) (λ r. Sets s.requests new id (record r { outgoing = sent.has_body r.outgoing bytes })) → body_refused s id ≡ None
+sends_here : (s : EndpointState) (new : Streams RequestState) (id : ℕ) (bytes : List ℕ) → IfSome (kept_at s.requests id) (λ r. Sets s.requests new id (record r { outgoing = sent.has_body r.outgoing bytes })) → body_refused s id (length bytes) ≡ None
     → SendsBody s (record s { requests = new; sent = s.sent + length bytes + 64 }) id bytes (Ok tt)
 sends_here s new id bytes sets is =
     record {
-      sends = acts (λ e. body_refusal e id) (λ e. counted (sent_bytes e id bytes) (length bytes)) s (record s { requests = new; sent = s.sent + length bytes + 64 })
-          (λ e h. sym (body_refusal_is s e id h) ∙ is)
-          (λ e h. counted_stands (record s { requests = new }) (sent_bytes e id bytes) (length bytes) (stands_with s new id bytes (kept_at s.requests id) refl (body_allowed s.closed (kept_at s.requests id) is) sets e h));
+      sends = acts (λ e. body_refusal e id (length bytes)) (λ e. counted (sent_bytes e id bytes) (length bytes)) s (record s { requests = new; sent = s.sent + length bytes + 64 })
+          (λ e h. sym (body_refusal_is s e id (length bytes) h) ∙ is)
+          (λ e h. counted_stands (record s { requests = new }) (sent_bytes e id bytes) (length bytes) (stands_with s new id bytes (kept_at s.requests id) refl (body_allowed s.closed (kept_at s.requests id) (too_much_at (kept_at s.requests id) (length bytes)) is) sets e h));
       back = λ r again never. absurd (cc);
     }
 
@@ -96,7 +110,7 @@ body_alike : (s : EndpointState) (new : Streams RequestState) (id : ℕ) (bytes 
     → SendsBody s s id bytes (Err (r, bytes)) → SendsBody s (record s { requests = new }) id bytes (Err (r, bytes))
 body_alike s new id bytes r same h = record { sends = alike (λ e. send_body e id bytes) s new r same h.sends; back = handed_back r bytes }
 
-sends_total : (s : EndpointState) (new : Streams RequestState) (id : ℕ) (bytes : List ℕ) (total : ℕ) → body_refused s id ≡ None
+sends_total : (s : EndpointState) (new : Streams RequestState) (id : ℕ) (bytes : List ℕ) (total : ℕ) → body_refused s id (length bytes) ≡ None
     → IfSome (kept_at s.requests id) (λ r. Sets s.requests new id (record r { outgoing = sent.has_body r.outgoing bytes })) → total ≡ s.sent + length bytes + 64
     → SendsBody s (record s { requests = new; sent = total }) id bytes (Ok tt)
 sends_total s new id bytes total is sets sum = subst (λ n. SendsBody s (record s { requests = new; sent = n }) id bytes (Ok tt)) (sym sum) (sends_here s new id bytes sets is)
@@ -105,12 +119,12 @@ sends_total s new id bytes total is sets sum = subst (λ n. SendsBody s (record 
 pub sends_body : (s n : EndpointState) (id : ℕ) (bytes : List ℕ) (total : ℕ) (result : Result Unit (Refusal × List ℕ)) → s.closed ≡ None → total ≡ s.sent + length bytes + 64
     → OnOk result (n ≡ record s { requests = n.requests; sent = total }) → OnErr result (n ≡ record s { requests = n.requests })
     → OnOk result (IfSome (kept_at s.requests id) (λ r. Sets s.requests n.requests id (record r { outgoing = sent.has_body r.outgoing bytes })))
-    → OnOk result (body_refused_at (kept_at s.requests id) ≡ None)
-    → IfErr result (λ e. e.0 ≡ unwrap_or (body_refused_at (kept_at s.requests id)) refusal.OutOfMemory)
+    → OnOk result (or_later (body_refused_at (kept_at s.requests id)) (too_much_at (kept_at s.requests id) (length bytes)) ≡ None)
+    → IfErr result (λ e. e.0 ≡ unwrap_or (or_later (body_refused_at (kept_at s.requests id)) (too_much_at (kept_at s.requests id) (length bytes))) refusal.OutOfMemory)
     → IfErr result (λ e. (e.1 ≡ bytes) × AllSame s.requests n.requests) → SendsBody s n id bytes result
 sends_body s n id bytes total (Ok done) closed sum rest same sets taken why back =
-    subst (λ v. SendsBody s v id bytes (Ok tt)) (sym rest) (sends_total s n.requests id bytes total (still_open s id closed ∙ taken) sets sum)
+    subst (λ v. SendsBody s v id bytes (Ok tt)) (sym rest) (sends_total s n.requests id bytes total (still_open s id bytes closed ∙ taken) sets sum)
 sends_body s n id bytes total (Err (r, handed)) closed sum rest same sets taken why back =
     subst (λ v. SendsBody s v id bytes (Err (r, handed))) (sym same)
     (subst (λ l. SendsBody s (record s { requests = n.requests }) id bytes (Err (r, l))) (sym back.0)
-    (body_alike s n.requests id bytes r back.1 (body_uncounted s id bytes r closed why)))
+    (body_alike s n.requests id bytes r back.1 (body_uncounted s id bytes (length bytes) r closed refl why)))

@@ -8,7 +8,7 @@ use Rattle.h3_connection.specs.Answers.{call_refused}
 use Rattle.h3_connection.specs.Calls.{Sets, AllSame, SameRest, IsSame, fresh_request, open_refused}
 use Rattle.h3_connection.specs.Delivering.{opened_at}
 use Rattle.h3_connection.specs.Endpoint.{EndpointHistory, goaway_encoding}
-use Rattle.h3_connection.specs.Outgoing.{Outgoing, nothing_sent}
+use Rattle.h3_connection.specs.Outgoing.{Outgoing, nothing_sent, with_finish, with_reset}
 use Rattle.h3_connection.specs.Sending.{does, closed_or, outgoing_at, with_outgoing, open_refusal, finish_refusal, reset_refusal, goaway_refusal, finish, reset}
 use Rattle.h3_connection.specs.SendingContracts.{DoesOrRefuses, DoesAlways, Opens, Finishes, Resets, GoesAway}
 use Rattle.h3_connection.specs.StandsLaws.{stands_sending}
@@ -169,7 +169,7 @@ sends s new id change act (Some r) law is some sets e h =
 -- `finish`
 pub finish_refuses : (s : EndpointState) (id : ℕ) (r : Refusal) → end_refused s id ≡ Some r → Finishes s s id (Err r)
 finish_refuses s id r is =
-    always_refuses (λ e. finish_refusal e id) (λ e. with_outgoing e id (record (outgoing_at e id) { is_finished = true })) s r
+    always_refuses (λ e. finish_refusal e id) (λ e. with_outgoing e id (with_finish (outgoing_at e id))) s r
     (λ e h. sym (end_refusal_is s e id h) ∙ is) (λ memory. end_takes_none s id (is ∙ ap Some memory))
 
 end_there : (closed : Option ℕ) (there : Option RequestState) → closed_or closed (end_refused_at there) ≡ None → there ≢ None
@@ -180,9 +180,9 @@ end_there None (Some r) is none = absurd (cc)
 finishes_here : (s : EndpointState) (new : Streams RequestState) (id : ℕ)
     → IfSome (kept_at s.requests id) (λ r. Sets s.requests new id (record r { outgoing = has_ended r.outgoing })) → end_refused s id ≡ None → Finishes s (record s { requests = new }) id (Ok tt)
 finishes_here s new id sets is =
-    always_acts (λ e. finish_refusal e id) (λ e. with_outgoing e id (record (outgoing_at e id) { is_finished = true })) s (record s { requests = new })
+    always_acts (λ e. finish_refusal e id) (λ e. with_outgoing e id (with_finish (outgoing_at e id))) s (record s { requests = new })
     (λ e h. sym (end_refusal_is s e id h) ∙ is)
-    (sends s new id has_ended (λ o. record o { is_finished = true }) (kept_at s.requests id) ended refl (end_there s.closed (kept_at s.requests id) is) sets)
+    (sends s new id has_ended with_finish (kept_at s.requests id) ended refl (end_there s.closed (kept_at s.requests id) is) sets)
 
 pub finish_closed : (s : EndpointState) (id code : ℕ) → s.closed ≡ Some code → Finishes s s id (Err (refusal.Closed code))
 finish_closed s id code closed = finish_refuses s id (refusal.Closed code) (ap (λ c. closed_or c (end_refused_at (kept_at s.requests id))) closed)
@@ -202,7 +202,7 @@ finishes s n id result closed rest sets rule same = subst (λ v. Finishes s v id
 -- `reset`
 pub reset_refuses : (s : EndpointState) (id : ℕ) (r : Refusal) → reset_refused s id ≡ Some r → Resets s s id (Err r)
 reset_refuses s id r is =
-    always_refuses (λ e. reset_refusal e id) (λ e. with_outgoing e id (record (outgoing_at e id) { is_reset = true; is_finished = false })) s r
+    always_refuses (λ e. reset_refusal e id) (λ e. with_outgoing e id (with_reset (outgoing_at e id))) s r
     (λ e h. sym (reset_refusal_is s e id h) ∙ is) (λ memory. reset_takes_none s id (is ∙ ap Some memory))
 
 reset_there : (closed : Option ℕ) (critical : Bool) (there : Option RequestState) → closed_or closed (or_later (refused_if critical refusal.Critical) (reset_refused_at there)) ≡ None → there ≢ None
@@ -214,9 +214,9 @@ reset_there None false (Some r) is none = absurd (cc)
 resets_here : (s : EndpointState) (new : Streams RequestState) (id : ℕ)
     → IfSome (kept_at s.requests id) (λ r. Sets s.requests new id (record r { outgoing = was_cut_off r.outgoing })) → reset_refused s id ≡ None → Resets s (record s { requests = new }) id (Ok tt)
 resets_here s new id sets is =
-    always_acts (λ e. reset_refusal e id) (λ e. with_outgoing e id (record (outgoing_at e id) { is_reset = true; is_finished = false })) s (record s { requests = new })
+    always_acts (λ e. reset_refusal e id) (λ e. with_outgoing e id (with_reset (outgoing_at e id))) s (record s { requests = new })
     (λ e h. sym (reset_refusal_is s e id h) ∙ is)
-    (sends s new id was_cut_off (λ o. record o { is_reset = true; is_finished = false }) (kept_at s.requests id) cut_off refl (reset_there s.closed (is_critical_in s id) (kept_at s.requests id) is) sets)
+    (sends s new id was_cut_off with_reset (kept_at s.requests id) cut_off refl (reset_there s.closed (is_critical_in s id) (kept_at s.requests id) is) sets)
 
 pub reset_critical : (s : EndpointState) (id : ℕ) (r : Refusal) → critical_refused s id ≡ Some r → Resets s s id (Err r)
 reset_critical s id r is = reset_refuses s id r (critical_first s.closed (is_critical_in s id) (reset_refused_at (kept_at s.requests id)) r is)

@@ -22,7 +22,7 @@ use Rattle.h3_connection.specs.declared.event.Refusal.{Refusal}
 use Rattle.h3_connection.specs.declared.event.Refusal.TheVariants as refusal
 use Rattle.h3_connection.specs.declared.place.SendPlace.{SendPlace}
 use Rattle.h3_connection.specs.declared.place.SendPlace.TheVariants.{NothingSent, HeadSent, TrailerSent}
-use Rattle.h3_requests.specs.Refused.{or_later, refused_if, head_refused_at, body_refused_at}
+use Rattle.h3_requests.specs.Refused.{or_later, refused_if, head_refused_at, body_refused_at, early_trailer_at}
 use Rattle.h3_session.specs.OpenedLaws.{stands_same}
 use Rattle.h3_session.specs.SendingLists.{SendsListedHead, SendsListedTrailer, after_head, after_trailer, listed_head_refusal, listed_trailer_refusal, send_listed_head, send_listed_trailer}
 use Rattle.h3_session.specs.Refused.{list_refused, refused_behind, broken_behind, side_refused, pseudo_refused, head_refused, trailer_refused}
@@ -229,10 +229,14 @@ head_sent s m n id head later given fields place result closed is rest same none
     (head_sends mid n id head given fields place result taken are at (subst (λ v. SendsFields (asking id given) v n id given place (call_refused result)) rest h))
 
 -- `send_trailer`
-trailer_allowed : (b : Bool) (closed : Option ℕ) (there : Option RequestState) → closed_or closed (or_later (body_refused_at there) (refused_if b refusal.PseudoInTrailer)) ≡ None → TakesBody there
-trailer_allowed b (Some code) there h = absurd (cc)
-trailer_allowed b None None h = absurd (cc)
-trailer_allowed b None (Some r) h = not_first (sent.takes_body r.outgoing) refusal.OutOfOrder (refused_if b refusal.PseudoInTrailer) h
+trailer_allowed : (later : Option Refusal) (closed : Option ℕ) (there : Option RequestState) → closed_or closed (or_later (body_refused_at there) later) ≡ None → TakesBody there
+trailer_allowed later (Some code) there h = absurd (cc)
+trailer_allowed later None None h = absurd (cc)
+trailer_allowed later None (Some r) h = not_first (sent.takes_body r.outgoing) refusal.OutOfOrder later h
+
+-- what refuses a trailer behind what refuses its stream
+abbrev behind_order : EndpointState → ℕ → Option Refusal → Option Refusal
+behind_order s id later = or_later later (early_trailer_at (kept_at s.requests id))
 
 trailer_is : (s : EndpointState) (e : EndpointHistory) (id : ℕ) (fields : List Field) (there : Option RequestState) → StandsFor s e → kept_at s.requests id ≡ there → TakesBody there
     → IsPart e id fields TrailerSent (OwnTrailer (encoded_section e.encoder id fields))
@@ -262,41 +266,41 @@ trailer_sends : (old new : EndpointState) (id : ℕ) (trailer : Head) (given fie
 trailer_sends old new id trailer given fields result none are h =
     section_sends (λ e. listed_trailer_refusal e id trailer fields) (λ e. after_trailer e id fields) old id fields (broken_trailer old.announced fields) (λ e. e) new TrailerSent (call_refused result) (λ e. OwnTrailer (encoded_section e.encoder id fields))
     (trailer_rule old id trailer fields none)
-    (λ e stands. trailer_is old e id fields (kept_at old.requests id) stands refl (trailer_allowed (has_pseudo trailer) old.closed (kept_at old.requests id) none)) (λ e. refl) refl
+    (λ e stands. trailer_is old e id fields (kept_at old.requests id) stands refl (trailer_allowed (behind_order old id (pseudo_refused trailer)) old.closed (kept_at old.requests id) none)) (λ e. refl) refl
     (subst (λ fs. SendsFields (λ e. e) old new id fs TrailerSent (call_refused result)) are h)
 
-trailer_open : (s : EndpointState) (id : ℕ) (trailer : Head) → s.closed ≡ None → trailer_refused s id trailer ≡ or_later (body_refused_at (kept_at s.requests id)) (pseudo_refused trailer)
-trailer_open s id trailer closed = ap (λ c. closed_or c (or_later (body_refused_at (kept_at s.requests id)) (pseudo_refused trailer))) closed
+trailer_open : (s : EndpointState) (id : ℕ) (trailer : Head) → s.closed ≡ None → trailer_refused s id trailer ≡ or_later (body_refused_at (kept_at s.requests id)) (behind_order s id (pseudo_refused trailer))
+trailer_open s id trailer closed = ap (λ c. closed_or c (or_later (body_refused_at (kept_at s.requests id)) (behind_order s id (pseudo_refused trailer)))) closed
 
 trailer_refused_by : (s : EndpointState) (id : ℕ) (trailer : Head) (fields : List Field) (rule : Option Refusal) → trailer_refused s id trailer ≡ rule → SendsListedTrailer s s id trailer fields (Err (unwrap_or rule refusal.OutOfMemory))
 trailer_refused_by s id trailer fields (Some r) is = trailer_refuses s id trailer fields r is
 trailer_refused_by s id trailer fields None is = trailer_lacks s id trailer fields is
 
 pub trailer_closed : (s : EndpointState) (id : ℕ) (trailer : Head) (fields : List Field) (code : ℕ) → s.closed ≡ Some code → SendsListedTrailer s s id trailer fields (Err (refusal.Closed code))
-trailer_closed s id trailer fields code closed = trailer_refuses s id trailer fields (refusal.Closed code) (ap (λ c. closed_or c (or_later (body_refused_at (kept_at s.requests id)) (pseudo_refused trailer))) closed)
+trailer_closed s id trailer fields code closed = trailer_refuses s id trailer fields (refusal.Closed code) (ap (λ c. closed_or c (or_later (body_refused_at (kept_at s.requests id)) (behind_order s id (pseudo_refused trailer)))) closed)
 
 -- no room was made for it,
 pub trailer_unreserved : (s n : EndpointState) (id : ℕ) (trailer : Head) (fields : List Field) (later : Option Refusal) (r : Refusal) → s.closed ≡ None → later ≡ pseudo_refused trailer → n ≡ record s { requests = n.requests } → AllSame s.requests n.requests
-    → r ≡ unwrap_or (or_later (body_refused_at (kept_at s.requests id)) later) refusal.OutOfMemory → SendsListedTrailer s n id trailer fields (Err r)
+    → r ≡ unwrap_or (or_later (body_refused_at (kept_at s.requests id)) (or_later later (early_trailer_at (kept_at s.requests id)))) refusal.OutOfMemory → SendsListedTrailer s n id trailer fields (Err r)
 trailer_unreserved s n id trailer fields later r closed is rest same why =
-    let rule = or_later (body_refused_at (kept_at s.requests id)) (pseudo_refused trailer) in
+    let rule = or_later (body_refused_at (kept_at s.requests id)) (behind_order s id (pseudo_refused trailer)) in
     subst (λ v. SendsListedTrailer s v id trailer fields (Err r)) (sym rest)
-    (subst (λ r. SendsListedTrailer s (record s { requests = n.requests }) id trailer fields (Err r)) (sym (why ∙ ap (λ l. unwrap_or (or_later (body_refused_at (kept_at s.requests id)) l) refusal.OutOfMemory) is))
+    (subst (λ r. SendsListedTrailer s (record s { requests = n.requests }) id trailer fields (Err r)) (sym (why ∙ ap (λ l. unwrap_or (or_later (body_refused_at (kept_at s.requests id)) (behind_order s id l)) refusal.OutOfMemory) is))
     (section_alike (λ e. send_listed_trailer e id trailer fields) s id fields n.requests same (unwrap_or rule refusal.OutOfMemory) (trailer_refused_by s id trailer fields rule (trailer_open s id trailer closed))))
 
 -- its fields could not be listed,
 pub trailer_unlisted : (s n : EndpointState) (id : ℕ) (trailer : Head) (fields : List Field) (later : Option Refusal) → s.closed ≡ None → later ≡ pseudo_refused trailer → n ≡ record s { requests = n.requests } → AllSame s.requests n.requests
-    → or_later (body_refused_at (kept_at s.requests id)) later ≡ None → SendsListedTrailer s n id trailer fields (Err refusal.OutOfMemory)
+    → or_later (body_refused_at (kept_at s.requests id)) (or_later later (early_trailer_at (kept_at s.requests id))) ≡ None → SendsListedTrailer s n id trailer fields (Err refusal.OutOfMemory)
 trailer_unlisted s n id trailer fields later closed is rest same none =
     trailer_unreserved s n id trailer fields later refusal.OutOfMemory closed is rest same (ap (λ o. unwrap_or o refusal.OutOfMemory) (sym none))
 
 -- or they were sent
 pub trailer_sent : (s m n : EndpointState) (id : ℕ) (trailer : Head) (later : Option Refusal) (given fields : List Field) (result : Result Unit Refusal) → s.closed ≡ None → later ≡ pseudo_refused trailer
-    → m ≡ record s { requests = m.requests } → AllSame s.requests m.requests → or_later (body_refused_at (kept_at s.requests id)) later ≡ None → given ≡ fields
+    → m ≡ record s { requests = m.requests } → AllSame s.requests m.requests → or_later (body_refused_at (kept_at s.requests id)) (or_later later (early_trailer_at (kept_at s.requests id))) ≡ None → given ≡ fields
     → SendsFields (λ e. e) m n id given TrailerSent (call_refused result) → SendsListedTrailer s n id trailer fields result
 trailer_sent s m n id trailer later given fields result closed is rest same none are h =
     let mid = record s { requests = m.requests } in
     let taken : trailer_refused mid id trailer ≡ None = trailer_open mid id trailer closed
-    ∙ ap (λ o. or_later (body_refused_at o) (pseudo_refused trailer)) (same.each id) ∙ ap (or_later (body_refused_at (kept_at s.requests id))) (sym is) ∙ none in
+    ∙ ap (λ o. or_later (body_refused_at o) (or_later (pseudo_refused trailer) (early_trailer_at o))) (same.each id) ∙ ap (λ l. or_later (body_refused_at (kept_at s.requests id)) (behind_order s id l)) (sym is) ∙ none in
     section_begun (λ e. send_listed_trailer e id trailer fields) s id fields m.requests same n (call_refused result)
     (trailer_sends mid n id trailer given fields result taken are (subst (λ v. SendsFields (λ e. e) v n id given TrailerSent (call_refused result)) rest h))

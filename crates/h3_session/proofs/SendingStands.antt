@@ -24,7 +24,7 @@ use Rattle.h3_session.proofs.LastIds.{last_appended}
 
 -- a stream on which nothing was sent
 fresh_sent : IsOfOutgoing nothing_sent nothing_waits
-fresh_sent = record { pieces = refl; place = refl; is_finished = refl; is_reset = refl; end_taken = refl; taken = λ here. omega arith }
+fresh_sent = record { pieces = refl; place = refl; content = refl; is_finished = refl; is_reset = refl; end_taken = refl; taken = λ here. omega arith }
 
 reached_opened : (e : EndpointHistory) (id : ℕ) → IsReached e → IsReached (opened_at e id None)
 reached_opened e id h =

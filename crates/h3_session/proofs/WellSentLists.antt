@@ -10,8 +10,8 @@ use Rattle.h3_connection.specs.OwnIds.{other}
 use Rattle.h3_connection.specs.Pulling.{is_for}
 use Rattle.h3_connection.specs.Sending.{does, is_open, is_too_large, outgoing_at}
 use Rattle.h3_connection.specs.StrictMessages.{broken_rule}
-use Rattle.h3_connection.specs.StrictSending.{broken_head, broken_trailer, unless_malformed}
-use Rattle.h3_connection.specs.StrictSendingLaws.{head_taken, trailer_taken, not_closed, passed, not_malformed, was_allowed}
+use Rattle.h3_connection.specs.StrictSending.{broken_head, broken_trailer, early_trailer, unless_malformed}
+use Rattle.h3_connection.specs.StrictSendingLaws.{head_taken, trailer_taken, not_closed, passed, not_early, not_malformed, was_allowed}
 use Rattle.h3_connection.specs.StrictSends.{IsStrictTo}
 use Rattle.h3_connection.specs.declared.event.Refusal.{Refusal}
 use Rattle.h3_connection.specs.declared.event.Refusal.TheVariants as refusal
@@ -45,12 +45,14 @@ trailer_list (IsHead trailer) e peer id fields strict sent =
     let after = after_trailer e id fields in
     let broken = broken_trailer e.announced fields in
     let size = (is_too_large e.peer.settings fields, refusal.TooLarge (section_size fields)) ∷ [] in
-    let pseudo = (has_pseudo trailer, refusal.PseudoInTrailer) ∷ unless_malformed broken size in
+    let early = early_trailer (outgoing_at e id).content in
+    let behind = unless_malformed broken size in
+    let pseudo = (has_pseudo trailer, refusal.PseudoInTrailer) ∷ unless_malformed early behind in
     let allowed = not_closed e.closed _ (was_allowed rule e after (not_refused (does rule e after).0 sent)) in
     let there = passed (not (is_open e id)) refusal.NotOpen ((not (takes_body (outgoing_at e id)), refusal.OutOfOrder) ∷ pseudo) allowed in
     let placed = passed (not (takes_body (outgoing_at e id))) refusal.OutOfOrder pseudo there in
     trailer_taken (other e.side) e.announced peer fields strict.strict
-    (not_malformed broken size (passed (has_pseudo trailer) refusal.PseudoInTrailer (unless_malformed broken size) placed))
+    (not_malformed broken size (not_early early behind (passed (has_pseudo trailer) refusal.PseudoInTrailer (unless_malformed early behind) placed)))
 
 pub sends_well_formed_lists : SendsWellFormedLists
 sends_well_formed_lists e peer id fields strict sent = head_list (head_of fields) e peer id fields strict sent

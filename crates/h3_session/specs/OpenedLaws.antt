@@ -82,7 +82,7 @@ stands_fresh s e new id x h is sets =
 
 -- what a stream is sent of which nothing was sent
 pub fresh_sent : IsOfOutgoing nothing_sent fresh_request.outgoing
-fresh_sent = record { pieces = refl; place = refl; is_finished = refl; is_reset = refl; end_taken = refl; taken = λ is. omega arith }
+fresh_sent = record { pieces = refl; place = refl; content = refl; is_finished = refl; is_reset = refl; end_taken = refl; taken = λ is. omega arith }
 
 -- Where none is stored, a stream is opened.
 pub stands_opened : (s : EndpointState) (e : EndpointHistory) (new : Streams RequestState) (id : ℕ) → StandsFor s e

@@ -15,7 +15,7 @@ use Rattle.h3_connection.specs.StrictSending.{violation_of_own_head}
 use Rattle.h3_connection.specs.declared.event.Malformation.{Malformation}
 use Rattle.h3_connection.specs.declared.place.SendPlace.{SendPlace}
 use Rattle.h3_connection.specs.declared.place.SendPlace.TheVariants.{NothingSent, HeadSent, TrailerSent}
-use Rattle.h3_requests.specs.Refused.{or_later, refused_if, head_refused_at, body_refused_at, end_refused_at, reset_refused_at}
+use Rattle.h3_requests.specs.Refused.{or_later, refused_if, head_refused_at, body_refused_at, early_trailer_at, too_much_at, end_refused_at, reset_refused_at}
 use Rattle.h3_streams.specs.Placed.{StreamsState, is_critical_at}
 use Rattle.h3_connection.specs.declared.event.Refusal.{Refusal}
 use Rattle.h3_connection.specs.declared.event.Refusal.TheVariants as refusal
@@ -32,15 +32,16 @@ side_refused side head = refused_if (not (is_for (other side) head)) refusal.Wro
 abbrev pub head_refused : EndpointState → ℕ → Head → Option Refusal
 head_refused s id head = closed_or s.closed (or_later (head_refused_at (kept_at s.requests id)) (side_refused s.side head))
 
-abbrev pub body_refused : EndpointState → ℕ → Option Refusal
-body_refused s id = closed_or s.closed (body_refused_at (kept_at s.requests id))
+-- a body of so many bytes
+abbrev pub body_refused : EndpointState → ℕ → ℕ → Option Refusal
+body_refused s id size = closed_or s.closed (or_later (body_refused_at (kept_at s.requests id)) (too_much_at (kept_at s.requests id) size))
 
 abbrev pub pseudo_refused : Head → Option Refusal
 pseudo_refused trailer = refused_if (has_pseudo trailer) refusal.PseudoInTrailer
 
 -- a trailer, its size apart
 abbrev pub trailer_refused : EndpointState → ℕ → Head → Option Refusal
-trailer_refused s id trailer = closed_or s.closed (or_later (body_refused_at (kept_at s.requests id)) (pseudo_refused trailer))
+trailer_refused s id trailer = closed_or s.closed (or_later (body_refused_at (kept_at s.requests id)) (or_later (pseudo_refused trailer) (early_trailer_at (kept_at s.requests id))))
 
 abbrev pub end_refused : EndpointState → ℕ → Option Refusal
 end_refused s id = closed_or s.closed (end_refused_at (kept_at s.requests id))

@@ -12,10 +12,10 @@ use Rattle.h3_connection.specs.Outgoing.OwnPart.{OwnTrailer}
 use Rattle.h3_connection.specs.OwnIds.{other}
 use Rattle.h3_connection.specs.Pulling.{is_for, malformation_of}
 use Rattle.h3_connection.specs.Sections.{encoded_section}
-use Rattle.h3_connection.specs.Sending.{does, unless_closed, first_of, is_open, is_too_large, outgoing_at, body_refusal, appended, asked, counted, encoded, fields_cost, head_part}
+use Rattle.h3_connection.specs.Sending.{does, unless_closed, first_of, is_open, is_too_large, outgoing_at, appended, asked, counted, encoded, fields_cost, head_part}
 use Rattle.h3_connection.specs.SendingContracts.{CutsOff, MayLackMemory, SendsSection}
 use Rattle.h3_connection.specs.State.{EndpointState, StandsFor}
-use Rattle.h3_connection.specs.StrictSending.{broken_head, broken_trailer, unless_malformed}
+use Rattle.h3_connection.specs.StrictSending.{broken_head, broken_trailer, early_trailer, unless_malformed}
 use Rattle.h3_connection.specs.declared.event.Refusal.{Refusal}
 use Rattle.h3_connection.specs.declared.event.Refusal.TheVariants as refusal
 use Rattle.h3_session.specs.declared.endpoint.lists.FieldsError.{FieldsError}
@@ -42,8 +42,8 @@ listed_trailer_refusal e id trailer fields = unless_closed e (first_of (
     (not (is_open e id), refusal.NotOpen) ∷
     (not (takes_body (outgoing_at e id)), refusal.OutOfOrder) ∷
     (has_pseudo trailer, refusal.PseudoInTrailer) ∷
-    unless_malformed (broken_trailer e.announced fields) (
-    (is_too_large e.peer.settings fields, refusal.TooLarge (section_size fields)) ∷ [])))
+    unless_malformed (early_trailer (outgoing_at e id).content) (unless_malformed (broken_trailer e.announced fields) (
+    (is_too_large e.peer.settings fields, refusal.TooLarge (section_size fields)) ∷ []))))
 
 abbrev pub after_trailer : EndpointHistory → ℕ → List Field → EndpointHistory
 after_trailer e id fields = counted (appended (encoded e id fields) id (OwnTrailer (encoded_section e.encoder id fields))) (fields_cost fields)
@@ -57,11 +57,17 @@ SendsListedHead old new id head fields result = SendsSection (λ e. send_listed_
 abbrev pub SendsListedTrailer : EndpointState → EndpointState → ℕ → Head → List Field → Result Unit Refusal → Type 0
 SendsListedTrailer old new id trailer fields result = SendsSection (λ e. send_listed_trailer e id trailer fields) old new id fields (call_refused result)
 
--- Why a stream takes no head now, whatever is in it. Of a trailer that is why it takes no body.
+-- Why a stream takes no head now, whatever is in it.
 abbrev pub place_refusal : EndpointHistory → ℕ → Option Refusal
 place_refusal e id = unless_closed e (first_of (
     (not (is_open e id), refusal.NotOpen) ∷
     (not (takes_head (outgoing_at e id)), refusal.OutOfOrder) ∷ []))
+
+-- Why it takes no trailer.
+abbrev pub order_refusal : EndpointHistory → ℕ → Option Refusal
+order_refusal e id = unless_closed e (first_of (
+    (not (is_open e id), refusal.NotOpen) ∷
+    (not (takes_body (outgoing_at e id)), refusal.OutOfOrder) ∷ []))
 
 -- That comes before what is malformed.
 abbrev pub error_after : Option Refusal → FieldsError → FieldsError
@@ -86,7 +92,7 @@ send_read_head e id fields (IsNone why) = (Some (error_after (place_refusal e id
 
 abbrev pub send_read_trailer : EndpointHistory → ℕ → List Field → HeadRead → Option FieldsError × EndpointHistory
 send_read_trailer e id fields (IsHead trailer) = as_error (send_listed_trailer e id trailer fields)
-send_read_trailer e id fields (IsNone why) = (Some (error_after (body_refusal e id) (malformed why)), e)
+send_read_trailer e id fields (IsNone why) = (Some (error_after (order_refusal e id) (malformed why)), e)
 
 -- A list goes out as a head, or as a trailer, where it reads as one.
 abbrev pub send_fields : EndpointHistory → ℕ → List Field → Option FieldsError × EndpointHistory

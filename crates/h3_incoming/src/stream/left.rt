@@ -18,6 +18,14 @@ impl IncomingStream {
         self.place
     }
 
+    /// What a response to it may have as content, as its client awaits it. None: that is not known, since no head of a request was read, or
+    /// the endpoint asks for no strict messages.
+    pub fn response(&self) -> Option<Content>
+        ensures { result ≡ self.now.response }
+    {
+        self.response
+    }
+
     /// How much content of its message is left to come, where the endpoint asks for strict messages.
     pub fn content(&self) -> Content
         ensures { result ≡ self.now.content }
@@ -44,6 +52,7 @@ impl IncomingStream {
             section: None,
             body_left: 0,
             content: self.content,
+            response: self.response,
             place: self.place,
             waits_for: 0,
             tries: self.tries,

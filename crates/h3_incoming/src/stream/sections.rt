@@ -80,7 +80,15 @@ impl IncomingStream {
         ensures memory { is_memory out.new ≡ true → (self.new ≡ self.old) × (replies.new.items ≡ replies.old.items) }
     {
         let acknowledges = names_entries(&decoded);
-        match judge(alloc, side, announced, self.place, self.content, decoded) {
+        match judge(
+            alloc,
+            side,
+            announced,
+            self.place,
+            self.content,
+            self.response,
+            decoded,
+        ) {
             Err(_) => fail(out, Fault::Memory),
             Ok(judged) => self.answer_section(alloc, id, acknowledges, judged, replies, out),
         }
@@ -102,7 +110,7 @@ impl IncomingStream {
         ensures memory { is_memory out.new ≡ true → (self.new ≡ self.old) × (replies.new.items ≡ replies.old.items) }
     {
         match judged {
-            Judged::HandsOut(item, place, content) => {
+            Judged::HandsOut(item, place, content, response) => {
                 if reply(alloc, id, acknowledges, false, replies).is_err() {
                     drop(item);
                     fail(out, Fault::Memory);
@@ -110,6 +118,7 @@ impl IncomingStream {
                 }
                 self.place = place;
                 self.content = content;
+                self.response = response;
                 self.pass_section();
                 put(out, Pull::Item(item));
             }

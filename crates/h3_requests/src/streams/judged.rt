@@ -1,5 +1,5 @@
 //! What is done on a request stream where it is allowed: the stream is looked up once, judged by what is stored of it, and changed.
-ghost use Rattle.std.specs.Prelude.{◌≡◌, ◌++◌, None, unwrap_or, OnOk, OnErr, IfOk, IfErr, IfSome};
+ghost use Rattle.std.specs.Prelude.{◌≡◌, ◌++◌, None, length, unwrap_or, OnOk, OnErr, IfOk, IfErr, IfSome};
 ghost use Rattle.h3_connection.specs.Answers.{call_refused};
 ghost use Rattle.h3_connection.specs.Calls.{Sets, AllSame};
 ghost use Rattle.h3_connection.specs.Delivering.{given_up_once, cancellation};
@@ -8,12 +8,12 @@ ghost use Rattle.h3_connection.specs.declared.event.Refusal.TheVariants.{OutOfMe
 ghost use Rattle.h3_connection.specs.declared.event.StreamFault.TheVariants.{Canceled};
 ghost use Rattle.h3_incoming.specs.Replying.{encodings};
 ghost use Rattle.h3_outgoing.specs.Sent.{has_body, has_ended, was_cut_off};
-ghost use Rattle.h3_requests.specs.Refused.{or_later, head_refused_at, body_refused_at, end_refused_at, reset_refused_at, cancel_refused_at};
+ghost use Rattle.h3_requests.specs.Refused.{or_later, head_refused_at, body_refused_at, early_trailer_at, too_much_at, end_refused_at, reset_refused_at, cancel_refused_at};
 
 use super::RequestStreams;
 use crate::room::SectionRoom;
 use bytes::{Buf, Bytes};
-use h3_connection::event::Refusal;
+use h3_connection::event::{Malformation, Refusal};
 use h3_proto::stream::StreamId;
 use std::alloc::Global;
 
@@ -49,15 +49,16 @@ impl RequestStreams {
     }
 
     /// Room for the frame of a trailer, so that sending it needs no memory. Refused are, in this order, a stream that is not there,
-    /// one whose final head was not sent, or whose trailer or end was, what `later` refuses, and want of memory.
+    /// one whose final head was not sent, or whose trailer or end was, what `later` refuses, a trailer in front of which less content was
+    /// sent than the head said, or that would stand in a tunnel, and want of memory.
     pub fn reserve_trailer(
         &mut self,
         id: StreamId,
         later: Option<Refusal>,
     ) -> Result<SectionRoom, Refusal>
         ensures room { IfOk result (λ room. room ≡ id) }
-        ensures taken { OnOk result (or_later (body_refused_at (kept_at self.old id)) later ≡ None) }
-        ensures why { IfErr result (λ r. r ≡ unwrap_or (or_later (body_refused_at (kept_at self.old id)) later) OutOfMemory) }
+        ensures taken { OnOk result (or_later (body_refused_at (kept_at self.old id)) (or_later later (early_trailer_at (kept_at self.old id))) ≡ None) }
+        ensures why { IfErr result (λ r. r ≡ unwrap_or (or_later (body_refused_at (kept_at self.old id)) (or_later later (early_trailer_at (kept_at self.old id)))) OutOfMemory) }
         ensures same { AllSame self.old self.new }
     {
         let Some(stream) = self.streams.get_mut(id) else {
@@ -69,6 +70,9 @@ impl RequestStreams {
         if let Some(refusal) = later {
             return Err(refusal);
         }
+        if let Some(why) = stream.outgoing.early_trailer() {
+            return Err(Refusal::Malformed(why));
+        }
         let Ok(frame) = stream.outgoing.reserve() else {
             return Err(Refusal::OutOfMemory);
         };
@@ -79,12 +83,12 @@ impl RequestStreams {
     }
 
     /// A body goes out as the payload of a DATA frame; an empty one writes nothing. Refused are, in this order, a stream that is not
-    /// there, one whose final head was not sent, or whose trailer or end was, and want of memory. An `Err` changes nothing, and hands
-    /// the body back.
+    /// there, one whose final head was not sent, or whose trailer or end was, more content than the head said, and want of memory. An
+    /// `Err` changes nothing, and hands the body back.
     pub fn send_data(&mut self, id: StreamId, body: Bytes) -> Result<(), (Refusal, Bytes)>
         ensures ok { OnOk result (IfSome (kept_at self.old id) (λ r. Sets self.old self.new id (record r { outgoing = has_body r.outgoing body }))) }
-        ensures taken { OnOk result (body_refused_at (kept_at self.old id) ≡ None) }
-        ensures why { IfErr result (λ e. e.0 ≡ unwrap_or (body_refused_at (kept_at self.old id)) OutOfMemory) }
+        ensures taken { OnOk result (or_later (body_refused_at (kept_at self.old id)) (too_much_at (kept_at self.old id) (length body)) ≡ None) }
+        ensures why { IfErr result (λ e. e.0 ≡ unwrap_or (or_later (body_refused_at (kept_at self.old id)) (too_much_at (kept_at self.old id) (length body))) OutOfMemory) }
         ensures err { IfErr result (λ e. (e.1 ≡ body) × AllSame self.old self.new) }
     {
         let Some(stream) = self.streams.get_mut(id) else {
@@ -93,6 +97,9 @@ impl RequestStreams {
         };
         if !stream.outgoing.takes_body() {
             return Err((Refusal::OutOfOrder, body));
+        }
+        if stream.outgoing.passes_content(body.len()) {
+            return Err((Refusal::Malformed(Malformation::ContentLength), body));
         }
         if !body.has_remaining() {
             return Ok(());
@@ -107,8 +114,8 @@ impl RequestStreams {
         Ok(())
     }
 
-    /// The message is whole. It needs no memory. Refused are, in this order, a stream that is not there, and one whose final head was
-    /// not sent, or whose sending has ended. An `Err` changes nothing.
+    /// The message is whole. It needs no memory. Refused are, in this order, a stream that is not there, one whose final head was not
+    /// sent, or whose sending has ended, and one whose head said more content than was sent. An `Err` changes nothing.
     pub fn finish_stream(&mut self, id: StreamId) -> Result<(), Refusal>
         ensures ok { OnOk result (IfSome (kept_at self.old id) (λ r. Sets self.old self.new id (record r { outgoing = has_ended r.outgoing }))) }
         ensures rule { call_refused result ≡ end_refused_at (kept_at self.old id) }
@@ -120,6 +127,9 @@ impl RequestStreams {
         };
         if !stream.outgoing.takes_end() {
             return Err(Refusal::OutOfOrder);
+        }
+        if !stream.outgoing.content().may_end() {
+            return Err(Refusal::Malformed(Malformation::ContentLength));
         }
         stream.outgoing.finish();
         let ends = stream.outgoing.end_waits();

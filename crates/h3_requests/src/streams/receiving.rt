@@ -7,6 +7,7 @@ ghost use Rattle.h3_connection.specs.Incoming.{awaiting};
 ghost use Rattle.h3_connection.specs.State.{kept_at};
 ghost use Rattle.h3_connection.specs.declared.event.StreamFault.TheVariants.{Reset};
 ghost use Rattle.h3_incoming.specs.Replying.{encodings};
+ghost use Rattle.h3_outgoing.specs.Sent.{is_to_have};
 ghost use Rattle.h3_requests.specs.Changing.{opened_at, Receives, receiver_refusal, IsRefusedBy};
 
 use super::RequestStreams;
@@ -173,9 +174,11 @@ impl RequestStreams {
         }
     }
 
-    /// This content is awaited of a stream, until the head of its message comes. Nothing happens where the stream is not there.
-    pub fn await_content(&mut self, id: StreamId, content: Content)
-        ensures there { IfSome (kept_at self.old id) (λ r. Sets self.old self.new id (record r { incoming = awaiting r.incoming content })) }
+    /// This content is awaited of a stream, until the head of its message comes, and so much is to be sent on it, unless its sending has
+    /// ended. Nothing happens where the stream is not there.
+    pub fn await_content(&mut self, id: StreamId, content: Content, sent: Content)
+        ensures there { IfSome (kept_at self.old id) (λ r.
+            Sets self.old self.new id (record r { incoming = awaiting r.incoming content; outgoing = is_to_have r.outgoing sent })) }
         ensures absent { kept_at self.old id ≡ None → AllSame self.old self.new }
     {
         let Some(stream) = self.streams.get_mut(id) else {
@@ -183,6 +186,7 @@ impl RequestStreams {
             return;
         };
         stream.incoming.await_content(content);
+        stream.outgoing.expect(sent);
     }
 
     // Opens the stream where it is not there, takes it up where it is over, and answers whether it was there.

@@ -13,9 +13,9 @@ ghost use Rattle.h3_connection.specs.Sending.{fields_cost, is_too_large, remembe
 ghost use Rattle.h3_connection.specs.SendingContracts.{SendsHead, SendsTrailer, CutsOff};
 ghost use Rattle.h3_connection.specs.State.{StandsFor, kept_at};
 ghost use Rattle.h3_connection.specs.declared.event.Refusal.TheVariants.{OutOfMemory};
-ghost use Rattle.h3_requests.specs.Refused.{or_later, head_refused_at, body_refused_at};
+ghost use Rattle.h3_requests.specs.Refused.{or_later, head_refused_at, body_refused_at, early_trailer_at};
 ghost use Rattle.h3_session.specs.Refused.{side_refused, pseudo_refused, size_refused, refused_behind};
-ghost use Rattle.h3_session.specs.SendingFields.{Encodes, StopsEncoding, Queues, Remembers, SendsFields, IsJudged, asking};
+ghost use Rattle.h3_session.specs.SendingFields.{Encodes, StopsEncoding, Queues, Remembers, SendsFields, IsJudged, asking, counts_responses};
 
 use super::Endpoint;
 use bytes::Bytes;
@@ -73,8 +73,8 @@ impl Endpoint {
 
     /// A trailer goes out on a stream, as a head does, and ends the message's fields. Refused are, in this order, every call after
     /// a connection fault, a stream that is not open, one whose final head was not sent, or whose trailer or end was, a trailer
-    /// with a pseudo-header field, where the endpoint asks for strict messages one that a strict peer would call malformed, and one
-    /// whose size is above what the peer's settings allow.
+    /// with a pseudo-header field, where the endpoint asks for strict messages one in front of which less content was sent than the head
+    /// said, or in a tunnel, and one that a strict peer would call malformed, and one whose size is above what the peer's settings allow.
     pub fn send_trailer(&mut self, id: StreamId, trailer: &Header) -> Result<(), Refusal>
         ensures { SendsTrailer self.old self.new id trailer.now result }
     {
@@ -100,8 +100,8 @@ impl Endpoint {
     ) -> Result<SectionRoom, Refusal>
         ensures room { IfOk result (λ room. room ≡ id) }
         ensures rest { self.new ≡ record self.old { requests = self.new.requests } }
-        ensures taken { OnOk result (or_later (body_refused_at (kept_at self.old.requests id)) later ≡ None) }
-        ensures why { IfErr result (λ r. r ≡ unwrap_or (or_later (body_refused_at (kept_at self.old.requests id)) later) OutOfMemory) }
+        ensures taken { OnOk result (or_later (body_refused_at (kept_at self.old.requests id)) (or_later later (early_trailer_at (kept_at self.old.requests id))) ≡ None) }
+        ensures why { IfErr result (λ r. r ≡ unwrap_or (or_later (body_refused_at (kept_at self.old.requests id)) (or_later later (early_trailer_at (kept_at self.old.requests id)))) OutOfMemory) }
         ensures same { AllSame self.old.requests self.new.requests }
     {
         self.requests.reserve_trailer(id, later)
@@ -126,12 +126,29 @@ impl Endpoint {
         }
     }
 
-    // What a request of these fields says of the content of its response is remembered on its stream, where this is a strict client.
+    // What a head of these fields says of content is remembered on its stream, where the endpoint asks for strict messages: that of a request
+    // also of its response.
     fn await_response(&mut self, id: StreamId, fields: &[HeaderField])
         ensures { Remembers self.old self.new id fields.now }
     {
         if self.remembers() {
-            self.requests.await_content(id, Content::awaited_by(fields));
+            let awaited = Content::awaited_by(fields);
+            self.requests
+                .await_content(id, awaited, Content::of_request(fields));
+            return;
+        }
+        if self.counts_responses() {
+            self.requests.expect_content(id, fields);
+        }
+    }
+
+    // Whether this is a server that asks for strict messages.
+    fn counts_responses(&self) -> bool
+        ensures { result ≡ counts_responses self.now.side self.now.announced }
+    {
+        match self.side {
+            Side::Client => false,
+            Side::Server => self.announced.choices.strict_messages,
         }
     }
 

@@ -54,8 +54,8 @@ impl Endpoint {
 
     /// A trailer goes out on a stream, as `send_trailer` sends it, but as the list that it is given as. Refused are, in this order, every
     /// call after a connection fault, a stream that is not open, one whose final head was not sent, or whose trailer or end was, a list
-    /// that `Header::try_from` refuses, one with a pseudo-header field, where the endpoint asks for strict messages one that a strict peer
-    /// would call malformed, and one whose size is above what the peer's settings allow.
+    /// that `Header::try_from` refuses, one with a pseudo-header field, where the endpoint asks for strict messages one in front of which
+    /// less content was sent than the head said, or in a tunnel, and one that a strict peer would call malformed, and one whose size is above what the peer's settings allow.
     pub fn send_trailer_fields(
         &mut self,
         id: StreamId,

@@ -10,14 +10,14 @@ ghost use Rattle.h3_unidirectional.specs.Owned.{waiting_on, having_taken};
 ghost use Rattle.h3_connection.specs.State.{kept_at};
 ghost use Rattle.h3_connection.specs.declared.event.Refusal.TheVariants.{OutOfMemory};
 ghost use Rattle.h3_outgoing.specs.Sent.{has_body, has_ended, was_cut_off};
-ghost use Rattle.h3_requests.specs.Refused.{body_refused_at, end_refused_at, reset_refused_at};
+ghost use Rattle.h3_requests.specs.Refused.{or_later, body_refused_at, too_much_at, end_refused_at, reset_refused_at};
 ghost use Rattle.h3_session.specs.NextRequest.{ShowsNextRequest};
 ghost use Rattle.h3_session.specs.Refused.{sender_in, critical_refused, goaway_refused};
 
 use super::Endpoint;
 use bytes::Bytes;
 use h3_coding::varint::VarInt;
-use h3_connection::event::Refusal;
+use h3_connection::event::{Malformation, Refusal};
 use h3_outgoing::OutgoingStream;
 use h3_proto::stream::{Side, StreamId};
 use h3_streams::streams::ConnectionStreams;
@@ -76,15 +76,17 @@ impl Endpoint {
 
     /// A body goes out on a stream, as the payload of a DATA frame (RFC 9114, section 7.2.1); an empty one writes nothing. Refused
     /// are, in this order, every call after a connection fault, a stream that is not open, one whose final head was not sent, or
-    /// whose trailer or end was, and want of memory. A refused body comes back.
+    /// whose trailer or end was, where the endpoint asks for strict messages more content than the head said (section 4.1.2), and want of
+    /// memory. A refused body comes back.
     pub fn send_body(&mut self, id: StreamId, body: Bytes) -> Result<(), (Refusal, Bytes)>
         ensures { SendsBody self.old self.new id body result }
     {
         if let Some(code) = self.closed {
             return Err((Refusal::Closed(code), body));
         }
-        let Some(sent) = self.sent_with(body.len() as u64) else {
-            return Err((self.uncounted_refusal(id), body));
+        let size = body.len();
+        let Some(sent) = self.sent_with(size as u64) else {
+            return Err((self.uncounted_refusal(id, size), body));
         };
         self.append_body(id, body, sent)
     }
@@ -94,8 +96,8 @@ impl Endpoint {
         ensures rest { OnOk result (self.new ≡ record self.old { requests = self.new.requests; sent = sent }) }
         ensures same { OnErr result (self.new ≡ record self.old { requests = self.new.requests }) }
         ensures ok { OnOk result (IfSome (kept_at self.old.requests id) (λ r. Sets self.old.requests self.new.requests id (record r { outgoing = has_body r.outgoing body }))) }
-        ensures taken { OnOk result (body_refused_at (kept_at self.old.requests id) ≡ None) }
-        ensures why { IfErr result (λ e. e.0 ≡ unwrap_or (body_refused_at (kept_at self.old.requests id)) OutOfMemory) }
+        ensures taken { OnOk result (or_later (body_refused_at (kept_at self.old.requests id)) (too_much_at (kept_at self.old.requests id) (length body)) ≡ None) }
+        ensures why { IfErr result (λ e. e.0 ≡ unwrap_or (or_later (body_refused_at (kept_at self.old.requests id)) (too_much_at (kept_at self.old.requests id) (length body))) OutOfMemory) }
         ensures err { IfErr result (λ e. (e.1 ≡ body) × AllSame self.old.requests self.new.requests) }
     {
         match self.requests.send_data(id, body) {
@@ -108,14 +110,17 @@ impl Endpoint {
     }
 
     // Why a body is refused whose bytes cannot be counted: what refuses it on its stream comes before want of memory.
-    fn uncounted_refusal(&self, id: StreamId) -> Refusal
-        ensures { result ≡ unwrap_or (body_refused_at (kept_at self.now.requests id)) OutOfMemory }
+    fn uncounted_refusal(&self, id: StreamId, size: usize) -> Refusal
+        ensures { result ≡ unwrap_or (or_later (body_refused_at (kept_at self.now.requests id)) (too_much_at (kept_at self.now.requests id) size)) OutOfMemory }
     {
         let Some(stream) = self.requests.outgoing(id) else {
             return Refusal::NotOpen;
         };
         if !stream.takes_body() {
             return Refusal::OutOfOrder;
+        }
+        if stream.passes_content(size) {
+            return Refusal::Malformed(Malformation::ContentLength);
         }
         Refusal::OutOfMemory
     }
@@ -131,7 +136,8 @@ impl Endpoint {
     }
 
     /// The message on a stream is whole (RFC 9114, section 4.1). It takes no memory. Refused are, in this order, every call after a
-    /// connection fault, a stream that is not open, and one whose final head was not sent, or whose sending has ended.
+    /// connection fault, a stream that is not open, one whose final head was not sent, or whose sending has ended, and, where the endpoint
+    /// asks for strict messages, one whose head said more content than was sent (section 4.1.2).
     pub fn finish(&mut self, id: StreamId) -> Result<(), Refusal>
         ensures { Finishes self.old self.new id result }
     {

@@ -7,6 +7,9 @@ use Rattle.h3_requests.proofs.streams.RequestStreams.finish_stream.Goals as goal
 pub invariant_of-self-then-not-takes_end : goal.invariant_of-self-then-not-takes_end
 invariant_of-self-then-not-takes_end c = written _ _ _ _ c.args.id c.in-Some.stream.now _ (c.get_mut.follows.holds _) (search rules) (search rules) (search rules) c.self.invariant
 
+pub invariant_of-self-then-not-may_end : goal.invariant_of-self-then-not-may_end
+invariant_of-self-then-not-may_end c = written _ _ _ _ c.args.id c.in-Some.stream.now _ (c.get_mut.follows.holds _) (search rules) (search rules) (search rules) c.self.invariant
+
 pub invariant_of-self-2 : goal.invariant_of-self-2
 invariant_of-self-2 c = moved c.retire_if.ensures
     (ended _ _ _ _ _ c.args.id _ c.in-Some.stream.now (record { incoming = c.stream.inside.incoming; outgoing = c.finish.new.self }) (c.get_mut.follows.holds _) (search rules) (ap (λ (r : RequestState). r.incoming.waits_for) c.stream.view_is)

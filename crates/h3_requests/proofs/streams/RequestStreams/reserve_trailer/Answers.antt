@@ -9,6 +9,9 @@ invariant_of-self-then-not-takes_body c = written _ _ _ _ c.args.id c.in-Some.st
 pub invariant_of-self-in-Some-later : goal.invariant_of-self-in-Some-later
 invariant_of-self-in-Some-later c = written _ _ _ _ c.args.id c.in-Some.stream.now _ (c.get_mut.follows.holds _) (search rules) (search rules) (search rules) c.self.invariant
 
+pub invariant_of-self-in-Some-early_trailer : goal.invariant_of-self-in-Some-early_trailer
+invariant_of-self-in-Some-early_trailer c = written _ _ _ _ c.args.id c.in-Some.stream.now _ (c.get_mut.follows.holds _) (search rules) (search rules) (search rules) c.self.invariant
+
 pub invariant_of-self-in_default-reserve : goal.invariant_of-self-in_default-reserve
 invariant_of-self-in_default-reserve c = written _ _ _ _ c.args.id c.in-Some.stream.now _ (c.get_mut.follows.holds _) (search rules) (search rules) (search rules) c.self.invariant
 

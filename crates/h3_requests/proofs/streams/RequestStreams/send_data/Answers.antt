@@ -6,6 +6,9 @@ use Rattle.h3_requests.proofs.streams.RequestStreams.send_data.Goals as goal
 pub invariant_of-self-then-not-takes_body : goal.invariant_of-self-then-not-takes_body
 invariant_of-self-then-not-takes_body c = written _ _ _ _ c.args.id c.in-Some.stream.now _ (c.get_mut.follows.holds _) (search rules) (search rules) (search rules) c.self.invariant
 
+pub invariant_of-self-then-passes_content : goal.invariant_of-self-then-passes_content
+invariant_of-self-then-passes_content c = written _ _ _ _ c.args.id c.in-Some.stream.now _ (c.get_mut.follows.holds _) (search rules) (search rules) (search rules) c.self.invariant
+
 pub invariant_of-self-then-not-has_remaining : goal.invariant_of-self-then-not-has_remaining
 invariant_of-self-then-not-has_remaining c = written _ _ _ _ c.args.id c.in-Some.stream.now _ (c.get_mut.follows.holds _) (search rules) (search rules) (search rules) c.self.invariant
 
