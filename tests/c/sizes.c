@@ -83,6 +83,7 @@ static void make(void) {
     c.table = 4096;
     c.blocked = 100;
     c.count_acknowledgments = 0; /* so that increments of 0 are taken */
+    c.economical_table = 0;      /* so that fields that come once are inserted too */
     DONE(h3_new(&ends[side], &c, NULL), "h3_new", side);
   }
 }
