@@ -6,12 +6,13 @@ use Rattle.h3_field.specs.Field.{Field}
 use Rattle.h3_field.specs.Instruction.{DecoderInstruction}
 use Rattle.h3_qpack.specs.DecoderState.{DecoderState}
 use Rattle.h3_header.specs.Head.{Head}
-use Rattle.h3_header.specs.HeadRead.{HeadRefusal, IsHead, IsNone, head_of, told}
+use Rattle.h3_header.specs.HeadRead.{HeadRead, HeadRefusal, IsHead, IsNone, head_of, told}
 use Rattle.h3_header.specs.Reads.{kind_of, with_field, RefusesAt, RefusesOne}
 use Rattle.h3_header.specs.declared.headers.error.HeaderError.{HeaderError}
 use Rattle.h3_header.specs.declared.headers.error.HeaderError.TheVariants as error
 use Rattle.h3_header.specs.declared.headers.kind.FieldKind.{FieldKind}
 use Rattle.h3_proto.specs.declared.stream.Side.{Side}
+use Rattle.h3_connection.specs.declared.event.Item.{Item}
 use Rattle.h3_connection.specs.declared.event.Item.TheVariants as item
 use Rattle.h3_connection.specs.declared.event.Pull.{Pull}
 use Rattle.h3_connection.specs.declared.event.Pull.TheVariants as pull
@@ -29,8 +30,13 @@ use Rattle.h3_qpack.specs.declared.within.DecodedWithin.TheVariants as within
 use Rattle.h3_field.specs.declared.decoder.Decoded.{Decoded}
 use Rattle.h3_incoming.specs.declared.judge.Judged.{Judged}
 use Rattle.h3_incoming.specs.declared.judge.Judged.TheVariants as judge
-use Rattle.h3_incoming.specs.Judging.{Tells, judged_as}
-use Rattle.h3_connection.specs.Pulling.{Pulled, is_memory, malformed, malformation_of, next_place, head_or_trailer, judged, with_content, read_section, decoded, at_section}
+use Rattle.h3_proto.specs.declared.stream.Side.TheVariants.{Client, Server}
+use Rattle.h3_incoming.specs.Judging.{HasItem, HasList, Tells, judged_as}
+use Rattle.h3_incoming.specs.Outline.{outline_of, is_read_outline, list_read}
+use Rattle.h3_incoming.specs.declared.outline.Outline.{Outline}
+use Rattle.h3_incoming.specs.declared.outline.ListRead.{ListRead}
+use Rattle.h3_incoming.specs.declared.outline.ListRead.TheVariants as read
+use Rattle.h3_connection.specs.Pulling.{Pulled, is_for, is_memory, malformation_of, next_place, head_or_trailer, judged, with_content, read_section, decoded, at_section}
 
 -- a refusal that tells no malformation is for want of memory
 memory_at : (at : FieldKind) (h : Head) (f : Field) (e : HeaderError) → RefusesAt at h f e → told e ≡ None → RefusesAt at h f error.OutOfMemory
@@ -55,21 +61,59 @@ pub tells_none : (fields : List Field) (e : HeaderError) (why : HeadRefusal) →
 tells_none fields e why law (inl here) = law here
 tells_none fields e why law (inr is) = is
 
+-- so it is told to be malformed
+pub refused_reads : (fields : List Field) (e : HeaderError) (why : HeadRefusal) (r : ListRead) → (told e ≡ Some why → head_of fields ≡ IsNone why) → Tells fields e why → r ≡ read.Malformed (malformation_of why)
+    → r ≡ list_read (head_of fields)
+refused_reads fields e why r law tells is = is ∙ ap list_read (sym (tells_none fields e why law tells))
+
+pub refused_never : (fields : List Field) (e : HeaderError) (why : HeadRefusal) (h : Head) → (told e ≡ Some why → head_of fields ≡ IsNone why) → Tells fields e why → head_of fields ≡ IsHead h → ⊥
+refused_never fields e why h law tells is = let wrong : IsHead h ≡ IsNone why = sym is ∙ tells_none fields e why law tells in cc
+
+-- a list has one head
+pub one_head : (r : HeadRead) (header h : Head) → r ≡ IsHead header → r ≡ IsHead h → header ≡ h
+one_head r header h is other = cc
+
 -- what is said of the fields that are kept is said of the section
-pub judged_within : {E : Type 0} (result : Result Judged E) (side : Side) (own : Announced) (place : Place) (content : Content) (known : Option Content) (d : Decoded) (w : DecodedWithin) → w ≡ within.Fields d
+pub judged_within : {E : Type 0} (result : Result Judged E) (side : Side) (own : Announced) (place : Place) (content : Content) (known : Option Content) (answer : Pull) (d : Decoded) (w : DecodedWithin) → w ≡ within.Fields d
     → IfOk result (λ j. (id : ℕ) (r : DecoderState) (i : Incoming) (replies : List DecoderInstruction) → told_size d.fields.items ≤ section_of own → i.place ≡ place → i.content ≡ content → i.response ≡ known
-    → read_section side own id r i replies d.fields.items ≡ judged_as id i replies j)
+    → read_section side own id r i replies d.fields.items ≡ judged_as id i replies answer j)
     → IfOk result (λ j. (id : ℕ) (r : DecoderState) (i : Incoming) (replies : List DecoderInstruction) (dyn_ref : Bool) (fields : List Field)
-    → IsWithin (section_of own) (codes ":status") dyn_ref fields w → i.place ≡ place → i.content ≡ content → i.response ≡ known → read_section side own id r i replies fields ≡ judged_as id i replies j)
-judged_within (Err e) side own place content known d w is h = h
-judged_within (Ok j) side own place content known d w is h = λ id r i replies dyn_ref fields k at left told.
+    → IsWithin (section_of own) (codes ":status") dyn_ref fields w → i.place ≡ place → i.content ≡ content → i.response ≡ known → read_section side own id r i replies fields ≡ judged_as id i replies answer j)
+judged_within (Err e) side own place left known answer d w is h = h
+judged_within (Ok j) side own place before known answer d w is h = λ id r i replies dyn_ref fields k at left told.
     let size = subst (λ x. IsWithin (section_of own) (codes ":status") dyn_ref fields x) is k in
-    subst (λ fs. read_section side own id r i replies fs ≡ judged_as id i replies j) size.1 (h id r i replies (subst (λ fs. told_size fs ≤ section_of own) (sym size.1) size.0) at left told)
+    subst (λ fs. read_section side own id r i replies fs ≡ judged_as id i replies answer j) size.1 (h id r i replies (subst (λ fs. told_size fs ≤ section_of own) (sym size.1) size.0) at left told)
+
+pub listed_within : {E : Type 0} (result : Result Judged E) (limit : ℕ) (listed : Option (List Field)) (d : Decoded) (w : DecodedWithin) → w ≡ within.Fields d
+    → IfOk result (λ j. HasList j listed d.fields.items) → IfOk result (λ j. (dyn_ref : Bool) (fields : List Field) → IsWithin limit (codes ":status") dyn_ref fields w → HasList j listed fields)
+listed_within (Err e) limit listed d w is h = h
+listed_within (Ok j) limit listed d w is h = λ dyn_ref fields k.
+    let size = subst (λ x. IsWithin limit (codes ":status") dyn_ref fields x) is k in
+    subst (HasList j listed) size.1 h
 
 -- what is made of it overwrites the content
-pub judged_behind : (id : ℕ) (i : Incoming) (content : Content) (known : Option Content) (replies : List DecoderInstruction) (j : Judged) → judged_as id (record i { content = content; response = known }) replies j ≡ judged_as id i replies j
-judged_behind id i content known replies (judge.HandsOut item place left told) = refl
-judged_behind id i content known replies (judge.Malformed why) = refl
+pub judged_behind : (id : ℕ) (i : Incoming) (content : Content) (known : Option Content) (replies : List DecoderInstruction) (answer : Pull) (j : Judged) → judged_as id (record i { content = content; response = known }) replies answer j ≡ judged_as id i replies answer j
+judged_behind id i before known replies answer (judge.HandsOut place left told) = refl
+judged_behind id i before known replies answer (judge.Malformed why) = refl
+
+-- an item is no want of memory
+pub has_item : (j : Judged) (answer : Pull) (i : Item) → answer ≡ pull.Item i → HasItem j answer
+has_item (judge.HandsOut place left told) answer i is = ap is_memory is
+has_item (judge.Malformed why) answer i is = tt
+
+pub has_list : (j : Judged) (listed : Option (List Field)) (fields : List Field) → IfSome listed (λ l. l ≡ fields) → HasList j listed fields
+has_list (judge.HandsOut place left told) listed fields h = h
+has_list (judge.Malformed why) listed fields h = tt
+
+-- an outline tells as much of a head as its place asks
+pub is_read : (side : Side) (h : Head) → is_read_outline side (outline_of h) ≡ is_for side h
+is_read Client h = refl
+is_read Server h = refl
+
+-- what a list is told to be says what it reads as
+pub reads_head : (r : HeadRead) (o : Outline) → read.Head o ≡ list_read r → (P : Type 0) → ((h : Head) → r ≡ IsHead h → o ≡ outline_of h → P) → P
+reads_head (IsHead h) o is P given = given h refl (cc)
+reads_head (IsNone why) o is P given = absurd (cc)
 
 module _ (side : Side) (own : Announced) (id : ℕ) (r : DecoderState) where
   -- a section that is too large
@@ -87,11 +131,6 @@ module _ (side : Side) (own : Announced) (id : ℕ) (r : DecoderState) where
       ∙ ap (λ c. large_as size i (next_place side place fields) (large_content_at side own place c status) i.response replies) left
       ∙ ap (λ q. large_as size i q (large_content_at side own place content status) i.response replies) (sym next) ∙ ap (λ c. large_as size i behind c i.response replies) (sym says)
       ∙ ap (λ k. large_as size i behind expected k replies) told
-
-  -- one that is not, and that is no head
-  pub read_none : (i : Incoming) (replies : List DecoderInstruction) (fields : List Field) (why : HeadRefusal) → told_size fields ≤ section_of own → head_of fields ≡ IsNone why
-      → read_section side own id r i replies fields ≡ malformed id (malformation_of why) i replies
-  read_none i replies fields why few e = rw (le-ltb (section_of own) (told_size fields) few) (ap (judged side id (with_content side own i fields) replies (if_whole i.content (broken_rule side own i.place fields))) e)
 
   -- a section that is small enough, and a head
   pub read_head : (i : Incoming) (replies : List DecoderInstruction) (fields : List Field) (place : Place) (h : Head) → told_size fields ≤ section_of own

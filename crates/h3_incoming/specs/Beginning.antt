@@ -4,6 +4,7 @@ use Rattle.h3_proto.specs.declared.stream.Side.{Side}
 use Rattle.h3_qpack.specs.DecoderState.{DecoderState}
 use Rattle.h3_wire.specs.declared.proto.frame.PayloadLen.{PayloadLen}
 use Rattle.h3_wire.specs.declared.proto.frame.Frame.{Frame}
+use Rattle.h3_wire.specs.declared.proto.frame.Frame.TheVariants as frame
 use Rattle.h3_connection.specs.declared.event.Item.TheVariants as item
 use Rattle.h3_connection.specs.declared.event.Pull.TheVariants as pull
 use Rattle.h3_connection.specs.declared.place.Place.{Place}
@@ -23,6 +24,11 @@ begun_as side own id r i (begun.Section bytes) = new_section side own id r i byt
 begun_as side own id r i (begun.Payload size) = at_payload id (begun_payload i size)
 begun_as side own id r i (begun.Session session) = just (pull.Item (item.Session session)) (record i { place = InSession })
 begun_as side own id r i (begun.Fault code) = connection_fault code i
+
+-- A section is that of its frame.
+abbrev pub IsSectionOf : Frame PayloadLen → Begun → Type 0
+IsSectionOf f (begun.Section bytes) = f ≡ frame.Headers bytes
+IsSectionOf f _ = Unit {0}
 
 -- A section or a payload is begun by its frame. A payload is empty only in a frame that is passed.
 abbrev pub IsBegunBy : Place → Content → Frame PayloadLen → Begun → Type 0

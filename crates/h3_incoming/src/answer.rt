@@ -1,9 +1,94 @@
-//! What a pull answers, written in one place. An answer with a header is large: one that is returned is moved from call to call, and each call
-//! clears the room for it. So an answer that has no header is made in a function of its own, which clears room where it is called alone.
-ghost use Rattle.std.specs.Prelude.{◌≡◌};
-ghost use Rattle.h3_connection.specs.declared.event.Item.TheVariants.{End};
+//! What a pull answers, written in one place: as a `Pull`, whose heads and trailers are headers, or as a `FieldsPull`, which has the lists of
+//! fields that came. An answer with a header is large: one that is returned is moved from call to call, and each call clears the room for it.
+ghost use Rattle.std.specs.Prelude.{◌≡◌, Option, None, List, IfOk, IfSome, OnOk, OnErr, false, []};
+ghost use Rattle.h3_field.specs.Field.{Field};
+ghost use Rattle.h3_header.specs.BadPart.{IsHeadUnlessMany};
+ghost use Rattle.h3_header.specs.Head.{Head, trailer_head};
+ghost use Rattle.h3_header.specs.HeadRead.{IsHead, head_of};
+ghost use Rattle.h3_header.specs.Reads.{RefusesOne};
+ghost use Rattle.h3_connection.specs.declared.event.Item.TheVariants as item;
+ghost use Rattle.h3_connection.specs.declared.event.Pull.{Pull};
+ghost use Rattle.h3_connection.specs.declared.event.Pull.TheVariants as pull;
+ghost use Rattle.h3_incoming.specs.Answering.{fault_told, has_header, item_of, kind_at, message_at, plain_pull};
+ghost use Rattle.h3_incoming.specs.Outline.{list_read};
 
+use crate::outline::{ListRead, Outline, read_refused};
+use bytes::Bytes;
 use h3_connection::event::{Fault, Item, Pull};
+use h3_connection::place::Place;
+use h3_field::HeaderField;
+use h3_header::{Header, HeaderError};
+use h3_proto::stream::Side;
+use h3_proto::webtransport::SessionId;
+use std::alloc::{AllocError, Global};
+
+/// An answer that has no head or trailer.
+#[derive(Drop)]
+pub enum Plain {
+    /// The next piece of the content.
+    Body(Bytes),
+    /// The next piece of a WebTransport stream.
+    Raw(Bytes),
+    /// The stream is one of this WebTransport session.
+    Session(SessionId),
+    /// In the place of a head or trailer that is too large: its size.
+    TooLarge(u64),
+    /// The stream has ended.
+    End,
+    /// The next item isn't there yet.
+    Pending,
+    /// The next head or trailer needs so many insertions.
+    Waiting(usize),
+    /// There is none, for this fault.
+    Fault(Fault),
+    /// The stream has no messages for this side.
+    NoMessages,
+}
+
+/// What stands where a field section stands.
+#[derive(Clone, Copy, Debug, PartialEq, Eq)]
+pub enum MessageKind {
+    /// A head with a status from 100 to 199.
+    Interim,
+    /// Another head.
+    Head,
+    /// A trailer.
+    Trailer,
+}
+
+/// Where the answer of a pull is written.
+pub trait Answer: Drop {
+    // The answer, whatever heads and trailers are kept as.
+    ghost told: { Self → Pull };
+
+    // The list of a head or trailer that is kept as one.
+    ghost listed: { Self → Option (List Field) };
+
+    /// An answer with no head or trailer takes the place of what was there.
+    fn give(&mut self, answer: Plain)
+        ensures is { told self.new ≡ plain_pull answer }
+        ensures none { listed self.new ≡ None };
+
+    /// Tells what a decoded list is, and puts the head or trailer that it is at this place there, for this side. What is malformed is told
+    /// alone. An `Err` tells that memory was refused: of a list of which a front is good and whose next field may ask for it; and of none
+    /// that is malformed, unless it has more fields than a map has names for.
+    fn give_message(
+        &mut self,
+        alloc: Global,
+        side: Side,
+        place: Place,
+        fields: Vec<HeaderField>,
+    ) -> Result<ListRead, AllocError>
+        ensures read { IfOk result (λ r. r ≡ list_read (head_of fields.items)) }
+        ensures head { OnOk result ((h : Head) → head_of fields.items ≡ IsHead h → told self.new ≡ pull.Item (message_at side place h)) }
+        ensures list { OnOk result ((h : Head) → head_of fields.items ≡ IsHead h → IfSome (listed self.new) (λ l. l ≡ fields.items)) }
+        ensures memory { OnErr result (RefusesOne (trailer_head []) fields.items HeaderError.OutOfMemory) }
+        ensures good { OnErr result (IsHeadUnlessMany fields.items) };
+
+    /// The fault that it tells.
+    fn fault(&self) -> Option<Fault>
+        ensures { result ≡ fault_told (told self.now) };
+}
 
 /// Puts a value in the place of another, which is let go.
 pub fn put<T: Drop>(place: &mut T, value: T)
@@ -13,36 +98,173 @@ pub fn put<T: Drop>(place: &mut T, value: T)
 }
 
 /// There is this fault.
-pub fn fail(out: &mut Pull, fault: Fault)
-    ensures { out.new ≡ Pull.Fault fault }
+pub fn fail<O: Answer>(out: &mut O, fault: Fault)
+    ensures is { O.told out.new ≡ pull.Fault fault }
+    ensures none { O.listed out.new ≡ None }
 {
-    put(out, Pull::Fault(fault));
+    out.give(Plain::Fault(fault));
 }
 
 /// The next item isn't there yet.
-pub fn pause(out: &mut Pull)
-    ensures { out.new ≡ Pull.Pending }
+pub fn pause<O: Answer>(out: &mut O)
+    ensures is { O.told out.new ≡ pull.Pending }
+    ensures none { O.listed out.new ≡ None }
 {
-    put(out, Pull::Pending);
+    out.give(Plain::Pending);
 }
 
 /// The next head or trailer needs so many insertions.
-pub fn wait(out: &mut Pull, count: usize)
-    ensures { out.new ≡ Pull.Waiting count }
+pub fn wait<O: Answer>(out: &mut O, count: usize)
+    ensures is { O.told out.new ≡ pull.Waiting count }
+    ensures none { O.listed out.new ≡ None }
 {
-    put(out, Pull::Waiting(count));
+    out.give(Plain::Waiting(count));
 }
 
 /// The stream has ended, and all of it was handed out.
-pub fn end(out: &mut Pull)
-    ensures { out.new ≡ Pull.Item End }
+pub fn end<O: Answer>(out: &mut O)
+    ensures is { O.told out.new ≡ pull.Item item.End }
+    ensures none { O.listed out.new ≡ None }
 {
-    put(out, Pull::Item(Item::End));
+    out.give(Plain::End);
 }
 
 /// The stream has no messages for this side.
-pub fn no_messages(out: &mut Pull)
-    ensures { out.new ≡ Pull.NoMessages }
+pub fn no_messages<O: Answer>(out: &mut O)
+    ensures is { O.told out.new ≡ pull.NoMessages }
+    ensures none { O.listed out.new ≡ None }
 {
-    put(out, Pull::NoMessages);
+    out.give(Plain::NoMessages);
+}
+
+/// An answer that was made elsewhere, where it has no header. One that has is told as want of memory.
+pub fn give_made<O: Answer>(out: &mut O, answer: Pull)
+    ensures is { has_header answer ≡ false → O.told out.new ≡ answer }
+    ensures none { O.listed out.new ≡ None }
+{
+    out.give(plain_of(answer));
+}
+
+// The same answer, where it has no header.
+fn plain_of(answer: Pull) -> Plain
+    ensures { has_header answer ≡ false → plain_pull result ≡ answer }
+{
+    match answer {
+        Pull::Item(item) => plain_of_item(item),
+        Pull::Pending => Plain::Pending,
+        Pull::Waiting(count) => Plain::Waiting(count),
+        Pull::Fault(fault) => Plain::Fault(fault),
+        Pull::NoMessages => Plain::NoMessages,
+    }
+}
+
+fn plain_of_item(item: Item) -> Plain
+    ensures { has_header (pull.Item item) ≡ false → plain_pull result ≡ pull.Item item }
+{
+    match item {
+        Item::Body(bytes) => Plain::Body(bytes),
+        Item::Raw(bytes) => Plain::Raw(bytes),
+        Item::Session(session) => Plain::Session(session),
+        Item::TooLarge(size) => Plain::TooLarge(size),
+        Item::End => Plain::End,
+        Item::Head(_) | Item::Interim(_) | Item::Trailer(_) => Plain::Fault(Fault::Memory),
+    }
+}
+
+/// What a head or trailer of this outline is at a place, for a side.
+pub(crate) fn kind_at(side: Side, place: Place, outline: &Outline) -> MessageKind
+    ensures { result ≡ kind_at side place outline.now.status }
+{
+    match place {
+        Place::BeforeHead => head_kind(side, outline),
+        Place::InBody | Place::AfterTrailer | Place::InSession => MessageKind::Trailer,
+    }
+}
+
+// A client reads responses, interim ones among them.
+fn head_kind(side: Side, outline: &Outline) -> MessageKind
+    ensures { result ≡ kind_at side Place.BeforeHead outline.now.status }
+{
+    match side {
+        Side::Client if outline.is_interim() => MessageKind::Interim,
+        Side::Client | Side::Server => MessageKind::Head,
+    }
+}
+
+fn item_of(kind: MessageKind, header: Header) -> Item
+    ensures { result ≡ item_of kind header }
+{
+    match kind {
+        MessageKind::Interim => Item::Interim(header),
+        MessageKind::Head => Item::Head(header),
+        MessageKind::Trailer => Item::Trailer(header),
+    }
+}
+
+// The header of the list is made before anything changes.
+fn give_header(
+    out: &mut Pull,
+    alloc: Global,
+    side: Side,
+    place: Place,
+    fields: &[HeaderField],
+) -> Result<ListRead, AllocError>
+    ensures read { IfOk result (λ r. r ≡ list_read (head_of fields.now)) }
+    ensures head { OnOk result ((h : Head) → head_of fields.now ≡ IsHead h → out.new ≡ pull.Item (message_at side place h)) }
+    ensures memory { OnErr result (RefusesOne (trailer_head []) fields.now HeaderError.OutOfMemory) }
+    ensures good { OnErr result (IsHeadUnlessMany fields.now) }
+{
+    h3_header::laws::lists_are_their_value();
+    match Header::of_fields(alloc, fields) {
+        Ok(header) => {
+            let outline = Outline::of(&header);
+            let kind = kind_at(side, place, &outline);
+            put(out, Pull::Item(item_of(kind, header)));
+            Ok(ListRead::Head(outline))
+        }
+        Err(e) => read_refused(fields, &e),
+    }
+}
+
+impl Answer for Pull {
+    ghost told = { λ p. p };
+
+    ghost listed = { λ p. None };
+
+    fn give(&mut self, answer: Plain) {
+        put(self, pull_of_plain(answer));
+    }
+
+    fn give_message(
+        &mut self,
+        alloc: Global,
+        side: Side,
+        place: Place,
+        fields: Vec<HeaderField>,
+    ) -> Result<ListRead, AllocError> {
+        give_header(self, alloc, side, place, fields.as_slice())
+    }
+
+    fn fault(&self) -> Option<Fault> {
+        match self {
+            Pull::Fault(fault) => Some(*fault),
+            Pull::Item(_) | Pull::Pending | Pull::Waiting(_) | Pull::NoMessages => None,
+        }
+    }
+}
+
+fn pull_of_plain(answer: Plain) -> Pull
+    ensures { result ≡ plain_pull answer }
+{
+    match answer {
+        Plain::Body(bytes) => Pull::Item(Item::Body(bytes)),
+        Plain::Raw(bytes) => Pull::Item(Item::Raw(bytes)),
+        Plain::Session(session) => Pull::Item(Item::Session(session)),
+        Plain::TooLarge(size) => Pull::Item(Item::TooLarge(size)),
+        Plain::End => Pull::Item(Item::End),
+        Plain::Pending => Pull::Pending,
+        Plain::Waiting(count) => Pull::Waiting(count),
+        Plain::Fault(fault) => Pull::Fault(fault),
+        Plain::NoMessages => Pull::NoMessages,
+    }
 }

@@ -3,10 +3,14 @@
 #![tactic(auto)]
 
 pub mod answer;
+pub mod fields;
 mod judge;
+pub mod outline;
 mod replies;
 mod section;
 pub mod stream;
 mod strict;
 
+pub use answer::Answer;
+pub use fields::{FieldList, FieldsItem, FieldsPull};
 pub use stream::IncomingStream;

@@ -1,6 +1,6 @@
 -- What came on a stream that is there, by a call that may be refused memory.
 use Rattle.std.proofs.Common.{◌≡◌, ℕ, Bool, true, false, if◌then◌else◌, List, refl, sym, ap, subst, ◌∙◌}
-use Rattle.std.specs.Prelude.{◌&&◌, ◌||◌, not, Result, Ok, Err, Option, Some, None, IfSome, OnOk, is_some, unwrap_or}
+use Rattle.std.specs.Prelude.{◌&&◌, not, Result, Ok, Err, Option, Some, None, IfSome, OnOk, is_some, unwrap_or}
 use Rattle.h3_messages.specs.declared.content.Content.{Content}
 use Rattle.h3_field.specs.Field.{Field}
 use Rattle.h3_connection.specs.Calls.{Sets, fresh_request}

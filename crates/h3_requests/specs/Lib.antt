@@ -4,6 +4,7 @@ pub mod Ends
 pub mod HasBytes
 pub mod Lending
 pub mod Limited
+pub mod Coming
 pub mod Listed
 pub mod Marks
 pub mod Over

@@ -7,16 +7,18 @@ ghost use Rattle.h3_qpack.specs.DecoderState.{DecoderState};
 ghost use Rattle.h3_connection.specs.Codes.{refusal_code};
 ghost use Rattle.h3_connection.specs.Incoming.{Incoming, is_body};
 ghost use Rattle.h3_connection.specs.Pulling.{is_memory, at_frame, next_frame, between_frames};
-ghost use Rattle.h3_incoming.specs.Beginning.{IsBegunBy, begun_as};
+ghost use Rattle.h3_incoming.specs.Beginning.{IsBegunBy, IsSectionOf, begun_as};
+ghost use Rattle.h3_incoming.specs.Answering.{Lists};
+ghost use Rattle.h3_incoming.specs.Coming.{fields_next};
 ghost use Rattle.h3_incoming.specs.Gives.{Gives};
 ghost use Rattle.h3_incoming.specs.Resuming.{Resumes};
 ghost use Rattle.h3_incoming.specs.Placing.{is_session, promise_code};
 
 use super::IncomingStream;
 use super::front::{Found, front};
-use crate::answer::{fail, pause, put};
+use crate::answer::{Answer, Plain, fail, pause};
 use bytes::Bytes;
-use h3_connection::event::{Fault, Item, Malformation, Pull};
+use h3_connection::event::{Fault, Malformation};
 use h3_connection::place::Place;
 use h3_connection::setup::Announced;
 use h3_messages::Content;
@@ -31,7 +33,7 @@ use std::alloc::Global;
 
 impl IncomingStream {
     /// The next frame that gives something, at its place; or the end.
-    pub(super) fn pull_frame(
+    pub(super) fn pull_frame<O: Answer>(
         &mut self,
         alloc: Global,
         side: Side,
@@ -39,7 +41,7 @@ impl IncomingStream {
         id: StreamId,
         decoder: &Decoder,
         replies: &mut Vec<u8>,
-        out: &mut Pull,
+        out: &mut O,
     )
         requires closed { self.old.body_left ≡ 0 }
         requires open { self.old.fault ≡ None }
@@ -47,9 +49,10 @@ impl IncomingStream {
         requires goes_on { self.old.is_over ≡ false }
         requires message { is_session self.old.place ≡ false }
         requires waits { self.old.waits_for ≡ 0 }
-        ensures answer { is_memory out.new ≡ false
-            → Gives (between_frames side announced.now id decoder.now self.old) out.new self.new replies.old.items replies.new.items }
-        ensures memory { is_memory out.new ≡ true → Resumes self.old self.new × (replies.new.items ≡ replies.old.items) }
+        ensures answer { is_memory (O.told out.new) ≡ false
+            → Gives (between_frames side announced.now id decoder.now self.old) (O.told out.new) self.new replies.old.items replies.new.items }
+        ensures memory { is_memory (O.told out.new) ≡ true → Resumes self.old self.new × (replies.new.items ≡ replies.old.items) }
+        ensures list { Lists (O.listed out.new) (fields_next decoder.now self.old) }
     {
         let in_body = self.is_in_body();
         match front(&mut self.unread, alloc, in_body) {
@@ -70,7 +73,7 @@ impl IncomingStream {
                 }
                 Begun::Session(session) => {
                     self.place = Place::InSession;
-                    put(out, Pull::Item(Item::Session(session)))
+                    out.give(Plain::Session(session))
                 }
                 Begun::Fault(code) => fail(out, Fault::Connection(code)),
             },
@@ -87,11 +90,18 @@ impl IncomingStream {
     }
 
     // No frame is whole.
-    fn pull_end(&mut self, alloc: Global, id: StreamId, replies: &mut Vec<u8>, out: &mut Pull)
+    fn pull_end<O: Answer>(
+        &mut self,
+        alloc: Global,
+        id: StreamId,
+        replies: &mut Vec<u8>,
+        out: &mut O,
+    )
         requires { IsWaiting (frame_at (concat self.old.unread)) }
-        ensures answer { (side : Side) (own : Announced) (r : DecoderState) → is_memory out.new ≡ false
-            → Gives (next_frame side own id r self.old (concat self.old.unread)) out.new self.new replies.old.items replies.new.items }
-        ensures memory { is_memory out.new ≡ true → (self.new ≡ self.old) × (replies.new.items ≡ replies.old.items) }
+        ensures answer { (side : Side) (own : Announced) (r : DecoderState) → is_memory (O.told out.new) ≡ false
+            → Gives (next_frame side own id r self.old (concat self.old.unread)) (O.told out.new) self.new replies.old.items replies.new.items }
+        ensures memory { is_memory (O.told out.new) ≡ true → (self.new ≡ self.old) × (replies.new.items ≡ replies.old.items) }
+        ensures none { O.listed out.new ≡ None }
     {
         if !self.ended {
             pause(out);
@@ -126,6 +136,7 @@ enum Begun {
 fn begun_by(side: Side, place: Place, content: Content, frame: Frame<PayloadLen>) -> Begun
     ensures is { (own : Announced) (id : ℕ) (r : DecoderState) (i : Incoming) → i.content ≡ content → at_frame side own id r side i place frame ≡ begun_as side own id r i result }
     ensures begins { IsBegunBy place content frame result }
+    ensures section { IsSectionOf frame result }
 {
     match frame {
         Frame::Headers(section) => match place {
@@ -155,6 +166,7 @@ fn begun_by_trailer(content: Content, section: Bytes) -> Begun
     ensures is { (side : Side) (own : Announced) (id : ℕ) (r : DecoderState) (i : Incoming) → i.content ≡ content
         → at_frame side own id r side i Place.InBody (Frame.Headers section) ≡ begun_as side own id r i result }
     ensures begins { IsBegunBy Place.InBody content (Frame.Headers section) result }
+    ensures section { IsSectionOf (Frame.Headers section) result }
 {
     if content.takes_trailer() {
         return Begun::Section(section);
@@ -167,6 +179,7 @@ fn begun_by_trailer(content: Content, section: Bytes) -> Begun
 fn begun_by_session(side: Side, place: Place, session: SessionId) -> Begun
     ensures is { (own : Announced) (id : ℕ) (r : DecoderState) (i : Incoming) → at_frame side own id r side i place (Frame.WebTransportStream session) ≡ begun_as side own id r i result }
     ensures begins { (content : Content) → IsBegunBy place content (Frame.WebTransportStream session) result }
+    ensures section { IsSectionOf (Frame.WebTransportStream session) result }
 {
     if let Side::Client = side {
         return Begun::Fault(Code::H3_FRAME_UNEXPECTED);

@@ -1,13 +1,15 @@
 //! What a pull of a request stream answers.
 ghost use Rattle.std.specs.Prelude.{◌≡◌, true, false, nat_lt, is_some};
 ghost use Rattle.h3_connection.specs.Pulling.{is_memory, pull_stream};
+ghost use Rattle.h3_incoming.specs.Answering.{Lists};
+ghost use Rattle.h3_incoming.specs.Coming.{fields_next};
 ghost use Rattle.h3_incoming.specs.Gives.{Gives};
 ghost use Rattle.h3_incoming.specs.Placing.{is_session};
 ghost use Rattle.h3_incoming.specs.Resuming.{Resumes};
 
 use super::IncomingStream;
-use crate::answer::{end, fail};
-use h3_connection::event::{Fault, Pull};
+use crate::answer::{Answer, end, fail};
+use h3_connection::event::Fault;
 use h3_connection::place::Place;
 use h3_connection::setup::Announced;
 use h3_proto::stream::{Side, StreamId};
@@ -19,8 +21,8 @@ impl IncomingStream {
     /// its bytes and the decoder's table say. The answer, the stream after it, and what is written behind the replies to the
     /// peer's encoder rest on this stream, the table and what was announced alone. `Fault::Memory` writes nothing and loses
     /// nothing: whatever is delivered later, the stream's pulls answer the same. The answer takes the place of what `out` was, so that
-    /// it is moved nowhere.
-    pub fn pull_into(
+    /// it is moved nowhere. Of a head or trailer that is kept as a list that list is the one that came.
+    pub fn pull_into<O: Answer>(
         &mut self,
         alloc: Global,
         side: Side,
@@ -28,11 +30,12 @@ impl IncomingStream {
         id: StreamId,
         decoder: &Decoder,
         replies: &mut Vec<u8>,
-        out: &mut Pull,
+        out: &mut O,
     )
-        ensures answer { is_memory out.new ≡ false
-            → Gives (pull_stream side announced.now id decoder.now self.old) out.new self.new replies.old.items replies.new.items }
-        ensures memory { is_memory out.new ≡ true → Resumes self.old self.new × (replies.new.items ≡ replies.old.items) }
+        ensures answer { is_memory (O.told out.new) ≡ false
+            → Gives (pull_stream side announced.now id decoder.now self.old) (O.told out.new) self.new replies.old.items replies.new.items }
+        ensures memory { is_memory (O.told out.new) ≡ true → Resumes self.old self.new × (replies.new.items ≡ replies.old.items) }
+        ensures list { Lists (O.listed out.new) (fields_next decoder.now self.old) }
     {
         if let Some(fault) = self.fault() {
             fail(out, Fault::Stream(fault));

@@ -1,5 +1,5 @@
 //! The field section that is next.
-ghost use Rattle.std.specs.Prelude.{◌≡◌, ℕ, List, [], true, false, codes, IfSome, is_some, nat_lt};
+ghost use Rattle.std.specs.Prelude.{◌≡◌, ℕ, Bool, List, [], true, false, codes, None, Some, IfSome, is_some, nat_lt};
 ghost use Rattle.h3_field.specs.Field.{Field};
 ghost use Rattle.h3_qpack.specs.DecoderState.{DecoderState};
 ghost use Rattle.h3_qpack.specs.DecodedSection.{Missing};
@@ -10,15 +10,18 @@ ghost use Rattle.h3_connection.specs.Codes.{decompression_failed};
 ghost use Rattle.h3_connection.specs.declared.event.StreamFault.TheVariants.{Malformed};
 ghost use Rattle.h3_connection.specs.Incoming.{given_up};
 ghost use Rattle.h3_connection.specs.Pulling.{is_memory, malformed, at_section, decoded, read_section, past_section, acknowledgment, just};
-ghost use Rattle.h3_incoming.specs.Judging.{judged_as};
+ghost use Rattle.h3_connection.specs.declared.event.Pull.TheVariants as pull;
+ghost use Rattle.h3_incoming.specs.Answering.{Lists};
+ghost use Rattle.h3_incoming.specs.Coming.{fields_in};
+ghost use Rattle.h3_incoming.specs.Judging.{HasItem, HasList, judged_as};
 ghost use Rattle.h3_incoming.specs.Gives.{Gives};
 
 use super::IncomingStream;
-use crate::answer::{fail, put, wait};
+use crate::answer::{Answer, fail, wait};
 use crate::judge::{Judged, judge, names_entries};
 use crate::replies::reply;
 use crate::section::{Tried, try_section};
-use h3_connection::event::{Fault, Item, Malformation, Pull, StreamFault};
+use h3_connection::event::{Fault, Malformation, StreamFault};
 use h3_connection::place::Place;
 use h3_connection::setup::Announced;
 use h3_proto::error::Code;
@@ -29,7 +32,7 @@ use std::alloc::Global;
 impl IncomingStream {
     /// The field section that is next: it waits for entries that it is known to need, or is decoded and judged (RFC 9204, section
     /// 2.2.1).
-    pub(super) fn pull_section(
+    pub(super) fn pull_section<O: Answer>(
         &mut self,
         alloc: Global,
         side: Side,
@@ -37,12 +40,13 @@ impl IncomingStream {
         id: StreamId,
         decoder: &Decoder,
         replies: &mut Vec<u8>,
-        out: &mut Pull,
+        out: &mut O,
     )
         requires { is_some self.old.section ≡ true }
-        ensures answer { IfSome self.old.section (λ bytes. is_memory out.new ≡ false
-            → Gives (at_section side announced.now id decoder.now self.old bytes) out.new self.new replies.old.items replies.new.items) }
-        ensures memory { is_memory out.new ≡ true → (self.new ≡ self.old) × (replies.new.items ≡ replies.old.items) }
+        ensures answer { IfSome self.old.section (λ bytes. is_memory (O.told out.new) ≡ false
+            → Gives (at_section side announced.now id decoder.now self.old bytes) (O.told out.new) self.new replies.old.items replies.new.items) }
+        ensures memory { is_memory (O.told out.new) ≡ true → (self.new ≡ self.old) × (replies.new.items ≡ replies.old.items) }
+        ensures list { IfSome self.old.section (λ bytes. Lists (O.listed out.new) (fields_in decoder.now (Some bytes))) }
     {
         if decoder.inserted() < self.waits_for {
             wait(out, self.waits_for);
@@ -63,7 +67,7 @@ impl IncomingStream {
     }
 
     // The section was decoded.
-    fn finish_section(
+    fn finish_section<O: Answer>(
         &mut self,
         alloc: Global,
         side: Side,
@@ -71,13 +75,14 @@ impl IncomingStream {
         id: StreamId,
         decoded: DecodedWithin,
         replies: &mut Vec<u8>,
-        out: &mut Pull,
+        out: &mut O,
     )
         requires { is_some self.old.section ≡ true }
         ensures answer { (r : DecoderState) (count : ℕ) (fields : List Field) → IsWithin (section_of announced.now) (codes ":status") (nat_lt 0 count) fields decoded
-            → is_memory out.new ≡ false
-            → Gives (read_section side announced.now id r (past_section self.old) (acknowledgment id count) fields) out.new self.new replies.old.items replies.new.items }
-        ensures memory { is_memory out.new ≡ true → (self.new ≡ self.old) × (replies.new.items ≡ replies.old.items) }
+            → is_memory (O.told out.new) ≡ false
+            → Gives (read_section side announced.now id r (past_section self.old) (acknowledgment id count) fields) (O.told out.new) self.new replies.old.items replies.new.items }
+        ensures memory { is_memory (O.told out.new) ≡ true → (self.new ≡ self.old) × (replies.new.items ≡ replies.old.items) }
+        ensures list { (dyn_ref : Bool) (fields : List Field) → IsWithin (section_of announced.now) (codes ":status") dyn_ref fields decoded → IfSome (O.listed out.new) (λ l. l ≡ fields) }
     {
         let acknowledges = names_entries(&decoded);
         match judge(
@@ -88,6 +93,7 @@ impl IncomingStream {
             self.content,
             self.response,
             decoded,
+            out,
         ) {
             Err(_) => fail(out, Fault::Memory),
             Ok(judged) => self.answer_section(alloc, id, acknowledges, judged, replies, out),
@@ -95,24 +101,25 @@ impl IncomingStream {
     }
 
     // The section was judged. What is said of it is written first, so that refused memory changes nothing.
-    fn answer_section(
+    fn answer_section<O: Answer>(
         &mut self,
         alloc: Global,
         id: StreamId,
         acknowledges: bool,
         judged: Judged,
         replies: &mut Vec<u8>,
-        out: &mut Pull,
+        out: &mut O,
     )
-        requires { is_some self.old.section ≡ true }
-        ensures answer { (count : ℕ) → acknowledges ≡ nat_lt 0 count → is_memory out.new ≡ false
-            → Gives (judged_as id (past_section self.old) (acknowledgment id count) judged) out.new self.new replies.old.items replies.new.items }
-        ensures memory { is_memory out.new ≡ true → (self.new ≡ self.old) × (replies.new.items ≡ replies.old.items) }
+        requires there { is_some self.old.section ≡ true }
+        requires item { HasItem judged (O.told out.old) }
+        ensures answer { (count : ℕ) → acknowledges ≡ nat_lt 0 count → is_memory (O.told out.new) ≡ false
+            → Gives (judged_as id (past_section self.old) (acknowledgment id count) (O.told out.old) judged) (O.told out.new) self.new replies.old.items replies.new.items }
+        ensures memory { is_memory (O.told out.new) ≡ true → (self.new ≡ self.old) × (replies.new.items ≡ replies.old.items) }
+        ensures list { (fields : List Field) → HasList judged (O.listed out.old) fields → IfSome (O.listed out.new) (λ l. l ≡ fields) }
     {
         match judged {
-            Judged::HandsOut(item, place, content, response) => {
+            Judged::HandsOut(place, content, response) => {
                 if reply(alloc, id, acknowledges, false, replies).is_err() {
-                    drop(item);
                     fail(out, Fault::Memory);
                     return;
                 }
@@ -120,7 +127,6 @@ impl IncomingStream {
                 self.content = content;
                 self.response = response;
                 self.pass_section();
-                put(out, Pull::Item(item));
             }
             Judged::Malformed(why) => {
                 if reply(alloc, id, acknowledges, true, replies).is_err() {
@@ -134,16 +140,17 @@ impl IncomingStream {
     }
 
     /// The message is malformed. The peer's encoder is told of it first, so that refused memory changes nothing.
-    pub(super) fn refuse_message(
+    pub(super) fn refuse_message<O: Answer>(
         &mut self,
         alloc: Global,
         id: StreamId,
         why: Malformation,
         replies: &mut Vec<u8>,
-        out: &mut Pull,
+        out: &mut O,
     )
-        ensures answer { is_memory out.new ≡ false → Gives (malformed id why self.old []) out.new self.new replies.old.items replies.new.items }
-        ensures memory { is_memory out.new ≡ true → (self.new ≡ self.old) × (replies.new.items ≡ replies.old.items) }
+        ensures answer { is_memory (O.told out.new) ≡ false → Gives (malformed id why self.old []) (O.told out.new) self.new replies.old.items replies.new.items }
+        ensures memory { is_memory (O.told out.new) ≡ true → (self.new ≡ self.old) × (replies.new.items ≡ replies.old.items) }
+        ensures none { O.listed out.new ≡ None }
     {
         if reply(alloc, id, false, true, replies).is_err() {
             fail(out, Fault::Memory);
@@ -153,9 +160,10 @@ impl IncomingStream {
     }
 
     // The message is malformed: the stream gives no more (RFC 9114, section 4.1.2).
-    fn fail_message(&mut self, alloc: Global, why: Malformation, out: &mut Pull)
+    fn fail_message<O: Answer>(&mut self, alloc: Global, why: Malformation, out: &mut O)
         ensures stream { self.new ≡ given_up self.old (Malformed why) }
-        ensures answer { out.new ≡ Pull.Fault (Stream (Malformed why)) }
+        ensures answer { O.told out.new ≡ pull.Fault (Stream (Malformed why)) }
+        ensures none { O.listed out.new ≡ None }
     {
         let fault = StreamFault::Malformed(why);
         self.give_up(alloc, fault);
@@ -163,10 +171,11 @@ impl IncomingStream {
     }
 
     // The section needs so many insertions. One that waited already names what is not there.
-    fn miss_entries(&mut self, count: usize, out: &mut Pull)
+    fn miss_entries<O: Answer>(&mut self, count: usize, out: &mut O)
         requires { is_some self.old.section ≡ true }
-        ensures answer { (side : Side) (own : Announced) (id : ℕ) (r : DecoderState) → decoded side own id r self.old (Missing count) ≡ just out.new self.new }
-        ensures memory { is_memory out.new ≡ false }
+        ensures answer { (side : Side) (own : Announced) (id : ℕ) (r : DecoderState) → decoded side own id r self.old (Missing count) ≡ just (O.told out.new) self.new }
+        ensures memory { is_memory (O.told out.new) ≡ false }
+        ensures none { O.listed out.new ≡ None }
     {
         if self.waits_for > 0 {
             return self.fail_section(out);
@@ -177,9 +186,10 @@ impl IncomingStream {
     }
 
     // The section is bad (RFC 9204, section 2.2.3).
-    fn fail_section(&mut self, out: &mut Pull)
+    fn fail_section<O: Answer>(&mut self, out: &mut O)
         ensures stream { self.new ≡ past_section self.old }
-        ensures answer { out.new ≡ Pull.Fault (Connection decompression_failed) }
+        ensures answer { O.told out.new ≡ pull.Fault (Connection decompression_failed) }
+        ensures none { O.listed out.new ≡ None }
     {
         self.pass_section();
         fail(out, Fault::Connection(Code::QPACK_DECOMPRESSION_FAILED));

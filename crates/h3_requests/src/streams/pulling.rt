@@ -1,5 +1,6 @@
 //! How many request streams wait for insertions, and what a pull answers.
-ghost use Rattle.std.specs.Prelude.{◌≡◌, true, false, ℕ, List, None, Some, count_by, nat_lt, is_some, IfNone, IfSome};
+ghost use Rattle.std.specs.Prelude.{◌≡◌, true, false, ℕ, List, Option, None, Some, count_by, nat_lt, is_some, IfNone, IfSome};
+ghost use Rattle.h3_field.specs.Field.{Field};
 ghost use Rattle.h3_field.specs.Instruction.{DecoderInstruction};
 ghost use Rattle.h3_qpack.specs.DecoderState.{DecoderState};
 ghost use Rattle.h3_blocked.specs.Counting.{above, HasCount, IsSound, Replaces};
@@ -9,16 +10,18 @@ ghost use Rattle.h3_connection.specs.Pulling.{is_memory, just, pull_stream};
 ghost use Rattle.h3_connection.specs.Sending.{if_too_many};
 ghost use Rattle.h3_connection.specs.State.{kept_at};
 ghost use Rattle.h3_connection.specs.StreamSets.{Streams};
+ghost use Rattle.h3_incoming.specs.Answering.{Lists};
+ghost use Rattle.h3_requests.specs.Coming.{fields_at};
 ghost use Rattle.h3_requests.specs.Limited.{AnswersOver, AreReceivers, PullsWithin, ResumesThere, unopened_answer};
 ghost use Rattle.h3_requests.specs.Over.{IsOver};
 
 use super::RequestStreams;
 use crate::stream::RequestStream;
 use h3_blocked::Blocked;
-use h3_connection::event::{Fault, Pull};
+use h3_connection::event::Fault;
 use h3_connection::setup::Announced;
-use h3_incoming::IncomingStream;
 use h3_incoming::answer::{end, fail, no_messages, pause};
+use h3_incoming::{Answer, IncomingStream};
 use h3_proto::error::Code;
 use h3_proto::stream::{Side, StreamId};
 use h3_qpack::Decoder;
@@ -37,8 +40,8 @@ impl RequestStreams {
     /// asked for first, but not where the stream was given up or its end was handed out. `Fault::Memory` writes nothing and loses
     /// nothing: whatever is delivered later, the stream's pulls answer the same. Nothing happens where the stream is not there: a
     /// server's peer may still open it (`Pending`), a client's does not (`NoMessages`). The answer takes the
-    /// place of what `out` was.
-    pub fn pull_into(
+    /// place of what `out` was. Of a head or trailer that is kept as a list that list is the one that came.
+    pub fn pull_into<O: Answer>(
         &mut self,
         alloc: Global,
         side: Side,
@@ -46,15 +49,16 @@ impl RequestStreams {
         id: StreamId,
         decoder: &Decoder,
         replies: &mut Vec<u8>,
-        out: &mut Pull,
+        out: &mut O,
     )
-        ensures absent { kept_at self.old id ≡ None → (out.new ≡ unopened_answer side) × (self.new ≡ self.old) × (replies.new.items ≡ replies.old.items) }
+        ensures absent { kept_at self.old id ≡ None → (O.told out.new ≡ unopened_answer side) × (self.new ≡ self.old) × (replies.new.items ≡ replies.old.items) }
         ensures there { is_some (kept_at self.new id) ≡ is_some (kept_at self.old id) }
-        ensures answer { is_memory out.new ≡ false → IfSome (kept_at self.old id) (λ before. IfSome (kept_at self.new id) (λ after.
-            PullsWithin side announced.now id decoder.now self.old self.new before after out.new replies.old.items replies.new.items)) }
-        ensures memory { is_memory out.new ≡ true → IfSome (kept_at self.old id) (λ before. IfSome (kept_at self.new id) (λ after.
+        ensures answer { is_memory (O.told out.new) ≡ false → IfSome (kept_at self.old id) (λ before. IfSome (kept_at self.new id) (λ after.
+            PullsWithin side announced.now id decoder.now self.old self.new before after (O.told out.new) replies.old.items replies.new.items)) }
+        ensures memory { is_memory (O.told out.new) ≡ true → IfSome (kept_at self.old id) (λ before. IfSome (kept_at self.new id) (λ after.
             ResumesThere self.old self.new id before after)) × (replies.new.items ≡ replies.old.items) }
-        ensures settled { IfSome (kept_at self.old id) (λ before. is_settled_request (Some before.incoming) ≡ true → is_memory out.new ≡ false) }
+        ensures settled { IfSome (kept_at self.old id) (λ before. is_settled_request (Some before.incoming) ≡ true → is_memory (O.told out.new) ≡ false) }
+        ensures list { Lists (O.listed out.new) (fields_at decoder.now (kept_at self.old id)) }
     {
         let limit = announced.limits.blocked;
         let inserted = decoder.inserted();
@@ -97,11 +101,17 @@ impl RequestStreams {
 }
 
 /// Answers for a stream that is not under way: for one that is over, or for none.
-fn answer_over(stream: Option<RequestStream>, side: Side, are_too_many: bool, out: &mut Pull)
+fn answer_over<O: Answer>(
+    stream: Option<RequestStream>,
+    side: Side,
+    are_too_many: bool,
+    out: &mut O,
+)
     requires { IfSome stream IsOver }
-    ensures absent { IfNone stream (out.new ≡ unopened_answer side) }
-    ensures there { IfSome stream (λ r. AnswersOver r.incoming are_too_many out.new) }
-    ensures memory { is_memory out.new ≡ false }
+    ensures absent { IfNone stream (O.told out.new ≡ unopened_answer side) }
+    ensures there { IfSome stream (λ r. AnswersOver r.incoming are_too_many (O.told out.new)) }
+    ensures memory { is_memory (O.told out.new) ≡ false }
+    ensures none { O.listed out.new ≡ None }
 {
     match stream {
         Some(stream) => answer_for(&stream, are_too_many, out),
@@ -110,10 +120,11 @@ fn answer_over(stream: Option<RequestStream>, side: Side, are_too_many: bool, ou
 }
 
 /// Answers for a stream that is over.
-fn answer_for(stream: &RequestStream, are_too_many: bool, out: &mut Pull)
+fn answer_for<O: Answer>(stream: &RequestStream, are_too_many: bool, out: &mut O)
     requires { IsOver stream.now }
-    ensures there { AnswersOver stream.now.incoming are_too_many out.new }
-    ensures memory { is_memory out.new ≡ false }
+    ensures there { AnswersOver stream.now.incoming are_too_many (O.told out.new) }
+    ensures memory { is_memory (O.told out.new) ≡ false }
+    ensures none { O.listed out.new ≡ None }
 {
     answer_settled(&stream.incoming, out);
     if are_too_many {
@@ -122,8 +133,9 @@ fn answer_for(stream: &RequestStream, are_too_many: bool, out: &mut Pull)
 }
 
 /// What a stream gives that is not there: a server's peer may still open it.
-fn unopened(side: Side, out: &mut Pull)
-    ensures { out.new ≡ unopened_answer side }
+fn unopened<O: Answer>(side: Side, out: &mut O)
+    ensures is { O.told out.new ≡ unopened_answer side }
+    ensures none { O.listed out.new ≡ None }
 {
     match side {
         Side::Client => no_messages(out),
@@ -132,10 +144,11 @@ fn unopened(side: Side, out: &mut Pull)
 }
 
 /// Answers for a stream that was given up, or whose end was handed out, and says whether it is one.
-fn answer_settled(stream: &IncomingStream, out: &mut Pull) -> bool
-    ensures settled { result ≡ true → (is_memory out.new ≡ false)
-        × ((side : Side) (own : Announced) (id : ℕ) (r : DecoderState) → pull_stream side own id r stream.now ≡ just out.new stream.now) }
+fn answer_settled<O: Answer>(stream: &IncomingStream, out: &mut O) -> bool
+    ensures settled { result ≡ true → (is_memory (O.told out.new) ≡ false)
+        × ((side : Side) (own : Announced) (id : ℕ) (r : DecoderState) → pull_stream side own id r stream.now ≡ just (O.told out.new) stream.now) }
     ensures open { result ≡ false → is_settled_request (Some stream.now) ≡ false }
+    ensures none { result ≡ true → O.listed out.new ≡ None }
 {
     if let Some(fault) = stream.fault() {
         fail(out, Fault::Stream(fault));
@@ -149,26 +162,27 @@ fn answer_settled(stream: &IncomingStream, out: &mut Pull) -> bool
 }
 
 /// Whether memory was refused.
-fn is_memory(answer: &Pull) -> bool
-    ensures { result ≡ is_memory answer.now }
+fn is_memory<O: Answer>(answer: &O) -> bool
+    ensures { result ≡ is_memory (O.told answer.now) }
 {
-    matches!(answer, Pull::Fault(Fault::Memory))
+    matches!(answer.fault(), Some(Fault::Memory))
 }
 
 /// The answer, unless more streams than this limit wait: then the connection has a fault, and the stream waits no more.
-fn within_limit(
+fn within_limit<O: Answer>(
     stream: &mut IncomingStream,
     counts: &mut Blocked,
     limit: u64,
     inserted: usize,
-    out: &mut Pull,
+    out: &mut O,
 )
     requires sound { IsSound counts.old }
     requires among { HasCount counts.old stream.old.waits_for }
     ensures limited { (replies : List DecoderInstruction)
-        → if_too_many (nat_lt limit (above inserted counts.old)) (record { answer = out.old; incoming = stream.old; replies = replies })
-        ≡ record { answer = out.new; incoming = stream.new; replies = replies } }
-    ensures memory { is_memory out.old ≡ false → is_memory out.new ≡ false }
+        → if_too_many (nat_lt limit (above inserted counts.old)) (record { answer = O.told out.old; incoming = stream.old; replies = replies })
+        ≡ record { answer = O.told out.new; incoming = stream.new; replies = replies } }
+    ensures memory { is_memory (O.told out.old) ≡ false → is_memory (O.told out.new) ≡ false }
+    ensures list { (came : Option (List Field)) → Lists (O.listed out.old) came → Lists (O.listed out.new) came }
     ensures replaced { Replaces counts.old counts.new stream.old.waits_for stream.new.waits_for }
     ensures sound { IsSound counts.new }
 {

@@ -1,51 +1,40 @@
-use Rattle.std.proofs.Common.{◌≡◌, [], ◌∙◌, ap, sym, subst}
-use Rattle.std.proofs.lemmas.Result.{IfOk-weaker, IfErr-weaker}
-use Rattle.h3_header.specs.BadPart.{IsHeadUnlessMany}
-use Rattle.h3_header.specs.Head.{trailer_head}
-use Rattle.h3_header.specs.HeadRead.{IsHead, IsNone, head_of}
-use Rattle.h3_header.specs.Reads.{RefusesOne}
-use Rattle.h3_header.specs.declared.headers.error.HeaderError.TheVariants as error
+use Rattle.std.proofs.Common.{◌≡◌, ◌∙◌, ap, sym}
 use Rattle.h3_connection.specs.Pulling.{head_or_trailer, with_content}
 use Rattle.h3_connection.specs.StrictMessages.{broken_rule, if_whole, content_at, response_at}
+use Rattle.h3_connection.specs.declared.event.Pull.TheVariants as pull
+use Rattle.h3_header.specs.HeadRead.{head_of}
+use Rattle.h3_incoming.specs.Answering.{message_at}
 use Rattle.h3_incoming.specs.Judging.{judged_as}
-use Rattle.h3_incoming.proofs.JudgeLaws.{read_head, read_none, judged_behind, wants_memory, tells_none}
+use Rattle.h3_incoming.proofs.JudgeLaws.{read_head, reads_head, has_item, has_list, judged_behind}
 use Rattle.h3_incoming.proofs.judge.judge_fields.Goals as goal
 
-pub returns-in-Ok-clause-ok : goal.returns-in-Ok-clause-ok
-returns-in-Ok-clause-ok c = λ id r i replies few at left told.
+pub returns-in-Ok-Head-clause-judged : goal.returns-in-Ok-Head-clause-judged
+returns-in-Ok-Head-clause-judged g c = λ id r i replies few at left told.
+    let own = c.args.announced.now in
+    let side = c.args.side in
+    let place = c.args.place in
+    let fields = c.args.fields.items in
     let list = c.as_slice-list.ensures.value in
-    let rule : if_whole i.content (broken_rule c.args.side c.args.announced.now c.args.place c.args.fields.items) ≡ c.if_whole-broken.result =
-    ap (λ l. if_whole l (broken_rule c.args.side c.args.announced.now c.args.place c.args.fields.items)) left
-    ∙ ap (λ l. if_whole c.args.content (broken_rule c.args.side c.args.announced.now c.args.place l)) (sym list)
+    let rule : if_whole i.content (broken_rule side own place fields) ≡ c.if_whole-broken.result =
+    ap (λ l. if_whole l (broken_rule side own place fields)) left ∙ ap (λ l. if_whole c.args.content (broken_rule side own place l)) (sym list)
     ∙ ap (if_whole c.args.content) (sym c.broken_rule.ensures) ∙ sym c.if_whole-broken.ensures in
-    let behind : (with_content c.args.side c.args.announced.now i c.args.fields.items).content ≡ c.content_at-behind.result =
-    ap (λ p. content_at c.args.side c.args.announced.now p i.content c.args.fields.items) at
-    ∙ ap (λ l. content_at c.args.side c.args.announced.now c.args.place l c.args.fields.items) left
-    ∙ ap (content_at c.args.side c.args.announced.now c.args.place c.args.content) (sym list) ∙ sym c.content_at-behind.ensures in
-    let response : (with_content c.args.side c.args.announced.now i c.args.fields.items).response ≡ c.response_at-response.result =
-    ap (λ p. response_at c.args.side c.args.announced.now p i.response c.args.fields.items) at
-    ∙ ap (λ l. response_at c.args.side c.args.announced.now c.args.place l c.args.fields.items) told
-    ∙ ap (response_at c.args.side c.args.announced.now c.args.place c.args.known) (sym list) ∙ sym c.response_at-response.ensures in
-    read_head c.args.side c.args.announced.now id r i replies c.args.fields.items c.args.place c.in-Ok.header few
-    (subst (λ l. head_of l ≡ IsHead c.in-Ok.header) c.as_slice-list.ensures.value (c.lists_are_their_value.ensures.head _ _ c.in-Ok.ensures.ok)) at
-    ∙ ap (λ b. head_or_trailer c.args.side id (with_content c.args.side c.args.announced.now i c.args.fields.items) replies b c.args.place c.in-Ok.header) rule
-    ∙ c.judge_header.ensures id (with_content c.args.side c.args.announced.now i c.args.fields.items) replies at behind response
-    ∙ judged_behind id i (with_content c.args.side c.args.announced.now i c.args.fields.items).content (with_content c.args.side c.args.announced.now i c.args.fields.items).response replies c.judge_header.result
+    let behind : (with_content side own i fields).content ≡ c.content_at-behind.result =
+    ap (λ p. content_at side own p i.content fields) at ∙ ap (λ l. content_at side own place l fields) left ∙ ap (content_at side own place c.args.content) (sym list) ∙ sym c.content_at-behind.ensures in
+    let response : (with_content side own i fields).response ≡ c.response_at-response.result =
+    ap (λ p. response_at side own p i.response fields) at ∙ ap (λ k. response_at side own place k fields) told ∙ ap (response_at side own place c.args.known) (sym list) ∙ sym c.response_at-response.ensures in
+    reads_head (head_of fields) c.in-Ok-Head.outline (rw c.in-Ok-Head.field-0-is at c.in-Ok-Head.ensures.read) _ (λ h head is.
+    read_head side own id r i replies fields place h few head at
+    ∙ ap (λ b. head_or_trailer side id (with_content side own i fields) replies b place h) rule
+    ∙ c.judge_message.ensures id (with_content side own i fields) replies h is at behind response
+    ∙ judged_behind id i (with_content side own i fields).content (with_content side own i fields).response replies (pull.Item (message_at side place h)) c.judge_message.result
+    ∙ ap (λ p. judged_as id i replies p c.judge_message.result) (sym (c.in-Ok-Head.ensures.head h head)))
 
-pub returns-clause-ok : goal.returns-clause-ok
-returns-clause-ok c =
-    let list = c.as_slice-list.result.now in
-    IfOk-weaker c.judge_refusal.result _ _
-    (λ j why id r i replies few at left told.
-    let none = tells_none list c.in-Err.e why.0 (c.lists_are_their_value.ensures.refused _ _ why.0 c.in-Err.ensures.err) why.1 in
-    read_none c.args.side c.args.announced.now id r i replies c.args.fields.items why.0 few (subst (λ l. head_of l ≡ IsNone why.0) c.as_slice-list.ensures.value none) ∙ ap (judged_as id i replies) (sym why.2))
-    c.judge_refusal.ensures.ok
+pub returns-in-Ok-Head-clause-item : goal.returns-in-Ok-Head-clause-item
+returns-in-Ok-Head-clause-item g c =
+    reads_head (head_of c.args.fields.items) c.in-Ok-Head.outline (rw c.in-Ok-Head.field-0-is at c.in-Ok-Head.ensures.read) _ (λ h head is.
+    has_item c.judge_message.result _ (message_at c.args.side c.args.place h) (c.in-Ok-Head.ensures.head h head))
 
-pub returns-clause-memory : goal.returns-clause-memory
-returns-clause-memory c =
-    IfErr-weaker c.judge_refusal.result _ _
-    (λ e none. subst (λ l. RefusesOne (trailer_head []) l error.OutOfMemory) c.as_slice-list.ensures.value (wants_memory (trailer_head []) c.as_slice-list.result.now c.in-Err.e c.in-Err.ensures.err none))
-    c.judge_refusal.ensures.memory
-
-pub returns-clause-good : goal.returns-clause-good
-returns-clause-good c = IfErr-weaker c.judge_refusal.result _ _ (λ e good. subst IsHeadUnlessMany c.as_slice-list.ensures.value good) c.judge_refusal.ensures.good
+pub returns-in-Ok-Head-clause-list : goal.returns-in-Ok-Head-clause-list
+returns-in-Ok-Head-clause-list g c =
+    reads_head (head_of c.args.fields.items) c.in-Ok-Head.outline (rw c.in-Ok-Head.field-0-is at c.in-Ok-Head.ensures.read) _ (λ h head is.
+    has_list c.judge_message.result _ c.args.fields.items (c.in-Ok-Head.ensures.list h head))

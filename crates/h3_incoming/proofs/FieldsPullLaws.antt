@@ -1,0 +1,36 @@
+-- What is told of a head or trailer that is kept as its list.
+use Rattle.std.proofs.Common.{◌≡◌, List, Some, refl, ap, ◌∙◌}
+use Rattle.std.specs.Prelude.{Option, None, IfSome}
+use Rattle.h3_field.specs.Field.{Field}
+use Rattle.h3_header.specs.Head.{Head}
+use Rattle.h3_header.specs.HeadRead.{IsHead, head_of}
+use Rattle.h3_header.specs.Reads.{IsHeadOf, head_of_fields}
+use Rattle.h3_connection.specs.declared.event.Pull.TheVariants as pull
+use Rattle.h3_incoming.specs.Answering.{item_of}
+use Rattle.h3_incoming.specs.FieldsPulls.{list_of, listed_as, pull_of}
+use Rattle.h3_incoming.specs.Outline.{list_read}
+use Rattle.h3_incoming.specs.declared.answer.MessageKind.{MessageKind}
+use Rattle.h3_incoming.specs.declared.answer.MessageKind.TheVariants as kind
+use Rattle.h3_incoming.specs.declared.fields.FieldsPull.TheVariants as answer
+use Rattle.h3_incoming.specs.declared.outline.Outline.{Outline}
+use Rattle.h3_incoming.specs.declared.outline.ListRead.TheVariants as read
+use Rattle.h3_incoming.proofs.JudgeLaws.{reads_head}
+
+pub told_of : (k : MessageKind) (fields : List Field) → pull_of (answer.Item (listed_as k fields)) ≡ pull.Item (item_of k (head_of_fields fields))
+told_of kind.Interim fields = refl
+told_of kind.Head fields = refl
+told_of kind.Trailer fields = refl
+
+pub listed_of : (k : MessageKind) (fields : List Field) → list_of (answer.Item (listed_as k fields)) ≡ Some fields
+listed_of kind.Interim fields = refl
+listed_of kind.Head fields = refl
+listed_of kind.Trailer fields = refl
+
+pub is_this : (listed : Option (List Field)) (fields : List Field) → listed ≡ Some fields → IfSome listed (λ l. l ≡ fields)
+is_this (Some l) fields is = cc
+is_this None fields is = absurd (cc)
+
+-- the status of a list that reads as a head of this outline
+pub status_is : (fields : List Field) (o : Outline) → ((fs : List Field) (h : Head) → head_of fs ≡ IsHead h → IsHeadOf fs h) → read.Head o ≡ list_read (head_of fields) → o.status ≡ (head_of_fields fields).status
+status_is fields o law is =
+    reads_head (head_of fields) o is _ (λ h head same. ap (λ (p : Outline). p.status) same ∙ ap (λ (q : Head). q.status) (law fields h head).1)

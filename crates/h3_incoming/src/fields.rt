@@ -1,0 +1,194 @@
+//! The answer of a pull whose heads and trailers are the lists of fields that came, with no header made of them.
+ghost use Rattle.std.specs.Prelude.{◌≡◌, [], IfOk, IfSome, OnOk, OnErr, None};
+ghost use Rattle.h3_header.specs.BadPart.{IsHeadUnlessMany};
+ghost use Rattle.h3_header.specs.Head.{Head, trailer_head};
+ghost use Rattle.h3_header.specs.HeadRead.{IsHead, head_of};
+ghost use Rattle.h3_header.specs.Reads.{RefusesOne, head_of_fields};
+ghost use Rattle.h3_header.specs.declared.headers.error.HeaderError.TheVariants as error;
+ghost use Rattle.h3_connection.specs.declared.event.Pull.TheVariants as pull;
+ghost use Rattle.h3_incoming.specs.Answering.{message_at, plain_pull};
+ghost use Rattle.h3_incoming.specs.FieldsPulls.{list_of, listed_as, pull_of};
+ghost use Rattle.h3_incoming.specs.Outline.{list_read};
+
+use crate::answer::{Answer, MessageKind, Plain, kind_at, put};
+use crate::outline::{ListRead, read_list};
+use bytes::Bytes;
+use h3_connection::event::Fault;
+use h3_connection::place::Place;
+use h3_field::HeaderField;
+use h3_proto::stream::Side;
+use h3_proto::webtransport::SessionId;
+use http::StatusCode;
+use std::alloc::{AllocError, Global};
+use std::marker::Model;
+
+/// The fields of a head or trailer, as they came and in the order in which they came: `Header::try_from` takes them.
+#[derive(Drop)]
+pub struct FieldList {
+    fields: Vec<HeaderField>,
+    status: Option<StatusCode>,
+}
+
+impl Model for FieldList {
+    ghost use Rattle.std.specs.Prelude.{◌≡◌, List};
+    ghost use Rattle.h3_field.specs.Field.{Field};
+    ghost use Rattle.h3_header.specs.Reads.{head_of_fields};
+
+    ghost Value = { List Field };
+
+    ghost view = { λ l. l.fields.items };
+
+    ghost invariant = { λ l. l.status ≡ (head_of_fields l.fields.items).status };
+}
+
+impl FieldList {
+    // These fields, whose header has this status or none.
+    fn of(fields: Vec<HeaderField>, status: Option<StatusCode>) -> FieldList
+        requires { status ≡ (head_of_fields fields.items).status }
+        ensures { result ≡ fields.items }
+    {
+        FieldList { fields, status }
+    }
+
+    /// The fields.
+    pub fn fields(&self) -> &[HeaderField]
+        ensures { result.now ≡ self.now }
+    {
+        self.fields.as_slice()
+    }
+
+    /// The fields, to keep.
+    pub fn into_fields(self) -> Vec<HeaderField>
+        ensures { result.items ≡ self }
+    {
+        self.fields
+    }
+
+    /// The status of a response's head, as its header has it. It takes no look at the fields.
+    pub fn status(&self) -> Option<StatusCode>
+        ensures { result ≡ (head_of_fields self.now).status }
+    {
+        self.status
+    }
+}
+
+/// What a pull hands out, as `h3_connection::event::Item` has it, but for heads and trailers: of these it has the fields, as they came and in
+/// the order in which they came.
+#[derive(Drop)]
+pub enum FieldsItem {
+    /// A head with a status from 100 to 199, which is not the last one.
+    Interim(FieldList),
+    /// The head of a request, or the final head of a response.
+    Head(FieldList),
+    /// The next piece of the content, as the pieces came that were delivered.
+    Body(Bytes),
+    /// The trailer, behind which nothing but the end comes.
+    Trailer(FieldList),
+    /// In the place of a head or trailer whose size is above the own section size: that size.
+    TooLarge(u64),
+    /// The stream is one of this WebTransport session, and no message.
+    Session(SessionId),
+    /// The next piece of such a stream, as it came.
+    Raw(Bytes),
+    /// The stream has ended, and all of it was handed out.
+    End,
+}
+
+/// The answer of a pull, as `h3_connection::event::Pull` has it, with a `FieldsItem`.
+#[derive(Drop)]
+pub enum FieldsPull {
+    /// The next item.
+    Item(FieldsItem),
+    /// The next item isn't there yet.
+    Pending,
+    /// The next head or trailer needs so many insertions.
+    Waiting(usize),
+    /// There is none, for this fault.
+    Fault(Fault),
+    /// The stream has no messages for this side.
+    NoMessages,
+}
+
+impl Answer for FieldsPull {
+    ghost told = { pull_of };
+
+    ghost listed = { list_of };
+
+    fn give(&mut self, answer: Plain) {
+        put(self, of_plain(answer));
+    }
+
+    fn give_message(
+        &mut self,
+        alloc: Global,
+        side: Side,
+        place: Place,
+        fields: Vec<HeaderField>,
+    ) -> Result<ListRead, AllocError> {
+        give_fields(self, alloc, side, place, fields)
+    }
+
+    fn fault(&self) -> Option<Fault> {
+        match self {
+            FieldsPull::Fault(fault) => Some(*fault),
+            FieldsPull::Item(_)
+            | FieldsPull::Pending
+            | FieldsPull::Waiting(_)
+            | FieldsPull::NoMessages => None,
+        }
+    }
+}
+
+fn of_plain(answer: Plain) -> FieldsPull
+    ensures is { pull_of result ≡ plain_pull answer }
+    ensures none { list_of result ≡ None }
+{
+    match answer {
+        Plain::Body(bytes) => FieldsPull::Item(FieldsItem::Body(bytes)),
+        Plain::Raw(bytes) => FieldsPull::Item(FieldsItem::Raw(bytes)),
+        Plain::Session(session) => FieldsPull::Item(FieldsItem::Session(session)),
+        Plain::TooLarge(size) => FieldsPull::Item(FieldsItem::TooLarge(size)),
+        Plain::End => FieldsPull::Item(FieldsItem::End),
+        Plain::Pending => FieldsPull::Pending,
+        Plain::Waiting(count) => FieldsPull::Waiting(count),
+        Plain::Fault(fault) => FieldsPull::Fault(fault),
+        Plain::NoMessages => FieldsPull::NoMessages,
+    }
+}
+
+// The list is judged without a map, and kept as it is.
+fn give_fields(
+    out: &mut FieldsPull,
+    alloc: Global,
+    side: Side,
+    place: Place,
+    fields: Vec<HeaderField>,
+) -> Result<ListRead, AllocError>
+    ensures read { IfOk result (λ r. r ≡ list_read (head_of fields.items)) }
+    ensures head { OnOk result ((h : Head) → head_of fields.items ≡ IsHead h → pull_of out.new ≡ pull.Item (message_at side place h)) }
+    ensures list { OnOk result ((h : Head) → head_of fields.items ≡ IsHead h → IfSome (list_of out.new) (λ l. l ≡ fields.items)) }
+    ensures memory { OnErr result (RefusesOne (trailer_head []) fields.items error.OutOfMemory) }
+    ensures good { OnErr result (IsHeadUnlessMany fields.items) }
+{
+    h3_header::laws::lists_are_their_value();
+    match read_list(alloc, fields.as_slice()) {
+        Ok(ListRead::Head(outline)) => {
+            let kind = kind_at(side, place, &outline);
+            let list = FieldList::of(fields, outline.status());
+            put(out, FieldsPull::Item(listed(kind, list)));
+            Ok(ListRead::Head(outline))
+        }
+        Ok(ListRead::Malformed(why)) => Ok(ListRead::Malformed(why)),
+        Err(e) => Err(e),
+    }
+}
+
+fn listed(kind: MessageKind, fields: FieldList) -> FieldsItem
+    ensures { result ≡ listed_as kind fields }
+{
+    match kind {
+        MessageKind::Interim => FieldsItem::Interim(fields),
+        MessageKind::Head => FieldsItem::Head(fields),
+        MessageKind::Trailer => FieldsItem::Trailer(fields),
+    }
+}

@@ -1,0 +1,258 @@
+//! What a list of fields reads as, told where its fields lie.
+ghost use Rattle.std.specs.Prelude.{◌≡◌, ◌≤◌, ◌<◌, [], All, true, Some, None, IfOk, OnErr, length, fold, option_map, is_some};
+ghost use Rattle.h3_header.specs.BadPart.{bad_part, refusal_of};
+ghost use Rattle.h3_header.specs.Head.{trailer_head};
+ghost use Rattle.h3_header.specs.BadPart.{IsHeadUnlessMany};
+ghost use Rattle.h3_header.specs.HeadRead.{HeadRefusal, head_of, is_value_at, told};
+ghost use Rattle.h3_header.specs.Reads.{kind_of, status_number, RefusesOne};
+ghost use Rattle.h3_header.specs.declared.headers.kind.FieldKind.TheVariants as kind;
+ghost use Rattle.h3_connection.specs.Pulling.{malformation_of};
+ghost use Rattle.h3_connection.specs.Pulling.{is_interim};
+ghost use Rattle.h3_incoming.specs.Judging.{Tells};
+ghost use Rattle.h3_incoming.specs.Outline.{outline_of, empty_outline, outlined, outlined_by, is_sent_outline, is_read_outline, list_read};
+ghost use Rattle.h3_incoming.specs.declared.outline.ListRead.TheVariants as read;
+
+use h3_connection::event::Malformation;
+use h3_field::HeaderField;
+use h3_header::{BadPart, FieldKind, Header, HeaderError, first_bad_part};
+use h3_proto::stream::Side;
+use http::StatusCode;
+use std::alloc::{AllocError, Global};
+
+// So many names a header's map has room for: of a list of no more fields it is told without memory whether it is a header's.
+const MOST_NAMES: usize = 24576;
+
+/// What of a header tells where it may stand in a message (RFC 9114, sections 4.1 and 4.3).
+#[derive(Clone, Copy)]
+pub struct Outline {
+    method: bool,
+    pseudo: bool,
+    status: Option<StatusCode>,
+}
+
+/// What a list of fields is.
+#[derive(Clone, Copy)]
+pub enum ListRead {
+    /// A header of this outline.
+    Head(Outline),
+    Malformed(Malformation),
+}
+
+impl Outline {
+    // That of no fields.
+    fn empty() -> Outline
+        ensures { result ≡ empty_outline }
+    {
+        Outline {
+            method: false,
+            pseudo: false,
+            status: None,
+        }
+    }
+
+    /// That of a header.
+    pub fn of(header: &Header) -> Outline
+        ensures { result ≡ outline_of header.now }
+    {
+        Outline {
+            method: has_method(header),
+            pseudo: header.has_pseudo(),
+            status: header.status(),
+        }
+    }
+
+    /// Whether a side sends such heads: a client those of requests, a server those of responses.
+    pub fn is_sent_by(&self, side: Side) -> bool
+        ensures { result ≡ is_sent_outline side self.now }
+    {
+        match side {
+            Side::Client => self.method && self.status.is_none(),
+            Side::Server => self.status.is_some() && !self.method,
+        }
+    }
+
+    /// Whether a side reads such heads: a client those of responses, a server those of requests.
+    pub fn is_read_by(&self, side: Side) -> bool
+        ensures { result ≡ is_read_outline side self.now }
+    {
+        match side {
+            Side::Client => self.status.is_some() && !self.method,
+            Side::Server => self.method && self.status.is_none(),
+        }
+    }
+
+    /// Whether its status is one of an interim response: from 100 to 199 (RFC 9110, section 15.2).
+    pub fn is_interim(&self) -> bool
+        ensures { result ≡ is_interim self.now.status }
+    {
+        match self.status {
+            Some(status) => (100..=199).contains(&status.as_u16()),
+            None => false,
+        }
+    }
+
+    /// The status, if it has one.
+    pub fn status(&self) -> Option<StatusCode>
+        ensures { result ≡ self.now.status }
+    {
+        self.status
+    }
+
+    /// Whether it has any pseudo-header field.
+    pub fn has_pseudo(&self) -> bool
+        ensures { result ≡ self.now.pseudo }
+    {
+        self.pseudo
+    }
+
+    // With one field more, of which nothing is malformed.
+    fn with(self, field: &HeaderField) -> Outline
+        requires { bad_part field.now ≡ None }
+        ensures { result ≡ outlined self field.now }
+    {
+        match FieldKind::of(field.name()) {
+            FieldKind::Regular => self,
+            FieldKind::Status => Outline {
+                method: self.method,
+                pseudo: true,
+                status: status_of(field.value()),
+            },
+            FieldKind::Method => Outline {
+                method: true,
+                pseudo: true,
+                status: self.status,
+            },
+            FieldKind::Scheme | FieldKind::Authority | FieldKind::Path | FieldKind::Protocol => {
+                Outline {
+                    method: self.method,
+                    pseudo: true,
+                    status: self.status,
+                }
+            }
+        }
+    }
+}
+
+/// What a list of fields reads as, its header aside. It takes memory only for a list of more than 24,576 fields, whose names a map has to
+/// tell apart.
+pub fn read_list(alloc: Global, fields: &[HeaderField]) -> Result<ListRead, AllocError>
+    ensures ok { IfOk result (λ read. read ≡ list_read (head_of fields.now)) }
+    ensures err { OnErr result (24576 < length fields.now) }
+    ensures memory { OnErr result (RefusesOne (trailer_head []) fields.now HeaderError.OutOfMemory) }
+{
+    if fields.len() > MOST_NAMES {
+        return read_long(alloc, fields);
+    }
+    Ok(read_short(fields))
+}
+
+// One of so few fields that a map has room for all their names.
+fn read_short(fields: &[HeaderField]) -> ListRead
+    requires { length fields.now ≤ 24576 }
+    ensures { result ≡ list_read (head_of fields.now) }
+{
+    h3_header::laws::lists_are_their_value();
+    match first_bad_part(fields) {
+        Some(part) => ListRead::Malformed(malformation_by(part)),
+        None => ListRead::Head(outline_of(fields)),
+    }
+}
+
+// The outline of fields of which none is malformed.
+fn outline_of(fields: &[HeaderField]) -> Outline
+    requires { All (λ f. bad_part f ≡ None) fields.now }
+    ensures { result ≡ fold outlined empty_outline fields.now }
+{
+    let mut outline = Outline::empty();
+    'fields: for field in fields {
+        outline = outline.with(field);
+    }
+    outline
+}
+
+// Any list, by the header that is made of it.
+fn read_long(alloc: Global, fields: &[HeaderField]) -> Result<ListRead, AllocError>
+    ensures ok { IfOk result (λ read. read ≡ list_read (head_of fields.now)) }
+    ensures memory { OnErr result (RefusesOne (trailer_head []) fields.now HeaderError.OutOfMemory) }
+{
+    h3_header::laws::lists_are_their_value();
+    match Header::of_fields(alloc, fields) {
+        Ok(header) => {
+            let outline = Outline::of(&header);
+            drop(header);
+            Ok(ListRead::Head(outline))
+        }
+        Err(e) => match malformation(&e) {
+            Some(why) => Ok(ListRead::Malformed(why)),
+            None => Err(AllocError),
+        },
+    }
+}
+
+// Whether a header has `:method`: one with a status has it where it is no response, and another where it is a request.
+fn has_method(header: &Header) -> bool
+    ensures { result ≡ is_some header.now.method }
+{
+    if header.status().is_some() {
+        return !header.is_response();
+    }
+    header.is_request()
+}
+
+// The status that three digits are.
+#[tactic(auto, using(crate::proofs::Outlines::is_status))]
+fn status_of(digits: &[u8]) -> Option<StatusCode>
+    requires { is_value_at kind.Status digits.now ≡ true }
+    ensures { result ≡ Some (status_number digits.now) }
+{
+    match StatusCode::from_bytes(digits) {
+        Ok(status) => Some(status),
+        Err(_) => None,
+    }
+}
+
+// Why a list is malformed of which a field is by itself.
+fn malformation_by(part: BadPart) -> Malformation
+    ensures { result ≡ malformation_of (refusal_of part) }
+{
+    match part {
+        BadPart::Name => Malformation::Name,
+        BadPart::Value => Malformation::Value,
+    }
+}
+
+/// What a list is of which no header was made. Want of memory is told where it was told, and of no list that is malformed, which is judged
+/// without memory, unless it has more fields than a map has names for.
+pub(crate) fn read_refused(
+    fields: &[HeaderField],
+    error: &HeaderError,
+) -> Result<ListRead, AllocError>
+    ensures ok { IfOk result (λ r. (why : HeadRefusal) × Tells fields.now error.now why × (r ≡ read.Malformed (malformation_of why))) }
+    ensures memory { OnErr result (told error.now ≡ None) }
+    ensures good { OnErr result (IsHeadUnlessMany fields.now) }
+{
+    if let Some(why) = malformation(error) {
+        return Ok(ListRead::Malformed(why));
+    }
+    match first_bad_part(fields) {
+        Some(part) => Ok(ListRead::Malformed(malformation_by(part))),
+        None => Err(AllocError),
+    }
+}
+
+// Why a list is no header's. Want of memory tells nothing.
+fn malformation(e: &HeaderError) -> Option<Malformation>
+    ensures { result ≡ option_map malformation_of (told e.now) }
+{
+    match e {
+        HeaderError::InvalidHeaderName(_) => Some(Malformation::Name),
+        HeaderError::InvalidHeaderValue(_) => Some(Malformation::Value),
+        HeaderError::TooManyFields => Some(Malformation::TooMany),
+        HeaderError::InvalidRequest
+        | HeaderError::MissingMethod
+        | HeaderError::MissingStatus
+        | HeaderError::MissingAuthority
+        | HeaderError::ContradictedAuthority
+        | HeaderError::OutOfMemory => None,
+    }
+}
