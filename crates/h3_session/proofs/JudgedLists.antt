@@ -1,8 +1,8 @@
 -- What a list reads as says what it is in its place.
-use Rattle.std.proofs.Common.{◌≡◌, Bool, true, false, if◌then◌else◌, Option, Some, None, refl, ap, sym, subst, ◌∙◌}
+use Rattle.std.proofs.Common.{◌≡◌, Bool, true, false, if◌then◌else◌, Some, None, refl, ap, sym, ◌∙◌}
 use Rattle.std.specs.Prelude.{not, option_map}
 use Rattle.h3_header.specs.Head.{Head}
-use Rattle.h3_header.specs.HeadRead.{HeadRead, HeadRefusal, IsHead, IsNone}
+use Rattle.h3_header.specs.HeadRead.{HeadRead, IsHead, IsNone}
 use Rattle.h3_proto.specs.declared.stream.Side.{Side}
 use Rattle.h3_proto.specs.declared.stream.Side.TheVariants.{Client, Server}
 use Rattle.h3_connection.specs.OwnIds.{other}
@@ -13,11 +13,11 @@ use Rattle.h3_connection.specs.declared.place.SendPlace.{SendPlace}
 use Rattle.h3_connection.specs.declared.place.SendPlace.TheVariants.{NothingSent, HeadSent}
 use Rattle.h3_requests.specs.Refused.{refused_if}
 use Rattle.h3_session.specs.JudgedLists.{head_list_error, trailer_list_error, IsHeadAt, IsTrailer}
-use Rattle.h3_session.specs.Outline.{outline_of, is_sent_outline, list_read}
+use Rattle.h3_incoming.specs.Outline.{outline_of, is_sent_outline, list_read}
 use Rattle.h3_session.specs.declared.endpoint.lists.FieldsError.{FieldsError}
 use Rattle.h3_session.specs.declared.endpoint.lists.FieldsError.TheVariants as error
-use Rattle.h3_session.specs.declared.endpoint.outline.Outline.{Outline}
-use Rattle.h3_session.specs.declared.endpoint.outline.ListRead.TheVariants as read
+use Rattle.h3_incoming.specs.declared.outline.Outline.{Outline}
+use Rattle.h3_incoming.specs.declared.outline.ListRead.TheVariants as read
 
 same_side : (side : Side) (h : Head) → is_sent_outline side (outline_of h) ≡ is_for (other side) h
 same_side Client h = refl

@@ -14,7 +14,6 @@ pub mod Inserting
 pub mod SendingSections
 pub mod SendingHeads
 pub mod Remembering
-pub mod Outlines
 pub mod JudgedLists
 pub mod Lists
 pub mod ReadLists
@@ -32,6 +31,7 @@ pub mod Opening
 pub mod ReceivingFirst
 pub mod PullingStreams
 pub mod PullingKept
+pub mod Listing
 pub mod Running
 pub mod RunningCalls
 pub mod Acting

@@ -22,6 +22,8 @@ use Rattle.h3_connection.specs.declared.event.Pull.TheVariants as answer
 use Rattle.h3_connection.specs.declared.event.Fault.{Fault}
 use Rattle.h3_connection.specs.declared.event.Fault.TheVariants as fault
 use Rattle.h3_connection.specs.declared.event.Item.TheVariants as item
+use Rattle.h3_connection.specs.declared.event.StreamFault.TheVariants as stream_fault
+use Rattle.h3_incoming.specs.Answering.{has_header}
 use Rattle.h3_incoming.specs.Gives.{Gives}
 use Rattle.h3_streams.specs.Placed.{StreamsState, placed, Answers}
 use Rattle.h3_requests.specs.Limited.{PullsWithin, ResumesThere, unopened_answer}
@@ -195,57 +197,76 @@ pulls_own s id kind = pulls_plainly s s id answer.NoMessages refl (λ e h.
     let is : kind_of e.side id ≡ OwnUnidirectional = ap (λ side. kind_of side id) (sym h.side) ∙ kind in
     rw is (refl, h))
 
--- A unidirectional stream of the peer takes no memory.
-raw_memory : (o : Unidirectional) (pieces : List (List ℕ)) → is_memory (raw o pieces).0 ≡ false
-raw_memory o [] = by_end o o.ended
-  where
-    by_end : (o : Unidirectional) (b : Bool) → is_memory (if◌then◌else◌ {A = Pull × Unidirectional} b (answer.Item item.End, record o { is_over = true }) (answer.Pending, o)).0 ≡ false
-    by_end o true = refl
-    by_end o false = refl
-raw_memory o (piece ∷ pieces) = refl
+-- What holds of each answer with no header and of no fault but a reset,
+record HoldsPlainly (P : Pull → Type 0) : Type 0 where
+  none : P answer.NoMessages
+  pending : P answer.Pending
+  end_came : P (answer.Item item.End)
+  raw_came : (piece : List ℕ) → P (answer.Item (item.Raw piece))
+  session_came : (id : ℕ) → P (answer.Item (item.Session id))
+  was_reset : (code : ℕ) → P (answer.Fault (fault.Stream (stream_fault.Reset code)))
 
-session_memory : (id : ℕ) (o : Unidirectional) (code : Option ℕ) → is_memory (pull_session id o code).0 ≡ false
-session_memory id o (Some code) = refl
-session_memory id o None = by_told o.is_told
-  where
-    by_told : (b : Bool) → is_memory (if◌then◌else◌ {A = Pull × Unidirectional} b (raw o o.unread) (answer.Item (item.Session id), record o { is_told = true })).0 ≡ false
-    by_told true = raw_memory o o.unread
-    by_told false = refl
+-- holds of what a unidirectional stream of the peer answers.
+module _ (P : Pull → Type 0) (h : HoldsPlainly P) where
+  raw_holds : (o : Unidirectional) (pieces : List (List ℕ)) → P (raw o pieces).0
+  raw_holds o [] = by_end o.ended
+    where
+      by_end : (b : Bool) → P (if◌then◌else◌ {A = Pull × Unidirectional} b (answer.Item item.End, record o { is_over = true }) (answer.Pending, o)).0
+      by_end true = h.end_came
+      by_end false = h.pending
+  raw_holds o (piece ∷ pieces) = h.raw_came piece
 
-over_memory : (b : Bool) (o : Unidirectional) (id : ℕ) → is_memory (if_over b o id).0 ≡ false
-over_memory true o id = refl
-over_memory false o id = session_memory id o o.reset_code
+  session_holds : (id : ℕ) (o : Unidirectional) (code : Option ℕ) → P (pull_session id o code).0
+  session_holds id o (Some code) = h.was_reset code
+  session_holds id o None = by_told o.is_told
+    where
+      by_told : (b : Bool) → P (if◌then◌else◌ {A = Pull × Unidirectional} b (raw o o.unread) (answer.Item (item.Session id), record o { is_told = true })).0
+      by_told true = raw_holds o o.unread
+      by_told false = h.session_came id
 
-untold_memory : (a b : Bool) → is_memory (if a then answer.NoMessages else (if b then answer.Pending else answer.NoMessages)) ≡ false
-untold_memory true b = refl
-untold_memory false true = refl
-untold_memory false false = refl
+  over_holds : (b : Bool) (o : Unidirectional) (id : ℕ) → P (if_over b o id).0
+  over_holds true o id = h.end_came
+  over_holds false o id = session_holds id o o.reset_code
 
-role_memory : (o : Unidirectional) (role : Role) → is_memory (pull_unidirectional o role).0 ≡ false
-role_memory o (Untold front) = untold_memory (is_closed o) (may_be_session (varint_at front))
-role_memory o Control = refl
-role_memory o Encoder = refl
-role_memory o Decoder = refl
-role_memory o (Session id) = over_memory o.is_over o id
-role_memory o (Push id) = refl
-role_memory o Ignored = refl
+  untold_holds : (a b : Bool) → P (if a then answer.NoMessages else (if b then answer.Pending else answer.NoMessages))
+  untold_holds true b = h.none
+  untold_holds false true = h.pending
+  untold_holds false false = h.none
 
-with_memory : (e : EndpointHistory) (id : ℕ) (p : Pull × Unidirectional) → is_memory p.0 ≡ false → is_memory (pulled_unidirectional e id p).0 ≡ false
-with_memory e id (a, o) h = h
+  role_holds : (o : Unidirectional) (role : Role) → P (pull_unidirectional o role).0
+  role_holds o (Untold front) = untold_holds (is_closed o) (may_be_session (varint_at front))
+  role_holds o Control = h.none
+  role_holds o Encoder = h.none
+  role_holds o Decoder = h.none
+  role_holds o (Session id) = over_holds o.is_over o id
+  role_holds o (Push id) = h.none
+  role_holds o Ignored = h.none
 
+  with_holds : (e : EndpointHistory) (id : ℕ) (p : Pull × Unidirectional) → P p.0 → P (pulled_unidirectional e id p).0
+  with_holds e id (a, o) k = k
+
+  peer_holds : (e : EndpointHistory) (id : ℕ) (at : Option Unidirectional) → P (pull_peer e id at).0
+  peer_holds e id None = h.pending
+  peer_holds e id (Some o) = with_holds e id (pull_unidirectional o o.role) (role_holds o o.role)
+
+-- It takes no memory, and has no header.
 peer_memory : (e : EndpointHistory) (id : ℕ) (at : Option Unidirectional) → is_memory (pull_peer e id at).0 ≡ false
-peer_memory e id None = refl
-peer_memory e id (Some o) = with_memory e id (pull_unidirectional o o.role) (role_memory o o.role)
+peer_memory e id at =
+    peer_holds (λ a. is_memory a ≡ false) (record { none = refl; pending = refl; end_came = refl; raw_came = λ piece. refl; session_came = λ q. refl; was_reset = λ code. refl }) e id at
+
+peer_header : (e : EndpointHistory) (id : ℕ) (at : Option Unidirectional) → has_header (pull_peer e id at).0 ≡ false
+peer_header e id at =
+    peer_holds (λ a. has_header a ≡ false) (record { none = refl; pending = refl; end_came = refl; raw_came = λ piece. refl; session_came = λ q. refl; was_reset = λ code. refl }) e id at
 
 answers_by : {A : Type 0} (s : EndpointState) (a : A) (x : StreamsState) (found : A × EndpointHistory) → Answers s a x found → (a ≡ found.0) × StandsFor (placed s x) found.1
 answers_by s a x (given, e) h = h
 
-pub pulls_peer : (s : EndpointState) (old new : StreamsState) (id : ℕ) (a : Pull) → placed s old ≡ s → kind_of s.side id ≡ PeerUnidirectional
-    → ((t : EndpointState) (e : EndpointHistory) → StandsFor (placed t old) e → Answers t a new (pull_peer e id (stream_at e.unidirectional id))) → PullsItem s (placed s new) id a
-pulls_peer s old new id a same kind answers = record {
-  done = λ e h memory. rw (here e h) (given e h);
-  memory = λ e h memory. let none : is_memory a ≡ false = ap is_memory (given e h).0 ∙ peer_memory e id (stream_at e.unidirectional id) in cc;
-  settled = λ e h memory. let none : is_memory a ≡ false = ap is_memory (given e h).0 ∙ peer_memory e id (stream_at e.unidirectional id) in cc;
+pub pulls_peer : (s : EndpointState) (old new : StreamsState) (id : ℕ) (a b : Pull) → placed s old ≡ s → kind_of s.side id ≡ PeerUnidirectional
+    → ((t : EndpointState) (e : EndpointHistory) → StandsFor (placed t old) e → Answers t a new (pull_peer e id (stream_at e.unidirectional id))) → (has_header a ≡ false → b ≡ a) → PullsItem s (placed s new) id b
+pulls_peer s old new id a b same kind answers plain = record {
+  done = λ e h memory. rw (here e h) (told e h, (given e h).1);
+  memory = λ e h memory. let none : is_memory b ≡ false = ap is_memory (told e h) ∙ peer_memory e id (stream_at e.unidirectional id) in cc;
+  settled = λ e h memory. let none : is_memory b ≡ false = ap is_memory (told e h) ∙ peer_memory e id (stream_at e.unidirectional id) in cc;
 }
   where
     here : (e : EndpointHistory) → StandsFor s e → kind_of e.side id ≡ PeerUnidirectional
@@ -253,3 +274,6 @@ pulls_peer s old new id a same kind answers = record {
 
     given : (e : EndpointHistory) → StandsFor s e → (a ≡ (pull_peer e id (stream_at e.unidirectional id)).0) × StandsFor (placed s new) (pull_peer e id (stream_at e.unidirectional id)).1
     given e h = answers_by s a new (pull_peer e id (stream_at e.unidirectional id)) (answers s e (subst (λ t. StandsFor t e) (sym same) h))
+
+    told : (e : EndpointHistory) → StandsFor s e → b ≡ (pull_peer e id (stream_at e.unidirectional id)).0
+    told e h = plain (ap has_header (given e h).0 ∙ peer_header e id (stream_at e.unidirectional id)) ∙ (given e h).0

@@ -7,6 +7,7 @@ pub mod Canceling
 pub mod Arriving
 pub mod SendingFields
 pub mod Pulling
+pub mod Listing
 pub mod Running
 pub mod Acting
 pub mod Copied
@@ -14,7 +15,6 @@ pub mod Typed
 pub mod Headlines
 pub mod Messages
 pub mod Frames
-pub mod Outline
 pub mod SendingLists
 pub mod JudgedLists
 pub mod StrictLists

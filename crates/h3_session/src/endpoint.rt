@@ -23,7 +23,6 @@ mod ending;
 mod heads;
 mod lists;
 mod next;
-mod outline;
 mod owning;
 mod pulling;
 mod reading;

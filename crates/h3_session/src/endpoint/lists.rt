@@ -9,16 +9,16 @@ ghost use Rattle.h3_connection.specs.declared.event.Refusal.TheVariants as refus
 ghost use Rattle.h3_requests.specs.Refused.{head_refused_at, body_refused_at};
 ghost use Rattle.h3_session.specs.Refused.{side_refused, pseudo_refused};
 ghost use Rattle.h3_session.specs.SendingLists.{SendsFieldList, SendsTrailerList, SendsListedHead, SendsListedTrailer, error_after, error_of, no_memory, list_told};
-ghost use Rattle.h3_session.specs.Outline.{is_sent_outline};
+ghost use Rattle.h3_incoming.specs.Outline.{is_sent_outline};
 ghost use Rattle.h3_session.specs.declared.endpoint.lists.FieldsError.TheVariants as error;
 ghost use Rattle.h3_session.specs.JudgedLists.{head_list_error, trailer_list_error, IsHeadAt, IsTrailer};
 
 use super::Endpoint;
 use super::heads::place_of;
-use super::outline::{ListRead, Outline, read_list};
 use h3_connection::event::{Malformation, Refusal};
 use h3_connection::place::SendPlace;
 use h3_field::HeaderField;
+use h3_incoming::outline::{ListRead, Outline, read_list};
 use h3_proto::stream::{Side, StreamId};
 use std::alloc::Global;
 

@@ -11,6 +11,11 @@ ghost use Rattle.h3_connection.specs.State.{StandsFor, kept_at};
 ghost use Rattle.h3_connection.specs.declared.event.Refusal.TheVariants.{OutOfMemory};
 ghost use Rattle.h3_requests.specs.Refused.{cancel_refused_at};
 ghost use Rattle.h3_session.specs.Canceling.{CancelsAt};
+ghost use Rattle.h3_incoming.specs.Answering.{Lists, fault_told};
+ghost use Rattle.h3_connection.specs.declared.event.Pull.{Pull};
+ghost use Rattle.h3_incoming.specs.FieldsPulls.{list_of, pull_of};
+ghost use Rattle.h3_requests.specs.Coming.{fields_at};
+ghost use Rattle.h3_session.specs.Listing.{ListsItem, ListsNext};
 ghost use Rattle.h3_requests.specs.Limited.{PullsWithin, ResumesThere, unopened_answer};
 ghost use Rattle.h3_session.specs.Pulling.{PullsItem, ReadsKept, answer_code, closed_with, settled_in};
 ghost use Rattle.h3_session.specs.OpenedLaws.{ChangesRequests};
@@ -18,7 +23,8 @@ ghost use Rattle.h3_session.specs.OpenedLaws.{ChangesRequests};
 use super::Endpoint;
 use h3_connection::event::{Fault, Pull, Refusal};
 use h3_connection::setup::Announced;
-use h3_incoming::answer::{fail, no_messages, put};
+use h3_incoming::answer::{fail, give_made, no_messages};
+use h3_incoming::{Answer, FieldsPull};
 use h3_proto::error::Code;
 use h3_proto::stream::{Side, StreamId};
 use h3_requests::RequestStreams;
@@ -28,41 +34,46 @@ use h3_unidirectional::waiting::WaitingBytes;
 use std::alloc::{AllocError, Global};
 
 /// The fault of the connection that an answer tells.
-fn fault_of(answer: &Pull) -> Option<Code>
-    ensures { result ≡ answer_code answer.now }
+fn fault_of<O: Answer>(answer: &O) -> Option<Code>
+    ensures { result ≡ answer_code (O.told answer.now) }
 {
-    match answer {
-        Pull::Fault(fault) => match fault {
+    let fault = answer.fault();
+    code_told(&fault)
+}
+
+fn code_told(fault: &Option<Fault>) -> Option<Code>
+    ensures { (answer : Pull) → fault.now ≡ fault_told answer → result ≡ answer_code answer }
+{
+    match fault {
+        Some(fault) => match fault {
             Fault::Connection(code) => Some(*code),
             Fault::Stream(_) => None,
             Fault::Memory => None,
         },
-        Pull::Item(_) => None,
-        Pull::Pending => None,
-        Pull::Waiting(_) => None,
-        Pull::NoMessages => None,
+        None => None,
     }
 }
 
 /// The next item of a request stream.
 #[tactic(auto, using(crate::proofs::Behind::pulls_behind))]
-fn pull_stream(
+fn pull_stream<O: Answer>(
     requests: &mut RequestStreams,
     alloc: Global,
     side: Side,
     announced: &Announced,
     id: StreamId,
     streams: &mut ConnectionStreams,
-    out: &mut Pull,
+    out: &mut O,
 )
-    ensures absent { kept_at requests.old id ≡ None → (out.new ≡ unopened_answer side) × (requests.new ≡ requests.old) × (streams.new.own.decoder ≡ streams.old.own.decoder) }
+    ensures absent { kept_at requests.old id ≡ None → (O.told out.new ≡ unopened_answer side) × (requests.new ≡ requests.old) × (streams.new.own.decoder ≡ streams.old.own.decoder) }
     ensures there { is_some (kept_at requests.new id) ≡ is_some (kept_at requests.old id) }
-    ensures answer { is_memory out.new ≡ false → IfSome (kept_at requests.old id) (λ before. IfSome (kept_at requests.new id) (λ after.
-        PullsWithin side announced.now id streams.old.decoding.decoder requests.old requests.new before after out.new streams.old.own.decoder streams.new.own.decoder)) }
-    ensures memory { is_memory out.new ≡ true → IfSome (kept_at requests.old id) (λ before. IfSome (kept_at requests.new id) (λ after.
+    ensures answer { is_memory (O.told out.new) ≡ false → IfSome (kept_at requests.old id) (λ before. IfSome (kept_at requests.new id) (λ after.
+        PullsWithin side announced.now id streams.old.decoding.decoder requests.old requests.new before after (O.told out.new) streams.old.own.decoder streams.new.own.decoder)) }
+    ensures memory { is_memory (O.told out.new) ≡ true → IfSome (kept_at requests.old id) (λ before. IfSome (kept_at requests.new id) (λ after.
         ResumesThere requests.old requests.new id before after)) × (streams.new.own.decoder ≡ streams.old.own.decoder) }
     ensures rest { streams.new ≡ record streams.old { own = record streams.old.own { decoder = streams.new.own.decoder } } }
-    ensures settled { IfSome (kept_at requests.old id) (λ before. is_settled_request (Some before.incoming) ≡ true → is_memory out.new ≡ false) }
+    ensures settled { IfSome (kept_at requests.old id) (λ before. is_settled_request (Some before.incoming) ≡ true → is_memory (O.told out.new) ≡ false) }
+    ensures list { Lists (O.listed out.new) (fields_at streams.old.decoding.decoder (kept_at requests.old id)) }
 {
     let replies = &mut streams.own.decoder;
     let decoding = &streams.decoding;
@@ -106,10 +117,23 @@ impl Endpoint {
         out
     }
 
+    /// What comes next on a stream, as `pull` answers it, but with each head and trailer as the list of its fields: as they came, in the order
+    /// in which they came, and with no header made of them. The endpoint is left as `pull` leaves it, and `Fault::Memory` loses nothing. It
+    /// makes a header only of a list of more than 24,576 fields, to judge it.
+    pub fn pull_fields(&mut self, id: StreamId) -> FieldsPull
+        ensures pulls { PullsNext self.old self.new id (pull_of result) }
+        ensures list { ListsNext self.old id (list_of result) }
+    {
+        let mut out = FieldsPull::Pending;
+        self.pull_into(id, &mut out);
+        out
+    }
+
     // The same, with the answer in the place of what `out` was.
-    #[tactic(auto, using(crate::proofs::PullingKept::pull_closed, crate::proofs::PullingKept::pull_alone, crate::proofs::PullingKept::pull_settled, crate::proofs::PullingKept::pull_behind, crate::proofs::PullingKept::pull_faulty, crate::proofs::PullingKept::pull_lacked))]
-    fn pull_into(&mut self, id: StreamId, out: &mut Pull)
-        ensures { PullsNext self.old self.new id out.new }
+    #[tactic(auto, using(crate::proofs::PullingKept::pull_closed, crate::proofs::PullingKept::pull_alone, crate::proofs::PullingKept::pull_settled, crate::proofs::PullingKept::pull_behind, crate::proofs::PullingKept::pull_faulty, crate::proofs::PullingKept::pull_lacked, crate::proofs::Listing::lists_no_next, crate::proofs::Listing::lists_settled))]
+    fn pull_into<O: Answer>(&mut self, id: StreamId, out: &mut O)
+        ensures pulls { PullsNext self.old self.new id (O.told out.new) }
+        ensures list { ListsNext self.old id (O.listed out.new) }
     {
         if let Some(code) = self.closed {
             fail(out, Fault::Connection(code));
@@ -170,9 +194,10 @@ impl Endpoint {
     }
 
     // The stream's next item, whatever is kept.
-    #[tactic(auto, using(crate::proofs::PullingStreams::pulls_server_opened, crate::proofs::PullingStreams::pulls_own))]
-    fn pull_next(&mut self, id: StreamId, out: &mut Pull)
-        ensures { PullsItem self.old self.new id out.new }
+    #[tactic(auto, using(crate::proofs::PullingStreams::pulls_server_opened, crate::proofs::PullingStreams::pulls_own, crate::proofs::Listing::lists_no_item))]
+    fn pull_next<O: Answer>(&mut self, id: StreamId, out: &mut O)
+        ensures item { PullsItem self.old self.new id (O.told out.new) }
+        ensures list { ListsItem self.old id (O.listed out.new) }
     {
         match StreamKind::of(self.side, id) {
             StreamKind::Request => self.pull_request(id, out),
@@ -183,39 +208,42 @@ impl Endpoint {
     }
 
     #[tactic(auto, using(crate::proofs::PullingStreams::pulls_peer))]
-    fn pull_peer(&mut self, id: StreamId, out: &mut Pull)
+    fn pull_peer<O: Answer>(&mut self, id: StreamId, out: &mut O)
         requires { kind_of self.old.side id ≡ PeerUnidirectional }
-        ensures { PullsItem self.old self.new id out.new }
+        ensures item { PullsItem self.old self.new id (O.told out.new) }
+        ensures list { ListsItem self.old id (O.listed out.new) }
     {
-        put(out, self.streams.pull(id));
+        give_made(out, self.streams.pull(id));
     }
 
     // A fault of the connection closes it.
-    fn pull_request(&mut self, id: StreamId, out: &mut Pull)
+    fn pull_request<O: Answer>(&mut self, id: StreamId, out: &mut O)
         requires { kind_of self.old.side id ≡ Request }
-        ensures { PullsItem self.old self.new id out.new }
+        ensures item { PullsItem self.old self.new id (O.told out.new) }
+        ensures list { ListsItem self.old id (O.listed out.new) }
     {
         self.pull_stored(id, out);
         self.close_with(out);
     }
 
-    fn close_with(&mut self, answer: &Pull)
-        ensures { self.new ≡ closed_with (answer_code answer.now) self.old }
+    fn close_with<O: Answer>(&mut self, answer: &O)
+        ensures { self.new ≡ closed_with (answer_code (O.told answer.now)) self.old }
     {
         if let Some(code) = fault_of(answer) {
             self.closed = Some(code);
         }
     }
 
-    fn pull_stored(&mut self, id: StreamId, out: &mut Pull)
+    fn pull_stored<O: Answer>(&mut self, id: StreamId, out: &mut O)
         ensures rest { ChangesRequests self.old self.new }
-        ensures absent { kept_at self.old.requests id ≡ None → (out.new ≡ unopened_answer self.old.side) × (self.new.requests ≡ self.old.requests) × (self.new.own.decoder ≡ self.old.own.decoder) }
+        ensures absent { kept_at self.old.requests id ≡ None → (O.told out.new ≡ unopened_answer self.old.side) × (self.new.requests ≡ self.old.requests) × (self.new.own.decoder ≡ self.old.own.decoder) }
         ensures there { is_some (kept_at self.new.requests id) ≡ is_some (kept_at self.old.requests id) }
-        ensures answer { is_memory out.new ≡ false → IfSome (kept_at self.old.requests id) (λ before. IfSome (kept_at self.new.requests id) (λ after.
-            PullsWithin self.old.side self.old.announced id self.old.decoding.decoder self.old.requests self.new.requests before after out.new self.old.own.decoder self.new.own.decoder)) }
-        ensures memory { is_memory out.new ≡ true → IfSome (kept_at self.old.requests id) (λ before. IfSome (kept_at self.new.requests id) (λ after.
+        ensures answer { is_memory (O.told out.new) ≡ false → IfSome (kept_at self.old.requests id) (λ before. IfSome (kept_at self.new.requests id) (λ after.
+            PullsWithin self.old.side self.old.announced id self.old.decoding.decoder self.old.requests self.new.requests before after (O.told out.new) self.old.own.decoder self.new.own.decoder)) }
+        ensures memory { is_memory (O.told out.new) ≡ true → IfSome (kept_at self.old.requests id) (λ before. IfSome (kept_at self.new.requests id) (λ after.
             ResumesThere self.old.requests self.new.requests id before after)) × (self.new.own.decoder ≡ self.old.own.decoder) }
-        ensures settled { IfSome (kept_at self.old.requests id) (λ before. is_settled_request (Some before.incoming) ≡ true → is_memory out.new ≡ false) }
+        ensures settled { IfSome (kept_at self.old.requests id) (λ before. is_settled_request (Some before.incoming) ≡ true → is_memory (O.told out.new) ≡ false) }
+        ensures list { Lists (O.listed out.new) (fields_at self.old.decoding.decoder (kept_at self.old.requests id)) }
     {
         let alloc = self.alloc;
         let side = self.side;
