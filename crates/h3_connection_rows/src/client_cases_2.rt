@@ -1,4 +1,4 @@
-//! Hostile lists of calls of a client. Made by scripts/connection_cases.py.
+//! Hostile lists of calls of a client. Made by scripts/gate/connection_cases.py.
 
 ghost use Rattle.std.specs.Prelude.{◌≡◌};
 ghost use Rattle.h3_connection.specs.CallLists.{answers};
