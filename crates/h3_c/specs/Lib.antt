@@ -5,6 +5,7 @@ pub mod Given
 pub mod Giving
 pub mod Held
 pub mod Items
+pub mod Rows
 pub mod Numbers
 pub mod Seen
 pub mod Showing

@@ -3,6 +3,7 @@
 mod ending;
 mod heads;
 mod items;
+mod lists;
 mod making;
 mod outgoing;
 mod receiving;
