@@ -107,7 +107,7 @@
  *   h3_finish                               no bytes; the end of that stream (h3_outgoing then says fin, with 0 bytes where none wait)
  *   h3_goaway                               the own control stream
  *   h3_deliver(_lent), h3_deliver_end,      the own encoder stream (the peer's settings came), the own decoder stream (the peer's encoder
- *   h3_deliver_reset, h3_pull               stream was read, a head was decoded, a stream was given up)
+ *   h3_deliver_reset, h3_pull(_fields)      stream was read, a head was decoded, a stream was given up)
  *   h3_cancel                               the own decoder stream
  *   all others                              none
  *
@@ -434,22 +434,14 @@ enum h3_kind {
 /* The name of a kind, for a log, and "an unknown kind" for a number that is none. */
 static inline const char *h3_kind_text(uint32_t kind) {
   switch (kind) {
-    case H3_INTERIM: return "H3_INTERIM";
-    case H3_HEAD: return "H3_HEAD";
-    case H3_BODY: return "H3_BODY";
-    case H3_TRAILER: return "H3_TRAILER";
-    case H3_TOO_LARGE_HEAD: return "H3_TOO_LARGE_HEAD";
-    case H3_SESSION: return "H3_SESSION";
-    case H3_RAW: return "H3_RAW";
-    case H3_END: return "H3_END";
-    case H3_PENDING: return "H3_PENDING";
-    case H3_WAITING: return "H3_WAITING";
-    case H3_NO_MESSAGES: return "H3_NO_MESSAGES";
-    case H3_FAULT_CONNECTION: return "H3_FAULT_CONNECTION";
-    case H3_FAULT_MALFORMED: return "H3_FAULT_MALFORMED";
-    case H3_FAULT_RESET: return "H3_FAULT_RESET";
-    case H3_FAULT_CANCELED: return "H3_FAULT_CANCELED";
-    case H3_FAULT_MEMORY: return "H3_FAULT_MEMORY";
+    case H3_INTERIM: return "H3_INTERIM"; case H3_HEAD: return "H3_HEAD";
+    case H3_BODY: return "H3_BODY"; case H3_TRAILER: return "H3_TRAILER";
+    case H3_TOO_LARGE_HEAD: return "H3_TOO_LARGE_HEAD"; case H3_SESSION: return "H3_SESSION";
+    case H3_RAW: return "H3_RAW"; case H3_END: return "H3_END";
+    case H3_PENDING: return "H3_PENDING"; case H3_WAITING: return "H3_WAITING";
+    case H3_NO_MESSAGES: return "H3_NO_MESSAGES"; case H3_FAULT_CONNECTION: return "H3_FAULT_CONNECTION";
+    case H3_FAULT_MALFORMED: return "H3_FAULT_MALFORMED"; case H3_FAULT_RESET: return "H3_FAULT_RESET";
+    case H3_FAULT_CANCELED: return "H3_FAULT_CANCELED"; case H3_FAULT_MEMORY: return "H3_FAULT_MEMORY";
     default: return "an unknown kind";
   }
 }
@@ -480,24 +472,15 @@ enum h3_malformation {
 /* The name of a malformation, for a log, and "an unknown malformation" for a number that is none. */
 static inline const char *h3_malformation_text(uint64_t malformation) {
   switch (malformation) {
-    case H3_BAD_NAME: return "H3_BAD_NAME";
-    case H3_BAD_VALUE: return "H3_BAD_VALUE";
-    case H3_TOO_MANY: return "H3_TOO_MANY";
-    case H3_HEAD_OF_WRONG_SIDE: return "H3_HEAD_OF_WRONG_SIDE";
-    case H3_PSEUDO_FIELD_IN_TRAILER: return "H3_PSEUDO_FIELD_IN_TRAILER";
-    case H3_NO_HEAD: return "H3_NO_HEAD";
-    case H3_LATE_PSEUDO_FIELD: return "H3_LATE_PSEUDO_FIELD";
-    case H3_WRONG_PSEUDO_FIELD: return "H3_WRONG_PSEUDO_FIELD";
-    case H3_REPEATED_PSEUDO_FIELD: return "H3_REPEATED_PSEUDO_FIELD";
-    case H3_CONNECTION_FIELD: return "H3_CONNECTION_FIELD";
-    case H3_BAD_CONTENT_LENGTH: return "H3_BAD_CONTENT_LENGTH";
-    case H3_BAD_PROTOCOL: return "H3_BAD_PROTOCOL";
-    case H3_BAD_CONNECT: return "H3_BAD_CONNECT";
-    case H3_MISSING_PSEUDO_FIELD: return "H3_MISSING_PSEUDO_FIELD";
-    case H3_BAD_SCHEME: return "H3_BAD_SCHEME";
-    case H3_BAD_AUTHORITY: return "H3_BAD_AUTHORITY";
-    case H3_BAD_PATH: return "H3_BAD_PATH";
-    case H3_BAD_STATUS: return "H3_BAD_STATUS";
+    case H3_BAD_NAME: return "H3_BAD_NAME"; case H3_BAD_VALUE: return "H3_BAD_VALUE";
+    case H3_TOO_MANY: return "H3_TOO_MANY"; case H3_HEAD_OF_WRONG_SIDE: return "H3_HEAD_OF_WRONG_SIDE";
+    case H3_PSEUDO_FIELD_IN_TRAILER: return "H3_PSEUDO_FIELD_IN_TRAILER"; case H3_NO_HEAD: return "H3_NO_HEAD";
+    case H3_LATE_PSEUDO_FIELD: return "H3_LATE_PSEUDO_FIELD"; case H3_WRONG_PSEUDO_FIELD: return "H3_WRONG_PSEUDO_FIELD";
+    case H3_REPEATED_PSEUDO_FIELD: return "H3_REPEATED_PSEUDO_FIELD"; case H3_CONNECTION_FIELD: return "H3_CONNECTION_FIELD";
+    case H3_BAD_CONTENT_LENGTH: return "H3_BAD_CONTENT_LENGTH"; case H3_BAD_PROTOCOL: return "H3_BAD_PROTOCOL";
+    case H3_BAD_CONNECT: return "H3_BAD_CONNECT"; case H3_MISSING_PSEUDO_FIELD: return "H3_MISSING_PSEUDO_FIELD";
+    case H3_BAD_SCHEME: return "H3_BAD_SCHEME"; case H3_BAD_AUTHORITY: return "H3_BAD_AUTHORITY";
+    case H3_BAD_PATH: return "H3_BAD_PATH"; case H3_BAD_STATUS: return "H3_BAD_STATUS";
     case H3_NO_TRAILER_FIELD: return "H3_NO_TRAILER_FIELD";
     default: return "an unknown malformation";
   }
@@ -508,16 +491,25 @@ typedef struct {
   uint32_t status; /* of a head with :status: its number, else 0 */
   uint64_t number; /* what the kind says, else 0 */
   size_t fields;   /* of a head or trailer: how many fields, else 0 */
-  size_t len;      /* of a body or raw bytes: how many, else 0 */
+  size_t len;      /* of a body or raw bytes: how many; of fields of h3_pull_fields: how many bytes of names and values; else 0 */
 } h3_item;
 
-/* What comes next on a stream. The item stays in the endpoint until the next h3_pull: read it by h3_item_field and h3_item_bytes. A fault of the
- * connection closes it. Refused: H3_ARGUMENT (id not below 2^62); *item is not written and the item before stays. */
+/* What comes next on a stream. The item stays in the endpoint until the next pull: read it by h3_item_fields, h3_item_field and h3_item_bytes. A
+ * fault of the connection closes it. Refused: H3_ARGUMENT (id not below 2^62); *item is not written and the item before stays. */
 static inline uint32_t h3_pull(h3_endpoint *endpoint, uint64_t id, h3_item *item);
 
-/* Field `index` of the head or trailer that was pulled last: its name and value, as many bytes as fit, and how long both are. Fields come in the
- * order :method, :scheme, :authority, :path, :status, :protocol, then the others. Refused: H3_NONE (no such field), H3_MEMORY (call again: nothing
- * is lost; no result is written), H3_ROOM (a buffer is too small). */
+/* The same, but the fields of a head or trailer are the list that came: in its order, each field that it has. No map is made of it, so this call is
+ * the faster one. What is malformed is as h3_pull says. The two may be mixed, and all that is said of h3_pull here is said of both. */
+static inline uint32_t h3_pull_fields(h3_endpoint *endpoint, uint64_t id, h3_item *item);
+
+/* All fields of the head or trailer that was pulled last, in its order (below): the sizes of each at sizes, and all names and values one behind
+ * another at bytes, as h3_send_fields takes them. `most` sizes and `room` bytes fit there: `fields` and `len` of the item are enough (after h3_pull
+ * the sum of the sizes is not told). Of another item none. Refused, with nothing written: H3_ROOM, H3_MEMORY (after h3_pull alone: call again). */
+static inline uint32_t h3_item_fields(h3_endpoint *endpoint, h3_field_size *sizes, size_t most, void *bytes, size_t room);
+
+/* Field `index` of the head or trailer that was pulled last: its name and value, as many bytes as fit, and how long both are. After h3_pull fields come
+ * in the order :method, :scheme, :authority, :path, :status, :protocol, then the others; after h3_pull_fields as they came. Refused: H3_NONE (no such
+ * field), H3_MEMORY (call again: nothing is lost; no result is written), H3_ROOM (a buffer is too small). */
 static inline uint32_t h3_item_field(h3_endpoint *endpoint, size_t index, void *name, size_t name_room, size_t *name_len, void *value,
                                      size_t value_room, size_t *value_len);
 
@@ -601,6 +593,8 @@ uint32_t h3_raw_keep(h3_endpoint endpoint, uint64_t id, h3_endpoint *out);
 uint32_t h3_raw_deliver_end(h3_endpoint endpoint, uint64_t id, uint64_t *detail, h3_endpoint *out);
 uint32_t h3_raw_deliver_reset(h3_endpoint endpoint, uint64_t id, uint64_t code, uint64_t *detail, h3_endpoint *out);
 uint32_t h3_raw_pull(h3_endpoint endpoint, uint64_t id, h3_item *item, h3_endpoint *out);
+uint32_t h3_raw_pull_fields(h3_endpoint endpoint, uint64_t id, h3_item *item, h3_endpoint *out);
+uint32_t h3_raw_item_fields(h3_endpoint endpoint, h3_field_size *sizes, size_t most, uint8_t *bytes, size_t room, h3_endpoint *out);
 uint32_t h3_raw_item_field(h3_endpoint endpoint, size_t index, uint8_t *name, size_t name_room, size_t *name_len, uint8_t *value, size_t value_room,
                            size_t *value_len, h3_endpoint *out);
 uint32_t h3_raw_item_bytes(h3_endpoint endpoint, size_t from, uint8_t *buffer, size_t room, size_t *n, h3_endpoint *out);
@@ -761,6 +755,16 @@ static inline uint32_t h3_pull(h3_endpoint *endpoint, uint64_t id, h3_item *item
   if (!endpoint || !endpoint->at) return H3_NO_ENDPOINT;
   if (!item) return H3_ARGUMENT;
   return h3_raw_pull(*endpoint, id, item, endpoint);
+}
+static inline uint32_t h3_pull_fields(h3_endpoint *endpoint, uint64_t id, h3_item *item) {
+  if (!endpoint || !endpoint->at) return H3_NO_ENDPOINT;
+  if (!item) return H3_ARGUMENT;
+  return h3_raw_pull_fields(*endpoint, id, item, endpoint);
+}
+static inline uint32_t h3_item_fields(h3_endpoint *endpoint, h3_field_size *sizes, size_t most, void *bytes, size_t room) {
+  h3_field_size no_size; uint8_t nothing;
+  if (!endpoint || !endpoint->at) return H3_NO_ENDPOINT;
+  return h3_raw_item_fields(*endpoint, sizes ? sizes : &no_size, sizes ? most : 0, bytes ? (uint8_t *)bytes : &nothing, bytes ? room : 0, endpoint);
 }
 static inline uint32_t h3_item_field(h3_endpoint *endpoint, size_t index, void *name, size_t name_room, size_t *name_len, void *value,
                                      size_t value_room, size_t *value_len) {

@@ -4,3 +4,4 @@ pub mod Heads
 pub mod Making
 pub mod NextIds
 pub mod Values
+pub mod RowLaws

@@ -8,6 +8,7 @@ use Rattle.h3_connection.specs.Announcing.{announced_by}
 use Rattle.h3_connection.specs.SendingContracts.{Creates}
 use Rattle.h3_connection.specs.State.{EndpointState}
 use Rattle.h3_connection.specs.declared.event.Pull.TheVariants.{Pending}
+use Rattle.h3_c.specs.declared.last.Last.TheVariants.{Pulled}
 use Rattle.h3_connection.specs.declared.setup.Announced.{Announced}
 use Rattle.h3_connection.specs.declared.setup.Limits.{Limits}
 use Rattle.h3_connection.specs.declared.setup.NewError.{NewError}
@@ -106,7 +107,7 @@ made_told (Err e) = new_told e
 
 -- the handle owns the endpoint that was made, of which nothing was pulled; and what it owned before where none was made
 abbrev pub IsMade : Result EndpointState NewError → Option Seen → Option Seen → Type 0
-IsMade (Ok s) before after = after ≡ Some (record { endpoint = s; last = Pending })
+IsMade (Ok s) before after = after ≡ Some (record { endpoint = s; last = Pulled Pending })
 IsMade (Err e) before after = after ≡ before
 
 -- why none is made

@@ -1,6 +1,6 @@
 -- What the exports promise: the contract of the call that each makes, of the endpoint that the handle owned and the one that the handle
 -- for the next call owns, with the numbers that C gets.
-use Rattle.std.specs.Prelude.{◌≡◌, ◌≢◌, ◌⊎◌, ◌<◌, ◌≤◌, ◌^◌, ◌++◌, ◌==◌, ◌&&◌, ℕ, nat_le, if◌then◌else◌, Bool, List, length, take, drop, min, slice_get, Option, Some, None, Result, Ok, Err}
+use Rattle.std.specs.Prelude.{◌≡◌, ◌≢◌, ◌⊎◌, ◌<◌, ◌≤◌, ◌^◌, ◌++◌, ◌==◌, ◌&&◌, ℕ, nat_le, if◌then◌else◌, Bool, true, false, List, length, take, drop, min, slice_get, Option, Some, None, Result, Ok, Err}
 use Rattle.h3_field.specs.Field.{Field}
 use Rattle.h3_header.specs.Head.{Head}
 use Rattle.h3_header.specs.HeadRead.{HeadRead, IsHead, IsNone}
@@ -10,6 +10,7 @@ use Rattle.h3_connection.specs.Shown.{is_finished}
 use Rattle.h3_connection.specs.ReceivingContracts.{PullsNext}
 use Rattle.h3_connection.specs.SendingContracts.{Advances, Opens}
 use Rattle.h3_connection.specs.State.{StandsFor}
+use Rattle.h3_connection.specs.declared.event.Pull.{Pull}
 use Rattle.h3_connection.specs.declared.event.Refusal.{Refusal}
 use Rattle.h3_outgoing.specs.Copied.{put}
 use Rattle.h3_session.specs.Copied.{CopiesTo}
@@ -17,7 +18,13 @@ use Rattle.h3_session.specs.NextRequest.{next_request}
 use Rattle.h3_session.specs.declared.endpoint.lists.FieldsError.{FieldsError}
 use Rattle.h3_c.specs.declared.items.PulledItem.{PulledItem}
 use Rattle.h3_c.specs.declared.numbers.Told.{Told}
-use Rattle.h3_c.specs.Items.{bytes_of, fields_of, shown}
+use Rattle.h3_incoming.specs.FieldsPulls.{list_of, pull_of}
+use Rattle.h3_incoming.specs.declared.fields.FieldsPull.{FieldsPull}
+use Rattle.h3_session.specs.Listing.{ListsNext}
+use Rattle.h3_c.specs.Items.{last_bytes, last_fields, listed_shown, shown}
+use Rattle.h3_c.specs.Rows.{fits, row_of, sizes_of}
+use Rattle.h3_c.specs.declared.fields.FieldSize.{FieldSize}
+use Rattle.h3_c.specs.declared.last.Last.TheVariants as last
 use Rattle.h3_c.specs.Numbers.{ok, none, room, argument, memory, call_told, head_told, list_told, refusal_told}
 use Rattle.h3_c.specs.Seen.{Seen}
 use Rattle.h3_c.specs.Showing.{bit}
@@ -58,15 +65,26 @@ SendsCut (Some fields) n v w does = Calls list_told n v w (does fields)
 
 -- A pull: its answer stays until the next one, and C gets what it is.
 pub record Pulls (id : ℕ) (n : Told) (v w : Seen) (given : PulledItem) : Type 0 where
+  pub answer : Pull
   pub done : n ≡ ok
-  pub pulled : PullsNext v.endpoint w.endpoint id w.last
-  pub given_so : given ≡ shown w.last
+  pub pulled : PullsNext v.endpoint w.endpoint id answer
+  pub last : w.last ≡ last.Pulled answer
+  pub given_so : given ≡ shown answer
+
+-- The same of a pull whose heads and trailers are the lists of fields that came.
+pub record PullsFields (id : ℕ) (n : Told) (v w : Seen) (given : PulledItem) : Type 0 where
+  pub answer : FieldsPull
+  pub done : n ≡ ok
+  pub pulled : PullsNext v.endpoint w.endpoint id (pull_of answer)
+  pub list : ListsNext v.endpoint id (list_of answer)
+  pub last : w.last ≡ last.Listed answer
+  pub given_so : given ≡ listed_shown answer
 
 -- The bytes of an item from one on, as many as fit.
 pub record ReadsBytes (v : Seen) (from : ℕ) (n : Told) (before after : List ℕ) (count_before count : ℕ) : Type 0 where
-  pub past : length (bytes_of v.last) ≤ from → (n ≡ none) × (after ≡ before) × (count ≡ count_before)
-  pub inside : from < length (bytes_of v.last) → (n ≡ ok) × (count ≡ min (length (drop from (bytes_of v.last))) (length before))
-      × (after ≡ take (length before) (drop from (bytes_of v.last)) ++ drop (length (drop from (bytes_of v.last))) before)
+  pub past : length (last_bytes v.last) ≤ from → (n ≡ none) × (after ≡ before) × (count ≡ count_before)
+  pub inside : from < length (last_bytes v.last) → (n ≡ ok) × (count ≡ min (length (drop from (last_bytes v.last))) (length before))
+      × (after ≡ take (length before) (drop from (last_bytes v.last)) ++ drop (length (drop from (last_bytes v.last))) before)
 
 -- The first bytes that wait, as many as fit, at the front of C's buffer.
 pub record CopiesOut (v : Seen) (id : ℕ) (n : Told) (before after : List ℕ) (count fin : ℕ) : Type 0 where
@@ -122,4 +140,15 @@ GivesField (Some f) n before after =
 
 -- A field of the head or trailer that was pulled last. Nothing is written where memory was refused.
 abbrev pub ReadsField : Seen → ℕ → Told → Places → Places → Type 0
-ReadsField v index n before after = ((n ≡ memory) × (after ≡ before)) ⊎ GivesField (slice_get (fields_of v.last) index) n before after
+ReadsField v index n before after = ((n ≡ memory) × (after ≡ before)) ⊎ GivesField (slice_get (last_fields v.last) index) n before after
+
+-- All fields are written at the front of C's two buffers, and the rest of these stays; or nothing is, since one is too small.
+pub record GivesFields (fields : List Field) (n : Told) (sizes_before sizes : List FieldSize) (before after : List ℕ) : Type 0 where
+  pub whole : fits fields (length sizes_before) (length before) ≡ true
+      → (n ≡ ok) × (sizes ≡ sizes_of fields ++ drop (length fields) sizes_before) × (after ≡ row_of fields ++ drop (length (row_of fields)) before)
+  pub small : fits fields (length sizes_before) (length before) ≡ false → (n ≡ room) × (sizes ≡ sizes_before) × (after ≡ before)
+
+-- All fields of the head or trailer that was pulled last. Nothing is written where memory was refused.
+abbrev pub ReadsFields : Seen → Told → List FieldSize → List FieldSize → List ℕ → List ℕ → Type 0
+ReadsFields v n sizes_before sizes before after =
+    ((n ≡ memory) × (sizes ≡ sizes_before) × (after ≡ before)) ⊎ GivesFields (last_fields v.last) n sizes_before sizes before after

@@ -1,5 +1,5 @@
 -- What C gets of the item that was pulled last.
-use Rattle.std.specs.Prelude.{◌≡◌, ℕ, ◌-◌, ◌^◌, List, [], length, min, unwrap_or, Option, Some, None}
+use Rattle.std.specs.Prelude.{◌≡◌, ℕ, ◌-◌, ◌^◌, Bool, false, List, [], length, min, unwrap_or, is_some, Option, Some, None}
 use Rattle.h3_field.specs.Field.{Field}
 use Rattle.h3_header.specs.Head.{Head, head_fields}
 use Rattle.h3_connection.specs.declared.event.Fault.TheVariants as fault
@@ -10,7 +10,15 @@ use Rattle.h3_connection.specs.declared.event.Pull.{Pull}
 use Rattle.h3_connection.specs.declared.event.Pull.TheVariants as pull
 use Rattle.h3_connection.specs.declared.event.StreamFault.{StreamFault}
 use Rattle.h3_connection.specs.declared.event.StreamFault.TheVariants as stream_fault
+use Rattle.h3_header.specs.Reads.{head_of_fields}
+use Rattle.h3_incoming.specs.FieldsPulls.{list_of, pull_of}
+use Rattle.h3_incoming.specs.declared.fields.FieldsItem.TheVariants as listed
+use Rattle.h3_incoming.specs.declared.fields.FieldsPull.{FieldsPull}
+use Rattle.h3_incoming.specs.declared.fields.FieldsPull.TheVariants as answer
+use Rattle.h3_c.specs.Rows.{row_len}
 use Rattle.h3_c.specs.declared.items.PulledItem.{PulledItem}
+use Rattle.h3_c.specs.declared.last.Last.{Last}
+use Rattle.h3_c.specs.declared.last.Last.TheVariants as last
 
 -- the fields of a head or trailer, and none of anything else
 abbrev pub fields_of : Pull → List Field
@@ -24,11 +32,6 @@ abbrev pub bytes_of : Pull → List ℕ
 bytes_of (pull.Item (item.Body bytes)) = bytes
 bytes_of (pull.Item (item.Raw bytes)) = bytes
 bytes_of _ = []
-
--- what is kept for later is these fields
-abbrev pub AreFields : Option (List Field) → Pull → Type 0
-AreFields None last = Unit {0}
-AreFields (Some fields) last = fields ≡ fields_of last
 
 -- `h3_kind` alone, or with a number
 abbrev pub plain : ℕ → PulledItem
@@ -86,3 +89,33 @@ shown pull.NoMessages = plain 11
 shown (pull.Fault (fault.Connection code)) = numbered 12 code
 shown (pull.Fault (fault.Stream f)) = fault_shown f
 shown (pull.Fault fault.Memory) = plain 16
+
+-- a head or trailer that was pulled as its list: its status, and how many fields and how many bytes of names and values it has
+abbrev pub list_shown : ℕ → List Field → PulledItem
+list_shown kind fields = record { kind = kind; status = unwrap_or (head_of_fields fields).status 0; number = 0; fields = length fields; len = row_len fields }
+
+abbrev pub listed_shown : FieldsPull → PulledItem
+listed_shown (answer.Item (listed.Interim fields)) = list_shown 1 fields
+listed_shown (answer.Item (listed.Head fields)) = list_shown 2 fields
+listed_shown (answer.Item (listed.Trailer fields)) = list_shown 4 fields
+listed_shown p = shown (pull_of p)
+
+-- The item of the last pull, of either kind: its fields, in their order,
+abbrev pub last_fields : Last → List Field
+last_fields (last.Pulled p) = fields_of p
+last_fields (last.Listed p) = unwrap_or (list_of p) []
+
+-- and its bytes.
+abbrev pub last_bytes : Last → List ℕ
+last_bytes (last.Pulled p) = bytes_of p
+last_bytes (last.Listed p) = bytes_of (pull_of p)
+
+-- whether it keeps a list
+abbrev pub has_list : Last → Bool
+has_list (last.Pulled p) = false
+has_list (last.Listed p) = is_some (list_of p)
+
+-- what is kept for later is these fields
+abbrev pub AreFields : Option (List Field) → Last → Type 0
+AreFields None last = Unit {0}
+AreFields (Some fields) last = fields ≡ last_fields last

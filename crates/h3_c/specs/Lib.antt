@@ -6,6 +6,7 @@ pub mod Giving
 pub mod Held
 pub mod Items
 pub mod Lending
+pub mod Rows
 pub mod Numbers
 pub mod Seen
 pub mod Showing

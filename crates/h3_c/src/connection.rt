@@ -5,6 +5,7 @@ ghost use Rattle.h3_c.specs.Configs.{side_of, announced_of, Unmakes};
 ghost use Rattle.h3_c.specs.Numbers.{argument};
 
 use crate::config::{GivenConfig, endpoint_of};
+use crate::last::Last;
 use crate::numbers::{ARGUMENT, MEMORY, Told, unmade};
 use crate::owned::boxed;
 use h3_connection::event::Pull;
@@ -17,6 +18,7 @@ mod ending;
 mod heads;
 mod items;
 mod lending;
+mod lists;
 mod outgoing;
 mod receiving;
 mod sending;
@@ -26,7 +28,7 @@ mod showing;
 #[derive(Drop)]
 pub struct Connection {
     endpoint: Endpoint,
-    last: Pull,
+    last: Last,
     // the fields of the head or trailer that was pulled, once they were asked for
     fields: Option<Vec<HeaderField>>,
 }
@@ -46,11 +48,11 @@ impl Model for Connection {
 impl Connection {
     /// Nothing was pulled yet.
     pub(crate) fn of(endpoint: Endpoint) -> Connection
-        ensures { result ≡ record { endpoint = endpoint; last = Pull.Pending } }
+        ensures { result ≡ record { endpoint = endpoint; last = Last.Pulled Pull.Pending } }
     {
         Connection {
             endpoint,
-            last: Pull::Pending,
+            last: Last::Pulled(Pull::Pending),
             fields: None,
         }
     }
@@ -60,7 +62,7 @@ impl Connection {
 pub(crate) fn made(alloc: Global, given: &GivenConfig) -> Result<Box<Connection>, Told>
     ensures near { IfOk result (λ b. given.now.grease < 0x210842108421083) }
     ensures made { IfOk result (λ b. Creates (side_of given.now) (announced_of given.now) (Ok b.value.endpoint)) }
-    ensures last { IfOk result (λ b. b.value.last ≡ Pull.Pending) }
+    ensures last { IfOk result (λ b. b.value.last ≡ Last.Pulled Pull.Pending) }
     ensures far { IfErr result (λ told. 0x210842108421083 ≤ given.now.grease → told ≡ argument) }
     ensures refused { IfErr result (λ told. given.now.grease < 0x210842108421083 → Unmakes given.now told) }
 {
@@ -74,7 +76,7 @@ pub(crate) fn made(alloc: Global, given: &GivenConfig) -> Result<Box<Connection>
 fn made_in_range(alloc: Global, given: &GivenConfig) -> Result<Box<Connection>, Told>
     requires { given.now.grease < 0x210842108421083 }
     ensures made { IfOk result (λ b. Creates (side_of given.now) (announced_of given.now) (Ok b.value.endpoint)) }
-    ensures last { IfOk result (λ b. b.value.last ≡ Pull.Pending) }
+    ensures last { IfOk result (λ b. b.value.last ≡ Last.Pulled Pull.Pending) }
     ensures refused { IfErr result (Unmakes given.now) }
 {
     match endpoint_of(alloc, given) {

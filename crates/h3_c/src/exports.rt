@@ -4,6 +4,7 @@ mod ending;
 mod heads;
 mod items;
 mod lending;
+mod lists;
 mod making;
 mod outgoing;
 mod receiving;

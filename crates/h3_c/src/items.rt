@@ -19,13 +19,13 @@ pub struct PulledItem {
     pub len: usize,
 }
 
-fn plain(kind: u32) -> PulledItem
+pub(crate) fn plain(kind: u32) -> PulledItem
     ensures { result ≡ plain kind }
 {
     numbered(kind, 0)
 }
 
-fn numbered(kind: u32, number: u64) -> PulledItem
+pub(crate) fn numbered(kind: u32, number: u64) -> PulledItem
     ensures { result ≡ numbered kind number }
 {
     PulledItem {
@@ -53,7 +53,7 @@ fn head_shown(kind: u32, head: &Header) -> PulledItem
     }
 }
 
-fn bytes_shown(kind: u32, bytes: &Bytes) -> PulledItem
+pub(crate) fn bytes_shown(kind: u32, bytes: &Bytes) -> PulledItem
     ensures { result ≡ bytes_shown kind bytes.now }
 {
     PulledItem {
@@ -130,7 +130,7 @@ pub(crate) fn shown(answer: &Pull) -> PulledItem
     }
 }
 
-fn fault_given(fault: &Fault) -> PulledItem
+pub(crate) fn fault_given(fault: &Fault) -> PulledItem
     ensures { result ≡ shown (Pull.Fault fault.now) }
 {
     match fault {

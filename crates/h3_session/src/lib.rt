@@ -4,7 +4,8 @@
 //!
 //! - An endpoint is made for a `Side`, by a `Config` and the `Limits` of its decoder, unless a `NewError` refuses them.
 //! - Messages are a `Header`, `Bytes` and perhaps a `Header` again; a stream is named by a `StreamId`.
-//! - A `Pull` is an `Item`, a pause or a `Fault`, and a `FieldsPull` the same with lists of fields in the place of headers; a call that is refused answers a `Refusal`, a delivery a `DeliverError`.
+//! - A `Pull` is an `Item`, a pause or a `Fault`, and a `FieldsPull` the same with lists of fields in the place of headers. A call that is
+//!   refused answers a `Refusal`, a delivery a `DeliverError`.
 //! - `run::run` drives two endpoints, made by a `Setup`, over a list of `Event`s, and gives an `Answer` for each: what a client and a server
 //!   may count on with each other is its contract.
 //! - `laws` says what the calls come to over whole lists of calls: streams are isolated, cuts don't count, work is bounded.

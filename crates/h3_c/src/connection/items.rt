@@ -1,15 +1,17 @@
 //! What is pulled.
-ghost use Rattle.std.specs.Prelude.{◌≡◌, ◌≤◌, ◌^◌, slice_get};
+ghost use Rattle.std.specs.Prelude.{◌≡◌, ◌≤◌, ◌^◌, false, IfOk, slice_get};
+ghost use Rattle.h3_c.specs.Items.{has_list, last_fields};
 ghost use Rattle.h3_c.specs.Exported.{GivesField, OnStream, Pulls, ReadsBytes, ReadsField, places};
 
 use super::Connection;
-use crate::items::{PulledItem, bytes_of, fields_of, shown};
+use crate::items::{PulledItem, shown};
+use crate::last::Last;
 use crate::numbers::{ARGUMENT, MEMORY, NONE, OK, ROOM, Told};
 use crate::owned::put;
 use h3_field::HeaderField;
 use h3_outgoing::outgoing::put_front;
 use h3_proto::stream::StreamId;
-use std::alloc::Global;
+use std::alloc::{AllocError, Global};
 
 impl Connection {
     /// What comes next on a stream: it takes the place of what was pulled before.
@@ -23,7 +25,7 @@ impl Connection {
         let answer = self.endpoint.pull(id);
         *item = shown(&answer);
         put(&mut self.fields, None);
-        put(&mut self.last, answer);
+        put(&mut self.last, Last::Pulled(answer));
         OK
     }
 
@@ -40,23 +42,34 @@ impl Connection {
         ensures same { self.new ≡ self.old }
         ensures field { ReadsField self.old index result (places name.old name_len.old value.old value_len.old) (places name.new name_len.new value.new value_len.new) }
     {
-        let fields = match self.fields.take() {
-            Some(fields) => fields,
-            None => match fields_of(alloc, &self.last) {
-                Ok(fields) => fields,
-                Err(_) => return MEMORY,
-            },
+        if let Some(list) = self.last.list() {
+            return field_at(list, index, name, name_len, value, value_len);
+        }
+        let Ok(fields) = self.take_fields(alloc) else {
+            return MEMORY;
         };
         let told = field_at(fields.as_slice(), index, name, name_len, value, value_len);
         self.fields = Some(fields);
         told
     }
 
+    // The fields of what was pulled last, where it keeps no list: they are made once.
+    pub(super) fn take_fields(&mut self, alloc: Global) -> Result<Vec<HeaderField>, AllocError>
+        requires { has_list self.old.last ≡ false }
+        ensures same { self.new ≡ self.old }
+        ensures fields { IfOk result (λ v. v.items ≡ last_fields self.old.last) }
+    {
+        match self.fields.take() {
+            Some(fields) => Ok(fields),
+            None => self.last.header_fields(alloc),
+        }
+    }
+
     /// The bytes of the item that was pulled last, from `from` on.
     pub(crate) fn item_bytes(&self, from: usize, out: &mut [u8], count: &mut usize) -> Told
         ensures { ReadsBytes self.now from result out.old out.new count.old count.new }
     {
-        let bytes = bytes_of(&self.last);
+        let bytes = self.last.bytes();
         if bytes.len() <= from {
             return NONE;
         }

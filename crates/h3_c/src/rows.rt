@@ -1,0 +1,103 @@
+//! All fields of a head or trailer, as C gets them at once: their sizes, and their names and values one behind another.
+ghost use Rattle.std.specs.Prelude.{◌≡◌, ◌+◌, ◌<◌, ◌≤◌, ◌^◌, ◌++◌, true, length, take, drop};
+ghost use Rattle.std.specs.List.{list_all};
+ghost use Rattle.h3_c.specs.Exported.{GivesFields};
+ghost use Rattle.h3_c.specs.Rows.{is_short, row_len, row_of, size_of, sizes_of};
+
+use crate::fields::FieldSize;
+use crate::numbers::{OK, ROOM, Told};
+use h3_field::HeaderField;
+use h3_outgoing::outgoing::put_front;
+
+/// Hands out all fields, if there is room for all of them.
+pub(crate) fn fields_at_once(
+    fields: &[HeaderField],
+    sizes: &mut [FieldSize],
+    bytes: &mut [u8],
+) -> Told
+    ensures { GivesFields fields.now result sizes.old sizes.new bytes.old bytes.new }
+{
+    if fields.len() > sizes.len() {
+        return ROOM;
+    }
+    if bytes_in(fields) > bytes.len() {
+        return ROOM;
+    }
+    if !are_short(fields) {
+        return ROOM;
+    }
+    put_fields(fields, sizes, bytes);
+    OK
+}
+
+/// How many bytes all names and values have, at most the greatest `usize`.
+pub(crate) fn bytes_in(fields: &[HeaderField]) -> usize
+    ensures { result ≡ row_len fields.now }
+{
+    let mut len = 0usize;
+    'fields: for field in fields {
+        len = len
+            .saturating_add(field.name().len())
+            .saturating_add(field.value().len());
+    }
+    len
+}
+
+// Whether each size is a number of 32 bits.
+fn are_short(fields: &[HeaderField]) -> bool
+    ensures { result ≡ list_all is_short fields.now }
+{
+    fields.iter().all(|field| is_short(field))
+}
+
+fn is_short(field: &HeaderField) -> bool
+    ensures { result ≡ is_short field.now }
+{
+    field.name().len() < 1 << 32 && field.value().len() < 1 << 32
+}
+
+// Writes all fields.
+fn put_fields(fields: &[HeaderField], sizes: &mut [FieldSize], bytes: &mut [u8])
+    requires count { length fields.now ≤ length sizes.old }
+    requires room { length (row_of fields.now) ≤ length bytes.old }
+    requires short { list_all is_short fields.now ≡ true }
+    ensures sizes { sizes.new ≡ sizes_of fields.now ++ drop (length fields.now) sizes.old }
+    ensures bytes { bytes.new ≡ row_of fields.now ++ drop (length (row_of fields.now)) bytes.old }
+{
+    let mut at = 0usize;
+    for index in 0..fields.len() {
+        let field = &fields[index];
+        sizes[index] = size_of(field);
+        at = put_field(field, at, bytes);
+    }
+}
+
+// Its size, whose numbers have 32 bits.
+fn size_of(field: &HeaderField) -> FieldSize
+    requires { is_short field.now ≡ true }
+    ensures { result ≡ size_of field.now }
+{
+    FieldSize {
+        name: field.name().len() as u32,
+        value: field.value().len() as u32,
+    }
+}
+
+// Writes a name and its value from a place on, and answers the place behind them.
+fn put_field(field: &HeaderField, at: usize, bytes: &mut [u8]) -> usize
+    requires { at + (length field.now.name + length field.now.value) ≤ length bytes.old }
+    ensures place { result ≡ at + (length field.now.name + length field.now.value) }
+    ensures front { bytes.new ≡ take at bytes.old ++ (field.now.name ++ (field.now.value ++ drop (at + (length field.now.name + length field.now.value)) bytes.old)) }
+{
+    let behind_name = put_at(field.name(), at, bytes);
+    put_at(field.value(), behind_name, bytes)
+}
+
+// Copies bytes into a buffer from a place on, and answers the place behind them.
+fn put_at(bytes: &[u8], at: usize, out: &mut [u8]) -> usize
+    requires { at + length bytes.now ≤ length out.old }
+    ensures place { result ≡ at + length bytes.now }
+    ensures front { out.new ≡ take at out.old ++ (bytes.now ++ drop (at + length bytes.now) out.old) }
+{
+    at + put_front(bytes, &mut out[at..])
+}
