@@ -127,9 +127,9 @@
  *   content that you send is as long as your content-length says: a body that passes it, and an end or a trailer before it is reached, is H3_MALFORMED
  *     with H3_BAD_CONTENT_LENGTH. So is a body in a response to HEAD or with status 204 or 304. A server counts where it handed out the request's head
  *     before it sends the response's, and did not give the stream up since. A trailer in a tunnel is H3_BAD_CONNECT.
- * You must check: of a head that is too large, that content is as long as it says; at a server that answers before it pulls the request's head, that
- * its content is as long as it says; and where `strict` is 0 the whole list above. What was handed out of a body stays handed out where the message turns out malformed later: act on
- * a request that must be whole behind its H3_END.
+ * You must check: of a head that is too large, and at a server that answers before it pulls the request's head, that content is as long as it says; and
+ * where `strict` is 0 the whole list above. What was handed out of a body stays handed out where the message turns out malformed later: act on a request
+ * that must be whole behind its H3_END.
  *
  * HOW A FAULT ENDS A STREAM OR THE CONNECTION
  *
