@@ -638,32 +638,28 @@ static inline uint32_t h3_next_request_id(h3_endpoint *endpoint, uint64_t *id, u
 }
 static inline uint32_t h3_send_head(h3_endpoint *endpoint, uint64_t id, const h3_field_size *sizes, size_t count, const void *bytes, size_t len,
                                     uint64_t *detail) {
-  uint64_t none;
-  h3_field_size no_size = {0, 0};
+  uint64_t none; h3_field_size no_size = {0, 0};
   if (!endpoint || !endpoint->at) return H3_NO_ENDPOINT;
   if ((!sizes && count) || (!bytes && len)) return H3_ARGUMENT;
   return h3_raw_send_head(*endpoint, id, sizes ? sizes : &no_size, count, h3_in_(bytes), len, detail ? detail : &none, endpoint);
 }
 static inline uint32_t h3_send_trailer(h3_endpoint *endpoint, uint64_t id, const h3_field_size *sizes, size_t count, const void *bytes, size_t len,
                                        uint64_t *detail) {
-  uint64_t none;
-  h3_field_size no_size = {0, 0};
+  uint64_t none; h3_field_size no_size = {0, 0};
   if (!endpoint || !endpoint->at) return H3_NO_ENDPOINT;
   if ((!sizes && count) || (!bytes && len)) return H3_ARGUMENT;
   return h3_raw_send_trailer(*endpoint, id, sizes ? sizes : &no_size, count, h3_in_(bytes), len, detail ? detail : &none, endpoint);
 }
 static inline uint32_t h3_send_fields(h3_endpoint *endpoint, uint64_t id, const h3_field_size *sizes, size_t count, const void *bytes, size_t len,
                                       uint64_t *detail) {
-  uint64_t none;
-  h3_field_size no_size = {0, 0};
+  uint64_t none; h3_field_size no_size = {0, 0};
   if (!endpoint || !endpoint->at) return H3_NO_ENDPOINT;
   if ((!sizes && count) || (!bytes && len)) return H3_ARGUMENT;
   return h3_raw_send_fields(*endpoint, id, sizes ? sizes : &no_size, count, h3_in_(bytes), len, detail ? detail : &none, endpoint);
 }
 static inline uint32_t h3_send_trailer_fields(h3_endpoint *endpoint, uint64_t id, const h3_field_size *sizes, size_t count, const void *bytes,
                                               size_t len, uint64_t *detail) {
-  uint64_t none;
-  h3_field_size no_size = {0, 0};
+  uint64_t none; h3_field_size no_size = {0, 0};
   if (!endpoint || !endpoint->at) return H3_NO_ENDPOINT;
   if ((!sizes && count) || (!bytes && len)) return H3_ARGUMENT;
   return h3_raw_send_trailer_fields(*endpoint, id, sizes ? sizes : &no_size, count, h3_in_(bytes), len, detail ? detail : &none, endpoint);
