@@ -6,9 +6,11 @@ ghost use Rattle.h3_c.specs.Lending.{Keeps};
 ghost use Rattle.h3_c.specs.Numbers.{delivery_told};
 
 use super::Connection;
+use crate::last::Last;
 use crate::numbers::{ARGUMENT, MEMORY, OK, Told, delivered};
 use bytes::Bytes;
 use h3_connection::event::{Item, Pull};
+use h3_incoming::{FieldsItem, FieldsPull};
 use h3_proto::stream::StreamId;
 use h3_wire::buf::own;
 use std::alloc::{AllocError, Global};
@@ -45,12 +47,14 @@ impl Connection {
 }
 
 // The bytes of an item are put into a block of its own, where they have none.
-fn own_item(alloc: Global, item: &mut Pull) -> Result<(), AllocError>
-    ensures { item.new ≡ item.old }
+fn own_item(alloc: Global, last: &mut Last) -> Result<(), AllocError>
+    ensures { last.new ≡ last.old }
 {
-    match item {
-        Pull::Item(Item::Body(bytes)) => own(bytes, alloc),
-        Pull::Item(Item::Raw(bytes)) => own(bytes, alloc),
+    match last {
+        Last::Pulled(Pull::Item(Item::Body(bytes))) => own(bytes, alloc),
+        Last::Pulled(Pull::Item(Item::Raw(bytes))) => own(bytes, alloc),
+        Last::Listed(FieldsPull::Item(FieldsItem::Body(bytes))) => own(bytes, alloc),
+        Last::Listed(FieldsPull::Item(FieldsItem::Raw(bytes))) => own(bytes, alloc),
         _ => Ok(()),
     }
 }
