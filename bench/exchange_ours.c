@@ -5,6 +5,8 @@
 #include <stdlib.h>
 #include <string.h>
 
+enum { MOST_FIELDS = 256 }; /* of a list that comes */
+
 typedef struct {
   h3_field_size *sizes;
   size_t count;
@@ -48,13 +50,11 @@ static void free_given(given_list *all, size_t count) {
   free(all);
 }
 
-static void read_fields(side *to, size_t count) {
-  for (size_t i = 0; i < count; i++) {
-    size_t name, value;
-    done("h3_item_field", h3_item_field(&to->end, i, copied, 1 << 8, &name, copied + (1 << 8), LONGEST_BODY - (1 << 8), &value));
-    to->got.field_bytes += name + value;
-  }
-  to->got.fields += count;
+static void read_fields(side *to, const h3_item *head) {
+  static h3_field_size sizes[MOST_FIELDS];
+  done("h3_item_fields", h3_item_fields(&to->end, sizes, MOST_FIELDS, copied, LONGEST_BODY));
+  for (size_t i = 0; i < head->fields; i++) to->got.field_bytes += sizes[i].name + sizes[i].value;
+  to->got.fields += head->fields;
   to->got.heads++;
 }
 
@@ -67,10 +67,10 @@ static void read_body(side *to) {
 /* Reads a stream until a pause or its end. The bytes in `carried` are overwritten next, so what is still held of them behind a pause is kept. */
 static void pull(side *to, uint64_t id) {
   for (h3_item item;;) {
-    done("h3_pull", h3_pull(&to->end, id, &item));
+    done("h3_pull_fields", h3_pull_fields(&to->end, id, &item));
     switch (item.kind) {
     case H3_HEAD:
-      read_fields(to, item.fields);
+      read_fields(to, &item);
       break;
     case H3_BODY:
       read_body(to);
@@ -83,7 +83,7 @@ static void pull(side *to, uint64_t id) {
       done("h3_keep", h3_keep(&to->end, id));
       return;
     default:
-      stop("h3_pull gave another kind", (long)item.kind);
+      stop("h3_pull_fields gave another kind", (long)item.kind);
     }
   }
 }
