@@ -4,7 +4,8 @@
  *   --address PLACE  connect to this address and not to the URL's host
  *   --post FILE      POST with this file as the body
  *   --head           HEAD: the head alone
- *   --verbose        say on standard error what status each head has, and how many fields each trailer
+ *   --verbose        say on standard error how many bytes each request's head takes, what status each response has, and how many fields each
+ *                    trailer
  *   --count N        N requests on one connection; the bodies are written one behind another
  *   --parallel N     how many of them at once (1)
  *   --cancel BYTES   give the first request up when so many bytes of its response, or of its file, went over; its body is not written
@@ -181,6 +182,7 @@ static bool send_request(http3_request *request, exchange *exchange) {
     snprintf(length, sizeof length, "%llu", (unsigned long long)status.st_size);
   }
   if (!http3_head(request, fields, fetch.post ? 6 : 5)) return false;
+  if (fetch.verbose) fprintf(stderr, "request of %llu bytes\n", (unsigned long long)http3_waiting(request));
   if (!fetch.post) http3_finish(request);
   return true;
 }

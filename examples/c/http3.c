@@ -365,6 +365,11 @@ bool http3_head(http3_request *request, const http3_field *fields, size_t count)
   return request->sending = true;
 }
 
+uint64_t http3_waiting(http3_request *request) {
+  h3_stream_state state;
+  return h3_stream(&request->connection->endpoint, request->id, &state) == H3_OK ? state.waiting : 0;
+}
+
 size_t http3_room(http3_request *request) {
   h3_stream_state state;
   if (!request->sending || h3_stream(&request->connection->endpoint, request->id, &state) != H3_OK) return 0;

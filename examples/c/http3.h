@@ -49,6 +49,8 @@ extern const quic_events http3_over_quic;
 http3_request *http3_open(http3 *, bool *going_away);
 /* Sends a head, at most 16 fields. false: refused, as one that is larger than the peer takes. */
 bool http3_head(http3_request *, const http3_field *fields, size_t count);
+/* How many bytes wait on the request's stream: right behind http3_head those of the head, as QPACK wrote it, with its frame. */
+uint64_t http3_waiting(http3_request *);
 /* How many bytes of the body may be given now. */
 size_t http3_room(http3_request *);
 /* Sends a piece of the body. false: refused. */

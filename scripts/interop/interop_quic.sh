@@ -281,6 +281,14 @@ CADDY
 start "${ports[2]}" gtlsserver.log gtlsserver -q -d "$folder" 127.0.0.1 "${ports[2]}" "$key" "$cert"
 start "${ports[3]}" quic-go.log "$peer" serve "127.0.0.1:${ports[3]}" "$cert" "$key" "$folder"
 start "${ports[4]}" caddy.log env HOME="$work" caddy run --config "$work/Caddyfile" --adapter caddyfile
+# With a decoder that has a table and leaves increments out, the last of many heads still names entries for all of its five fields: a frame's head of two
+# bytes, the prefix of two, a byte a line, and one or two more for indices above 15. Each field written out would take some 30 bytes.
+table_in_use() { # PORT
+  within 60 "${ours[@]}" --verbose --count 300 --parallel 10 "$(url "$1" /hello.txt)" > "$work/got" || return 1
+  local last
+  last=$(sed -n 's/^request of \([0-9]*\) bytes$/\1/p' "$work/log" | tail -n 1)
+  [ "${last:-0}" -gt 0 ] && [ "$last" -le 12 ]
+}
 our_clients() { # the server's name, PORT
   check "fetch, $1: 10 MB" gives "$big" "${ours[@]}" "$(url "$2" /big.bin)"
   check "fetch, $1: 1,000 requests on one connection" gives "$work/thousand" "${ours[@]}" --count 1000 --parallel 100 "$(url "$2" /hello.txt)"
@@ -293,6 +301,7 @@ our_clients() { # the server's name, PORT
 relay "${ports[8]}" "${ports[2]}"
 relay "${ports[9]}" "${ports[3]}"
 our_clients gtlsserver "${ports[2]}"
+check "fetch, gtlsserver: the encoder's table is in use for 300 requests" table_in_use "${ports[2]}"
 our_clients "gtlsserver, packets lost" "${ports[8]}"
 our_clients quic-go "${ports[3]}"
 our_clients "quic-go, packets lost" "${ports[9]}"
