@@ -223,7 +223,7 @@ our_server() { # what it is called, PORT, PORT of a relay to it
 limits() { # what it is called, PORT of a server that takes 150 requests on a connection, its PROCESS
   check "$1 --requests 150, fetch: 160 requests" limit_reached "takes no more requests; not asked" "${ours[@]}" --count 160 \
     "$(url "$2" /hello.txt)"
-  check "$1 --requests 150, Go client: 160 requests" limit_reached "H3_GOING_AWAY, detail 600" "${go_ours[@]}" -count 160 "$cert" \
+  check "$1 --requests 150, Go client: 160 requests" limit_reached "(H3_GOING_AWAY), 600" "${go_ours[@]}" -count 160 "$cert" \
     "$(url "$2" /hello.txt)"
   check "$1 --requests 150, quic-go, which heeds no GOAWAY: the 151st is refused" refuses "stream 600 canceled with error code 267" \
     "$peer" many "$cert" 200 1 "$(url "$2" /hello.txt)"
