@@ -182,13 +182,14 @@ violations() { # what the server is called, PORT
   [ -s "$work/cases" ] || bad "$1, a client that breaks a rule"
 }
 # A server that breaks rules: what the client says of the code with which it closes the connection, or of a message that is none.
-broken_server() { # what the client is called, PORT, what stands before a code, what it says of a message, the client
-  local name=$1 port=$2 before=$3 message=$4
+broken_server() { # what the client is called, PORT, how it says a code (as printf), what it says of a message, the client
+  local name=$1 port=$2 says=$3 message=$4
   shift 4
   start "$port" violate.log "$work/violate" serve "127.0.0.1:$port" "$cert" "$key"
   while read -r code case; do
     local text=$message
-    [ "$code" -eq 0 ] || text="$before $code"
+    # shellcheck disable=SC2059
+    [ "$code" -eq 0 ] || printf -v text "$says" "$code"
     check "$name, a server that breaks a rule: $case" refuses "$text" "$@" "$(url "$port" /)"
   done < <("$work/violate" cases)
 }
@@ -318,8 +319,8 @@ check "fetch: its first packet goes out at once" works python3 scripts/interop/f
 check "fetch: a server whose certificate is not trusted" refuses "closed with QUIC code" "$work/checked/fetch" --address 127.0.0.1 \
   "$(url "${ports[3]}" /hello.txt)"
 
-broken_server fetch "${ports[10]}" "closed with HTTP/3 code" "the response is malformed" "${ours[@]}"
-broken_server "Go client" "${ports[11]}" "detail" "the message is none" "${go_ours[@]}" "$cert"
+broken_server fetch "${ports[10]}" "closed with HTTP/3 code %d" "the response is malformed" "${ours[@]}"
+broken_server "Go client" "${ports[11]}" "the connection has a fault.*, 0x%x" "the message is malformed" "${go_ours[@]}" "$cert"
 
 # ---- memory, and two endpoints ----
 
