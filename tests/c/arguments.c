@@ -3,17 +3,8 @@
 #include <stdio.h>
 #include <stdlib.h>
 #include <string.h>
-
-static int bad;
-#define IS(call, wanted) \
-  do { \
-    uint32_t n_ = (call); \
-    if (n_ != (wanted)) { \
-      printf("failed arguments: line %d: %s answers %u\n", __LINE__, #call, n_); \
-      bad = 1; \
-    } \
-  } while (0)
-#define HOLDS(test) IS((test) ? 1u : 0u, 1u)
+#define TEST "arguments"
+#include "expect.h"
 
 static const uint64_t FAR = UINT64_C(1) << 62;
 

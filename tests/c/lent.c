@@ -4,17 +4,8 @@
 #include <stdio.h>
 #include <stdlib.h>
 #include <string.h>
-
-static int bad;
-#define IS(call, wanted) \
-  do { \
-    uint32_t n_ = (call); \
-    if (n_ != (wanted)) { \
-      printf("failed lent: line %d: %s answers %u\n", __LINE__, #call, n_); \
-      bad = 1; \
-    } \
-  } while (0)
-#define HOLDS(test) IS((test) ? 1u : 0u, 1u)
+#define TEST "lent"
+#include "expect.h"
 
 /* the heads here have no :path */
 static void plain_config(h3_config *c, int is_server) {

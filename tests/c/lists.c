@@ -3,17 +3,9 @@
 #include <h3.h>
 #include <stdio.h>
 #include <string.h>
+#define TEST "lists"
+#include "expect.h"
 
-static int bad;
-#define IS(call, wanted) \
-  do { \
-    uint32_t n_ = (call); \
-    if (n_ != (wanted)) { \
-      printf("failed lists: line %d: %s answers %u\n", __LINE__, #call, n_); \
-      bad = 1; \
-    } \
-  } while (0)
-#define HOLDS(test) IS((test) ? 1u : 0u, 1u)
 enum { MOST = 8, ROOM = 256 };
 
 typedef struct {
