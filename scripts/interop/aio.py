@@ -156,8 +156,11 @@ class Server(Protocol):
             self.http.send_headers(it.stream_id, [(b":status", b"200")])
             self.http.send_data(it.stream_id, b"early\n", end_stream=True)
             self._quic.stop_stream(it.stream_id, 0x100)
-        elif stream["ended"] and path != "/early" and not own_path(self, it.stream_id, path):
-            self.answer(it.stream_id, method, path, stream)
+        elif stream["ended"] and path != "/early" and not stream.get("answered"):
+            # a stream's end may be told by more than one event
+            stream["answered"] = True
+            if not own_path(self, it.stream_id, path):
+                self.answer(it.stream_id, method, path, stream)
         self.transmit()
 
     def answer(self, stream_id, method, path, stream):
