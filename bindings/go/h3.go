@@ -17,8 +17,7 @@ import "unsafe"
 // Endpoint is one endpoint of a connection. One call at a time: a program with several goroutines has a lock around its calls. Two endpoints share
 // nothing. Close frees it.
 type Endpoint struct {
-	raw    C.h3_endpoint
-	unread *unread
+	raw C.h3_endpoint
 }
 
 // New makes an endpoint. Begin the configuration with DefaultConfig.
@@ -34,7 +33,6 @@ func New(config Config) (*Endpoint, error) {
 
 // Close frees the endpoint. A second one does nothing, and every other call behind it answers NoEndpoint.
 func (e *Endpoint) Close() {
-	e.unread = nil
 	C.h3_free(&e.raw)
 }
 

@@ -51,68 +51,43 @@ func (i Item) Value(name string) (string, bool) {
 	return "", false
 }
 
-// unread is an item that was pulled on a stream, and that memory was refused for when it was read.
-type unread struct {
-	id  uint64
-	raw C.h3_item
+// fields reads the list of the head or trailer that was pulled last, in the order that it came.
+func (e *Endpoint) fields(count, length int) ([]Field, error) {
+	sizes, bytes, fields := make([]C.h3_field_size, count), make([]byte, length), make([]Field, count)
+	if answer := C.h3_item_fields(&e.raw, &sizes[0], C.size_t(count), start(bytes), C.size_t(length)); answer != C.H3_OK {
+		return nil, refusal(answer, 0)
+	}
+	for i, size := range sizes {
+		name, value := int(size.name), int(size.value)
+		fields[i] = Field{string(bytes[:name]), string(bytes[name : name+value])}
+		bytes = bytes[name+value:]
+	}
+	return fields, nil
 }
 
-// field reads a field of the item that was pulled last. The buffers serve for the next one.
-func (e *Endpoint) field(index int, name, value *[]byte) (Field, error) {
-	for {
-		var nameCount, valueCount C.size_t
-		answer := C.h3_item_field(&e.raw, C.size_t(index), start(*name), C.size_t(len(*name)), &nameCount, start(*value), C.size_t(len(*value)), &valueCount)
-		switch answer {
-		case C.H3_OK:
-			return Field{string((*name)[:nameCount]), string((*value)[:valueCount])}, nil
-		case C.H3_ROOM:
-			*name, *value = make([]byte, nameCount+64), make([]byte, valueCount+256)
-		default:
-			return Field{}, refusal(answer, 0)
-		}
-	}
+// bytes reads the bytes of the body or session that was pulled last.
+func (e *Endpoint) bytes(length int) ([]byte, error) {
+	var count C.size_t
+	bytes := make([]byte, length)
+	answer := C.h3_item_bytes(&e.raw, 0, start(bytes), C.size_t(length), &count)
+	return bytes, refusal(answer, 0)
 }
 
-// read reads what an item has.
-func (e *Endpoint) read(raw C.h3_item) (Item, error) {
-	item := Item{Kind: Kind(raw.kind), Status: int(raw.status), Number: uint64(raw.number)}
-	if raw.fields > 0 {
-		item.Fields = make([]Field, 0, int(raw.fields))
-		name, value := make([]byte, 64), make([]byte, 256)
-		for i := 0; i < int(raw.fields); i++ {
-			field, err := e.field(i, &name, &value)
-			if err != nil {
-				return Item{}, err
-			}
-			item.Fields = append(item.Fields, field)
-		}
-	}
-	if raw.len > 0 {
-		var count C.size_t
-		item.Bytes = make([]byte, int(raw.len))
-		if answer := C.h3_item_bytes(&e.raw, 0, start(item.Bytes), raw.len, &count); answer != C.H3_OK {
-			return Item{}, refusal(answer, 0)
-		}
-	}
-	return item, nil
-}
-
-// Pull hands out what comes next on a stream: an item, a pause, or a Fault as the error. Where memory is refused nothing is lost: pull the same stream
-// again, before any other.
+// Pull hands out what comes next on a stream: an item, a pause, or a Fault as the error. Where memory is refused nothing is lost: pull again.
 func (e *Endpoint) Pull(id uint64) (Item, error) {
 	var raw C.h3_item
-	if e.unread != nil && e.unread.id == id {
-		raw = e.unread.raw
-	} else if answer := C.h3_pull(&e.raw, C.uint64_t(id), &raw); answer != C.H3_OK {
+	if answer := C.h3_pull_fields(&e.raw, C.uint64_t(id), &raw); answer != C.H3_OK {
 		return Item{}, refusal(answer, 0)
 	}
-	e.unread = nil
-	if Kind(raw.kind) >= FaultConnection {
-		return Item{Kind: Kind(raw.kind), Number: uint64(raw.number)}, Fault{Kind(raw.kind), uint64(raw.number)}
-	}
-	item, err := e.read(raw)
-	if err != nil {
-		e.unread = &unread{id, raw}
+	item := Item{Kind: Kind(raw.kind), Status: int(raw.status), Number: uint64(raw.number)}
+	var err error
+	switch {
+	case item.Kind >= FaultConnection:
+		return Item{Kind: item.Kind, Number: item.Number}, Fault{item.Kind, item.Number}
+	case raw.fields > 0:
+		item.Fields, err = e.fields(int(raw.fields), int(raw.len))
+	case raw.len > 0:
+		item.Bytes, err = e.bytes(int(raw.len))
 	}
 	return item, err
 }

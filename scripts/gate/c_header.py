@@ -172,7 +172,7 @@ def main():
     tell(not wrong, "the structs of bindings/rust have its fields", wrong)
     bound = rust_declarations()
     wrong = [(it, bound[it], declared.get(it)) for it in sorted(bound) if bound[it] != declared.get(it)]
-    tell(len(bound) == len(declared) - 5 and not wrong, "the declarations of bindings/rust are its own, but for lent bytes and pulled lists", wrong)
+    tell(len(bound) == len(declared) - 5 and not wrong, "the declarations of bindings/rust are its own, but for lent bytes and pulls that make a map", wrong)
     wrong = rust_numbers(header)
     tell(not wrong, "the numbers of bindings/rust are its own", wrong)
     code, answers = open("crates/h3_c/src/numbers.rt").read(), numbers(header, "h3_answer")

@@ -7,7 +7,6 @@ use crate::state::{ConnectionState, PeerLimits, StreamState};
 use std::ptr;
 
 const KEPT: u32 = 5;
-const ROOM: u32 = 26;
 
 /// A call of the library that sends a list of fields.
 type SendsList = unsafe extern "C" fn(Handle, u64, *const FieldSize, usize, *const u8, usize, *mut u64, *mut Handle) -> u32;
@@ -15,8 +14,6 @@ type SendsList = unsafe extern "C" fn(Handle, u64, *const FieldSize, usize, *con
 /// One endpoint of a connection. `&mut self` is the rule of one call at a time, and `Drop` frees it. It may move between threads.
 pub struct Endpoint {
     handle: Handle,
-    /// An item that was pulled on a stream, and that memory was refused for when it was read.
-    unread: Option<(u64, RawItem)>,
 }
 
 // SAFETY: nothing of an endpoint is shared or bound to a thread: that its handle is Send is proved (crates/h3_c/proofs, the proof of Send).
@@ -49,7 +46,7 @@ impl Endpoint {
         let (numbers, mut handle, mut detail) = (config.numbers(), Handle { at: ptr::null_mut() }, 0);
         let answer = unsafe { raw::h3_raw_new(numbers.as_ptr(), numbers.len(), &mut detail, &mut handle) };
         answered(answer, detail)?;
-        Ok(Endpoint { handle, unread: None })
+        Ok(Endpoint { handle })
     }
 
     /// A call that answers a number, and may name another.
@@ -185,19 +182,11 @@ impl Endpoint {
         self.delivery(|handle, detail, out| unsafe { raw::h3_raw_deliver_reset(handle, id, code, detail, out) })
     }
 
-    /// What comes next on a stream: an item, a pause, or a fault as the error. Where memory is refused nothing is lost: pull the same stream
-    /// again, before any other.
+    /// What comes next on a stream: an item, a pause, or a fault as the error. Where memory is refused nothing is lost: pull again.
     pub fn pull(&mut self, id: u64) -> Result<Pulled, Error> {
         let mut item = RawItem::default();
-        match self.unread.take() {
-            Some((stream, unread)) if stream == id => item = unread,
-            _ => self.call(|handle, _, out| unsafe { raw::h3_raw_pull(handle, id, &mut item, out) })?,
-        }
-        let pulled = self.read(item);
-        if let Err(Error::Memory) = pulled {
-            self.unread = Some((id, item));
-        }
-        pulled
+        self.call(|handle, _, out| unsafe { raw::h3_raw_pull_fields(handle, id, &mut item, out) })?;
+        self.read(item)
     }
 
     /// The items of a stream, up to the next pause or to its end.
@@ -212,7 +201,7 @@ impl Endpoint {
             1 => Item::Interim(self.head(item)?),
             2 => Item::Head(self.head(item)?),
             3 => Item::Body(self.bytes(item.len)?),
-            4 => Item::Trailer(self.fields(item.fields)?),
+            4 => Item::Trailer(self.fields(item)?),
             5 => Item::TooLargeHead(number),
             6 => Item::Session(number),
             7 => Item::Raw(self.bytes(item.len)?),
@@ -231,45 +220,15 @@ impl Endpoint {
 
     fn head(&mut self, item: RawItem) -> Result<Head, Error> {
         let status = u16::try_from(item.status).ok().filter(|status| *status != 0);
-        Ok(Head { fields: self.fields(item.fields)?, status })
+        Ok(Head { fields: self.fields(item)?, status })
     }
 
-    fn fields(&mut self, count: usize) -> Result<Fields, Error> {
-        let (mut fields, mut name, mut value) = (Fields::default(), vec![0; 64], vec![0; 256]);
-        for index in 0..count {
-            let (name_len, value_len) = self.field(index, &mut name, &mut value)?;
-            fields.push(&name[..name_len], &value[..value_len]);
-        }
-        Ok(fields)
-    }
-
-    /// Reads a field into buffers, which grow where it has no room.
-    fn field(&mut self, index: usize, name: &mut Vec<u8>, value: &mut Vec<u8>) -> Result<(usize, usize), Error> {
-        loop {
-            let (mut name_len, mut value_len) = (0, 0);
-            let (name_room, value_room) = (name.len(), value.len());
-            let done = self.call(|handle, _, out| unsafe {
-                raw::h3_raw_item_field(
-                    handle,
-                    index,
-                    name.as_mut_ptr(),
-                    name_room,
-                    &mut name_len,
-                    value.as_mut_ptr(),
-                    value_room,
-                    &mut value_len,
-                    out,
-                )
-            });
-            match done {
-                Err(Error::Other(ROOM)) => {
-                    name.resize(name_len.max(name_room), 0);
-                    value.resize(value_len.max(value_room), 0);
-                }
-                Err(error) => return Err(error),
-                Ok(()) => return Ok((name_len, value_len)),
-            }
-        }
+    fn fields(&mut self, item: RawItem) -> Result<Fields, Error> {
+        let (mut sizes, mut bytes) = (vec![FieldSize::default(); item.fields], vec![0; item.len]);
+        self.call(|handle, _, out| unsafe {
+            raw::h3_raw_item_fields(handle, sizes.as_mut_ptr(), sizes.len(), bytes.as_mut_ptr(), bytes.len(), out)
+        })?;
+        Ok(Fields::of(&sizes, bytes))
     }
 
     fn bytes(&mut self, count: usize) -> Result<Vec<u8>, Error> {

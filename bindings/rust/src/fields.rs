@@ -8,7 +8,7 @@ pub struct Field<'a> {
     pub value: &'a [u8],
 }
 
-/// The fields of a head or trailer, in the order :method, :scheme, :authority, :path, :status, :protocol, and then the others.
+/// The fields of a head or trailer, in the order that they came.
 #[derive(Clone, Default, PartialEq, Eq)]
 pub struct Fields {
     bytes: Vec<u8>,
@@ -40,11 +40,15 @@ impl Fields {
         Some(Field { name: &self.bytes[start..name], value: &self.bytes[name..value] })
     }
 
-    pub(crate) fn push(&mut self, name: &[u8], value: &[u8]) {
-        self.bytes.extend_from_slice(name);
-        let end = self.bytes.len();
-        self.bytes.extend_from_slice(value);
-        self.ends.push((end, self.bytes.len()));
+    /// The list that sizes cut from a row of bytes: name, value, name, value.
+    pub(crate) fn of(sizes: &[FieldSize], bytes: Vec<u8>) -> Fields {
+        let mut end = 0;
+        let ends = sizes.iter().map(|size| {
+            let name = end + size.name as usize;
+            end = name + size.value as usize;
+            (name, end)
+        });
+        Fields { ends: ends.collect(), bytes }
     }
 }
 

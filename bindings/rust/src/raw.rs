@@ -8,6 +8,7 @@ pub(crate) struct Handle {
 }
 
 #[repr(C)]
+#[derive(Default, Clone, Copy)]
 pub(crate) struct FieldSize {
     pub(crate) name: u32,
     pub(crate) value: u32,
@@ -74,8 +75,8 @@ extern "C" {
     pub(crate) fn h3_raw_deliver(endpoint: Handle, id: u64, bytes: *const u8, len: usize, detail: *mut u64, out: *mut Handle) -> u32;
     pub(crate) fn h3_raw_deliver_end(endpoint: Handle, id: u64, detail: *mut u64, out: *mut Handle) -> u32;
     pub(crate) fn h3_raw_deliver_reset(endpoint: Handle, id: u64, code: u64, detail: *mut u64, out: *mut Handle) -> u32;
-    pub(crate) fn h3_raw_pull(endpoint: Handle, id: u64, item: *mut RawItem, out: *mut Handle) -> u32;
-    pub(crate) fn h3_raw_item_field(endpoint: Handle, index: usize, name: *mut u8, name_room: usize, name_len: *mut usize, value: *mut u8, value_room: usize, value_len: *mut usize, out: *mut Handle) -> u32;
+    pub(crate) fn h3_raw_pull_fields(endpoint: Handle, id: u64, item: *mut RawItem, out: *mut Handle) -> u32;
+    pub(crate) fn h3_raw_item_fields(endpoint: Handle, sizes: *mut FieldSize, most: usize, bytes: *mut u8, room: usize, out: *mut Handle) -> u32;
     pub(crate) fn h3_raw_item_bytes(endpoint: Handle, from: usize, buffer: *mut u8, room: usize, n: *mut usize, out: *mut Handle) -> u32;
     pub(crate) fn h3_raw_stream(endpoint: Handle, id: u64, state: *mut RawStream, out: *mut Handle) -> u32;
     pub(crate) fn h3_raw_connection(endpoint: Handle, state: *mut RawConnection, out: *mut Handle) -> u32;
