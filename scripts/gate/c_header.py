@@ -93,9 +93,9 @@ def rust_numbers(header):
     error, endpoint, config = (open(f"{BINDING}/{it}.rs").read() for it in ("error", "endpoint", "config"))
     answers, kinds, wrong = numbers(header, "h3_answer"), numbers(header, "h3_kind"), []
     told = {snake(name): int(n) for n, name in re.findall(r"^            (\d+) => Error::(\w+)", error, re.M)}
-    told.update({f"H3_{name}": int(n) for name, n in re.findall(r"^const (KEPT|ROOM): u32 = (\d+);", endpoint, re.M)})
+    told.update({f"H3_{name}": int(n) for name, n in re.findall(r"^const (KEPT): u32 = (\d+);", endpoint, re.M)})
     wrong += [it for it in told.items() if answers.get(it[0]) != it[1]]
-    wrong += sorted(set(answers) - set(told) - {"H3_OK", "H3_NONE", "H3_NO_ENDPOINT"})
+    wrong += sorted(set(answers) - set(told) - {"H3_OK", "H3_NONE", "H3_ROOM", "H3_NO_ENDPOINT"})
     known = re.findall(r"Malformation::(\w+),", re.search(r"const KNOWN.*?\];", error, re.S)[0])
     wrong += sorted(set(numbers(header, "h3_malformation").items()) ^ {(snake(name), at) for at, name in enumerate(known)})
     pulled = {snake(("Fault" if of == "Fault" else "") + name): int(n) for n, of, name in re.findall(r"^            (\d+) => .*?(Item|Pause|Fault)::(\w+)", endpoint, re.M)}
