@@ -4,8 +4,8 @@
  *   --address PLACE  connect to this address and not to the URL's host
  *   --post FILE      POST with this file as the body
  *   --head           HEAD: the head alone
- *   --verbose        say on standard error how many bytes each request's head takes, what status each response has, and how many fields each
- *                    trailer
+ *   --verbose        say on standard error what status each head has, and how many fields each trailer
+ *   --sizes          say on standard error how many bytes each request's head takes, as QPACK wrote it, with its frame
  *   --count N        N requests on one connection; the bodies are written one behind another
  *   --parallel N     how many of them at once (1)
  *   --cancel BYTES   give the first request up when so many bytes of its response, or of its file, went over; its body is not written
@@ -37,7 +37,7 @@ typedef struct {
 
 typedef struct {
   const char *post, *address;
-  bool head_only, verbose;
+  bool head_only, verbose, sizes;
   size_t count, parallel;
   unsigned long long cancel; /* 0: nothing is given up */
   int seconds;
@@ -182,7 +182,7 @@ static bool send_request(http3_request *request, exchange *exchange) {
     snprintf(length, sizeof length, "%llu", (unsigned long long)status.st_size);
   }
   if (!http3_head(request, fields, fetch.post ? 6 : 5)) return false;
-  if (fetch.verbose) fprintf(stderr, "request of %llu bytes\n", (unsigned long long)http3_waiting(request));
+  if (fetch.sizes) fprintf(stderr, "request of %llu bytes\n", (unsigned long long)http3_waiting(request));
   if (!fetch.post) http3_finish(request);
   return true;
 }
@@ -223,7 +223,7 @@ static bool read_url(const char *url, place *place) {
 static bool read_options(int count, char **arguments, quic_identity *identity) {
   static const struct option options[] = {{"trust", 1, 0, 't'},  {"address", 1, 0, 'a'}, {"post", 1, 0, 'p'},    {"count", 1, 0, 'n'},
                                           {"parallel", 1, 0, 'l'}, {"cancel", 1, 0, 'c'},  {"seconds", 1, 0, 's'},
-                                          {"head", 0, 0, 'h'},   {"verbose", 0, 0, 'v'}, {0, 0, 0, 0}};
+                                          {"head", 0, 0, 'h'},   {"verbose", 0, 0, 'v'}, {"sizes", 0, 0, 'z'}, {0, 0, 0, 0}};
   for (int option; (option = getopt_long(count, arguments, "", options, NULL)) != -1;) switch (option) {
     case 't': identity->trusted = optarg; break;
     case 'a': fetch.address = optarg; break;
@@ -234,6 +234,7 @@ static bool read_options(int count, char **arguments, quic_identity *identity) {
     case 's': fetch.seconds = atoi(optarg); break;
     case 'h': fetch.head_only = true; break;
     case 'v': fetch.verbose = true; break;
+    case 'z': fetch.sizes = true; break;
     default: return false;
     }
   return !(fetch.post && fetch.head_only) && optind + 1 == count && fetch.count > 0 && fetch.parallel > 0 && read_url(arguments[optind], &fetch.place);
@@ -260,7 +261,7 @@ int main(int count, char **arguments) {
   quic_identity identity = {0};
   if (!read_options(count, arguments, &identity)) {
     fprintf(stderr, "fetch [--trust FILE] [--address PLACE] [--post FILE] [--count N] [--parallel N] [--cancel BYTES] [--seconds N] [--head] "
-                    "[--verbose] https://HOST[:PORT][/PATH]\n");
+                    "[--verbose] [--sizes] https://HOST[:PORT][/PATH]\n");
     return 2;
   }
   fetch.exchanges = calloc(fetch.count, sizeof *fetch.exchanges);

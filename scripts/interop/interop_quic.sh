@@ -285,7 +285,7 @@ start "${ports[4]}" caddy.log env HOME="$work" caddy run --config "$work/Caddyfi
 # With a decoder that has a table and leaves increments out, the last of many heads still names entries for all of its five fields: a frame's head of two
 # bytes, the prefix of two, a byte a line, and one or two more for indices above 15. Each field written out would take some 30 bytes.
 table_in_use() { # PORT
-  within 60 "${ours[@]}" --verbose --count 300 --parallel 10 "$(url "$1" /hello.txt)" > "$work/got" || return 1
+  within 60 "${ours[@]}" --sizes --count 300 --parallel 10 "$(url "$1" /hello.txt)" > "$work/got" || return 1
   local last
   last=$(sed -n 's/^request of \([0-9]*\) bytes$/\1/p' "$work/log" | tail -n 1)
   [ "${last:-0}" -gt 0 ] && [ "$last" -le 12 ]
