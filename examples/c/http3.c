@@ -140,7 +140,7 @@ static void pull(http3_request *request) {
   h3_item item;
   request->waiting = false;
   do
-    if (request->settled || h3_pull(&h->endpoint, request->id, &item) != H3_OK) break;
+    if (request->settled || h3_pull_fields(&h->endpoint, request->id, &item) != H3_OK) break;
   while (tell(request, &item));
   grant(h, request->id, &request->owed);
   if (request->settled || request->waiting || request->owed <= HELD_LIMIT) return;
@@ -194,11 +194,14 @@ static void received(void *owner, int64_t stream, const uint8_t *bytes, size_t c
   size_t *owed = request ? &request->owed : is_request(id) ? NULL : owed_for(h, id);
   if (!owed) return quic_consumed(h->quic, stream, count); /* it is not taken */
   *owed += count;
-  uint32_t answer = h3_deliver(&h->endpoint, id, bytes, count, &code);
+  uint32_t answer = h3_deliver_lent(&h->endpoint, id, bytes, count, &code);
   if (end && (answer == H3_OK || answer == H3_KEPT)) answer = h3_deliver_end(&h->endpoint, id, &code);
   if (answer != H3_OK && answer != H3_KEPT) return refuse(h, answer, code);
   if (request) pull(request);
   else pull_others(h, id);
+  /* QUIC's library takes its bytes back now */
+  answer = h3_keep(&h->endpoint, id);
+  if (answer != H3_OK) refuse(h, answer, 0);
 }
 
 static void was_reset(void *owner, int64_t stream, uint64_t reason) {

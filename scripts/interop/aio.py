@@ -130,8 +130,9 @@ def own_path(protocol, stream_id, path):
         http.send_data(stream_id, bytes(PIECE), end_stream=False)
         asyncio.get_event_loop().call_later(0.2, lambda: (protocol._quic.reset_stream(stream_id, CANCELLED), protocol.transmit()))
     elif path == "/goaway":
+        # the answer comes half a second behind GOAWAY: a client that heeds it sends no request meanwhile, whichever of its streams is read first
         http.send_goaway(stream_id + 4)
-        answer(200, body=b"the last\n")
+        asyncio.get_event_loop().call_later(0.5, lambda: (answer(200, body=b"the last\n"), protocol.transmit()))
     else:
         return False
     return True
