@@ -1,6 +1,7 @@
 package main
 
-// HTTP/3 over a connection of quic-go: an Endpoint, whose streams are read and written by goroutines. quic-go copies what is written.
+// HTTP/3 over a connection of quic-go: an Endpoint. A request is read and written by whoever calls it, the connection's own streams by goroutines.
+// quic-go copies what is written.
 
 import (
 	"context"
@@ -14,11 +15,10 @@ import (
 )
 
 const (
-	piece        = 16 * 1024  // bytes that are moved at once
-	waitingLimit = 64 * 1024  // bytes of a body that may wait in the endpoint
-	heldLimit    = 128 * 1024 // bytes of a stream that the endpoint may hold: more is no frame that is taken
-	streams      = 100        // requests that a client may have at once
-	anyID        = 1<<62 - 4  // the greatest id of a request
+	piece     = 16 * 1024  // bytes that are moved at once
+	heldLimit = 128 * 1024 // bytes of a stream that the endpoint may hold: more is no frame that is taken
+	streams   = 100        // requests that a client may have at once
+	anyID     = 1<<62 - 4  // the greatest id of a request
 
 	notice = time.Second // between the first GOAWAY and the last: requests that were on their way come
 )
@@ -63,22 +63,26 @@ type Connection struct {
 	endpoint *h3.Endpoint
 	quic     quic.Connection
 	trace    *trace         // a server's
-	own      []*half        // control, encoder and decoder stream
-	halves   map[*half]bool // those that have a writer
+	own      []*own         // control, encoder and decoder stream
 	inserted *sync.Cond     // the peer's encoder stream was read, or the connection is over
 	nextID   uint64         // a server's: behind the last request that came
 	endID    uint64         // requests from here on are not taken
 	leaving  chan struct{}  // closed: the peer was told by GOAWAY to open no more requests
 	active   int            // requests that Accept gave, and whoever answers them has not said Done of
 	broken   error          // why the connection is over
-	writers  sync.WaitGroup
+	writers  sync.WaitGroup // those of the own streams
 }
 
 // half is the own half of a stream.
 type half struct {
-	stream  quic.SendStream
-	id      uint64
-	changed *sync.Cond // bytes came to be sent, or went out, or no more do
+	stream quic.SendStream
+	id     uint64
+}
+
+// own is a stream of the connection's own, which has a writer.
+type own struct {
+	half
+	changed *sync.Cond // bytes came to be sent, or the connection is over
 }
 
 // Request is a request and its response: one bidirectional stream.
@@ -86,8 +90,7 @@ type Request struct {
 	connection *Connection
 	stream     quic.Stream
 	id         uint64
-	sending    *half
-	hasWriter  bool
+	sending    half
 }
 
 // NewConnection opens the three own streams, and reads the peer's. A server has a trace, and takes so many requests (0: no limit).
@@ -96,7 +99,7 @@ func NewConnection(connection quic.Connection, trace *trace, requests uint64) (*
 	if err != nil {
 		return nil, err
 	}
-	c := &Connection{endpoint: endpoint, quic: connection, trace: trace, halves: map[*half]bool{}, leaving: make(chan struct{})}
+	c := &Connection{endpoint: endpoint, quic: connection, trace: trace, leaving: make(chan struct{})}
 	c.endID = anyID
 	if requests > 0 {
 		c.endID = 4 * requests
@@ -109,17 +112,10 @@ func NewConnection(connection quic.Connection, trace *trace, requests uint64) (*
 			c.Close()
 			return nil, err
 		}
-		c.lock.Lock()
-		c.own = append(c.own, c.newHalf(stream))
-		c.startWriting(c.own[i])
-		c.lock.Unlock()
+		c.startWriting(&own{half{stream, uint64(stream.StreamID())}, sync.NewCond(&c.lock)})
 	}
 	go c.readOthers()
 	return c, nil
-}
-
-func (c *Connection) newHalf(stream quic.SendStream) *half {
-	return &half{stream, uint64(stream.StreamID()), sync.NewCond(&c.lock)}
 }
 
 // over says that the connection is over, and wakes whoever waits. The first reason stays. The lock is held.
@@ -127,8 +123,8 @@ func (c *Connection) over(why error) {
 	if c.broken == nil {
 		c.broken = why
 	}
-	for half := range c.halves {
-		half.changed.Broadcast()
+	for _, stream := range c.own {
+		stream.changed.Broadcast()
 	}
 	c.inserted.Broadcast()
 }
@@ -143,7 +139,7 @@ func (c *Connection) fail(err error) error {
 	return err
 }
 
-// Close closes the connection without a fault, and frees the endpoint when nothing is written any more.
+// Close closes the connection without a fault, and frees the endpoint. A request that is still read or written is told so.
 func (c *Connection) Close() {
 	c.lock.Lock()
 	c.over(io.EOF)
@@ -155,13 +151,22 @@ func (c *Connection) Close() {
 	c.lock.Unlock()
 }
 
-// startWriting starts the writer of a stream. The lock is held.
-func (c *Connection) startWriting(half *half) {
-	c.halves[half] = true
+// startWriting starts the writer of an own stream.
+func (c *Connection) startWriting(stream *own) {
+	c.lock.Lock()
+	defer c.lock.Unlock()
+	c.own = append(c.own, stream)
 	c.writers.Add(1)
 	go func() {
 		defer c.writers.Done()
-		c.write(half)
+		c.lock.Lock()
+		defer c.lock.Unlock()
+		for c.broken == nil {
+			c.flush(stream.half)
+			if c.broken == nil {
+				stream.changed.Wait()
+			}
+		}
 	}()
 }
 
@@ -175,24 +180,18 @@ func (c *Connection) wakeOwn() {
 	}
 }
 
-// write moves what waits on a stream to QUIC until its end, its reset, or the connection's.
-func (c *Connection) write(half *half) {
-	c.lock.Lock()
-	defer c.lock.Unlock()
-	for c.broken == nil && !c.endpoint.Stream(half.id).Reset {
-		if id, ok := c.endpoint.NextToSend(half.id); !ok || id != half.id {
-			half.changed.Wait()
-		} else if c.writePiece(half) {
-			break
+// flush moves what waits on a stream to QUIC, and its end behind it. It waits until QUIC has room. The lock is held, and let go in between.
+func (c *Connection) flush(half half) {
+	for c.broken == nil {
+		if id, ok := c.endpoint.NextToSend(half.id); !ok || id != half.id || !c.writePiece(half) {
+			return
 		}
 	}
-	delete(c.halves, half)
-	half.changed.Broadcast()
 }
 
-// writePiece moves a piece of what waits on a stream, and says whether it was the last. Write waits until QUIC has room. The lock is held,
-// and let go in between.
-func (c *Connection) writePiece(half *half) (last bool) {
+// writePiece moves a piece of what waits on a stream, and says whether more may follow: not behind the end, nor where QUIC takes no more of it.
+// The lock is held, and let go in between.
+func (c *Connection) writePiece(half half) bool {
 	buffer := pieces.Get().(*[piece]byte)
 	defer pieces.Put(buffer)
 	count, end := c.endpoint.Outgoing(half.id, buffer[:])
@@ -209,8 +208,7 @@ func (c *Connection) writePiece(half *half) (last bool) {
 	} else if end {
 		c.endpoint.EndTaken(half.id) // the stream is named no longer
 	}
-	half.changed.Broadcast()
-	return end || err != nil
+	return err == nil && !end
 }
 
 // deliver hands over what was read of a stream: bytes, its end, or its reset. The lock is held.
@@ -315,7 +313,7 @@ func (c *Connection) Open() (*Request, error) {
 	if id != uint64(stream.StreamID()) {
 		return nil, c.fail(errors.New("the ids of QUIC and of the endpoint differ"))
 	}
-	return &Request{connection: c, stream: stream, id: id, sending: c.newHalf(stream)}, nil
+	return &Request{connection: c, stream: stream, id: id, sending: half{stream, id}}, nil
 }
 
 // Accept waits for a client's next request.
@@ -350,7 +348,7 @@ func (c *Connection) take(stream quic.Stream) (*Request, error) {
 	if c.endID-c.nextID <= 4*streams {
 		c.sayGoaway(c.endID)
 	}
-	return &Request{connection: c, stream: stream, id: id, sending: c.newHalf(stream)}, nil
+	return &Request{connection: c, stream: stream, id: id, sending: half{stream, id}}, nil
 }
 
 // sayGoaway tells the peer to open no more requests. Those below `end` that come all the same are taken. The lock is held.
@@ -391,14 +389,14 @@ func (r *Request) Done() {
 	r.connection.active--
 }
 
-// isDone says whether all that was begun is answered, and written: what is left are the writers of the own streams.
+// isDone says whether all that was begun is answered, and written.
 func (c *Connection) isDone() bool {
 	c.lock.Lock()
 	defer c.lock.Unlock()
-	return c.active == 0 && len(c.halves) <= len(c.own)
+	return c.active == 0
 }
 
-// call makes one call of the endpoint, and wakes the writers.
+// call makes one call of the endpoint, and wakes the own streams' writers.
 func (r *Request) call(call func() error) error {
 	c := r.connection
 	c.lock.Lock()
@@ -407,31 +405,24 @@ func (r *Request) call(call func() error) error {
 		return c.broken
 	}
 	err := call()
-	r.sending.changed.Broadcast()
 	c.wakeOwn()
 	return err
 }
 
-// SendHead sends a head, its fields in the order that they have here: pseudo-header fields first. The stream has a writer from the first one on.
+// SendHead sends a head, its fields in the order that they have here: pseudo-header fields first. It goes out with what is sent behind it.
 func (r *Request) SendHead(fields []h3.Field) error {
-	return r.call(func() error {
-		err := r.connection.endpoint.SendFields(r.id, fields)
-		if err == nil && !r.hasWriter {
-			r.hasWriter = true
-			r.connection.startWriting(r.sending)
-		}
-		return err
-	})
+	return r.call(func() error { return r.connection.endpoint.SendFields(r.id, fields) })
 }
 
-// Write sends a piece of the body, and waits while many bytes wait.
+// Write sends a piece of the body. Small pieces go out together, or with the end. It waits until QUIC has room.
 func (r *Request) Write(bytes []byte) (int, error) {
 	c := r.connection
 	err := r.call(func() error {
-		for c.broken == nil && c.endpoint.Stream(r.id).Waiting >= waitingLimit {
-			r.sending.changed.Wait()
+		err := c.endpoint.SendBody(r.id, bytes)
+		if err == nil && c.endpoint.Stream(r.id).Waiting >= piece {
+			c.flush(r.sending)
 		}
-		return c.endpoint.SendBody(r.id, bytes)
+		return err
 	})
 	if err != nil {
 		return 0, err
@@ -439,9 +430,15 @@ func (r *Request) Write(bytes []byte) (int, error) {
 	return len(bytes), nil
 }
 
-// Finish ends the own message.
+// Finish ends the own message, and waits until QUIC has taken all of it.
 func (r *Request) Finish() error {
-	return r.call(func() error { return r.connection.endpoint.Finish(r.id) })
+	return r.call(func() error {
+		err := r.connection.endpoint.Finish(r.id)
+		if err == nil {
+			r.connection.flush(r.sending)
+		}
+		return err
+	})
 }
 
 // IsStopped says whether the own message was cut off: by the peer, which wants no more of it, or by GiveUp.
