@@ -5,3 +5,7 @@ mod PlainSends
 mod PlainReading
 mod PlainPulled
 mod PlainSteps
+mod PlainRuns
+mod PlainMessages
+mod PlainSetups
+mod PlainHeadlines
