@@ -1,0 +1,11 @@
+mod PlainStreams
+mod PlainPulls
+mod PlainCalls
+mod PlainSends
+mod PlainReading
+mod PlainPulled
+mod PlainSteps
+mod PlainRuns
+mod PlainMessages
+mod PlainSetups
+mod PlainHeadlines

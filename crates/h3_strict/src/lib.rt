@@ -1,0 +1,5 @@
+//! Two endpoints that ask for strict messages, and what they are without that.
+#![tactic(auto)]
+
+pub mod laws;
+pub mod worked;
