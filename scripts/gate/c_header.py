@@ -1,7 +1,7 @@
 #!/usr/bin/env python3
 """Compares include/h3.h with the exports of crates/h3_c, which nothing else does: each declaration with the export of its name, each struct with the
 `#[repr(C)]` struct that crosses, the numbers of refusals and kinds with those that the crate answers, each function that programs call with the
-export that it calls, and all of these with what bindings/rust has of them by hand. Prints a line 'ok NAME' or 'failed NAME' for each of these."""
+export that it calls, and all of these with what bindings/rust has of them by hand; and each call has to stand in tests/c/sizes.c. Prints a line 'ok NAME' or 'failed NAME' for each of these."""
 import glob
 import re
 import sys
@@ -192,6 +192,9 @@ def main():
         is_well = len(calls) == 1 and len(re.findall(r"\b%s\(" % name, calls[0])) == 1 and (short in WITHOUT or "endpoint->at" in calls[0])
         if not is_well:
             tell(False, f"{short} calls {name} where there is an endpoint", calls)
+    sizes = open("tests/c/sizes.c").read()
+    missing = [it for it in (name.replace("h3_raw_", "h3_", 1) for name in sorted(declared)) if f"{it}(" not in sizes]
+    tell(not missing, "tests/c/sizes.c makes each of its calls", missing)
     path = "crates/h3_c/proofs/handle/Handle/TheSendSync/Send.antt"
     try:
         proof = open(path).read()
