@@ -1,5 +1,6 @@
 -- Pieces joined, one more and one less.
 use Rattle.std.proofs.Common.{◌≡◌, ℕ, ◌+◌, ◌<◌, List, [], ◌∷◌, ◌++◌, length, drop, get_or, append-nil, append_assoc, length-append, ap, sym, refl, ◌∙◌, inl, inr, arith, Option, Some, None}
+use Rattle.std.specs.Prelude.{map, slice_set}
 use Rattle.std.specs.List.{concat}
 use Rattle.std.proofs.lemmas.List.Folds.{concat-append}
 use Rattle.std.proofs.lemmas.List.{drop-drop, drop_more, drop_at, drop_all, length-drop}
@@ -66,3 +67,10 @@ first_is (p ∷ pieces) others first e =
 pub none_first : (pieces others : List (List ℕ)) → (None, others) ≡ first_of pieces → pieces ≡ []
 none_first [] others e = refl
 none_first (p ∷ pieces) others e = let some : None ≡ Some p = ap (λ (x : Option (List ℕ) × List (List ℕ)). x.0) e in absurd (cc)
+
+-- the first piece is cut in two, of which one is left in its place
+pub first_cut : (items : List (List ℕ)) (first front rest : List ℕ) → 0 < length items → first ≡ get_or items 0 first → front ++ rest ≡ first
+    → concat (map (λ b. b) items) ≡ front ++ concat (map (λ b. b) (slice_set items 0 rest))
+first_cut [] first front rest some is e = absurd (omega arith)
+first_cut (x ∷ xs) first front rest some is e =
+    ap (λ l. l ++ concat (map (λ b. b) xs)) (sym is ∙ sym e) ∙ append_assoc front rest (concat (map (λ b. b) xs))

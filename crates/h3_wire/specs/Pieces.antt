@@ -32,6 +32,11 @@ abbrev pub first_size : List (List ℕ) → ℕ
 first_size [] = 0
 first_size (p ∷ pieces) = length p
 
+-- the bytes of the first piece
+abbrev pub first_bytes : List (List ℕ) → List ℕ
+first_bytes [] = []
+first_bytes (p ∷ pieces) = p
+
 -- the first piece's first bytes, at most max, and what is left
 abbrev pub chunk_of : ℕ → List (List ℕ) → Option (List ℕ) × List (List ℕ)
 chunk_of max [] = (None, [])

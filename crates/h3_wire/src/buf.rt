@@ -2,7 +2,7 @@
 ghost use Rattle.std.specs.Prelude.{◌≡◌, ◌+◌, ◌-◌, ◌^◌, ◌<◌, ◌≤◌, ◌++◌, [], ◌∷◌, length, drop, nat_le, IfOk, IfErr, IfSome, OnOk, OnErr, Some, MatchOption};
 ghost use Rattle.std.specs.List.{concat};
 ghost use Rattle.h3_wire.specs.Accepting.{TakesNumber};
-ghost use Rattle.h3_wire.specs.Pieces.{with_piece, without, chunk_of, ending, first_of, first_size};
+ghost use Rattle.h3_wire.specs.Pieces.{with_piece, without, chunk_of, ending, first_of, first_bytes, first_size};
 
 use bytes::{Buf, Bytes};
 use h3_coding::coding::BufExt;
@@ -146,34 +146,37 @@ impl<T: Buf + Drop> Buf for BufList<T> {
 }
 
 impl<T: Buf + Drop> BufList<T> {
-    // Passes up to `cnt` bytes of the first piece, and answers how many.
-    fn advance_first(&mut self, cnt: usize) -> usize
+    // Passes up to `cnt` bytes of the first piece, and answers how many: all of them, where it has so many.
+    pub(crate) fn advance_first(&mut self, cnt: usize) -> usize
         requires { (0 < cnt) × (cnt ≤ length (concat self.old.pieces)) }
         ensures count { (0 < result) × (result ≤ cnt) }
+        ensures all { cnt ≤ first_size self.old.pieces → result ≡ cnt }
         ensures rest { concat self.new.pieces ≡ drop result (concat self.old.pieces) }
         ensures pieces { without (cnt - result) self.new.pieces ≡ without cnt self.old.pieces }
     {
-        let Some(mut first) = self.bufs.pop_front() else {
+        let Some(first) = self.bufs.front_mut() else {
             unreachable!()
         };
-        let passed = cnt.min(first.remaining());
-        first.advance(passed);
-        if first.has_remaining() {
-            self.bufs.push_front_reserved(first);
+        let there = first.remaining();
+        if cnt < there {
+            first.advance(cnt);
+            self.len -= cnt;
+            return cnt;
         }
-        self.len -= passed;
-        passed
+        self.bufs.pop_front();
+        self.len -= there;
+        there
     }
 }
 
 impl BufList<Bytes> {
-    // How many bytes the first piece has.
-    pub(crate) fn first_len(&self) -> usize
-        ensures { result ≡ first_size self.now.pieces }
+    // The first piece.
+    pub(crate) fn first_bytes(&self) -> &[u8]
+        ensures { result.now ≡ first_bytes self.now.pieces }
     {
         match self.bufs.front() {
-            Some(first) => first.len(),
-            None => 0,
+            Some(first) => first.as_slice(),
+            None => &[],
         }
     }
 
@@ -216,24 +219,15 @@ impl BufList<Bytes> {
             (λ b. (concat self.old.pieces ≡ b ++ concat self.new.pieces) × (length b ≤ max) × (0 < max → 0 < length b))) }
         ensures err { OnErr result (self.new.pieces ≡ self.old.pieces) }
     {
-        let Some(mut first) = self.bufs.pop_front() else {
+        let Some(first) = self.bufs.front_mut() else {
             return Ok(None);
         };
         if first.len() <= max {
-            self.len -= first.len();
-            return Ok(Some(first));
+            return Ok(self.take_first_chunk());
         }
-        match first.split_to(max) {
-            Ok(front) => {
-                self.len -= front.len();
-                self.bufs.push_front_reserved(first);
-                Ok(Some(front))
-            }
-            Err(e) => {
-                self.bufs.push_front_reserved(first);
-                Err(e)
-            }
-        }
+        let front = first.split_to(max)?;
+        self.len -= front.len();
+        Ok(Some(front))
     }
 
     /// Adds all of a buffer at the end, as one piece, which is a copy. An empty one keeps nothing.

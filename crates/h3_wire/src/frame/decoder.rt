@@ -1,14 +1,15 @@
 //! Reading the frames of a buffer, one after another.
-ghost use Rattle.std.specs.Prelude.{◌≡◌, ◌+◌, ◌^◌, ◌<◌, ◌≤◌, None, false, length, IfOk, IfSome};
+ghost use Rattle.std.specs.Prelude.{◌≡◌, ◌+◌, ◌^◌, ◌<◌, ◌≤◌, None, false, true, length, IfOk, IfSome, IsNone};
 ghost use Rattle.std.specs.List.{concat};
-ghost use Rattle.h3_wire.specs.Frames.{frame_at, has_head, IsHeadersFrame};
-ghost use Rattle.h3_wire.specs.Known.{Gives, Tries};
+ghost use Rattle.h3_wire.specs.declared.proto.frame.Frame.TheVariants as frame;
+ghost use Rattle.h3_wire.specs.Frames.{Whole, frame_at, has_head, IsHeadersFrame};
+ghost use Rattle.h3_wire.specs.Known.{Gives, Tries, near_frame};
 ghost use Rattle.h3_wire.specs.Pieces.{IsRest, ending, first_size};
 ghost use Rattle.h3_wire.specs.Tries.{Counts, Expects, counted, needed, one_more};
 
 use super::errors::{FrameProtocolError, FrameStreamError};
 use crate::buf::BufList;
-use crate::proto::frame::{Frame, FrameError, PayloadLen, read_headers_head};
+use crate::proto::frame::{Frame, FrameError, Head, PayloadLen};
 use bytes::{Buf, Bytes};
 use std::alloc::Global;
 use std::marker::Model;
@@ -101,9 +102,33 @@ impl FrameDecoder {
         ensures counts { Counts self.old (concat src.old.pieces) result self.new }
         ensures pieces { src.new.pieces ≡ ending (length (concat src.new.pieces)) src.old.pieces }
     {
+        if let Some(near) = self.decode_near(src) {
+            return Ok(Some(frame_of_near(near)));
+        }
         self.decode_front(alloc, src)
     }
 
+    // Takes a frame that lies in the first piece, and counts the try.
+    #[tactic(auto, using(crate::specs::PieceLaws::rest_same))]
+    #[inline(always)]
+    fn decode_near(&mut self, src: &mut BufList<Bytes>) -> Option<Near>
+        requires tries { one_more self.old.expected self.old.tries ≤ 17 }
+        ensures enough { IfSome result (λ _. needed self.old ≤ length (concat src.old.pieces)) }
+        ensures some { IfSome result (λ n. frame_at (concat src.old.pieces) ≡ Whole (near_frame n) (concat src.new.pieces)) }
+        ensures counts { IfSome result (λ _. self.new ≡ counted self.old None) }
+        ensures none { IsNone result → (self.new ≡ self.old) × (src.new.pieces ≡ src.old.pieces) }
+        ensures rest { IsRest src.old.pieces src.new.pieces }
+    {
+        if src.remaining() < self.needed() {
+            return None;
+        }
+        let near = take_near(src)?;
+        self.count(None);
+        Some(near)
+    }
+
+    // Out of line, since most frames lie in the first piece.
+    #[inline(never)]
     fn decode_front(
         &mut self,
         alloc: Global,
@@ -139,54 +164,80 @@ impl FrameDecoder {
 
 // Takes the frame at the front, an unknown one too. Anything else takes nothing. A field section
 // that lies in the first piece is cut from it, and else copied.
-#[tactic(auto, using(crate::proofs::Cutting::head_there))]
 fn try_frame(alloc: Global, src: &mut BufList<Bytes>) -> Tried
     ensures tries { Tries result (frame_at (concat src.old.pieces)) (concat src.old.pieces) (concat src.new.pieces) }
     ensures few { has_head (concat src.old.pieces) ≡ false → length (concat src.old.pieces) < 16 }
     ensures rest { IsRest src.old.pieces src.new.pieces }
 {
-    if let Some((head, size)) = headers_in_first_piece(src) {
-        return cut_headers(src, head, size);
+    if let Some(near) = take_near(src) {
+        return Tried::Frame(frame_of_near(near));
     }
     decode_frame(alloc, src)
 }
 
-// Where a HEADERS frame lies in the first piece: how many bytes its head has, and its field section.
-fn headers_in_first_piece(src: &BufList<Bytes>) -> Option<(usize, usize)>
-    ensures is { IfSome result (λ p. IsHeadersFrame (concat src.now.pieces) p.0 p.1) }
-    ensures inside { IfSome result (λ p. p.0 + p.1 ≤ first_size src.now.pieces) }
-    ensures fits { IfSome result (λ p. p.0 + p.1 < 2 ^ 64) }
-{
-    let mut cursor = src.cursor();
-    let size = read_headers_head(&mut cursor)? as usize;
-    let head = cursor.position();
-    let there = src.first_len();
-    if there < head || there - head < size {
-        return None;
-    }
-    Some((head, size))
+// A frame that lies in the first piece, of DATA the head. It is small, so that it is handed on in registers.
+#[derive(Drop)]
+pub(crate) enum Near {
+    Data(PayloadLen),
+    Headers(Bytes),
 }
 
-// Takes a HEADERS frame that lies in the first piece. Its field section is cut from the piece.
-fn cut_headers(src: &mut BufList<Bytes>, head: usize, size: usize) -> Tried
+#[inline(always)]
+fn frame_of_near(near: Near) -> Frame<PayloadLen>
+    ensures { result ≡ near_frame near }
+{
+    match near {
+        Near::Data(len) => Frame::Data(len),
+        Near::Headers(section) => Frame::Headers(section),
+    }
+}
+
+// Takes a frame that lies in the first piece. `None` takes nothing: the frame goes on behind that piece, has another type, or its section was not cut for want
+// of memory.
+#[inline(always)]
+fn take_near(src: &mut BufList<Bytes>) -> Option<Near>
+    ensures some { IfSome result (λ n. frame_at (concat src.old.pieces) ≡ Whole (near_frame n) (concat src.new.pieces)) }
+    ensures whole { IfSome result (λ n. has_head (concat src.old.pieces) ≡ true) }
+    ensures none { IsNone result → src.new.pieces ≡ src.old.pieces }
+    ensures rest { IsRest src.old.pieces src.new.pieces }
+{
+    let bytes = src.first_bytes();
+    let head = Head::at_front(bytes)?;
+    let behind = bytes.len() - head.size;
+    let len = head.number as usize;
+    if head.kind == 0 {
+        src.advance_first(head.size);
+        return Some(Near::Data(PayloadLen(len)));
+    }
+    if head.kind == 1 && len <= behind {
+        let section = cut_section(src, head.size, len)?;
+        return Some(Near::Headers(section));
+    }
+    None
+}
+
+// Takes a HEADERS frame that lies in the first piece, and cuts its field section from the piece. `None` takes nothing: memory was refused.
+fn cut_section(src: &mut BufList<Bytes>, head: usize, size: usize) -> Option<Bytes>
     requires is { IsHeadersFrame (concat src.old.pieces) head size }
     requires inside { head + size ≤ first_size src.old.pieces }
     requires fits { head + size < 2 ^ 64 }
-    ensures tries { Tries result (frame_at (concat src.old.pieces)) (concat src.old.pieces) (concat src.new.pieces) }
+    ensures some { IfSome result (λ s. frame_at (concat src.old.pieces) ≡ Whole (frame.Headers s) (concat src.new.pieces)) }
+    ensures none { IsNone result → src.new.pieces ≡ src.old.pieces }
     ensures rest { IsRest src.old.pieces src.new.pieces }
 {
     match src.take_chunk(head + size) {
         Ok(Some(mut section)) => {
             section.advance(head);
-            Tried::Frame(Frame::Headers(section))
+            Some(section)
         }
         Ok(None) => unreachable!(),
-        Err(_) => Tried::OutOfMemory,
+        Err(_) => None,
     }
 }
 
 // Takes the frame at the front, an unknown one too. Anything else takes nothing.
 #[tactic(auto, using(crate::specs::PieceLaws::rest_same))]
+#[inline(never)]
 fn decode_frame(alloc: Global, src: &mut BufList<Bytes>) -> Tried
     ensures tries { Tries result (frame_at (concat src.old.pieces)) (concat src.old.pieces) (concat src.new.pieces) }
     ensures few { has_head (concat src.old.pieces) ≡ false → length (concat src.old.pieces) < 16 }

@@ -13,12 +13,13 @@ use std::marker::Model;
 
 mod decode;
 mod encode;
+mod head;
 mod payload;
 mod show;
 
-pub(crate) use decode::read_headers_head;
 pub(crate) use encode::{write_head, write_numbers, write_settings};
 pub use h3_proto::frame::{SettingId, Settings, SettingsError};
+pub(crate) use head::Head;
 pub(crate) use payload::Lent;
 pub use payload::{Payload, PayloadMut};
 

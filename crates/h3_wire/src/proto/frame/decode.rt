@@ -52,25 +52,6 @@ impl Frame<PayloadLen> {
     }
 }
 
-/// Takes the head of a HEADERS frame, and answers how many bytes its field section has. `None`
-/// where the front is no such head.
-pub(crate) fn read_headers_head<B: Buf>(buf: &mut B) -> Option<u64>
-    ensures reads { IfSome result (λ size. BeginsWithHead 1 size (B.unread buf.old) (B.unread buf.new)) }
-    ensures below { IfSome result (λ size. size < 2 ^ 62) }
-    ensures kept { B.kept buf.new ≡ B.kept buf.old }
-{
-    let Ok(kind) = buf.get_var() else {
-        return None;
-    };
-    if kind != FrameType::HEADERS.0 {
-        return None;
-    }
-    let Ok(size) = buf.get_var() else {
-        return None;
-    };
-    Some(size)
-}
-
 // Takes a payload that is one number.
 #[tactic(auto, using(crate::proofs::Fronts::front_within))]
 fn read_number<B: Buf>(buf: &mut B, len: usize) -> Result<VarInt, FrameError>

@@ -3,16 +3,16 @@ use Rattle.std.specs.List.{concat}
 use Rattle.h3_wire.specs.Frames.{Whole}
 use Rattle.h3_wire.specs.PieceLaws.{chunk_size, chunk_rest}
 use Rattle.h3_wire.specs.declared.proto.frame.Frame.TheVariants as frame
-use Rattle.h3_wire.proofs.Cutting.{head_some, cut_off, headers_take_memory}
-use Rattle.h3_wire.proofs.frame.decoder.cut_headers.Goals as goal
+use Rattle.h3_wire.proofs.Cutting.{head_some, cut_off}
+use Rattle.h3_wire.proofs.frame.decoder.cut_section.Goals as goal
 
 pub unreachable-requires : goal.unreachable-requires
 unreachable-requires c =
     let none = rw c.in-Ok-None.field-0-is at c.in-Ok-None.ensures.some in
     absurd (omega (arith, c.requires.is.there, ap length none.0, head_some _ _ _ c.requires.is))
 
-pub returns-in-Ok-Some-clause-tries : goal.returns-in-Ok-Some-clause-tries
-returns-in-Ok-Some-clause-tries c =
+pub returns-in-Ok-Some-clause-some : goal.returns-in-Ok-Some-clause-some
+returns-in-Ok-Some-clause-some c =
     let all = rw c.in-Ok-Some.field-0-is at c.in-Ok-Some.ensures.some in
     let pieces = rw c.in-Ok-Some.field-0-is at c.in-Ok-Some.ensures.pieces in
     let count : length c.in-Ok-Some.section ≡ c.args.head + c.args.size = chunk_size (c.args.head + c.args.size) _ _ c.in-Ok-Some.section c.requires.inside pieces in
@@ -24,6 +24,3 @@ returns-in-Ok-Some-clause-rest c =
     let pieces = rw c.in-Ok-Some.field-0-is at c.in-Ok-Some.ensures.pieces in
     let some : 0 < c.args.head + c.args.size = omega (arith, head_some _ _ _ c.requires.is) in
     chunk_rest (c.args.head + c.args.size) _ _ c.in-Ok-Some.section some (all.2 some) pieces
-
-pub returns-in-Err-clause-tries : goal.returns-in-Err-clause-tries
-returns-in-Err-clause-tries c = (headers_take_memory _ _ _ c.requires.is, ap concat c.in-Err.ensures.err)
