@@ -4,13 +4,13 @@ ghost use Rattle.std.specs.List.{list_all};
 ghost use Rattle.http_header.specs.Token.{is_token_byte};
 ghost use Rattle.http_uri.specs.ByteClasses.{is_scheme_byte, is_authority_byte, is_path_byte, is_query_byte, is_delimiter, split_once_front, split_once_back, index_of, question_mark, slash};
 ghost use Rattle.http_uri.specs.Grammar.{IsAuthority};
-ghost use Rattle.h3_header.specs.HeadTests.{is_token, is_header_name, is_host, is_scheme, is_authority, is_path, is_path_input, is_plain_path, are_query, is_field_value};
+ghost use Rattle.h3_header.specs.HeadTests.{is_token, is_header_name, is_host, is_scheme, is_authority, is_path, is_path_input, is_plain_path, are_plain_parts, are_query, is_field_value};
 
 mod marks;
 
 use http_header::is_token_char;
 use httparse::is_header_value;
-use marks::{are_host_bytes, are_name_bytes, are_plain_path_bytes};
+use marks::{are_host_bytes, are_name_bytes, are_plain_path_bytes, are_plain_query_bytes};
 use std::str;
 
 // As in `[FEDC:BA98:7654:3210:FEDC:BA98:7654:3210]:80`.
@@ -148,11 +148,22 @@ pub(crate) fn is_path_input(text: &[u8]) -> bool
             && is_path(before(b'#', text)))
 }
 
-// Whether the text is a path in ASCII and no more, as most are.
+// Whether the text is a path in ASCII, which may have a query in ASCII behind it, as most are.
 fn is_plain_path(text: &[u8]) -> bool
     ensures { result ≡ is_plain_path text.now }
 {
-    byte_at(text, 0) == b'/' && text.len() <= 65534 && are_plain_path_bytes(text)
+    byte_at(text, 0) == b'/' && text.len() <= 65534 && are_plain_parts(text)
+}
+
+fn are_plain_parts(text: &[u8]) -> bool
+    ensures { result ≡ are_plain_parts text.now }
+{
+    if are_plain_path_bytes(text) {
+        return true;
+    }
+    let at = index_of(b'?', text);
+    are_plain_path_bytes(&text[..at])
+        && (at == text.len() || are_plain_query_bytes(&text[at + 1..]))
 }
 
 // Whether the first byte would end an authority.
