@@ -7,6 +7,7 @@ ghost use Rattle.http_uri.specs.Grammar.{IsAuthority};
 ghost use Rattle.h3_header.specs.HeadTests.{is_token, is_header_name, is_host, is_scheme, is_authority, is_path, is_path_input, is_plain_path, are_plain_parts, are_query, is_field_value};
 
 mod marks;
+mod names;
 
 use http_header::is_token_char;
 use httparse::is_header_value;

@@ -3,6 +3,8 @@ ghost use Rattle.std.specs.Prelude.{◌≡◌, cond};
 ghost use Rattle.std.specs.List.{list_all};
 ghost use Rattle.h3_header.specs.HeadTests.{is_host_byte, is_name_byte, is_plain_path_byte, is_plain_query_byte};
 
+use super::names::is_plain_name;
+
 // 1 at each byte of a name: of a token, and no letter of upper case
 #[rattlefmt::skip]
 static NAME_BYTES: [u8; 256] = [
@@ -91,6 +93,9 @@ static QUERY_BYTES: [u8; 256] = [
 pub(super) fn are_name_bytes(text: &[u8]) -> bool
     ensures { result ≡ list_all is_name_byte text.now }
 {
+    if is_plain_name(text) {
+        return true;
+    }
     let mut all = 1;
     'bytes: for byte in text {
         all &= name_mark(*byte);
