@@ -111,6 +111,10 @@ pub bad_found : (fields few : List Field) (i : ℕ) (d : Field) (p : BadPart) �
 bad_found fields few i d p is lt good bad =
     first_bad fields i d p (subst (λ l. i < length l) is lt) (subst (λ l. All (λ f. bad_part f ≡ None) (take i l)) is good) (subst (λ l. bad_part (get_or l i d) ≡ Some p) is bad)
 
+pub few_refused : (fields : List Field) (i : ℕ) (f : Field) (p : BadPart) → length fields ≤ 24576 → i < length fields → All (λ f. bad_part f ≡ None) (take i fields)
+    → bad_part (get_or fields i f) ≡ Some p → head_of fields ≡ IsNone (refusal_of p)
+few_refused fields i f p few lt good bad = bad_found fields fields i f p (sym (take_all 24576 fields few)) lt good bad
+
 pub none_found : (fields few : List Field) (i : ℕ) → few ≡ take 24576 fields → length few ≤ i → All (λ f. bad_part f ≡ None) (take i few) → AreGood fields
 none_found fields few i is end good = subst (λ l. All (λ f. bad_part f ≡ None) l) (take_all i few end ∙ is) good
 

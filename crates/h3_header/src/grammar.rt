@@ -1,13 +1,17 @@
 //! The grammars of names and values, asked of bytes where they lie. Nothing here takes memory.
 ghost use Rattle.std.specs.Prelude.{◌≡◌, ◌≤◌, ◌==◌, ◌||◌, MatchBool, IsUtf8, bytes_eq, codes, length, slice_index};
-ghost use Rattle.std.specs.Char.{to_ascii_lowercase};
 ghost use Rattle.std.specs.List.{list_all};
-ghost use Rattle.http_header.specs.Token.{is_token_byte, is_value_byte};
+ghost use Rattle.http_header.specs.Token.{is_token_byte};
 ghost use Rattle.http_uri.specs.ByteClasses.{is_scheme_byte, is_authority_byte, is_path_byte, is_query_byte, is_delimiter, split_once_front, split_once_back, index_of, question_mark, slash};
 ghost use Rattle.http_uri.specs.Grammar.{IsAuthority};
-ghost use Rattle.h3_header.specs.HeadTests.{is_token, is_header_name, is_scheme, is_authority, is_path, is_path_input, are_query, is_field_value};
+ghost use Rattle.h3_header.specs.HeadTests.{is_token, is_header_name, is_host, is_scheme, is_authority, is_path, is_path_input, is_plain_path, are_plain_parts, are_query, is_field_value};
+
+mod marks;
+mod names;
 
 use http_header::is_token_char;
+use httparse::is_header_value;
+use marks::{are_host_bytes, are_name_bytes, are_plain_path_bytes, are_plain_query_bytes};
 use std::str;
 
 // As in `[FEDC:BA98:7654:3210:FEDC:BA98:7654:3210]:80`.
@@ -27,38 +31,24 @@ fn are_token_bytes(text: &[u8]) -> bool
 }
 
 /// Whether the text is the name of a field, in lower case (RFC 9114, 4.2).
-#[tactic(auto, using(crate::proofs::GrammarLaws::lower_is))]
 pub(crate) fn is_header_name(text: &[u8]) -> bool
     ensures { result ≡ is_header_name text.now }
 {
-    is_token(text) && text.len() <= 65535 && is_lowercase(text)
-}
-
-// Whether no byte is a letter of upper case.
-fn is_lowercase(text: &[u8]) -> bool
-    ensures { result ≡ list_all (λ b. to_ascii_lowercase b == b) text.now }
-{
-    text.iter().all(|byte| byte.to_ascii_lowercase() == *byte)
+    !text.is_empty() && text.len() <= 65535 && are_name_bytes(text)
 }
 
 /// Whether the text may be a field's value (RFC 9110, 5.5).
 pub(crate) fn is_field_value(text: &[u8]) -> bool
     ensures { result ≡ is_field_value text.now }
 {
-    text.iter().all(|byte| is_value_byte(*byte))
-}
-
-fn is_value_byte(byte: u8) -> bool
-    ensures { result ≡ is_value_byte byte }
-{
-    byte == b'\t' || (byte >= b' ' && byte != 127)
+    is_header_value(text)
 }
 
 /// Whether the text is a scheme of at most 64 bytes, or none (RFC 3986, 3.1).
 pub(crate) fn is_scheme(text: &[u8]) -> bool
     ensures { result ≡ is_scheme text.now }
 {
-    are_scheme_bytes(text) && text.len() <= 64
+    is_text(text, b"https".as_slice()) || (are_scheme_bytes(text) && text.len() <= 64)
 }
 
 fn are_scheme_bytes(text: &[u8]) -> bool
@@ -77,7 +67,14 @@ fn is_scheme_byte(byte: u8) -> bool
 pub fn is_authority(text: &[u8]) -> bool
     ensures { result ≡ is_authority text.now }
 {
-    has_grammar(text)
+    is_host(text) || has_grammar(text)
+}
+
+// Whether the text is the name of a host and no more, as most authorities are.
+fn is_host(text: &[u8]) -> bool
+    ensures { result ≡ is_host text.now }
+{
+    !text.is_empty() && are_host_bytes(text)
 }
 
 // Whether an authority may have this byte.
@@ -146,9 +143,28 @@ fn has_grammar(text: &[u8]) -> bool
 pub(crate) fn is_path_input(text: &[u8]) -> bool
     ensures { result ≡ is_path_input text.now }
 {
-    (text == b"*".as_slice() || starts_with_delimiter(text))
-        && text.len() <= 65534
-        && is_path(before(b'#', text))
+    is_plain_path(text)
+        || ((text == b"*".as_slice() || starts_with_delimiter(text))
+            && text.len() <= 65534
+            && is_path(before(b'#', text)))
+}
+
+// Whether the text is a path in ASCII, which may have a query in ASCII behind it, as most are.
+fn is_plain_path(text: &[u8]) -> bool
+    ensures { result ≡ is_plain_path text.now }
+{
+    byte_at(text, 0) == b'/' && text.len() <= 65534 && are_plain_parts(text)
+}
+
+fn are_plain_parts(text: &[u8]) -> bool
+    ensures { result ≡ are_plain_parts text.now }
+{
+    if are_plain_path_bytes(text) {
+        return true;
+    }
+    let at = index_of(b'?', text);
+    are_plain_path_bytes(&text[..at])
+        && (at == text.len() || are_plain_query_bytes(&text[at + 1..]))
 }
 
 // Whether the first byte would end an authority.
@@ -234,9 +250,25 @@ fn index_of(byte: u8, text: &[u8]) -> usize
     text.iter().take_while(|b| **b != byte).count()
 }
 
-// The byte at this place, or 0 behind the end.
-fn byte_at(text: &[u8], index: usize) -> u8
+/// The byte at this place, or 0 behind the end.
+pub(crate) fn byte_at(text: &[u8], index: usize) -> u8
     ensures { result ≡ slice_index text.now index }
 {
     if index < text.len() { text[index] } else { 0 }
+}
+
+/// Whether the text is the wanted one. At a literal the loop is a chain of tests, which is cheaper than `==` of two slices.
+#[inline(always)]
+pub(crate) fn is_text(text: &[u8], wanted: &[u8]) -> bool
+    ensures { result ≡ bytes_eq text.now wanted.now }
+{
+    if text.len() != wanted.len() {
+        return false;
+    }
+    'bytes: for i in 0..wanted.len() {
+        if text[i] != wanted[i] {
+            return false;
+        }
+    }
+    true
 }

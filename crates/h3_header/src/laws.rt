@@ -1,8 +1,10 @@
 //! Laws on headers and their field lists, each the contract of a function.
-ghost use Rattle.std.specs.Prelude.{◌≡◌, IfOk, IfErr, List, [], Some};
+ghost use Rattle.std.specs.Prelude.{◌≡◌, ◌<◌, ◌≤◌, ℕ, IfOk, IfErr, List, [], All, length, take, get_or, Some, None};
 ghost use Rattle.std.specs.List.{AllByRecursion};
 ghost use Rattle.h3_field.specs.Field.{Field};
 ghost use Rattle.h3_field.specs.ReadBack.{IsFieldOfBytes};
+ghost use Rattle.h3_header.specs.BadPart.{bad_part, refusal_of, IsHeadUnlessMany};
+ghost use Rattle.h3_header.specs.declared.headers.judge.BadPart.{BadPart};
 ghost use Rattle.h3_header.specs.Head.{Head, head_fields, trailer_head};
 ghost use Rattle.h3_header.specs.HeadRead.{HeadRefusal, IsHead, IsNone, head_of, told};
 ghost use Rattle.h3_header.specs.Reads.{IsHeadOf, RefusesOne, head_of_fields};
@@ -34,6 +36,13 @@ pub fn round_trip(alloc: Global, header: &Header) -> Result<Header, HeaderError>
     };
     Header::try_from(alloc, fields)
 }
+
+/// A list of so few fields that a map has room for all their names is judged field by field: the first of which anything is malformed refuses
+/// it, and where nothing is malformed of any it is a head's.
+pub fn fields_are_judged_alone()
+    ensures refused { (fields : List Field) (i : ℕ) (f : Field) (part : BadPart) → length fields ≤ 24576 → i < length fields → All (λ f. bad_part f ≡ None) (take i fields) → bad_part (get_or fields i f) ≡ Some part → head_of fields ≡ IsNone (refusal_of part) }
+    ensures head { (fields : List Field) → All (λ f. bad_part f ≡ None) (take 24576 fields) → IsHeadUnlessMany fields }
+{}
 
 /// What a field list is read as is a value: its head, or the first refusal, memory aside. What the value says is so.
 pub fn lists_are_their_value()

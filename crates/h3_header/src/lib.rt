@@ -8,4 +8,6 @@ pub mod headers;
 pub mod laws;
 
 pub use ext::{InvalidProtocol, Protocol};
-pub use headers::{BadPart, FieldKind, Header, HeaderError, HeaderIter, first_bad_part};
+pub use headers::{
+    BadPart, FieldKind, Header, HeaderError, HeaderIter, field_kind, first_bad_part,
+};

@@ -1,5 +1,5 @@
 -- A list's outline is that of its head, field by field.
-use Rattle.std.proofs.Common.{◌≡◌, ℕ, ◌+◌, ◌<◌, ◌≤◌, Bool, true, false, not, ◌&&◌, ◌||◌, List, [], ◌∷◌, length, drop, get_or, fold, Option, Some, None, refl, ap, subst, sym, ◌∙◌, arith, if◌then◌else◌, take_all, nat_le, nat_lt, bytes_eq}
+use Rattle.std.proofs.Common.{◌≡◌, ℕ, ◌+◌, ◌<◌, ◌≤◌, Bool, true, false, not, ◌&&◌, ◌||◌, List, [], ◌∷◌, length, drop, take, get_or, fold, Option, Some, None, refl, ap, subst, sym, ◌∙◌, arith, if◌then◌else◌, take_all, nat_le, nat_lt, bytes_eq}
 use Rattle.std.specs.Prelude.{All, is_some}
 use Rattle.std.proofs.lemmas.Bool.{leb-true, ltb-true}
 use Rattle.std.proofs.lemmas.List.{drop_more, drop_all}
@@ -86,9 +86,9 @@ next_outline fields i f o start inside is before =
 pub last_outline : (fields : List Field) (i : ℕ) (o start : Outline) → length fields ≤ i → fold outlined o (drop i fields) ≡ start → o ≡ start
 last_outline fields i o start past before = sym (ap (fold outlined o) (drop_all i fields past)) ∙ before
 
--- Of so few fields none is malformed.
-pub all_good : (fields : List Field) → length fields ≤ 24576 → AreGood fields → All (λ f. bad_part f ≡ None) fields
-all_good fields few good = subst (All (λ f. bad_part f ≡ None)) (take_all 24576 fields few) good
+-- Of so few fields none is malformed, where the walk came to their end.
+pub all_good : (fields : List Field) (i : ℕ) → length fields ≤ i → length fields ≤ 24576 → All (λ f. bad_part f ≡ None) (take i fields) → AreGood fields
+all_good fields i past few good = subst (All (λ f. bad_part f ≡ None)) (take_all i fields past ∙ sym (take_all 24576 fields few)) good
 
 -- So they read as a head, and this is its outline.
 pub short_head : (fields : List Field) → ((fs : List Field) (h : Head) → head_of fs ≡ IsHead h → IsHeadOf fs h) → length fields ≤ 24576 → IsHeadUnlessMany fields

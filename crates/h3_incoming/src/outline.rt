@@ -14,7 +14,7 @@ ghost use Rattle.h3_incoming.specs.declared.outline.ListRead.TheVariants as read
 
 use h3_connection::event::Malformation;
 use h3_field::HeaderField;
-use h3_header::{BadPart, FieldKind, Header, HeaderError, first_bad_part};
+use h3_header::{BadPart, FieldKind, Header, HeaderError, field_kind, first_bad_part};
 use h3_proto::stream::Side;
 use http::StatusCode;
 use std::alloc::{AllocError, Global};
@@ -105,12 +105,12 @@ impl Outline {
         self.pseudo
     }
 
-    // With one field more, of which nothing is malformed.
-    fn with(self, field: &HeaderField) -> Outline
-        requires { bad_part field.now ≡ None }
-        ensures { result ≡ outlined self field.now }
+    // With one field more, of that kind, of which nothing is malformed.
+    fn with(self, kind: FieldKind, field: &HeaderField) -> Outline
+        requires { is_value_at kind field.now.value ≡ true }
+        ensures { result ≡ outlined_by kind self field.now }
     {
-        match FieldKind::of(field.name()) {
+        match kind {
             FieldKind::Regular => self,
             FieldKind::Status => Outline {
                 method: self.method,
@@ -152,22 +152,15 @@ fn read_short(fields: &[HeaderField]) -> ListRead
     ensures { result ≡ list_read (head_of fields.now) }
 {
     h3_header::laws::lists_are_their_value();
-    match first_bad_part(fields) {
-        Some(part) => ListRead::Malformed(malformation_by(part)),
-        None => ListRead::Head(outline_of(fields)),
-    }
-}
-
-// The outline of fields of which none is malformed.
-fn outline_of(fields: &[HeaderField]) -> Outline
-    requires { All (λ f. bad_part f ≡ None) fields.now }
-    ensures { result ≡ fold outlined empty_outline fields.now }
-{
+    h3_header::laws::fields_are_judged_alone();
     let mut outline = Outline::empty();
     'fields: for field in fields {
-        outline = outline.with(field);
+        match field_kind(field) {
+            Ok(kind) => outline = outline.with(kind, field),
+            Err(part) => return ListRead::Malformed(malformation_by(part)),
+        }
     }
-    outline
+    ListRead::Head(outline)
 }
 
 // Any list, by the header that is made of it.

@@ -1,7 +1,8 @@
 //! What is malformed of a field list, told without memory.
-ghost use Rattle.std.specs.Prelude.{◌≡◌, take, IfSome, IfNone};
+ghost use Rattle.std.specs.Prelude.{◌≡◌, take, IfSome, IfNone, IfOk, IfErr};
 ghost use Rattle.h3_header.specs.BadPart.{bad_part, refusal_of, AreGood, IsHeadUnlessMany};
 ghost use Rattle.h3_header.specs.HeadRead.{IsNone, head_of, is_name_at, is_value_at};
+ghost use Rattle.h3_header.specs.Reads.{kind_of};
 ghost use Rattle.h3_header.specs.HeadTests.{is_code_text, is_protocol_text};
 
 use super::kind::FieldKind;
@@ -55,14 +56,27 @@ fn front(fields: &[HeaderField], count: usize) -> &[HeaderField]
 fn bad_part(field: &HeaderField) -> Option<BadPart>
     ensures { result ≡ bad_part field.now }
 {
+    match field_kind(field) {
+        Ok(_) => None,
+        Err(part) => Some(part),
+    }
+}
+
+/// The kind of a field of which nothing is malformed by itself, or else what is: its name, else its value (RFC 9114, 4.2 and 4.3). Who walks
+/// over a list asks so for both at once. It takes no memory.
+#[inline(always)]
+pub fn field_kind(field: &HeaderField) -> Result<FieldKind, BadPart>
+    ensures ok { IfOk result (λ kind. (kind ≡ kind_of field.now.name) × (bad_part field.now ≡ None)) }
+    ensures err { IfErr result (λ part. bad_part field.now ≡ Some part) }
+{
     let kind = FieldKind::of(field.name());
     if !is_name_at(kind, field.name()) {
-        return Some(BadPart::Name);
+        return Err(BadPart::Name);
     }
     if !is_value_at(kind, field.value()) {
-        return Some(BadPart::Value);
+        return Err(BadPart::Value);
     }
-    None
+    Ok(kind)
 }
 
 // Whether a name may stand there.

@@ -2,6 +2,8 @@
 ghost use Rattle.std.specs.Prelude.{◌≡◌};
 ghost use Rattle.h3_header.specs.Reads.{kind_of};
 
+use crate::grammar::{byte_at, is_text};
+
 /// A pseudo-header field (RFC 9114, 4.3), or a regular one.
 #[derive(Clone, Copy, Debug, PartialEq, Eq)]
 pub enum FieldKind {
@@ -26,20 +28,30 @@ impl FieldKind {
     pub fn of(name: &[u8]) -> FieldKind
         ensures { result ≡ kind_of name.now }
     {
-        if name == b":method".as_slice() {
-            FieldKind::Method
-        } else if name == b":scheme".as_slice() {
-            FieldKind::Scheme
-        } else if name == b":authority".as_slice() {
-            FieldKind::Authority
-        } else if name == b":path".as_slice() {
-            FieldKind::Path
-        } else if name == b":status".as_slice() {
-            FieldKind::Status
-        } else if name == b":protocol".as_slice() {
-            FieldKind::Protocol
-        } else {
-            FieldKind::Regular
+        if byte_at(name, 0) != b':' {
+            return FieldKind::Regular;
         }
+        of_colon(name)
+    }
+}
+
+// The kind of a name with a colon ahead. Names of other lengths are told apart by their length alone.
+fn of_colon(name: &[u8]) -> FieldKind
+    ensures { result ≡ kind_of name.now }
+{
+    if is_text(name, b":method".as_slice()) {
+        FieldKind::Method
+    } else if is_text(name, b":scheme".as_slice()) {
+        FieldKind::Scheme
+    } else if is_text(name, b":authority".as_slice()) {
+        FieldKind::Authority
+    } else if is_text(name, b":path".as_slice()) {
+        FieldKind::Path
+    } else if is_text(name, b":status".as_slice()) {
+        FieldKind::Status
+    } else if is_text(name, b":protocol".as_slice()) {
+        FieldKind::Protocol
+    } else {
+        FieldKind::Regular
     }
 }

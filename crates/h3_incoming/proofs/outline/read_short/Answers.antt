@@ -1,10 +1,40 @@
-use Rattle.std.proofs.Common.{ap, ◌∙◌}
+use Rattle.std.proofs.Common.{◌≡◌, ◌+◌, true, None, Some, rules, get_or, ap, sym, ◌∙◌, drop, fold, arith}
+use Rattle.std.proofs.lemmas.List.Elements.{All-more}
+use Rattle.h3_header.specs.BadPart.{bad_part, refusal_of}
+use Rattle.h3_header.specs.HeadRead.{is_value_at}
+use Rattle.h3_header.specs.Reads.{kind_of}
+use Rattle.h3_connection.specs.Pulling.{malformation_of}
+use Rattle.h3_incoming.specs.Outline.{empty_outline, outlined, list_read}
 use Rattle.h3_incoming.specs.declared.outline.ListRead.TheVariants as read
-use Rattle.h3_incoming.proofs.Outlines.{all_good, short_head}
+use Rattle.h3_incoming.proofs.Outlines.{next_outline, last_outline, all_good, short_head}
 use Rattle.h3_incoming.proofs.outline.read_short.Goals as goal
 
-pub outline_of-requires : goal.outline_of-requires
-outline_of-requires c = all_good c.args.fields.now c.requires c.in-None.ensures.none
+pub returns-in-Err : goal.returns-in-Err
+returns-in-Err c =
+    let fields = c.args.fields.now in
+    let i = c.fields.field-index in
+    let field = c.field-item.result in
+    let found : bad_part (get_or fields i field) ≡ Some c.in-Err.part = search rules in
+    let refused = c.fields_are_judged_alone.ensures.refused fields i field c.in-Err.part c.requires c.fields-test.true c.fields.invariant.0 found in
+    ap read.Malformed c.malformation_by.ensures ∙ sym (ap list_read refused)
 
-pub returns-in-None : goal.returns-in-None
-returns-in-None c = ap read.Head c.outline_of.ensures ∙ short_head c.args.fields.now c.lists_are_their_value.ensures.is_head c.requires c.in-None.ensures.many
+pub fields-preserved : goal.fields-preserved
+fields-preserved c =
+    let fields = c.args.fields.now in
+    let i = c.fields.field-index in
+    let field = c.field-item.result in
+    let same : get_or fields i field ≡ field = search rules in
+    let good : bad_part (get_or fields i field) ≡ None = search rules in
+    let one : c.with-outline.result ≡ outlined c.fields.outline field = search rules in (
+      All-more (λ f. bad_part f ≡ None) fields i field c.fields-test.true c.fields.invariant.0 good,
+      ap (λ o. fold outlined o (drop (i + 1) fields)) one
+      ∙ next_outline fields i field c.fields.outline (fold outlined empty_outline fields) c.fields-test.true same c.fields.invariant.1,
+    )
+
+pub returns : goal.returns
+returns c =
+    let fields = c.args.fields.now in
+    let i = c.fields.field-index in
+    let good = all_good fields i (omega arith) c.requires c.fields.invariant.0 in
+    ap read.Head (last_outline fields i c.fields.outline (fold outlined empty_outline fields) (omega arith) c.fields.invariant.1)
+    ∙ short_head fields c.lists_are_their_value.ensures.is_head c.requires (c.fields_are_judged_alone.ensures.head fields good)
