@@ -45,6 +45,7 @@ pub mod LentFrames
 pub mod WellSentLists
 pub mod MemoryTells
 pub mod MemoryUnchanged
+pub mod ListedBounds
 pub mod MemorySends
 pub mod MemoryPulls
 pub mod MemoryDeliveries

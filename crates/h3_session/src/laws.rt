@@ -4,11 +4,13 @@
 //!   comes on streams and in frames of unknown types changes nothing else (`unknown_streams_change_nothing_else`, `unknown_frames_give_nothing`).
 //! - Cuts: where bytes are cut into deliveries doesn't count (`cut_deliveries_are_answered_alike`, `cut_pulls_are_answered_alike`,
 //!   `cut_calls_are_answered_alike`).
-//! - Bounds: no section is tried more than twice, and no more streams wait than were announced (`tries_and_waiting_streams_are_bounded`).
+//! - Bounds: no section is tried more than twice, and no more streams wait than were announced (`tries_and_waiting_streams_are_bounded`). Every
+//!   endpoint that calls made has these bounds, memory refused or not (`endpoints_stay_bounded`, `lists_leave_endpoints_bounded`).
 //! - Well-formed messages: where an endpoint asks for strict messages it hands out no head and no trailer whose list breaks a rule
 //!   (`strict_endpoints_hand_out_no_broken_list`), and of content no more than the head says, and the end behind all of it
-//!   (`content_is_as_long_as_was_said`). What it sends breaks none for a peer that asks for them (`strict_endpoints_send_no_broken_list`, and
-//!   of lists `strict_endpoints_send_no_broken_field_list`).
+//!   (`content_is_as_long_as_was_said`), and of a response to HEAD none (`a_response_to_head_has_no_content`). What it sends breaks none for a
+//!   peer that asks for them (`strict_endpoints_send_no_broken_list`, and of lists `strict_endpoints_send_no_broken_field_list`), and has as much
+//!   content as its head says (`strict_endpoints_send_as_much_content_as_was_said`).
 //! - What stays: a connection fault (`a_connection_fault_stays`), and the end of a stream once it was handed out (`the_end_stays`). Where nothing is
 //!   kept, calls are the plain ones (`nothing_kept_is_plain`).
 //! - Two endpoints: a schedule's answers are those of a run of the world of a connection (`two_endpoints_run_in_a_world`), in which each endpoint
@@ -34,9 +36,10 @@ ghost use Rattle.h3_session.specs.Acting.{RunsByCalls};
 ghost use Rattle.h3_session.specs.SendingLists.{as_error, send_fields, send_trailer_fields};
 
 pub use h3_connection::laws::{
-    a_connection_fault_stays, content_is_as_long_as_was_said, cut_calls_are_answered_alike,
-    cut_deliveries_are_answered_alike, cut_pulls_are_answered_alike, each_stream_is_isolated,
-    nothing_kept_is_plain, strict_endpoints_hand_out_no_broken_list,
+    a_connection_fault_stays, a_response_to_head_has_no_content, content_is_as_long_as_was_said,
+    cut_calls_are_answered_alike, cut_deliveries_are_answered_alike, cut_pulls_are_answered_alike,
+    each_stream_is_isolated, endpoints_stay_bounded, nothing_kept_is_plain,
+    strict_endpoints_hand_out_no_broken_list, strict_endpoints_send_as_much_content_as_was_said,
     strict_endpoints_send_no_broken_list, the_end_stays, tries_and_waiting_streams_are_bounded,
     unknown_frames_give_nothing, unknown_streams_change_nothing_else,
 };
@@ -79,3 +82,20 @@ pub fn calls_are_steps_of_two_endpoints()
     ensures { (ends : Ends) (events : List Event) (answers : List Answer) (client server : EndpointState) → RunsByCalls ends events answers client server →
         (new : Ends) × EndsRun ends events answers new × StandsFor client new.client × StandsFor server new.server }
 {}
+
+ghost use Rattle.std.specs.Prelude.{Result};
+ghost use Rattle.h3_field.specs.Field.{Field};
+ghost use Rattle.h3_connection.specs.Bounds.{StandsBounded};
+ghost use Rattle.h3_connection.specs.Calls.{IsSame};
+ghost use Rattle.h3_session.specs.SendingLists.{SendsFieldList, SendsTrailerList};
+ghost use Rattle.h3_session.specs.declared.endpoint.lists.FieldsError.{FieldsError};
+
+/// A list that is sent, as a head or as a trailer, leaves an endpoint with its bounds, and so does a call that changes nothing (`own_unread`). So each
+/// call of an endpoint does, by its contract alone, whether it was answered, refused, or refused memory (`endpoints_stay_bounded`).
+pub fn lists_leave_endpoints_bounded()
+    ensures fields { (old new : EndpointState) (id : ℕ) (fields : List Field) (result : Result Unit FieldsError) → SendsFieldList old new id fields result → StandsBounded old → StandsBounded new }
+    ensures trailer { (old new : EndpointState) (id : ℕ) (fields : List Field) (result : Result Unit FieldsError) → SendsTrailerList old new id fields result → StandsBounded old → StandsBounded new }
+    ensures same { (old new : EndpointState) → IsSame old new → StandsBounded old → StandsBounded new }
+{
+    h3_connection::laws::tries_and_waiting_streams_are_bounded();
+}

@@ -17,6 +17,7 @@ pub mod endpoint;
 pub mod laws;
 pub mod run;
 
+pub use crate::endpoint::FieldsError;
 pub use bytes::Bytes;
 pub use h3_coding::varint::VarInt;
 pub use h3_connection::event::{
@@ -26,7 +27,7 @@ pub use h3_connection::setup::{Announced, Limits, NewError};
 pub use h3_field::HeaderField;
 pub use h3_header::{Header, HeaderError, Protocol};
 pub use h3_incoming::{FieldList, FieldsItem, FieldsPull};
-pub use h3_proto::config::Config;
+pub use h3_proto::config::{Choices, Config};
 pub use h3_proto::error::Code;
 pub use h3_proto::frame::{SettingId, Settings, SettingsError};
 pub use h3_proto::stream::{InvalidStreamId, Side, StreamId};

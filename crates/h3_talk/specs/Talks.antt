@@ -15,6 +15,7 @@ use Rattle.h3_world.specs.declared.event.Answer.{Answer}
 use Rattle.h3_memory.specs.Kept.{KeepingWorld, nothing_kept}
 use Rattle.h3_memory.specs.MemoryStep.{HappensWithMemory}
 use Rattle.h3_session.specs.Headlines.{RunsUntilMemory}
+use Rattle.h3_session.specs.Messages.{HandsOutAlways}
 use Rattle.h3_session.specs.Running.{AnswersEach}
 
 -- What is said of the answers to some events where none of them tells of refused memory: they are those of a run from the empty
@@ -26,10 +27,12 @@ pub record AreAnswers (setup : Setup) (events : List Event) (answers : List Answ
 
 -- What is said of the answers to some events. There is one for each; and those up to the first that tells of refused memory are those of
 -- two endpoints with the bytes carried between them, and of a run from the empty world, each step of which happens. Memory refused or not, all are
--- those of a run of a world in which memory may be refused.
+-- those of a run of a world in which memory may be refused; and behind each of them no connection fault was told, what a side was handed out of a
+-- stream is a front of what the other side sent on it, and with the end it is all of that.
 pub record AnswersTo (setup : Setup) (events : List Event) (answers : List Answer) : Type 0 where
   pub each : AnswersEach (new_ends setup) events answers
   pub front : RunsUntilMemory setup events answers
+  pub messages : HandsOutAlways setup events answers
   pub whole : list_any is_memory answers ≡ false → AreAnswers setup events answers
   pub world : KeepingWorld
   pub run : Run (HappensWithMemory setup) (nothing_kept (empty_world setup)) events answers world
