@@ -1,5 +1,9 @@
 pub mod ContentRows
+pub mod Names
+pub mod Pushes
 pub mod RequestRows
 pub mod ResponseRows
+pub mod Rules
 pub mod Steps
+pub mod Surveys
 pub mod Written

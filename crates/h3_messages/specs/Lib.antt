@@ -1,2 +1,4 @@
 pub mod Content
+pub mod Known
 pub mod Messages
+pub mod Survey

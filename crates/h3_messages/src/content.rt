@@ -3,8 +3,7 @@ ghost use Rattle.std.specs.Prelude.{◌≡◌, []};
 ghost use Rattle.h3_messages.specs.Content.{asked_by, asked_for, awaited, awaited_by, said, content_of_request, is_interim_status, is_without_content, content_of_status, content_expected, content_of_response, content_behind_status, content_behind_response, left_behind, is_exceeded, may_end, takes_trailer};
 
 use crate::fields::value_of;
-use crate::request::is_connect;
-use crate::text::{byte_at, length_of};
+use crate::text::{byte_at, is_same, length_of};
 use h3_field::HeaderField;
 
 /// How much content is left to come behind a head.
@@ -38,9 +37,9 @@ impl Asked {
     pub fn by(method: &[u8]) -> Asked
         ensures { result ≡ asked_by method.now }
     {
-        if method == b"HEAD".as_slice() {
+        if is_same(method, b"HEAD") {
             Asked::Head
-        } else if method == b"CONNECT".as_slice() {
+        } else if is_same(method, b"CONNECT") {
             Asked::Connect
         } else {
             Asked::Other
@@ -92,7 +91,7 @@ impl Content {
     pub fn of_request(fields: &[HeaderField]) -> Content
         ensures { result ≡ content_of_request fields.now }
     {
-        if is_connect(fields) {
+        if is_same(value_of(b":method", fields), b"CONNECT") {
             return Content::Tunnel;
         }
         said(value_of(b"content-length", fields))
@@ -193,7 +192,7 @@ fn said(text: &[u8]) -> Content
 fn is_without_content(status: &[u8]) -> bool
     ensures { result ≡ is_without_content status.now }
 {
-    status == b"204".as_slice() || status == b"304".as_slice()
+    is_same(status, b"204") || is_same(status, b"304")
 }
 
 // The content of a response with this status and this `content-length`.

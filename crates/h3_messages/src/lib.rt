@@ -8,9 +8,14 @@
 pub mod content;
 mod fields;
 mod host;
+mod known;
 mod pseudo;
+mod regular;
 mod request;
 mod response;
+mod seen;
+mod slot;
+mod survey;
 mod text;
 pub mod violation;
 

@@ -2,76 +2,88 @@
 ghost use Rattle.std.specs.Prelude.{◌≡◌};
 ghost use Rattle.h3_messages.specs.Messages.{is_length_misplaced, violation_of_response, violation_of_trailer};
 
-use crate::fields::{
-    has_connection_field, has_spaced_value, holds, is_length_wrong, repeats, value_of,
-};
-use crate::pseudo::{has_pseudo, has_response_pseudo_only, pseudo_first};
-use crate::text::{byte_at, says_more_than_none};
+use crate::known::Known;
+use crate::pseudo::{has_pseudo, has_response_pseudo_only};
+use crate::regular::{has_connection_field, is_length_wrong};
+use crate::survey::Survey;
+use crate::text::{byte_at, is_same, says_more_than_none};
 use crate::violation::Violation;
 use h3_field::HeaderField;
 
 /// The first rule that the head of a response breaks, interim or final, or none.
-#[tactic(auto, unfolding(crate::specs::Messages::violation_of_response))]
 pub fn response_violation(fields: &[HeaderField]) -> Option<Violation>
     ensures { result ≡ violation_of_response fields.now }
 {
-    if !pseudo_first(fields) {
+    violation_of(&Survey::of(fields))
+}
+
+#[tactic(auto, unfolding(crate::specs::Messages::violation_of_response))]
+fn violation_of(survey: &Survey) -> Option<Violation>
+    ensures { result ≡ violation_of_response survey.now.fields.now }
+{
+    if survey.is_out_of_order() {
         return Some(Violation::PseudoOrder);
     }
-    if !has_response_pseudo_only(fields) {
+    if !has_response_pseudo_only(survey) {
         return Some(Violation::WrongPseudo);
     }
-    if repeats(b":status", fields) {
+    if survey.repeats(Known::Status) {
         return Some(Violation::RepeatedPseudo);
     }
-    if has_connection_field(fields) || holds(b"te", fields) {
+    if has_connection_field(survey) || survey.holds(Known::Te) {
         return Some(Violation::ConnectionField);
     }
-    if is_length_wrong(fields) {
+    if is_length_wrong(survey) {
         return Some(Violation::ContentLength);
     }
-    if !holds(b":status", fields) {
+    if !survey.holds(Known::Status) {
         return Some(Violation::MissingPseudo);
     }
-    if value_of(b":status", fields) == b"101".as_slice() {
+    if is_same(survey.value_of(Known::Status), b"101") {
         return Some(Violation::Status);
     }
-    if is_length_misplaced(fields) {
+    if is_length_misplaced(survey) {
         return Some(Violation::ContentLength);
     }
-    if has_spaced_value(fields) {
+    if survey.has_spaced_value() {
         return Some(Violation::Value);
     }
     None
 }
 
 /// Whether a `content-length` may not come with this status (RFC 9110, 8.6).
-fn is_length_misplaced(fields: &[HeaderField]) -> bool
-    ensures { result ≡ is_length_misplaced fields.now }
+fn is_length_misplaced(survey: &Survey) -> bool
+    ensures { result ≡ is_length_misplaced survey.now.fields.now }
 {
-    if !holds(b"content-length", fields) {
+    if !survey.holds(Known::ContentLength) {
         return false;
     }
-    let status = value_of(b":status", fields);
+    let status = survey.value_of(Known::Status);
     byte_at(status, 0) == b'1'
-        || (status == b"204".as_slice() && says_more_than_none(value_of(b"content-length", fields)))
+        || (is_same(status, b"204") && says_more_than_none(survey.value_of(Known::ContentLength)))
 }
 
 /// The first rule that a trailer breaks, or none.
-#[tactic(auto, unfolding(crate::specs::Messages::violation_of_trailer))]
 pub fn trailer_violation(fields: &[HeaderField]) -> Option<Violation>
     ensures { result ≡ violation_of_trailer fields.now }
 {
-    if has_pseudo(fields) {
+    violation_of_trailer(&Survey::of(fields))
+}
+
+#[tactic(auto, unfolding(crate::specs::Messages::violation_of_trailer))]
+fn violation_of_trailer(survey: &Survey) -> Option<Violation>
+    ensures { result ≡ violation_of_trailer survey.now.fields.now }
+{
+    if has_pseudo(survey) {
         return Some(Violation::WrongPseudo);
     }
-    if has_connection_field(fields) || holds(b"te", fields) {
+    if has_connection_field(survey) || survey.holds(Known::Te) {
         return Some(Violation::ConnectionField);
     }
-    if holds(b"content-length", fields) || holds(b"host", fields) {
+    if survey.holds(Known::ContentLength) || survey.holds(Known::Host) {
         return Some(Violation::TrailerField);
     }
-    if has_spaced_value(fields) {
+    if survey.has_spaced_value() {
         return Some(Violation::Value);
     }
     None

@@ -1,7 +1,7 @@
 //! What a name or a value says.
-ghost use Rattle.std.specs.Prelude.{◌≡◌, ◌^◌, min, nat_lt, slice_index, if◌then◌else◌, Some, None};
+ghost use Rattle.std.specs.Prelude.{◌≡◌, ◌-◌, ◌^◌, ◌||◌, ◌==◌, bytes_eq, length, min, nat_lt, slice_index, if◌then◌else◌, Some, None};
 ghost use Rattle.std.specs.Char.{is_ascii_digit};
-ghost use Rattle.std.specs.List.{list_all};
+ghost use Rattle.std.specs.List.{list_all, list_any};
 ghost use Rattle.h3_messages.specs.Messages.{is_word, is_space, is_length, number_of};
 
 // No stream carries as many bytes (RFC 9000, 4.5).
@@ -12,6 +12,33 @@ pub(crate) fn byte_at(text: &[u8], index: usize) -> u8
     ensures { result ≡ slice_index text.now index }
 {
     if index < text.len() { text[index] } else { 0 }
+}
+
+/// Whether the two texts are the same. It is for short ones: the kit's `==` on slices begins with what pays for long ones.
+#[inline(always)]
+pub(crate) fn is_same(text: &[u8], word: &[u8]) -> bool
+    ensures { result ≡ bytes_eq text.now word.now }
+{
+    if text.len() != word.len() {
+        return false;
+    }
+    'bytes: for index in 0..text.len() {
+        if text[index] != word[index] {
+            return false;
+        }
+    }
+    true
+}
+
+/// Whether the text has the byte.
+pub(crate) fn has_byte(wanted: u8, text: &[u8]) -> bool
+    ensures { result ≡ list_any (λ b. b == wanted) text.now }
+{
+    let mut found = false;
+    'bytes: for byte in text {
+        found = found || *byte == wanted;
+    }
+    found
 }
 
 /// Whether the text is the word, but for upper case.
@@ -26,6 +53,13 @@ pub(crate) fn is_space(byte: u8) -> bool
     ensures { result ≡ is_space byte }
 {
     byte == 32 || byte == 9
+}
+
+/// Whether white space stands before or behind the text.
+pub(crate) fn has_space_around(text: &[u8]) -> bool
+    ensures { result ≡ (is_space (slice_index text.now 0) || is_space (slice_index text.now (length text.now - 1))) }
+{
+    is_space(byte_at(text, 0)) || is_space(byte_at(text, text.len().saturating_sub(1)))
 }
 
 /// Whether each byte is a digit.

@@ -1,7 +1,0 @@
-use Rattle.std.specs.Prelude.{◌≡◌, true, not, ◌||◌, codes, take}
-use Rattle.std.specs.List.{list_all}
-use Rattle.h3_messages.specs.Messages.{has_name, is_word}
-use Rattle.h3_messages.proofs.request.is_te_wrong.Given as goal
-
-abbrev pub invariant-fields : goal.invariant-fields
-invariant-fields l = list_all (λ f. not (has_name (codes "te") f) || is_word (codes "trailers") f.value) (take l.field-index l.fields) ≡ true

@@ -1,0 +1,80 @@
+//! What the rules ask of a list, by one walk over it.
+ghost use Rattle.std.specs.Prelude.{◌≡◌, not};
+ghost use Rattle.std.specs.List.{list_any};
+ghost use Rattle.h3_messages.specs.Known.{text};
+ghost use Rattle.h3_messages.specs.Messages.{holds, repeats, value_of, pseudo_first, is_te_wrong, has_space_around};
+ghost use Rattle.h3_messages.specs.Survey.{IsSeen, is_unknown_pseudo};
+
+use crate::known::Known;
+use crate::seen::Seen;
+use h3_field::HeaderField;
+
+/// A list, and what it holds.
+#[derive(Drop)]
+pub(crate) struct Survey<'a> {
+    fields: &'a [HeaderField],
+    seen: Seen<'a>,
+    ghost surveyed: { IsSeen fields.now seen },
+}
+
+impl<'a> Survey<'a> {
+    #[inline(always)]
+    pub(crate) fn of(fields: &'a [HeaderField]) -> Survey<'a>
+        ensures { result.fields.now ≡ fields.now }
+    {
+        let mut seen = Seen::new();
+        'fields: for field in fields {
+            seen.take_in(field);
+        }
+        Survey { fields, seen }
+    }
+
+    /// Whether a field has the name.
+    pub(crate) fn holds(&self, name: Known) -> bool
+        ensures { result ≡ holds (text name) self.now.fields.now }
+    {
+        self.seen.slots[name.place()].is_there
+    }
+
+    /// Whether two fields or more have the name.
+    pub(crate) fn repeats(&self, name: Known) -> bool
+        ensures { result ≡ repeats (text name) self.now.fields.now }
+    {
+        self.seen.slots[name.place()].repeats
+    }
+
+    /// The value of the first field with the name, or no bytes.
+    pub(crate) fn value_of(&self, name: Known) -> &'a [u8]
+        ensures { result.now ≡ value_of (text name) self.now.fields.now }
+    {
+        self.seen.slots[name.place()].value
+    }
+
+    /// Whether a pseudo-header field stands behind a regular one (RFC 9114, 4.3).
+    pub(crate) fn is_out_of_order(&self) -> bool
+        ensures { result ≡ not (pseudo_first self.now.fields.now) }
+    {
+        self.seen.is_out_of_order
+    }
+
+    /// Whether a field is a pseudo-header field that neither requests nor responses have.
+    pub(crate) fn has_unknown_pseudo(&self) -> bool
+        ensures { result ≡ list_any is_unknown_pseudo self.now.fields.now }
+    {
+        self.seen.has_unknown_pseudo
+    }
+
+    /// Whether a `te` is not `trailers` (RFC 9114, 4.2).
+    pub(crate) fn has_wrong_te(&self) -> bool
+        ensures { result ≡ is_te_wrong self.now.fields.now }
+    {
+        self.seen.has_wrong_te
+    }
+
+    /// Whether a value has white space around it (RFC 9114, 10.3).
+    pub(crate) fn has_spaced_value(&self) -> bool
+        ensures { result ≡ list_any has_space_around self.now.fields.now }
+    {
+        self.seen.has_spaced_value
+    }
+}
