@@ -1,9 +1,6 @@
-use Rattle.std.proofs.Common.{◌≡◌, ◌+◌, true, None, Some, rules, get_or, ap, sym, ◌∙◌, drop, fold, arith}
+use Rattle.std.proofs.Common.{◌≡◌, ◌+◌, None, Some, rules, get_or, ap, sym, ◌∙◌, drop, fold, arith}
 use Rattle.std.proofs.lemmas.List.Elements.{All-more}
-use Rattle.h3_header.specs.BadPart.{bad_part, refusal_of}
-use Rattle.h3_header.specs.HeadRead.{is_value_at}
-use Rattle.h3_header.specs.Reads.{kind_of}
-use Rattle.h3_connection.specs.Pulling.{malformation_of}
+use Rattle.h3_header.specs.BadPart.{bad_part}
 use Rattle.h3_incoming.specs.Outline.{empty_outline, outlined, list_read}
 use Rattle.h3_incoming.specs.declared.outline.ListRead.TheVariants as read
 use Rattle.h3_incoming.proofs.Outlines.{next_outline, last_outline, all_good, short_head}
@@ -28,7 +25,7 @@ fields-preserved c =
     let one : c.with-outline.result ≡ outlined c.fields.outline field = search rules in (
       All-more (λ f. bad_part f ≡ None) fields i field c.fields-test.true c.fields.invariant.0 good,
       ap (λ o. fold outlined o (drop (i + 1) fields)) one
-      ∙ next_outline fields i field c.fields.outline (fold outlined empty_outline fields) c.fields-test.true same c.fields.invariant.1,
+          ∙ next_outline fields i field c.fields.outline (fold outlined empty_outline fields) c.fields-test.true same c.fields.invariant.1,
     )
 
 pub returns : goal.returns
