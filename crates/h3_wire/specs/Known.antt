@@ -2,11 +2,8 @@
 use Rattle.std.specs.Prelude.{◌≡◌, ℕ, zero, suc, List, length, Option, Some, None, Result, Ok, Err}
 use Rattle.h3_wire.specs.declared.proto.frame.PayloadLen.{PayloadLen}
 use Rattle.h3_wire.specs.declared.proto.frame.Frame.{Frame}
-use Rattle.h3_wire.specs.declared.proto.frame.Frame.TheVariants as frame
 use Rattle.h3_wire.specs.declared.proto.frame.FrameError.{FrameError}
 use Rattle.h3_wire.specs.declared.proto.frame.FrameError.TheVariants as error
-use Rattle.h3_wire.specs.declared.frame.decoder.Near.{Near}
-use Rattle.h3_wire.specs.declared.frame.decoder.Near.TheVariants as near
 use Rattle.h3_wire.specs.declared.frame.decoder.Tried.{Tried}
 use Rattle.h3_wire.specs.declared.frame.decoder.Tried.TheVariants as tried
 use Rattle.h3_wire.specs.declared.frame.errors.FrameProtocolError.{FrameProtocolError}
@@ -57,8 +54,3 @@ Tries tried.Unknown front old new = (kind : ℕ) × (front ≡ Unknown kind new)
 Tries (tried.Waits least) front old new = (front ≡ Unfinished least) × (new ≡ old)
 Tries (tried.Refused e) front old new = (front ≡ Refused (refusal e)) × (new ≡ old)
 Tries tried.OutOfMemory front old new = TakesMemory front × (new ≡ old)
-
--- a frame that lies in one piece, as any other
-abbrev pub near_frame : Near → Frame PayloadLen
-near_frame (near.Data len) = frame.Data len
-near_frame (near.Headers section) = frame.Headers section

@@ -3,7 +3,7 @@ ghost use Rattle.std.specs.Prelude.{◌≡◌, ◌+◌, ◌^◌, ◌<◌, ◌≤
 ghost use Rattle.std.specs.List.{concat};
 ghost use Rattle.h3_wire.specs.declared.proto.frame.Frame.TheVariants as frame;
 ghost use Rattle.h3_wire.specs.Frames.{Whole, frame_at, has_head, IsHeadersFrame};
-ghost use Rattle.h3_wire.specs.Known.{Gives, Tries, near_frame};
+ghost use Rattle.h3_wire.specs.Known.{Gives, Tries};
 ghost use Rattle.h3_wire.specs.Pieces.{IsRest, ending, first_size};
 ghost use Rattle.h3_wire.specs.Tries.{Counts, Expects, counted, needed, one_more};
 
@@ -102,19 +102,19 @@ impl FrameDecoder {
         ensures counts { Counts self.old (concat src.old.pieces) result self.new }
         ensures pieces { src.new.pieces ≡ ending (length (concat src.new.pieces)) src.old.pieces }
     {
-        if let Some(near) = self.decode_near(src) {
-            return Ok(Some(frame_of_near(near)));
+        if let Some(len) = self.decode_data(src) {
+            return Ok(Some(Frame::Data(PayloadLen(len))));
         }
         self.decode_front(alloc, src)
     }
 
-    // Takes a frame that lies in the first piece, and counts the try.
+    // Takes the head of a DATA frame that lies in the first piece, counts the try, and answers how many bytes the payload has. `None` changes nothing.
+    // So the frame that comes most is read with no room made for the largest.
     #[tactic(auto, using(crate::specs::PieceLaws::rest_same))]
-    #[inline(always)]
-    fn decode_near(&mut self, src: &mut BufList<Bytes>) -> Option<Near>
+    fn decode_data(&mut self, src: &mut BufList<Bytes>) -> Option<usize>
         requires tries { one_more self.old.expected self.old.tries ≤ 17 }
         ensures enough { IfSome result (λ _. needed self.old ≤ length (concat src.old.pieces)) }
-        ensures some { IfSome result (λ n. frame_at (concat src.old.pieces) ≡ Whole (near_frame n) (concat src.new.pieces)) }
+        ensures some { IfSome result (λ len. frame_at (concat src.old.pieces) ≡ Whole (frame.Data (record { 0 = len })) (concat src.new.pieces)) }
         ensures counts { IfSome result (λ _. self.new ≡ counted self.old None) }
         ensures none { IsNone result → (self.new ≡ self.old) × (src.new.pieces ≡ src.old.pieces) }
         ensures rest { IsRest src.old.pieces src.new.pieces }
@@ -122,13 +122,11 @@ impl FrameDecoder {
         if src.remaining() < self.needed() {
             return None;
         }
-        let near = take_near(src)?;
+        let len = take_data_head(src)?;
         self.count(None);
-        Some(near)
+        Some(len)
     }
 
-    // Out of line, since most frames lie in the first piece.
-    #[inline(never)]
     fn decode_front(
         &mut self,
         alloc: Global,
@@ -169,35 +167,32 @@ fn try_frame(alloc: Global, src: &mut BufList<Bytes>) -> Tried
     ensures few { has_head (concat src.old.pieces) ≡ false → length (concat src.old.pieces) < 16 }
     ensures rest { IsRest src.old.pieces src.new.pieces }
 {
-    if let Some(near) = take_near(src) {
-        return Tried::Frame(frame_of_near(near));
+    if let Some(section) = take_headers(src) {
+        return Tried::Frame(Frame::Headers(section));
     }
     decode_frame(alloc, src)
 }
 
-// A frame that lies in the first piece, of DATA the head. It is small, so that it is handed on in registers.
-#[derive(Drop)]
-pub(crate) enum Near {
-    Data(PayloadLen),
-    Headers(Bytes),
-}
-
-#[inline(always)]
-fn frame_of_near(near: Near) -> Frame<PayloadLen>
-    ensures { result ≡ near_frame near }
+// Takes the head of a DATA frame that lies in the first piece, and answers how many bytes the payload has. `None` takes nothing.
+fn take_data_head(src: &mut BufList<Bytes>) -> Option<usize>
+    ensures some { IfSome result (λ len. frame_at (concat src.old.pieces) ≡ Whole (frame.Data (record { 0 = len })) (concat src.new.pieces)) }
+    ensures none { IsNone result → src.new.pieces ≡ src.old.pieces }
+    ensures rest { IsRest src.old.pieces src.new.pieces }
 {
-    match near {
-        Near::Data(len) => Frame::Data(len),
-        Near::Headers(section) => Frame::Headers(section),
+    let bytes = src.first_bytes();
+    let head = Head::at_front(bytes)?;
+    // the type of DATA
+    if head.kind == 0 {
+        src.advance_first(head.size);
+        return Some(head.number as usize);
     }
+    None
 }
 
-// Takes a frame that lies in the first piece. `None` takes nothing: the frame goes on behind that piece, has another type, or its section was not cut for want
-// of memory.
-#[inline(always)]
-fn take_near(src: &mut BufList<Bytes>) -> Option<Near>
-    ensures some { IfSome result (λ n. frame_at (concat src.old.pieces) ≡ Whole (near_frame n) (concat src.new.pieces)) }
-    ensures whole { IfSome result (λ n. has_head (concat src.old.pieces) ≡ true) }
+// Takes a HEADERS frame that lies in the first piece, and cuts its field section from the piece. `None` takes nothing.
+fn take_headers(src: &mut BufList<Bytes>) -> Option<Bytes>
+    ensures some { IfSome result (λ s. frame_at (concat src.old.pieces) ≡ Whole (frame.Headers s) (concat src.new.pieces)) }
+    ensures whole { IfSome result (λ s. has_head (concat src.old.pieces) ≡ true) }
     ensures none { IsNone result → src.new.pieces ≡ src.old.pieces }
     ensures rest { IsRest src.old.pieces src.new.pieces }
 {
@@ -205,18 +200,15 @@ fn take_near(src: &mut BufList<Bytes>) -> Option<Near>
     let head = Head::at_front(bytes)?;
     let behind = bytes.len() - head.size;
     let len = head.number as usize;
-    if head.kind == 0 {
-        src.advance_first(head.size);
-        return Some(Near::Data(PayloadLen(len)));
-    }
+    // the type of HEADERS
     if head.kind == 1 && len <= behind {
         let section = cut_section(src, head.size, len)?;
-        return Some(Near::Headers(section));
+        return Some(section);
     }
     None
 }
 
-// Takes a HEADERS frame that lies in the first piece, and cuts its field section from the piece. `None` takes nothing: memory was refused.
+// Cuts the field section of a HEADERS frame from the first piece, in which it lies. `None` takes nothing: memory was refused.
 fn cut_section(src: &mut BufList<Bytes>, head: usize, size: usize) -> Option<Bytes>
     requires is { IsHeadersFrame (concat src.old.pieces) head size }
     requires inside { head + size ≤ first_size src.old.pieces }
@@ -237,7 +229,6 @@ fn cut_section(src: &mut BufList<Bytes>, head: usize, size: usize) -> Option<Byt
 
 // Takes the frame at the front, an unknown one too. Anything else takes nothing.
 #[tactic(auto, using(crate::specs::PieceLaws::rest_same))]
-#[inline(never)]
 fn decode_frame(alloc: Global, src: &mut BufList<Bytes>) -> Tried
     ensures tries { Tries result (frame_at (concat src.old.pieces)) (concat src.old.pieces) (concat src.new.pieces) }
     ensures few { has_head (concat src.old.pieces) ≡ false → length (concat src.old.pieces) < 16 }

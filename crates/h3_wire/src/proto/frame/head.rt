@@ -53,7 +53,6 @@ fn number_at(bytes: &[u8]) -> Option<(u64, usize)>
 }
 
 // The same, for all forms.
-#[inline(never)]
 fn long_number_at(bytes: &[u8]) -> Option<(u64, usize)>
     ensures number { IfSome result (λ p. varint_at bytes.now ≡ Some (p.0, drop p.1 bytes.now)) }
     ensures inside { IfSome result (λ p. (0 < p.1) × (p.1 ≤ length bytes.now)) }
