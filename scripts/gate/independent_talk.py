@@ -2,7 +2,8 @@
 """What the program writes to a script, by scripts/gate/independent_model.py: a client and a server of that model, and the bytes that the script
 hands from one to the other.
 
-    python3 scripts/gate/independent_talk.py SCRIPT            what is written; nothing, and status 3, where a side judges strictly: the model has no rules of messages
+    python3 scripts/gate/independent_talk.py SCRIPT            what is written; nothing, and status 3, where a side judges strictly: the model has no
+                                                              rules of messages
     python3 scripts/gate/independent_talk.py DIRECTORY COUNT [FIRST SEED]
 
 makes so many scripts by chance, NAME and NAME.stdout: `rt try --steps 1 --cases DIRECTORY` in crates/h3_talk says whether the program
