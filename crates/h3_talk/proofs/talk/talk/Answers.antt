@@ -1,5 +1,3 @@
-use Rattle.std.proofs.Common.{ap, subst}
-use Rattle.h3_talk.specs.Talks.{Prints}
 use Rattle.h3_talk.proofs.talk.talk.Goals as goal
 
 pub answer-requires-clause-made : goal.answer-requires-clause-made
