@@ -8,10 +8,11 @@
 Standard output and the status are the program's to the byte: 0, 1 where a line is refused (`line N` is written), 2 where a read or write failed or
 memory was refused. Where line N is refused standard error says N, its text, and what was expected there. The proved program is run where `make build` left
 one that is later than all sources, else one that was compiled without its proofs (build/unproved), which takes a minute where a source has changed since. What `all` is comes from a model in Python
-(scripts/gate/independent_talk.py), which reads fewer forms of URIs.
+(scripts/gate/independent_talk.py), which reads fewer forms of URIs and takes no strict sides.
 
 The first line of a script is
     config SECTION TABLE BLOCKED SECTION TABLE BLOCKED   the limits of the client, then of the server
+        and behind them nothing, or a word for each side: `strict` judges messages by RFC 9114, 4.1.2 and 4.2 to 4.5, `plain` does not
 and each later one an event of a side, c or s. ID is a stream's id, below 2^62; words are parted by one blank; '#' begins a comment line:
     open c                                               show SIDE
     head SIDE ID METHOD URI [name=value ..]              head SIDE ID STATUS [name=value ..]
@@ -38,6 +39,7 @@ PLAIN = {"open": "SIDE", "show": "SIDE", "finish": "SIDE ID", "reset": "SIDE ID"
          "goaway": "SIDE NUMBER", "deliver": "SIDE ID COUNT"}
 FORMS = {**PLAIN, "head": "SIDE ID METHOD URI [name=value ..], or SIDE ID STATUS [name=value ..]", "body": "SIDE ID BYTES, with a blank behind the id",
          "trailer": "SIDE ID [name=value ..]"}
+SETUP = "`config` with six numbers: section, table, blocked of the client, then of the server"
 BELOW = {"SIDE": None, "ID": 2**62, "NUMBER": 2**62, "COUNT": 2**64}
 
 
@@ -51,15 +53,18 @@ def wrong_word(word, kind):
 
 
 def why_setup(words):
-    if words[0] != "config" or len(words) != 7:
-        return "the first line has to be `config` with six numbers: section, table, blocked of the client, then of the server"
-    for place, word in enumerate(words[1:]):
+    if words[0] != "config" or len(words) < 7:
+        return f"the first line has to be {SETUP}"
+    if len(words) not in (7, 9):
+        return "behind the six numbers stands nothing, or a word for each side: `strict` or `plain`"
+    for place, word in enumerate(words[1:7]):
         bound, what = ((2**62, "a section"), (2**30, "a table"), (65536, "blocked streams"))[place % 3]
         if not re.fullmatch("[0-9]+", word):
             return f"'{word}' is no number"
         if int(word) >= bound:
             return f"'{word}' is too large for {what}: below {bound:,}"
-    return "the limits are refused"
+    other = [it for it in words[7:] if it not in ("strict", "plain")]
+    return f"'{other[0]}' is no way to judge messages: strict or plain" if other else "the limits are refused"
 
 
 def why_section(command, words):
@@ -116,7 +121,7 @@ def says(line):
 def explain(script, number):
     lines = script.split(b"\n")
     if not any(says(it) for it in lines[:-1] if lines[-1] == b"") and not any(says(it) for it in lines):
-        return "line 1: the script says nothing: its first line has to be `config` with six numbers"
+        return f"line 1: the script says nothing: its first line has to be {SETUP}"
     line = lines[number - 1]
     is_first = not any(says(it) for it in lines[: number - 1])
     return f"line {number}: {line.decode(errors='replace')}\n{why(line.decode(errors='surrogateescape'), is_first)}".encode(errors="replace").decode()
@@ -139,6 +144,8 @@ def expanded(script):
                     independent_talk.answered(ends, *independent_talk.event_of(line))
         except independent_talk.Refused:
             sys.exit(f"line {number}: {line}\nthe model does not take this line")
+        except independent_talk.AsksStrictly:
+            sys.exit(f"line {number}: {line}\nthe model has no rules of messages: write numbers in the place of `all` where a side is strict")
         out.append(line)
     return "\n".join(out).encode(errors="surrogateescape")
 

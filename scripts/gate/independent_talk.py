@@ -2,7 +2,8 @@
 """What the program writes to a script, by scripts/gate/independent_model.py: a client and a server of that model, and the bytes that the script
 hands from one to the other.
 
-    python3 scripts/gate/independent_talk.py SCRIPT            what is written
+    python3 scripts/gate/independent_talk.py SCRIPT            what is written; nothing, and status 3, where a side judges strictly: the model has no
+                                                              rules of messages
     python3 scripts/gate/independent_talk.py DIRECTORY COUNT [FIRST SEED]
 
 makes so many scripts by chance, NAME and NAME.stdout: `rt try --steps 1 --cases DIRECTORY` in crates/h3_talk says whether the program
@@ -22,6 +23,10 @@ CANCELLED = 0x10C
 
 class Refused(Exception):
     """a line that is no line of a script"""
+
+
+class AsksStrictly(Exception):
+    """a script with a side that judges messages strictly: the model has no rules of messages (scripts/gate/strict_messages.py asks them)"""
 
 
 def number(word, below):
@@ -112,12 +117,14 @@ def of_stream(kind, words, line):
 
 def setup(line):
     words = line.split(" ")
-    if words[0] != "config" or len(words) != 7:
+    if words[0] != "config" or len(words) not in (7, 9) or any(it not in ("strict", "plain") for it in words[7:]):
         raise Refused
     client, server = ([number(word, 2**64) for word in words[k:k + 3]] for k in (1, 4))
     for section, table, blocked in (client, server):
         if section > GREATEST or table >= 2**30 or blocked > 65535:
             raise Refused
+    if "strict" in words:
+        raise AsksStrictly
     return {CLIENT: Endpoint(CLIENT, *client), SERVER: Endpoint(SERVER, *server)}
 
 
@@ -201,6 +208,7 @@ def talk(script):
 # ---- scripts by chance
 
 NAMES = ["x-a=1", "X-A=1", "x-a=2", "x-b=2", "accept=*/*", "server=s", "x-longer-name=and-a-value", "age=7", "cookie=", "x-c=a=b"]
+BAD_SETUPS = ["strict", "plain", "plain plain plain", "plain Plain", "strict plainly", " plain", "0 0"]
 BAD_LINES = ["deliver c 0", "open x", "open", "head c 0 GET", "head s 0 099", "trailer s 0 X A=1", "trailer s 0 :path=/", "goaway c 4611686018427387904", "pull c", "deliver c 0 -1", "body c 0", "show c ", "end s 4611686018427387904",
              "head c 0 GET /x", "head c 0 GET https://a.b/ host=c.d", "head s 0 200 x-a", "cancel  c 0", " show c", "config 1 1 1 1 1 1", "head c 0 GET https://a.b/ :path=/"]
 
@@ -262,6 +270,10 @@ def script(seed):
         events.append(next_line(rng, ends, ids, queues))
         answered(ends, *event_of(events[-1]))
     lines += events + ["show c", "show s"]
+    if rng.random() < 0.2:
+        lines[0] += " plain plain"
+    elif rng.random() < 0.03:
+        lines[0] += " " + rng.choice(BAD_SETUPS)
     if rng.random() < 0.06:
         lines.insert(rng.randrange(1, len(lines)), rng.choice(BAD_LINES))
     if rng.random() < 0.1:
@@ -271,7 +283,11 @@ def script(seed):
 
 def main():
     if len(sys.argv) == 2:
-        written, status = talk(open(sys.argv[1], encoding="utf8", errors="surrogateescape").read())
+        try:
+            written, status = talk(open(sys.argv[1], encoding="utf8", errors="surrogateescape").read())
+        except AsksStrictly:
+            print("a side judges strictly, and the model has no rules of messages", file=sys.stderr)
+            return 3
         sys.stdout.write(written)
         return status
     directory, count, first = sys.argv[1], int(sys.argv[2]), int(sys.argv[3]) if len(sys.argv) > 3 else 1

@@ -1,4 +1,4 @@
-use Rattle.std.proofs.Common.{◌≡◌, ◌∙◌, ap, refl, subst, List}
+use Rattle.std.proofs.Common.{ap, refl, subst, List}
 use Rattle.std.specs.Io.KnownBytes.{Appends}
 use Rattle.h3_script.specs.Lines.{printed}
 use Rattle.h3_talk.specs.Talks.{AnswersTo}
