@@ -12,6 +12,7 @@ returns-in-Ok c =
           record {
             each = c.in-Ok.ensures.each;
             front = c.in-Ok.ensures.front c.requires.few plain;
+            messages = c.in-Ok.ensures.messages c.requires.few plain;
             whole = λ not_memory.
                 let runs : RunsInWorld c.args.setup c.args.events.now c.in-Ok.outcome.answers.items c.in-Ok.outcome.client c.in-Ok.outcome.server = c.in-Ok.ensures.headline not_memory c.requires.few plain in
                 record { world = runs.world; run = runs.run; of_ends = (c.in-Ok.ensures.runs not_memory).answered_so };
