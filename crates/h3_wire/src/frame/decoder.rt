@@ -108,8 +108,9 @@ impl FrameDecoder {
         self.decode_front(alloc, src)
     }
 
-    // Takes the head of a DATA frame that lies in the first piece, counts the try, and answers how many bytes the payload has. `None` changes nothing.
-    // So the frame that comes most is read with no room made for the largest.
+    // Takes the head of a DATA frame that lies in the first piece, counts the try, and answers how
+    // many bytes the payload has. `None` changes nothing. The answer is a number and no frame, so
+    // that the frame that comes most is read without making room for the largest.
     #[tactic(auto, using(crate::specs::PieceLaws::rest_same))]
     fn decode_data(&mut self, src: &mut BufList<Bytes>) -> Option<usize>
         requires tries { one_more self.old.expected self.old.tries ≤ 17 }
@@ -173,7 +174,8 @@ fn try_frame(alloc: Global, src: &mut BufList<Bytes>) -> Tried
     decode_frame(alloc, src)
 }
 
-// Takes the head of a DATA frame that lies in the first piece, and answers how many bytes the payload has. `None` takes nothing.
+// Takes the head of a DATA frame that lies in the first piece, and answers how many bytes the
+// payload has. `None` takes nothing.
 fn take_data_head(src: &mut BufList<Bytes>) -> Option<usize>
     ensures some { IfSome result (λ len. frame_at (concat src.old.pieces) ≡ Whole (frame.Data (record { 0 = len })) (concat src.new.pieces)) }
     ensures none { IsNone result → src.new.pieces ≡ src.old.pieces }
@@ -189,7 +191,8 @@ fn take_data_head(src: &mut BufList<Bytes>) -> Option<usize>
     None
 }
 
-// Takes a HEADERS frame that lies in the first piece, and cuts its field section from the piece. `None` takes nothing.
+// Takes a HEADERS frame that lies in the first piece, and cuts its field section from the piece.
+// `None` takes nothing.
 fn take_headers(src: &mut BufList<Bytes>) -> Option<Bytes>
     ensures some { IfSome result (λ s. frame_at (concat src.old.pieces) ≡ Whole (frame.Headers s) (concat src.new.pieces)) }
     ensures whole { IfSome result (λ s. has_head (concat src.old.pieces) ≡ true) }
@@ -208,7 +211,8 @@ fn take_headers(src: &mut BufList<Bytes>) -> Option<Bytes>
     None
 }
 
-// Cuts the field section of a HEADERS frame from the first piece, in which it lies. `None` takes nothing: memory was refused.
+// Cuts the field section of a HEADERS frame from the first piece, in which it lies. `None` takes
+// nothing: memory was refused.
 fn cut_section(src: &mut BufList<Bytes>, head: usize, size: usize) -> Option<Bytes>
     requires is { IsHeadersFrame (concat src.old.pieces) head size }
     requires inside { head + size ≤ first_size src.old.pieces }

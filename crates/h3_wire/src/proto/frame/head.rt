@@ -32,7 +32,8 @@ impl Head {
     }
 }
 
-// The number that lies whole at the front of the bytes (RFC 9000, section 16), and how many of them it has. Most types have one byte, and most lengths one or two.
+// The number that lies whole at the front of the bytes (RFC 9000, section 16), and how many of them
+// it has. Most types have one byte, and most lengths one or two.
 #[inline(always)]
 fn number_at(bytes: &[u8]) -> Option<(u64, usize)>
     ensures number { IfSome result (λ p. varint_at bytes.now ≡ Some (p.0, drop p.1 bytes.now)) }
