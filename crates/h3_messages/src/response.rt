@@ -5,6 +5,7 @@ ghost use Rattle.h3_messages.specs.Messages.{has_connection_field, holds, is_len
 use crate::known::Known;
 use crate::pseudo::{has_pseudo, has_response_pseudo_only};
 use crate::regular::{has_connection_field, is_length_wrong};
+use crate::seen::Seen;
 use crate::survey::Survey;
 use crate::text::{byte_at, is_same, says_more_than_none};
 use crate::violation::Violation;
@@ -14,7 +15,9 @@ use h3_field::HeaderField;
 pub fn response_violation(fields: &[HeaderField]) -> Option<Violation>
     ensures { result ≡ violation_of_response fields.now }
 {
-    violation_of(&Survey::of(fields))
+    let mut seen = Seen::new();
+    seen.take_all(fields);
+    violation_of(&Survey::of(fields, &seen))
 }
 
 #[tactic(auto, unfolding(crate::specs::Messages::violation_of_response))]
@@ -74,7 +77,9 @@ fn is_length_misplaced(survey: &Survey) -> bool
 pub fn trailer_violation(fields: &[HeaderField]) -> Option<Violation>
     ensures { result ≡ violation_of_trailer fields.now }
 {
-    violation_of_trailer(&Survey::of(fields))
+    let mut seen = Seen::new();
+    seen.take_all(fields);
+    violation_of_trailer(&Survey::of(fields, &seen))
 }
 
 #[tactic(auto, unfolding(crate::specs::Messages::violation_of_trailer))]
