@@ -37,6 +37,7 @@ int main(int argc, char **argv) {
   literal_rows(&requests);
   header_rows(&requests);
   header_rows(&responses);
+  judge_rows(&requests);
   wire_rows();
   frame_rows(&requests);
   session_rows(&requests, 1, (session_targets){1.2, 1.4, 1.1, 1.0, 0.20});

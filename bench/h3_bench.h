@@ -37,6 +37,9 @@ uint32_t h3_bench_section_decode(uint64_t rounds, const uint8_t *bytes, size_t l
 uint32_t h3_bench_header_read(uint64_t rounds, const uint8_t *bytes, size_t len, h3_report *report);
 uint32_t h3_bench_header_decode(uint64_t rounds, const uint8_t *bytes, size_t len, h3_report *report);
 uint32_t h3_bench_header_fields(uint64_t rounds, const uint8_t *bytes, size_t len, h3_report *report);
+/* The fields of the sections are judged as heads of requests, by the rules that a strict endpoint asks. The report counts the fields of
+ * those that break none. */
+uint32_t h3_bench_request_judge(uint64_t rounds, const uint8_t *bytes, size_t len, h3_report *report);
 
 /* `count` DATA frames are sent, each with a front of this payload: head and payload are lent, one after the other, and
  * passed over. */

@@ -12,6 +12,8 @@ void length_rows(void);
 /* The strings of these lists as values of one field. */
 void literal_rows(const field_lists *lists);
 void header_rows(const field_lists *lists);
+/* Heads of requests, judged by the rules that a strict endpoint asks. */
+void judge_rows(const field_lists *requests);
 /* The sections that we encode these lists to without a table, as strings. */
 pack sections_of(const field_lists *lists);
 /* Exchanges of these lists, and of small ones. */

@@ -33,6 +33,12 @@ static void list_fields(void *data, uint64_t rounds) {
         &report);
 }
 
+static void judge_requests(void *data, uint64_t rounds) {
+  header_work *w = data;
+  h3_report report;
+  check(w, "request_judge", h3_bench_request_judge(rounds, w->sections.bytes, w->sections.len, &report), rounds, &report);
+}
+
 pack sections_of(const field_lists *lists) {
   pack packed = pack_lists(lists), sections = {0};
   size_t room = 4 * packed.len + 64, len = 4;
@@ -44,6 +50,14 @@ pack sections_of(const field_lists *lists) {
   free(out);
   free_pack(&packed);
   return sections;
+}
+
+void judge_rows(const field_lists *requests) {
+  header_work w = {requests, sections_of(requests)};
+  const contender judged[CONTENDERS] = {{judge_requests, &w}, {0}, {0}};
+  double count = (double)requests->count;
+  measure_row(&(row_kind){"head judged", requests->name, "ns", count, 1, 1, 0, 0, NULL, 150, 1}, judged, count);
+  free_pack(&w.sections);
 }
 
 void header_rows(const field_lists *lists) {

@@ -7,7 +7,7 @@ use h3_header::Header;
 use std::alloc::Global;
 
 /// The fields of a section, as they come to a receiver.
-fn fields_of(alloc: Global, section: &[u8]) -> Result<Vec<HeaderField>, Failure> {
+pub(crate) fn fields_of(alloc: Global, section: &[u8]) -> Result<Vec<HeaderField>, Failure> {
     match decode_stateless(alloc, &mut SliceCursor::new(section), u64::MAX) {
         Ok(decoded) => Ok(decoded.fields),
         Err(_) => Err(Failure::Refused),

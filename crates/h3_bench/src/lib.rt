@@ -11,6 +11,7 @@ mod frames;
 mod header;
 mod huffman;
 mod input;
+mod judge;
 mod output;
 mod report;
 mod section;

@@ -28,10 +28,8 @@ fn are_alike(survey: &Survey) -> bool
     if !survey.holds(Known::Authority) || !survey.holds(Known::Host) {
         return true;
     }
-    is_same(
-        survey.value_of(Known::Authority),
-        survey.value_of(Known::Host),
-    )
+    let host = survey.value_of(Known::Host);
+    is_same(survey.value_of(Known::Authority), host)
 }
 
 /// Whether `host` comes twice, is no host, or is unlike `:authority`.

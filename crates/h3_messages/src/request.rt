@@ -6,6 +6,7 @@ use crate::host::{is_host_wrong, is_plain_host};
 use crate::known::Known;
 use crate::pseudo::{has_request_pseudo_only, repeats_pseudo};
 use crate::regular::{has_connection_field, is_length_wrong};
+use crate::seen::Seen;
 use crate::survey::Survey;
 use crate::text::{byte_at, has_byte, is_same, is_word};
 use crate::violation::Violation;
@@ -15,7 +16,9 @@ use h3_field::HeaderField;
 pub fn request_violation(fields: &[HeaderField], extended_connect: bool) -> Option<Violation>
     ensures { result ≡ violation_of_request extended_connect fields.now }
 {
-    violation_of(&Survey::of(fields), extended_connect)
+    let mut seen = Seen::new();
+    seen.take_all(fields);
+    violation_of(&Survey::of(fields, &seen), extended_connect)
 }
 
 #[tactic(auto, unfolding(crate::specs::Messages::violation_of_request))]

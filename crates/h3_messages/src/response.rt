@@ -1,10 +1,11 @@
 //! Which rule a response or a trailer breaks (RFC 9114, 4.2, 4.3 and 4.3.2).
-ghost use Rattle.std.specs.Prelude.{◌≡◌};
-ghost use Rattle.h3_messages.specs.Messages.{is_length_misplaced, violation_of_response, violation_of_trailer};
+ghost use Rattle.std.specs.Prelude.{◌≡◌, ◌||◌, codes};
+ghost use Rattle.h3_messages.specs.Messages.{has_connection_field, holds, is_length_misplaced, violation_of_response, violation_of_trailer};
 
 use crate::known::Known;
 use crate::pseudo::{has_pseudo, has_response_pseudo_only};
 use crate::regular::{has_connection_field, is_length_wrong};
+use crate::seen::Seen;
 use crate::survey::Survey;
 use crate::text::{byte_at, is_same, says_more_than_none};
 use crate::violation::Violation;
@@ -14,7 +15,9 @@ use h3_field::HeaderField;
 pub fn response_violation(fields: &[HeaderField]) -> Option<Violation>
     ensures { result ≡ violation_of_response fields.now }
 {
-    violation_of(&Survey::of(fields))
+    let mut seen = Seen::new();
+    seen.take_all(fields);
+    violation_of(&Survey::of(fields, &seen))
 }
 
 #[tactic(auto, unfolding(crate::specs::Messages::violation_of_response))]
@@ -30,7 +33,7 @@ fn violation_of(survey: &Survey) -> Option<Violation>
     if survey.repeats(Known::Status) {
         return Some(Violation::RepeatedPseudo);
     }
-    if has_connection_field(survey) || survey.holds(Known::Te) {
+    if has_connection_field_or_te(survey) {
         return Some(Violation::ConnectionField);
     }
     if is_length_wrong(survey) {
@@ -51,6 +54,13 @@ fn violation_of(survey: &Survey) -> Option<Violation>
     None
 }
 
+/// Whether a field is connection-specific, as `te` is anywhere but in a request (RFC 9114, 4.2).
+fn has_connection_field_or_te(survey: &Survey) -> bool
+    ensures { result ≡ (has_connection_field survey.now.fields.now || holds (codes "te") survey.now.fields.now) }
+{
+    has_connection_field(survey) || survey.holds(Known::Te)
+}
+
 /// Whether a `content-length` may not come with this status (RFC 9110, 8.6).
 fn is_length_misplaced(survey: &Survey) -> bool
     ensures { result ≡ is_length_misplaced survey.now.fields.now }
@@ -67,7 +77,9 @@ fn is_length_misplaced(survey: &Survey) -> bool
 pub fn trailer_violation(fields: &[HeaderField]) -> Option<Violation>
     ensures { result ≡ violation_of_trailer fields.now }
 {
-    violation_of_trailer(&Survey::of(fields))
+    let mut seen = Seen::new();
+    seen.take_all(fields);
+    violation_of_trailer(&Survey::of(fields, &seen))
 }
 
 #[tactic(auto, unfolding(crate::specs::Messages::violation_of_trailer))]
@@ -77,7 +89,7 @@ fn violation_of_trailer(survey: &Survey) -> Option<Violation>
     if has_pseudo(survey) {
         return Some(Violation::WrongPseudo);
     }
-    if has_connection_field(survey) || survey.holds(Known::Te) {
+    if has_connection_field_or_te(survey) {
         return Some(Violation::ConnectionField);
     }
     if survey.holds(Known::ContentLength) || survey.holds(Known::Host) {

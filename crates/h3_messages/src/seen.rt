@@ -38,8 +38,18 @@ impl<'a> Seen<'a> {
         }
     }
 
-    /// One field more.
-    pub(crate) fn take_in(&mut self, field: &'a HeaderField)
+    /// Each field of the list, behind none.
+    pub(crate) fn take_all(&mut self, fields: &'a [HeaderField])
+        requires { IsSeen [] self.old }
+        ensures { IsSeen fields.now self.new }
+    {
+        'fields: for field in fields {
+            self.take_in(field);
+        }
+    }
+
+    // One field more.
+    fn take_in(&mut self, field: &'a HeaderField)
         ensures { TakesField field.now self.old self.new }
     {
         let name = field.name();

@@ -9,23 +9,20 @@ use crate::known::Known;
 use crate::seen::Seen;
 use h3_field::HeaderField;
 
-/// A list, and what it holds.
-#[derive(Drop)]
+/// A list, and what it holds. What it holds lies where it was found: it is some 350 bytes.
+#[derive(Clone, Copy)]
 pub(crate) struct Survey<'a> {
     fields: &'a [HeaderField],
-    seen: Seen<'a>,
-    ghost surveyed: { IsSeen fields.now seen },
+    seen: &'a Seen<'a>,
+    ghost surveyed: { IsSeen fields.now seen.now },
 }
 
 impl<'a> Survey<'a> {
-    #[inline(always)]
-    pub(crate) fn of(fields: &'a [HeaderField]) -> Survey<'a>
+    /// A list, all of whose fields were taken in.
+    pub(crate) fn of(fields: &'a [HeaderField], seen: &'a Seen<'a>) -> Survey<'a>
+        requires { IsSeen fields.now seen.now }
         ensures { result.fields.now ≡ fields.now }
     {
-        let mut seen = Seen::new();
-        'fields: for field in fields {
-            seen.take_in(field);
-        }
         Survey { fields, seen }
     }
 

@@ -34,11 +34,12 @@ pub(crate) fn is_same(text: &[u8], word: &[u8]) -> bool
 pub(crate) fn has_byte(wanted: u8, text: &[u8]) -> bool
     ensures { result ≡ list_any (λ b. b == wanted) text.now }
 {
-    let mut found = false;
     'bytes: for byte in text {
-        found = found || *byte == wanted;
+        if *byte == wanted {
+            return true;
+        }
     }
-    found
+    false
 }
 
 /// Whether the text is the word, but for upper case.

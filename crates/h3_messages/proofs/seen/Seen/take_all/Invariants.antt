@@ -1,6 +1,6 @@
 use Rattle.std.proofs.Common.{take}
 use Rattle.h3_messages.specs.Survey.{IsSeen}
-use Rattle.h3_messages.proofs.survey.Survey.of.Given as goal
+use Rattle.h3_messages.proofs.seen.Seen.take_all.Given as goal
 
 abbrev pub invariant-fields : goal.invariant-fields
-invariant-fields l = IsSeen (take l.field-index l.fields) l.seen
+invariant-fields l = IsSeen (take l.field-index l.fields) l.self

@@ -1,5 +1,5 @@
 use Rattle.h3_messages.proofs.Surveys.{seen_more}
-use Rattle.h3_messages.proofs.survey.Survey.of.Goals as goal
+use Rattle.h3_messages.proofs.seen.Seen.take_all.Goals as goal
 
 pub fields-preserved : goal.fields-preserved
 fields-preserved c =
