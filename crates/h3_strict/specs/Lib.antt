@@ -1,2 +1,4 @@
 pub mod Plainly
 pub mod PlainEnds
+pub mod StrictPull
+pub mod Unbroken

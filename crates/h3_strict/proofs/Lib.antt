@@ -1,0 +1,4 @@
+pub mod OneStatus
+pub mod StrictSections
+pub mod StrictStreams
+pub mod UnbrokenLaws
