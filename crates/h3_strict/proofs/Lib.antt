@@ -1,4 +1,11 @@
-pub mod OneStatus
-pub mod StrictSections
-pub mod StrictStreams
-pub mod UnbrokenLaws
+mod PlainStreams
+mod PlainPulls
+mod PlainCalls
+mod PlainSends
+mod PlainReading
+mod PlainPulled
+mod PlainSteps
+mod OneStatus
+mod StrictSections
+mod StrictStreams
+mod UnbrokenLaws

@@ -1,0 +1,158 @@
+-- What comes, beside the same without strict messages.
+use Rattle.std.proofs.Common.{◌≡◌, ℕ, Bool, true, false, if◌then◌else◌, List, [], ◌∷◌, ◌++◌, refl, ap, sym, ◌∙◌, subst, Option, Some, None}
+use Rattle.std.specs.Prelude.{◌||◌, is_some, option_map}
+use Rattle.h3_proto.specs.declared.stream.Side.{Side}
+use Rattle.h3_proto.specs.declared.stream.Side.TheVariants.{Client, Server}
+use Rattle.h3_connection.specs.Arrivals.{stream_of, is_closed_in}
+use Rattle.h3_connection.specs.declared.arrival.Arrival.{Arrival}
+use Rattle.h3_connection.specs.declared.arrival.Arrival.TheVariants.{BytesCame, EndCame, ResetCame}
+use Rattle.h3_connection.specs.Control.{Found, read_decoder, with_table, if_learned, then_decoder, after_peer, read_control}
+use Rattle.h3_connection.specs.Delivering.{request_refusal, refusal_at, delivery_refusal, opened_at, opened, incoming_at, with_incoming, unidirectional_at, with_unidirectional, unless_second, heard_as, read_unidirectional, kept, with_end, bytes_at, end_at, give_up, reset_at, taken}
+use Rattle.h3_connection.specs.Endpoint.{EndpointHistory, Kind, is_second, kind_of}
+use Rattle.h3_connection.specs.Endpoint.Kind.{Request, ServerOpened, OwnUnidirectional, PeerUnidirectional}
+use Rattle.h3_connection.specs.Incoming.{Incoming}
+use Rattle.h3_connection.specs.Keeping.{read_arrival, unless_faulty, read_all, unkept, refused_behind, arrival_refusal, arrives_behind, arrives}
+use Rattle.h3_connection.specs.PeerReading.{PeerFound, with_unread, read_peer}
+use Rattle.h3_connection.specs.StreamSets.{Streams, stream_at, set_stream}
+use Rattle.h3_connection.specs.Unidirectional.{Unidirectional, Role, role_after, with_bytes}
+use Rattle.h3_connection.specs.Unidirectional.Role.{Untold, Control, Encoder, Decoder, Session, Push, Ignored}
+use Rattle.h3_connection.specs.declared.event.Refusal.{Refusal}
+use Rattle.h3_connection.specs.declared.event.StreamFault.TheVariants as stream_fault
+use Rattle.h3_connection.proofs.ReadingCuts.{read_if}
+use Rattle.h3_strict.specs.Plainly.{each_stream, plain_incoming, plainly}
+use Rattle.h3_strict.proofs.PlainCalls.{CallsPlainly, taken_plainly}
+use Rattle.h3_strict.proofs.PlainSends.{gives_up_plainly, opens_as}
+use Rattle.h3_strict.proofs.PlainStreams.{at_each, set_each, in_at}
+
+-- the same fault, at the endpoint without strict messages
+abbrev pub plain_found : Found → Found
+plain_found x = (plainly x.0, x.1)
+
+-- the control stream
+decoder_plain : (came : Bool) (e : EndpointHistory) (bytes : List ℕ) → read_if came (plainly e) bytes ≡ plain_found (read_if came e bytes)
+decoder_plain true e bytes = refl
+decoder_plain false e bytes = refl
+
+then_plain : (before after : Option (List (ℕ × ℕ))) (e : EndpointHistory) (fault : Option ℕ) → then_decoder before after (plainly e) fault ≡ plain_found (then_decoder before after e fault)
+then_plain before after e (Some code) = refl
+then_plain None (Some pairs) e None = decoder_plain (is_some e.peer.settings) e []
+then_plain None None e None = refl
+then_plain (Some known) after e None = refl
+
+table_plain : (b : Bool) (e : EndpointHistory) (capacity blocked : ℕ) → (if b then with_table (plainly e) capacity blocked else plainly e) ≡ plainly (if b then with_table e capacity blocked else e)
+table_plain true e capacity blocked = refl
+table_plain false e capacity blocked = refl
+
+learned_plain : (before after : Option (List (ℕ × ℕ))) (e : EndpointHistory) → if_learned before after (plainly e) ≡ plainly (if_learned before after e)
+learned_plain None (Some pairs) e = table_plain _ e _ _
+learned_plain None None e = refl
+learned_plain (Some known) after e = refl
+
+after_plain : (e : EndpointHistory) (x : PeerFound) → after_peer (plainly e) x ≡ plain_found (after_peer e x)
+after_plain e (p, fault) =
+    let f : EndpointHistory = record e { peer = p } in
+    ap (λ g. then_decoder e.peer.settings p.settings g fault) (learned_plain e.peer.settings p.settings f)
+    ∙ then_plain e.peer.settings p.settings (if_learned e.peer.settings p.settings f) fault
+
+control_plain : (e : EndpointHistory) (bytes : List ℕ) → read_control (plainly e) bytes ≡ plain_found (read_control e bytes)
+control_plain e bytes = after_plain e (read_peer e.side (with_unread e.peer (e.peer.unread ++ bytes)))
+
+second_plain : (b : Bool) (e : EndpointHistory) (x y : Found) → y ≡ plain_found x → unless_second b (plainly e) y ≡ plain_found (unless_second b e x)
+second_plain true e x y is = refl
+second_plain false e x y is = is
+
+heard_plain : (e : EndpointHistory) (id : ℕ) (role : Role) (bytes : List ℕ) → heard_as (plainly e) id role bytes ≡ plain_found (heard_as e id role bytes)
+heard_plain e id (Untold front) bytes = refl
+heard_plain e id Control bytes =
+    let g : EndpointHistory = record e { control_on = Some id } in
+    second_plain (is_second e.control_on id) e (read_control g bytes) (read_control (plainly g) bytes) (control_plain g bytes)
+heard_plain e id Encoder bytes = second_plain (is_second e.encoder_on id) e _ _ refl
+heard_plain e id Decoder bytes =
+    let g : EndpointHistory = record e { decoder_on = Some id } in
+    second_plain (is_second e.decoder_on id) e (read_decoder g bytes) (read_decoder (plainly g) bytes) (decoder_plain (is_some e.peer.settings) g bytes)
+heard_plain e id (Session n) bytes = refl
+heard_plain e id (Push n) bytes = refl
+heard_plain e id Ignored bytes = refl
+
+unidirectional_plain : (e : EndpointHistory) (id : ℕ) (o : Unidirectional) (x : Role × List ℕ) → read_unidirectional (plainly e) id o x ≡ plain_found (read_unidirectional e id o x)
+unidirectional_plain e id o (role, bytes) = heard_plain (with_unidirectional e id (with_bytes o (role, bytes))) id role bytes
+
+-- a receiver changes
+module _ (e : EndpointHistory) (id : ℕ) where
+  opened_plain : opened (plainly e) id ≡ plainly (opened e id)
+  opened_plain = ap (opened_at (plainly e) id) (at_each plain_incoming e.incoming id) ∙ opens_as e id (stream_at e.incoming id)
+
+  with_in : (f : EndpointHistory) (i : Incoming) → with_incoming (plainly f) id (plain_incoming i) ≡ plainly (with_incoming f id i)
+  with_in f i = ap (λ (s : Streams Incoming). record (plainly f) { incoming = s }) (set_each plain_incoming f.incoming id i)
+
+  -- at the stream that is opened, where it was not there
+  changes : (g : Incoming → Incoming) → ((i : Incoming) → g (plain_incoming i) ≡ plain_incoming (g i))
+      → with_incoming (opened (plainly e) id) id (g (incoming_at (plainly e) id)) ≡ plainly (with_incoming (opened e id) id (g (incoming_at e id)))
+  changes g same =
+      ap (λ f. with_incoming f id (g (incoming_at (plainly e) id))) opened_plain
+      ∙ ap (λ i. with_incoming (plainly (opened e id)) id (g i)) (in_at e id) ∙ ap (λ i. with_incoming (plainly (opened e id)) id i) (same (incoming_at e id))
+      ∙ with_in (opened e id) (g (incoming_at e id))
+
+  bytes_plain : (bytes : List ℕ) (k : Kind) → bytes_at (plainly e) id bytes k ≡ plain_found (bytes_at e id bytes k)
+  bytes_plain bytes Request = ap (λ f. let x : Found = (f, None) in x) (changes (λ i. kept i bytes) (λ i. refl))
+  bytes_plain bytes ServerOpened = refl
+  bytes_plain bytes OwnUnidirectional = refl
+  bytes_plain bytes PeerUnidirectional = unidirectional_plain e id (unidirectional_at e id) (role_after (unidirectional_at e id).role bytes)
+
+  end_plain : (k : Kind) → end_at (plainly e) id k ≡ plain_found (end_at e id k)
+  end_plain Request = ap (λ f. let x : Found = (f, None) in x) (changes with_end (λ i. refl))
+  end_plain ServerOpened = refl
+  end_plain OwnUnidirectional = refl
+  end_plain PeerUnidirectional = refl
+
+  reset_plain : (code : ℕ) (k : Kind) → reset_at (plainly e) id code k ≡ plain_found (reset_at e id code k)
+  reset_plain code Request =
+      ap (λ f. let x : Found = (f, None) in x)
+      (ap (λ f. give_up f id (record (incoming_at (plainly e) id) { was_reset = true }) (stream_fault.Reset code)) opened_plain
+      ∙ ap (λ (i : Incoming). give_up (plainly (opened e id)) id (record i { was_reset = true }) (stream_fault.Reset code)) (in_at e id)
+      ∙ gives_up_plainly (opened e id) id (record (incoming_at e id) { was_reset = true }) (stream_fault.Reset code))
+  reset_plain code ServerOpened = refl
+  reset_plain code OwnUnidirectional = refl
+  reset_plain code PeerUnidirectional = refl
+
+  -- why it is refused
+  request_refused : (side : Side) (o : Option Incoming) → request_refusal side (option_map plain_incoming o) ≡ request_refusal side o
+  request_refused Client None = refl
+  request_refused Server None = refl
+  request_refused Client (Some i) = refl
+  request_refused Server (Some i) = refl
+
+  refused_at : (k : Kind) → refusal_at (plainly e) id k ≡ refusal_at e id k
+  refused_at Request = ap (request_refusal e.side) (at_each plain_incoming e.incoming id) ∙ request_refused e.side (stream_at e.incoming id)
+  refused_at ServerOpened = refl
+  refused_at OwnUnidirectional = refl
+  refused_at PeerUnidirectional = refl
+
+  refused_plain : delivery_refusal (plainly e) id ≡ delivery_refusal e id
+  refused_plain = refused_at (kind_of e.side id)
+
+arrival_plain : (e : EndpointHistory) (a : Arrival) → read_arrival (plainly e) a ≡ plain_found (read_arrival e a)
+arrival_plain e (BytesCame id bytes) = bytes_plain e id bytes (kind_of e.side id)
+arrival_plain e (EndCame id) = end_plain e id (kind_of e.side id)
+arrival_plain e (ResetCame id code) = reset_plain e id code (kind_of e.side id)
+
+unless_plain : (go : EndpointHistory → Found) (x : Found) → ((f : EndpointHistory) → go (plainly f) ≡ plain_found (go f)) → unless_faulty go (plain_found x) ≡ plain_found (unless_faulty go x)
+unless_plain go (f, Some code) goes = refl
+unless_plain go (f, None) goes = goes f
+
+-- all that is kept is read
+pub all_plain : (arrivals : List Arrival) (e : EndpointHistory) → read_all arrivals (plainly e) ≡ plain_found (read_all arrivals e)
+all_plain [] e = refl
+all_plain (a ∷ arrivals) e = ap (unless_faulty (read_all arrivals)) (arrival_plain e a) ∙ unless_plain (read_all arrivals) (read_arrival e a) (all_plain arrivals)
+
+behind_plain : (kept : List Arrival) (e : EndpointHistory) (a : Arrival) → CallsPlainly e (arrives_behind kept e a) (arrives_behind kept (plainly e) a)
+behind_plain [] e a =
+    subst (λ r. CallsPlainly e (arrives_behind [] e a) (taken e.closed r (plainly e) (read_arrival (plainly e) a))) (sym (refused_plain e (stream_of a)))
+    (taken_plainly e.closed (delivery_refusal e (stream_of a)) e (read_arrival e a) (read_arrival (plainly e) a) (arrival_plain e a))
+behind_plain (k ∷ kept) e a =
+    subst (λ r. CallsPlainly e (arrives_behind (k ∷ kept) e a) (taken e.closed (refused_behind (is_closed_in e.kept (stream_of a)) r) (plainly e) (read_all (k ∷ kept ++ a ∷ []) (unkept (plainly e))))) (sym (refused_plain e (stream_of a)))
+    (taken_plainly e.closed (arrival_refusal e (stream_of a)) e (read_all (k ∷ kept ++ a ∷ []) (unkept e)) _ (all_plain (k ∷ kept ++ a ∷ []) (unkept e)))
+
+-- what comes
+pub arrives_plainly : (e : EndpointHistory) (a : Arrival) → CallsPlainly e (arrives e a) (arrives (plainly e) a)
+arrives_plainly e a = behind_plain e.kept e a

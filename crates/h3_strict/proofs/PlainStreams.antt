@@ -1,0 +1,58 @@
+-- Streams without what strict messages know of them: each is found, set and counted as before.
+use Rattle.std.proofs.Common.{◌≡◌, ℕ, ◌+◌, Bool, true, false, if◌then◌else◌, List, [], ◌∷◌, refl, ap, sym, ◌∙◌, subst, Option, Some, None}
+use Rattle.std.specs.Prelude.{◌==◌, nat_lt, option_map, unwrap_or}
+use Rattle.h3_qpack.specs.DecoderState.{DecoderState}
+use Rattle.h3_connection.specs.Delivering.{incoming_at}
+use Rattle.h3_connection.specs.Endpoint.{EndpointHistory, heads_waiting}
+use Rattle.h3_connection.specs.Incoming.{Incoming, nothing_came}
+use Rattle.h3_connection.specs.Outgoing.{Outgoing, nothing_sent}
+use Rattle.h3_connection.specs.Sending.{outgoing_at}
+use Rattle.h3_connection.specs.StreamSets.{Streams, stream_at, set_stream}
+use Rattle.h3_connection.specs.StreamSetLaws.{set-same}
+use Rattle.h3_connection.proofs.WaitingCounts.{waiting_above, one_if, count_more}
+use Rattle.h3_strict.specs.Plainly.{each_stream, plain_incoming, plain_outgoing, plainly}
+
+map_if : {X : Type 0} (f : X → X) (b : Bool) (x : X) (o : Option X) → (if b then Some (f x) else option_map f o) ≡ option_map f (if b then Some x else o)
+map_if f true x o = refl
+map_if f false x o = refl
+
+pub at_each : {X : Type 0} (f : X → X) (streams : Streams X) (id : ℕ) → stream_at (each_stream f streams) id ≡ option_map f (stream_at streams id)
+at_each f [] id = refl
+at_each f ((q, x) ∷ streams) id = ap (λ o. if q == id then Some (f x) else o) (at_each f streams id) ∙ map_if f (q == id) x (stream_at streams id)
+
+each_if : {X : Type 0} (f : X → X) (b : Bool) (s t : Streams X) → (if b then each_stream f s else each_stream f t) ≡ each_stream f (if b then s else t)
+each_if f true s t = refl
+each_if f false s t = refl
+
+pub set_each : {X : Type 0} (f : X → X) (streams : Streams X) (id : ℕ) (x : X) → set_stream (each_stream f streams) id (f x) ≡ each_stream f (set_stream streams id x)
+set_each f [] id x = refl
+set_each f ((q, y) ∷ streams) id x =
+    ap (λ l. if q == id then (id, f x) ∷ each_stream f streams else (q, f y) ∷ l) (set_each f streams id x)
+    ∙ each_if f (q == id) ((id, x) ∷ streams) ((q, y) ∷ set_stream streams id x)
+
+-- a stream that is set to one that is the same but for that
+pub set_alike : {X : Type 0} (f : X → X) (streams : Streams X) (id : ℕ) (x y : X) → stream_at streams id ≡ Some x → f y ≡ f x → each_stream f (set_stream streams id y) ≡ each_stream f streams
+set_alike f streams id x y here same =
+    sym (set_each f streams id y) ∙ ap (λ z. set_stream (each_stream f streams) id z) same
+    ∙ set-same (each_stream f streams) id (f x) (at_each f streams id ∙ ap (option_map f) here)
+
+-- as many streams wait
+pub count_each : (n : ℕ) (streams : Streams Incoming) → waiting_above n (each_stream plain_incoming streams) ≡ waiting_above n streams
+count_each n [] = refl
+count_each n ((q, i) ∷ streams) =
+    count_more n q (plain_incoming i) (each_stream plain_incoming streams) ∙ ap (λ m. one_if (nat_lt n i.waits_for) + m) (count_each n streams) ∙ sym (count_more n q i streams)
+
+-- a stream of which nothing came is as it was
+or_nothing : (o : Option Incoming) → unwrap_or (option_map plain_incoming o) nothing_came ≡ plain_incoming (unwrap_or o nothing_came)
+or_nothing None = refl
+or_nothing (Some i) = refl
+
+or_unsent : (o : Option Outgoing) → unwrap_or (option_map plain_outgoing o) nothing_sent ≡ plain_outgoing (unwrap_or o nothing_sent)
+or_unsent None = refl
+or_unsent (Some o) = refl
+
+pub in_at : (e : EndpointHistory) (id : ℕ) → incoming_at (plainly e) id ≡ plain_incoming (incoming_at e id)
+in_at e id = ap (λ o. unwrap_or o nothing_came) (at_each plain_incoming e.incoming id) ∙ or_nothing (stream_at e.incoming id)
+
+pub out_at : (e : EndpointHistory) (id : ℕ) → outgoing_at (plainly e) id ≡ plain_outgoing (outgoing_at e id)
+out_at e id = ap (λ o. unwrap_or o nothing_sent) (at_each plain_outgoing e.outgoing id) ∙ or_unsent (stream_at e.outgoing id)

@@ -1,0 +1,2 @@
+//! Two endpoints that ask for strict messages, and what they are without that.
+#![tactic(auto)]
