@@ -9,3 +9,6 @@ mod OneStatus
 mod StrictSections
 mod StrictStreams
 mod UnbrokenLaws
+mod SameWorlds
+mod KeepsCounts
+mod SentLaws

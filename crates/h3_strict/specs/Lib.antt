@@ -1,4 +1,6 @@
 pub mod Plainly
 pub mod PlainEnds
+pub mod ServerKnows
 pub mod StrictPull
+pub mod Tallies
 pub mod Unbroken
