@@ -12,3 +12,7 @@ mod UnbrokenLaws
 mod SameWorlds
 mod KeepsCounts
 mod SentLaws
+mod PlainRuns
+mod PlainMessages
+mod PlainSetups
+mod PlainHeadlines

@@ -1,5 +1,5 @@
 -- What a call of an endpoint is beside that of the same endpoint without strict messages, by its refusal and what it does.
-use Rattle.std.proofs.Common.{◌≡◌, ℕ, Bool, true, false, if◌then◌else◌, List, [], ◌∷◌, refl, ap, sym, ◌∙◌, subst, Option, Some, None}
+use Rattle.std.proofs.Common.{◌≡◌, ℕ, Bool, true, false, List, ◌∷◌, refl, ap, sym, subst, Option, Some, None}
 use Rattle.h3_connection.specs.Control.{Found}
 use Rattle.h3_connection.specs.Delivering.{closed_by, taken}
 use Rattle.h3_connection.specs.Endpoint.{EndpointHistory}

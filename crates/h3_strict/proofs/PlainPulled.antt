@@ -1,7 +1,6 @@
 -- A pull of any stream: it judges a message, or is answered as without strict messages.
 use Rattle.std.proofs.Common.{◌≡◌, ℕ, Bool, true, false, if◌then◌else◌, List, [], ◌∷◌, refl, ap, sym, ◌∙◌, subst, Option, Some, None}
 use Rattle.std.specs.Prelude.{◌||◌, is_some, nat_lt, option_map}
-use Rattle.h3_field.specs.Instruction.{DecoderInstruction}
 use Rattle.h3_connection.specs.declared.arrival.Arrival.{Arrival}
 use Rattle.h3_connection.specs.Control.{Found}
 use Rattle.h3_connection.specs.Delivering.{with_incoming}
@@ -18,7 +17,7 @@ use Rattle.h3_connection.specs.declared.event.Item.TheVariants as item
 use Rattle.h3_connection.specs.declared.event.Pull.{Pull}
 use Rattle.h3_connection.specs.declared.event.Pull.TheVariants as answer
 use Rattle.h3_connection.specs.declared.event.StreamFault.{StreamFault}
-use Rattle.h3_strict.specs.Plainly.{each_stream, is_judged, judged_as, judged_at, judged_open, plain, plain_incoming, plainly, tells_malformed}
+use Rattle.h3_strict.specs.Plainly.{is_judged, judged_as, judged_at, judged_open, plain, plain_incoming, plainly, tells_malformed}
 use Rattle.h3_strict.proofs.PlainCalls.{plain_result}
 use Rattle.h3_strict.proofs.PlainPulls.{PullsPlainly, Judged, Same, plain_pulled, pull_plain}
 use Rattle.h3_strict.proofs.PlainReading.{all_plain, plain_found}

@@ -1,5 +1,5 @@
 -- A pull of one request stream: a rule of strict messages judges its message, or it is answered as without strict messages.
-use Rattle.std.proofs.Common.{◌≡◌, ℕ, Bool, true, false, if◌then◌else◌, List, [], ◌∷◌, length, refl, ap, sym, ◌∙◌, Option, Some, None}
+use Rattle.std.proofs.Common.{◌≡◌, ℕ, Bool, true, false, if◌then◌else◌, List, [], ◌∷◌, length, refl, Option, Some, None}
 use Rattle.std.specs.Prelude.{not, ◌&&◌, ◌==◌, nat_lt}
 use Rattle.std.specs.List.{concat}
 use Rattle.h3_field.specs.Field.{Field}
@@ -18,7 +18,7 @@ use Rattle.h3_wire.specs.declared.proto.frame.Frame.{Frame}
 use Rattle.h3_wire.specs.declared.proto.frame.Frame.TheVariants as frame
 use Rattle.h3_connection.specs.Announcing.{section_of}
 use Rattle.h3_connection.specs.Incoming.{Incoming, is_body}
-use Rattle.h3_connection.specs.Pulling.{Pulled, just, body_of, raw_of, unless_broken, whole_head, whole_trailer, head_or_trailer, judged, read_section, decoded, at_section, at_trailer, at_end, at_frame, framed, next_frame, between_frames, in_message, next_item, pull_stream, in_payload, at_payload, begun_section, begun_payload, left_with, past_section, acknowledgment, is_for, is_client, is_interim, with_content, told_size}
+use Rattle.h3_connection.specs.Pulling.{Pulled, just, body_of, raw_of, unless_broken, whole_head, whole_trailer, head_or_trailer, judged, read_section, decoded, at_section, at_trailer, at_end, at_frame, framed, next_frame, in_message, next_item, pull_stream, in_payload, at_payload, begun_section, begun_payload, left_with, past_section, acknowledgment, is_for, is_client, is_interim, with_content, told_size}
 use Rattle.h3_connection.specs.Skipping.{skipped}
 use Rattle.h3_connection.specs.StrictMessages.{broken_rule, if_whole}
 use Rattle.h3_connection.specs.declared.event.Fault.TheVariants.{Stream}

@@ -1,6 +1,6 @@
 -- What comes, beside the same without strict messages.
 use Rattle.std.proofs.Common.{◌≡◌, ℕ, Bool, true, false, if◌then◌else◌, List, [], ◌∷◌, ◌++◌, refl, ap, sym, ◌∙◌, subst, Option, Some, None}
-use Rattle.std.specs.Prelude.{◌||◌, is_some, option_map}
+use Rattle.std.specs.Prelude.{is_some, option_map}
 use Rattle.h3_proto.specs.declared.stream.Side.{Side}
 use Rattle.h3_proto.specs.declared.stream.Side.TheVariants.{Client, Server}
 use Rattle.h3_connection.specs.Arrivals.{stream_of, is_closed_in}
@@ -13,13 +13,12 @@ use Rattle.h3_connection.specs.Endpoint.Kind.{Request, ServerOpened, OwnUnidirec
 use Rattle.h3_connection.specs.Incoming.{Incoming}
 use Rattle.h3_connection.specs.Keeping.{read_arrival, unless_faulty, read_all, unkept, refused_behind, arrival_refusal, arrives_behind, arrives}
 use Rattle.h3_connection.specs.PeerReading.{PeerFound, with_unread, read_peer}
-use Rattle.h3_connection.specs.StreamSets.{Streams, stream_at, set_stream}
+use Rattle.h3_connection.specs.StreamSets.{Streams, stream_at}
 use Rattle.h3_connection.specs.Unidirectional.{Unidirectional, Role, role_after, with_bytes}
 use Rattle.h3_connection.specs.Unidirectional.Role.{Untold, Control, Encoder, Decoder, Session, Push, Ignored}
-use Rattle.h3_connection.specs.declared.event.Refusal.{Refusal}
 use Rattle.h3_connection.specs.declared.event.StreamFault.TheVariants as stream_fault
 use Rattle.h3_connection.proofs.ReadingCuts.{read_if}
-use Rattle.h3_strict.specs.Plainly.{each_stream, plain_incoming, plainly}
+use Rattle.h3_strict.specs.Plainly.{plain_incoming, plainly}
 use Rattle.h3_strict.proofs.PlainCalls.{CallsPlainly, taken_plainly}
 use Rattle.h3_strict.proofs.PlainSends.{gives_up_plainly, opens_as}
 use Rattle.h3_strict.proofs.PlainStreams.{at_each, set_each, in_at}

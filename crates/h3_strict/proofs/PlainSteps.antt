@@ -1,9 +1,9 @@
 -- One event at two ends, beside the same ends without strict messages.
-use Rattle.std.proofs.Common.{◌≡◌, ℕ, Bool, true, false, if◌then◌else◌, List, [], ◌∷◌, length, take, refl, ap, sym, ◌∙◌, subst, Option, Some, None}
+use Rattle.std.proofs.Common.{◌≡◌, ℕ, Bool, true, false, if◌then◌else◌, List, length, take, refl, ap, sym, ◌∙◌, subst, Option, Some, None}
 use Rattle.std.specs.Prelude.{◌==◌, ◌&&◌, ◌||◌, not, nat_lt, is_some, option_map, unwrap_or}
 use Rattle.h3_proto.specs.declared.stream.Side.{Side}
 use Rattle.h3_proto.specs.declared.stream.Side.TheVariants.{Client, Server}
-use Rattle.h3_connection.specs.Endpoint.{EndpointHistory, bytes_waiting, heads_waiting, own_waiting}
+use Rattle.h3_connection.specs.Endpoint.{EndpointHistory, bytes_waiting, own_waiting}
 use Rattle.h3_connection.specs.Keeping.{arrives, pulls}
 use Rattle.h3_connection.specs.Outgoing.{Outgoing, part_bytes_waiting}
 use Rattle.h3_connection.specs.OwnIds.{is_own, other}
@@ -19,8 +19,8 @@ use Rattle.h3_world.specs.declared.event.Answer.{Answer}
 use Rattle.h3_world.specs.declared.event.Answer.TheVariants as answer
 use Rattle.h3_world.specs.declared.event.Event.{Event}
 use Rattle.h3_world.specs.declared.event.Event.TheVariants as event
-use Rattle.h3_strict.specs.PlainEnds.{StepsPlainly, Alike, Judges, RefusesMalformed, is_malformed_refusal, judges, plain_ends}
-use Rattle.h3_strict.specs.Plainly.{is_judged, is_malformed, plain_outgoing, plainly}
+use Rattle.h3_strict.specs.PlainEnds.{StepsPlainly, Alike, Judges, RefusesMalformed, is_malformed_refusal, plain_ends}
+use Rattle.h3_strict.specs.Plainly.{is_judged, plain_outgoing, plainly}
 use Rattle.h3_strict.proofs.PlainCalls.{CallsPlainly, Malforms, Does, tells}
 use Rattle.h3_strict.proofs.PlainPulled.{IsAlike, IsJudged, PulledPlainly, pulls_plainly}
 use Rattle.h3_strict.proofs.PlainReading.{arrives_plainly}

@@ -1,9 +1,8 @@
 -- Streams without what strict messages know of them: each is found, set and counted as before.
-use Rattle.std.proofs.Common.{◌≡◌, ℕ, ◌+◌, Bool, true, false, if◌then◌else◌, List, [], ◌∷◌, refl, ap, sym, ◌∙◌, subst, Option, Some, None}
+use Rattle.std.proofs.Common.{◌≡◌, ℕ, ◌+◌, Bool, true, false, if◌then◌else◌, [], ◌∷◌, refl, ap, sym, ◌∙◌, Option, Some, None}
 use Rattle.std.specs.Prelude.{◌==◌, nat_lt, option_map, unwrap_or}
-use Rattle.h3_qpack.specs.DecoderState.{DecoderState}
 use Rattle.h3_connection.specs.Delivering.{incoming_at}
-use Rattle.h3_connection.specs.Endpoint.{EndpointHistory, heads_waiting}
+use Rattle.h3_connection.specs.Endpoint.{EndpointHistory}
 use Rattle.h3_connection.specs.Incoming.{Incoming, nothing_came}
 use Rattle.h3_connection.specs.Outgoing.{Outgoing, nothing_sent}
 use Rattle.h3_connection.specs.Sending.{outgoing_at}

@@ -40,7 +40,7 @@ use Rattle.h3_headline.specs.Pulling.{IsSectionPart, behind_section}
 use Rattle.h3_headline.specs.Standing.{IsReadable, place_after, place_behind}
 use Rattle.h3_headline.specs.StatusLaws.{interim_by_last}
 use Rattle.h3_strict.proofs.OneStatus.{one_status}
-use Rattle.h3_strict.proofs.UnbrokenLaws.{along_next, ends_too}
+use Rattle.h3_strict.proofs.UnbrokenLaws.{along_next, ends_too, next_within}
 use Rattle.h3_strict.specs.StrictPull.{Counting, PullsOn, response_by, response_of_part}
 use Rattle.h3_strict.specs.Unbroken.{CountsAlong, IsAwaited, IsUnbroken, SaysNoMore, begun, content_along}
 
@@ -149,6 +149,7 @@ module _ (lists : ListsAreTheirValue) (side : Side) (own : Announced) (id : ℕ)
         whole = record {
           before = λ e. in_front (sym behind ∙ e);
           counts = inl (ap (λ p. content_behind side p x.content s.fields) at ∙ ap (λ c. content_of_head side c s.fields) same ∙ sym more);
+          within = next_within f.sent f.parts_out (Head s) next;
         };
         large = record {
           before = λ e. in_front (sym behind ∙ e);
@@ -156,6 +157,7 @@ module _ (lists : ListsAreTheirValue) (side : Side) (own : Announced) (id : ℕ)
               (subst (λ p. SaysNoMore (content_behind_large side p x.content (last_value (codes ":status") s.fields)) (content_of_head side said s.fields)) (sym at)
               (subst (λ c. SaysNoMore (content_behind_large side BeforeHead c (last_value (codes ":status") s.fields)) (content_of_head side said s.fields)) (sym same)
               (large_head side refl said unbroken)));
+          within = next_within f.sent f.parts_out (Head s) next;
         };
         known_is = counts.response;
         out = λ y zero good responds. subst (λ p. PullsOn side awaited known f (head_or_trailer side id y replies None p (head_of_fields s.fields))) (sym at)
@@ -199,8 +201,8 @@ module _ (lists : ListsAreTheirValue) (side : Side) (own : Announced) (id : ℕ)
       ∙ ap (λ o. content_behind_status x.content (unwrap_or o []) []) last ∙ interim_stays x.content (value_of (codes ":status") s.fields) [] status in
       record {
         rule = none_broken x.content (broken_rule side own x.place s.fields) (ap may_end same ∙ awaited_ends side said unbroken.1) (ap (λ p. broken_rule side own p s.fields) at ∙ unbroken.0);
-        whole = record { before = λ e. whole_is ∙ stays; counts = inl (whole_is ∙ stays) };
-        large = record { before = λ e. large_is ∙ stays; counts = inl (large_is ∙ stays) };
+        whole = record { before = λ e. whole_is ∙ stays; counts = inl (whole_is ∙ stays); within = next_within f.sent f.parts_out (Interim s) next };
+        large = record { before = λ e. large_is ∙ stays; counts = inl (large_is ∙ stays); within = next_within f.sent f.parts_out (Interim s) next };
         known_is = counts.response;
         out = λ y zero good responds. subst (λ p. PullsOn side awaited known f (head_or_trailer side id y replies None p (head_of_fields s.fields))) (sym at)
             (subst (PullsOn side awaited known f)
@@ -228,8 +230,8 @@ module _ (lists : ListsAreTheirValue) (side : Side) (own : Announced) (id : ℕ)
       ap (λ p. content_behind_large side p x.content (last_value (codes ":status") s.fields)) at ∙ by_side side in
       record {
         rule = none_broken x.content (broken_rule side own x.place s.fields) (ends_too x.content said says unbroken.2) (ap (λ p. broken_rule side own p s.fields) at ∙ unbroken.0);
-        whole = record { before = λ e. behind (sym after ∙ e); counts = subst (λ c. SaysNoMore c (content_along side awaited (take (f.parts_out + 1) f.sent))) (sym whole_is) stays };
-        large = record { before = λ e. behind (sym after ∙ e); counts = subst (λ c. SaysNoMore c (content_along side awaited (take (f.parts_out + 1) f.sent))) (sym large_is) stays };
+        whole = record { before = λ e. behind (sym after ∙ e); counts = subst (λ c. SaysNoMore c (content_along side awaited (take (f.parts_out + 1) f.sent))) (sym whole_is) stays; within = next_within f.sent f.parts_out (Trailer s) next };
+        large = record { before = λ e. behind (sym after ∙ e); counts = subst (λ c. SaysNoMore c (content_along side awaited (take (f.parts_out + 1) f.sent))) (sym large_is) stays; within = next_within f.sent f.parts_out (Trailer s) next };
         known_is = counts.response;
         out = λ y zero good responds. subst (λ p. PullsOn side awaited known f (head_or_trailer side id y replies None p (head_of_fields s.fields))) (sym at)
             (subst (PullsOn side awaited known f)

@@ -46,7 +46,7 @@ use Rattle.h3_headline.specs.Pulling.{DecodesNext, GoesOn, IsBefore, IsInMessage
 use Rattle.h3_headline.specs.ReceivingLaws.{encoding_some}
 use Rattle.h3_headline.specs.Standing.{ReadsFlow, ReceivesFlow, StandsBefore, WaitsIn, place_after, place_behind, section_frame, section_of_part}
 use Rattle.h3_strict.proofs.StrictSections.{either, head_reads, interim_reads, read_good, trailer_reads}
-use Rattle.h3_strict.proofs.UnbrokenLaws.{along_next, ends_too, left_no_more, not_exceeded, trails_too, unbroken_next}
+use Rattle.h3_strict.proofs.UnbrokenLaws.{along_next, ends_too, left_no_more, next_within, not_exceeded, trails_too, unbroken_next}
 use Rattle.h3_strict.specs.Plainly.{plain_incoming, tells_malformed}
 use Rattle.h3_strict.specs.StrictPull.{Counting, CountsFlow, PullsOn, flow_after, response_after}
 use Rattle.h3_strict.specs.Unbroken.{AreUnbroken, CountsAlong, IsUnbroken, SaysNoMore, begun, content_along}
@@ -153,10 +153,10 @@ module _ (lists : ListsAreTheirValue) (side : Side) (own : Announced) (id : ℕ)
     where
       inside : (n : ℕ) → 0 < n → CountsAlong side awaited f.sent f.parts_out n i.content
       inside zero h = absurd (omega (arith, h))
-      inside (suc n) h = record { before = λ e. in_front (sym at.place_is ∙ e); counts = says }
+      inside (suc n) h = record { before = λ e. in_front (sym at.place_is ∙ e); counts = says; within = next_within f.sent f.parts_out (Body bytes end) next }
 
       behind : CountsAlong side awaited f.sent (f.parts_out + 1) 0 i.content
-      behind = record { before = λ e. in_front (sym (at.place_next ∙ at.place_is) ∙ e); counts = says }
+      behind = record { before = λ e. in_front (sym (at.place_next ∙ at.place_is) ∙ e); counts = says; within = next_within f.sent f.parts_out (Body bytes end) next }
 
       piece_good : (piece : List ℕ) (pieces : List (List ℕ)) → length piece ≤ i.body_left
           → PullsOn side awaited known f (just (pull.Item (item.Body piece)) (record i { unread = pieces; body_left = i.body_left - length piece }))
@@ -307,6 +307,7 @@ module _ (lists : ListsAreTheirValue) (side : Side) (own : Announced) (id : ℕ)
                 (record {
                   before = λ e. absurd (not_before (place_after (take f.parts_out f.sent)) at.place_is (sym at.place_next ∙ e));
                   counts = subst (SaysNoMore i.content) (sym (along_next side awaited f.sent f.parts_out End next)) says;
+                  within = next_within f.sent f.parts_out End next;
                 }));
             responds = counts.response;
           })

@@ -1,5 +1,5 @@
 -- Parts that break no rule: fronts of them, one more, and what a receiver may test.
-use Rattle.std.proofs.Common.{◌≡◌, ◌⊎◌, inl, inr, ℕ, zero, suc, ◌+◌, ◌-◌, Bool, true, false, List, [], ◌∷◌, ◌++◌, length, take, Option, Some, None, refl, sym, ap, ◌∙◌, subst, arith}
+use Rattle.std.proofs.Common.{◌≡◌, ◌⊎◌, inl, inr, ℕ, zero, suc, ◌+◌, ◌-◌, Bool, true, false, List, [], ◌∷◌, ◌++◌, ◌≤◌, length, take, Option, Some, None, refl, sym, ap, ◌∙◌, subst, arith}
 use Rattle.std.specs.Prelude.{slice_get, unwrap_or, fold, nat_le, ◌==◌, if◌then◌else◌, ◌&&◌}
 use Rattle.std.specs.List.{list_all}
 use Rattle.h3_messages.specs.Content.{is_exceeded, left_behind, may_end, takes_trailer}
@@ -63,3 +63,9 @@ unbroken_front reader own awaited [] zero h = tt
 unbroken_front reader own awaited [] (suc n) h = tt
 unbroken_front reader own awaited (q ∷ qs) zero h = tt
 unbroken_front reader own awaited (q ∷ qs) (suc n) h = (h.0, unbroken_front reader own (content_behind_part reader awaited q) qs n h.1)
+
+-- a part that is next is there
+pub next_within : (parts : List Part) (out : ℕ) (part : Part) → slice_get parts out ≡ Some part → out + 1 ≤ length parts
+next_within [] out part next = cc
+next_within (q ∷ qs) zero part next = omega arith
+next_within (q ∷ qs) (suc out) part next = omega (arith, next_within qs out part next)

@@ -1,5 +1,5 @@
 -- Two endpoints without strict messages, and what is left of a schedule without the sends that were refused as malformed.
-use Rattle.std.specs.Prelude.{◌≡◌, Bool, true, false, List, [], ◌∷◌, if◌then◌else◌}
+use Rattle.std.specs.Prelude.{◌≡◌, Bool, true, false, List, [], ◌∷◌, ◌++◌, if◌then◌else◌}
 use Rattle.h3_world.specs.Ends.{Ends, answered, answers_of_ends, end_at, ends_after}
 use Rattle.h3_world.specs.declared.event.Answer.{Answer}
 use Rattle.h3_world.specs.declared.event.Answer.TheVariants as answer
@@ -28,7 +28,7 @@ abbrev pub without_malformed : List Event → List Answer → List Event
 without_malformed (e ∷ events) (a ∷ answers) = if is_malformed_refusal a then without_malformed events answers else e ∷ without_malformed events answers
 without_malformed _ _ = []
 
--- The event is a pull that finds a message malformed, or a trailer in a tunnel.
+-- The event is a pull that judges a message: it finds it malformed, or a frame of it at the wrong place.
 abbrev pub judges : Ends → Event → Bool
 judges ends (event.Pull side id) = is_judged (end_at ends side) id
 judges ends _ = false
@@ -50,3 +50,14 @@ pub data StepsPlainly (ends : Ends) (e : Event) : Type 0 where
 pub record RunsPlainly (ends : Ends) (events : List Event) : Type 0 where
   pub answers : answers_without_malformed (answers_of_ends ends events) ≡ answers_of_ends (plain_ends ends) (without_malformed events (answers_of_ends ends events))
   pub leads : plain_ends (ends_after ends events) ≡ ends_after (plain_ends ends) (without_malformed events (answers_of_ends ends events))
+
+-- the events in front of the first that does
+abbrev pub before_judged : Ends → List Event → List Event
+before_judged ends [] = []
+before_judged ends (e ∷ events) = if judges ends e then [] else e ∷ before_judged (answered ends e).1 events
+
+-- some events are a front of others, and so are the answers to them
+pub record IsFront (ends : Ends) (events front : List Event) : Type 0 where
+  pub others : List Event
+  pub is : events ≡ front ++ others
+  pub answers : answers_of_ends ends events ≡ answers_of_ends ends front ++ answers_of_ends (ends_after ends front) others

@@ -1,5 +1,5 @@
 -- What an endpoint that asks for strict messages is without that: the same endpoint, which asks for none and counts no content.
-use Rattle.std.specs.Prelude.{ℕ, Bool, true, false, List, [], ◌∷◌, Option, Some, None, ◌==◌}
+use Rattle.std.specs.Prelude.{ℕ, Bool, true, false, [], ◌∷◌, Option, Some, None, ◌==◌}
 use Rattle.h3_messages.specs.declared.content.Content.TheVariants.{Unsaid}
 use Rattle.h3_connection.specs.Codes.{frame_unexpected}
 use Rattle.h3_connection.specs.Endpoint.{EndpointHistory, Kind, kind_of}
@@ -7,7 +7,7 @@ use Rattle.h3_connection.specs.Endpoint.Kind.{Request}
 use Rattle.h3_connection.specs.Incoming.{Incoming}
 use Rattle.h3_connection.specs.Keeping.{read_all, unkept}
 use Rattle.h3_connection.specs.Outgoing.{Outgoing}
-use Rattle.h3_connection.specs.Pulling.{Pulled, pull_stream}
+use Rattle.h3_connection.specs.Pulling.{pull_stream}
 use Rattle.h3_connection.specs.StreamSets.{Streams, stream_at}
 use Rattle.h3_connection.specs.declared.event.Fault.{Fault}
 use Rattle.h3_connection.specs.declared.event.Fault.TheVariants as fault
@@ -42,7 +42,8 @@ abbrev pub is_malformed : Refusal → Bool
 is_malformed (refusal.Malformed why) = true
 is_malformed _ = false
 
--- a pull finds that the message is malformed, or a trailer in a tunnel (RFC 9114, section 4.4)
+-- a pull finds a message malformed, or a frame at the wrong place, as a trailer in a tunnel is (RFC 9114, section 4.4). Those answers are
+-- more than the rules of strict messages give: any endpoint has some of them
 abbrev pub is_malformation : StreamFault → Bool
 is_malformation (stream_fault.Malformed why) = true
 is_malformation _ = false
@@ -56,7 +57,7 @@ abbrev pub tells_malformed : Pull → Bool
 tells_malformed (pull.Fault f) = faults_message f
 tells_malformed _ = false
 
--- the receiver of a stream is what a pull of it would find so
+-- a pull of this receiver would
 abbrev pub judged_at : EndpointHistory → ℕ → Option Incoming → Bool
 judged_at e id None = false
 judged_at e id (Some i) = tells_malformed (pull_stream e.side e.announced id e.decoding.decoder i).answer

@@ -1,6 +1,6 @@
 -- What a strict reader takes: parts of a message that break no rule of well-formed messages (RFC 9114, sections 4.1.2 and 4.2 to 4.5), with the
 -- content that they say.
-use Rattle.std.specs.Prelude.{◌≡◌, ◌⊎◌, ℕ, zero, suc, ◌+◌, true, false, List, [], ◌∷◌, take, length, fold, None}
+use Rattle.std.specs.Prelude.{◌≡◌, ◌⊎◌, ℕ, zero, suc, ◌+◌, ◌≤◌, true, false, List, [], ◌∷◌, take, length, fold, None}
 use Rattle.h3_messages.specs.Content.{is_exceeded, left_behind, may_end, takes_trailer}
 use Rattle.h3_messages.specs.declared.content.Content.{Content}
 use Rattle.h3_messages.specs.declared.content.Content.TheVariants.{Unsaid}
@@ -57,3 +57,4 @@ begun out (suc left) = out + 1
 pub record CountsAlong (reader : Side) (awaited : Content) (parts : List Part) (out left : ℕ) (content : Content) : Type 0 where
   pub before : place_after (take out parts) ≡ BeforeHead → content ≡ content_along reader awaited (take out parts)
   pub counts : SaysNoMore content (content_along reader awaited (take (begun out left) parts))
+  pub within : begun out left ≤ length parts

@@ -1,2 +1,4 @@
 //! Two endpoints that ask for strict messages, and what they are without that.
 #![tactic(auto)]
+
+pub mod laws;
