@@ -44,9 +44,10 @@ pub record KeepsBut (only : ℕ → Bool) (e f : EndpointHistory) : Type 0 where
   pub out : (id : ℕ) → SendsSame (outgoing_at e id) (outgoing_at f id)
   pub same : (id : ℕ) → only id ≡ false → SameCounts (incoming_at e id) (incoming_at f id)
   pub kept : (id : ℕ) → only id ≡ true → KeepsAt (incoming_at e id) (incoming_at f id)
+  pub announced : f.announced ≡ e.announced
 
-abbrev pub none : ℕ → Bool
-none id = false
+abbrev pub no_stream : ℕ → Bool
+no_stream id = false
 
 abbrev pub that : ℕ → ℕ → Bool
 that id i = id == i
@@ -61,18 +62,20 @@ sends_same o = record { takes = λ h. h; content = λ h. refl }
 pub record SameStreams (e f : EndpointHistory) : Type 0 where
   pub incoming : f.incoming ≡ e.incoming
   pub outgoing : f.outgoing ≡ e.outgoing
+  pub announced : f.announced ≡ e.announced
 
 same_streams : (e : EndpointHistory) → SameStreams e e
-same_streams e = record { incoming = refl; outgoing = refl }
+same_streams e = record { incoming = refl; outgoing = refl; announced = refl }
 
 then_same : (e f g : EndpointHistory) → SameStreams e f → SameStreams f g → SameStreams e g
-then_same e f g h k = record { incoming = k.incoming ∙ h.incoming; outgoing = k.outgoing ∙ h.outgoing }
+then_same e f g h k = record { incoming = k.incoming ∙ h.incoming; outgoing = k.outgoing ∙ h.outgoing; announced = k.announced ∙ h.announced }
 
 pub streams_keep : (only : ℕ → Bool) (e f : EndpointHistory) → SameStreams e f → KeepsBut only e f
 streams_keep only e f h = record {
   out = λ id. subst (λ (s : Streams Outgoing). SendsSame (outgoing_at e id) (unwrap_or (stream_at s id) nothing_sent)) (sym h.outgoing) (sends_same (outgoing_at e id));
   same = λ id no. at id;
   kept = λ id yes. inl (at id);
+  announced = h.announced;
 }
   where
     at : (id : ℕ) → SameCounts (incoming_at e id) (incoming_at f id)
@@ -87,7 +90,7 @@ if_learned_same : (before after : Option (List (ℕ × ℕ))) (e : EndpointHisto
 if_learned_same None (Some pairs) e =
     let capacity = unwrap_or (value_of 1 pairs) 0 in
     let blocked = unwrap_or (value_of 7 pairs) 0 in
-    learned_same e pairs (is_usable e.encoder.most_capacity capacity blocked) (with_table e capacity blocked) (record { incoming = refl; outgoing = refl })
+    learned_same e pairs (is_usable e.encoder.most_capacity capacity blocked) (with_table e capacity blocked) (record { incoming = refl; outgoing = refl; announced = refl })
 if_learned_same None None e = same_streams e
 if_learned_same (Some pairs) after e = same_streams e
 
@@ -95,8 +98,8 @@ decoder_same : (e : EndpointHistory) (bytes : List ℕ) → SameStreams e (read_
 decoder_same e bytes = by_test (is_some e.peer.settings)
   where
     by_test : (b : Bool) → SameStreams e (let x : Found = if b then listened_to e (listen e.encoder (e.decoder_unread ++ bytes)) else (record e { decoder_unread = e.decoder_unread ++ bytes }, None) in x).0
-    by_test true = record { incoming = refl; outgoing = refl }
-    by_test false = record { incoming = refl; outgoing = refl }
+    by_test true = record { incoming = refl; outgoing = refl; announced = refl }
+    by_test false = record { incoming = refl; outgoing = refl; announced = refl }
 
 then_decoder_same : (before after : Option (List (ℕ × ℕ))) (e : EndpointHistory) (fault : Option ℕ) → SameStreams e (then_decoder before after e fault).0
 then_decoder_same before after e (Some code) = same_streams e
@@ -107,7 +110,7 @@ then_decoder_same (Some pairs) after e None = same_streams e
 after_peer_same : (e : EndpointHistory) (p : PeerFound) → SameStreams e (after_peer e p).0
 after_peer_same e (p, fault) =
     let f = if_learned e.peer.settings p.settings (record e { peer = p }) in
-    let first : SameStreams e (record e { peer = p }) = record { incoming = refl; outgoing = refl } in
+    let first : SameStreams e (record e { peer = p }) = record { incoming = refl; outgoing = refl; announced = refl } in
     then_same e f _ (then_same e (record e { peer = p }) f first (if_learned_same e.peer.settings p.settings (record e { peer = p }))) (then_decoder_same e.peer.settings p.settings f fault)
 
 control_same : (e : EndpointHistory) (bytes : List ℕ) → SameStreams e (read_control e bytes).0
@@ -118,16 +121,16 @@ second_same true e x h = same_streams e
 second_same false e x h = h
 
 heard_same : (e : EndpointHistory) (id : ℕ) (role : Role) (bytes : List ℕ) → SameStreams e (heard_as e id role bytes).0
-heard_same e id Control bytes = second_same (is_second e.control_on id) e _ (then_same e (record e { control_on = Some id }) _ (record { incoming = refl; outgoing = refl }) (control_same (record e { control_on = Some id }) bytes))
-heard_same e id Encoder bytes = second_same (is_second e.encoder_on id) e _ (record { incoming = refl; outgoing = refl })
-heard_same e id Decoder bytes = second_same (is_second e.decoder_on id) e _ (then_same e (record e { decoder_on = Some id }) _ (record { incoming = refl; outgoing = refl }) (decoder_same (record e { decoder_on = Some id }) bytes))
+heard_same e id Control bytes = second_same (is_second e.control_on id) e _ (then_same e (record e { control_on = Some id }) _ (record { incoming = refl; outgoing = refl; announced = refl }) (control_same (record e { control_on = Some id }) bytes))
+heard_same e id Encoder bytes = second_same (is_second e.encoder_on id) e _ (record { incoming = refl; outgoing = refl; announced = refl })
+heard_same e id Decoder bytes = second_same (is_second e.decoder_on id) e _ (then_same e (record e { decoder_on = Some id }) _ (record { incoming = refl; outgoing = refl; announced = refl }) (decoder_same (record e { decoder_on = Some id }) bytes))
 heard_same e id (Push push) bytes = same_streams e
 heard_same e id (Session session) bytes = same_streams e
 heard_same e id (Untold front) bytes = same_streams e
 heard_same e id Ignored bytes = same_streams e
 
 unidirectional_same : (e : EndpointHistory) (id : ℕ) (o : Unidirectional) (x : Role × List ℕ) → SameStreams e (read_unidirectional e id o x).0
-unidirectional_same e id o (role, bytes) = then_same e _ _ (record { incoming = refl; outgoing = refl }) (heard_same _ id role bytes)
+unidirectional_same e id o (role, bytes) = then_same e _ _ (record { incoming = refl; outgoing = refl; announced = refl }) (heard_same _ id role bytes)
 
 -- A stream that is set.
 in_if : (b : Bool) (i : Incoming) (o : Option Incoming) → unwrap_or (if b then Some i else o) nothing_came ≡ (if b then i else unwrap_or o nothing_came)
@@ -184,37 +187,45 @@ opened_in e id j = by_stream (stream_at e.incoming id) refl
     by_stream (Some i) is = refl
     by_stream None is = set_in e (opened_at e id None) id nothing_came refl j (λ n i. i ≡ incoming_at e n) (sym (ap (λ o. unwrap_or o nothing_came) is)) (λ h. refl)
 
+opened_announced : (e : EndpointHistory) (id : ℕ) → (opened e id).announced ≡ e.announced
+opened_announced e id = by_stream (stream_at e.incoming id)
+  where
+    by_stream : (o : Option Incoming) → (opened_at e id o).announced ≡ e.announced
+    by_stream (Some i) = refl
+    by_stream None = refl
+
 -- What comes on a request stream: its receiver changes, and it is opened where it was not.
-comes_keep : (only : ℕ → Bool) (e : EndpointHistory) (id : ℕ) (i : Incoming) (f : EndpointHistory) → f.incoming ≡ set_stream (opened e id).incoming id i → f.outgoing ≡ (opened e id).outgoing
+comes_keep : (only : ℕ → Bool) (e : EndpointHistory) (id : ℕ) (i : Incoming) (f : EndpointHistory) → f.incoming ≡ set_stream (opened e id).incoming id i → f.outgoing ≡ (opened e id).outgoing → f.announced ≡ e.announced
     → (only id ≡ false → SameCounts (incoming_at e id) i) → (only id ≡ true → KeepsAt (incoming_at e id) i) → KeepsBut only e f
-comes_keep only e id i f in_is out_is same kept = record {
+comes_keep only e id i f in_is out_is announced same kept = record {
   out = λ j. subst (λ (s : Streams Outgoing). SendsSame (outgoing_at e j) (unwrap_or (stream_at s j) nothing_sent)) (sym out_is) (opened_out e id j);
   same = λ j no. set_in (opened e id) f id i in_is j (λ n k. only n ≡ false → SameCounts (incoming_at e n) k) same
       (λ other no. subst (SameCounts (incoming_at e j)) (sym (opened_in e id j)) (same_counts (incoming_at e j))) no;
   kept = λ j yes. set_in (opened e id) f id i in_is j (λ n k. only n ≡ true → KeepsAt (incoming_at e n) k) kept
       (λ other yes. inl (subst (SameCounts (incoming_at e j)) (sym (opened_in e id j)) (same_counts (incoming_at e j)))) yes;
+  announced = announced;
 }
 
 found_keeps : (only : ℕ → Bool) (e : EndpointHistory) (x : Found) → KeepsBut only e x.0 → KeepsBut only e (closed_by x).1
 found_keeps only e (f, None) h = h
-found_keeps only e (f, Some code) h = record { out = h.out; same = h.same; kept = h.kept }
+found_keeps only e (f, Some code) h = record { out = h.out; same = h.same; kept = h.kept; announced = h.announced }
 
 taken_keeps : (only : ℕ → Bool) (closed : Option ℕ) (r : Option Refusal) (e : EndpointHistory) (x : Found) → KeepsBut only e x.0 → KeepsBut only e (taken closed r e x).1
 taken_keeps only (Some code) r e x h = streams_keep only e e (same_streams e)
 taken_keeps only None (Some r) e x h = streams_keep only e e (same_streams e)
 taken_keeps only None None e x h = found_keeps only e x h
 
-bytes_keep : (e : EndpointHistory) (id : ℕ) (bytes : List ℕ) (k : Kind) → KeepsBut none e (bytes_at e id bytes k).0
-bytes_keep e id bytes Request = comes_keep none e id (kept (incoming_at e id) bytes) _ refl refl (λ h. record { fault = refl; content = refl; left = refl; response = refl }) (λ h. absurd (cc))
-bytes_keep e id bytes ServerOpened = streams_keep none e e (same_streams e)
-bytes_keep e id bytes OwnUnidirectional = streams_keep none e e (same_streams e)
-bytes_keep e id bytes PeerUnidirectional = streams_keep none e _ (unidirectional_same e id (unidirectional_at e id) (role_after (unidirectional_at e id).role bytes))
+bytes_keep : (e : EndpointHistory) (id : ℕ) (bytes : List ℕ) (k : Kind) → KeepsBut no_stream e (bytes_at e id bytes k).0
+bytes_keep e id bytes Request = comes_keep no_stream e id (kept (incoming_at e id) bytes) _ refl refl (opened_announced e id) (λ h. record { fault = refl; content = refl; left = refl; response = refl }) (λ h. absurd (cc))
+bytes_keep e id bytes ServerOpened = streams_keep no_stream e e (same_streams e)
+bytes_keep e id bytes OwnUnidirectional = streams_keep no_stream e e (same_streams e)
+bytes_keep e id bytes PeerUnidirectional = streams_keep no_stream e _ (unidirectional_same e id (unidirectional_at e id) (role_after (unidirectional_at e id).role bytes))
 
-end_keeps : (e : EndpointHistory) (id : ℕ) (k : Kind) → KeepsBut none e (end_at e id k).0
-end_keeps e id Request = comes_keep none e id (with_end (incoming_at e id)) _ refl refl (λ h. record { fault = refl; content = refl; left = refl; response = refl }) (λ h. absurd (cc))
-end_keeps e id ServerOpened = streams_keep none e e (same_streams e)
-end_keeps e id OwnUnidirectional = streams_keep none e e (same_streams e)
-end_keeps e id PeerUnidirectional = streams_keep none e _ (record { incoming = refl; outgoing = refl })
+end_keeps : (e : EndpointHistory) (id : ℕ) (k : Kind) → KeepsBut no_stream e (end_at e id k).0
+end_keeps e id Request = comes_keep no_stream e id (with_end (incoming_at e id)) _ refl refl (opened_announced e id) (λ h. record { fault = refl; content = refl; left = refl; response = refl }) (λ h. absurd (cc))
+end_keeps e id ServerOpened = streams_keep no_stream e e (same_streams e)
+end_keeps e id OwnUnidirectional = streams_keep no_stream e e (same_streams e)
+end_keeps e id PeerUnidirectional = streams_keep no_stream e _ (record { incoming = refl; outgoing = refl; announced = refl })
 
 -- a stream that is given up
 once_lost : (i : Incoming) (fault : StreamFault) → (given_up_once i fault).fault ≡ None → ⊥
@@ -229,11 +240,11 @@ not_itself id e = grind (arith, common_steps, e)
 
 resets_keep : (e : EndpointHistory) (id code : ℕ) (k : Kind) → KeepsBut (that id) e (reset_at e id code k).0
 resets_keep e id code Request =
-    comes_keep (that id) e id (given_up_once (record (incoming_at e id) { was_reset = true }) (stream_fault.Reset code)) _ refl refl
+    comes_keep (that id) e id (given_up_once (record (incoming_at e id) { was_reset = true }) (stream_fault.Reset code)) _ refl refl (opened_announced e id)
     (λ h. absurd (not_itself id h)) (λ h. inr (once_lost (record (incoming_at e id) { was_reset = true }) (stream_fault.Reset code)))
 resets_keep e id code ServerOpened = streams_keep (that id) e e (same_streams e)
 resets_keep e id code OwnUnidirectional = streams_keep (that id) e e (same_streams e)
-resets_keep e id code PeerUnidirectional = streams_keep (that id) e _ (record { incoming = refl; outgoing = refl })
+resets_keep e id code PeerUnidirectional = streams_keep (that id) e _ (record { incoming = refl; outgoing = refl; announced = refl })
 
 -- the streams that an arrival may give up
 abbrev pub lost_by : Arrival → ℕ → Bool
@@ -251,14 +262,15 @@ arrives_keep e a nothing =
     subst (λ k. KeepsBut (lost_by a) e (arrives_behind k e a).1) (sym nothing) (taken_keeps (lost_by a) e.closed (delivery_refusal e (stream_of a)) e (read_arrival e a) (arrival_keeps e a))
 
 -- **What is taken of the writer's bytes.**
-pub advance_keeps : (e : EndpointHistory) (id count : ℕ) → KeepsBut none e (advance e id count)
+pub advance_keeps : (e : EndpointHistory) (id count : ℕ) → KeepsBut no_stream e (advance e id count)
 advance_keeps e id count = by_stream (stream_at e.outgoing id) refl
   where
-    by_stream : (o : Option Outgoing) → stream_at e.outgoing id ≡ o → KeepsBut none e (advance_at e id count o)
-    by_stream None is = streams_keep none e _ (record { incoming = refl; outgoing = refl })
+    by_stream : (o : Option Outgoing) → stream_at e.outgoing id ≡ o → KeepsBut no_stream e (advance_at e id count o)
+    by_stream None is = streams_keep no_stream e _ (record { incoming = refl; outgoing = refl; announced = refl })
     by_stream (Some o) is = record {
       out = λ j. set_out e (advance_at e id count (Some o)) id (record o { taken = o.taken + count }) refl j (λ n p. SendsSame (outgoing_at e n) p)
           (subst (λ p. SendsSame p (record o { taken = o.taken + count })) (sym (ap (λ x. unwrap_or x nothing_sent) is)) (record { takes = λ h. h; content = λ h. refl })) (λ other. sends_same (outgoing_at e j));
       same = λ j no. same_counts (incoming_at e j);
       kept = λ j yes. inl (same_counts (incoming_at e j));
+      announced = refl;
     }

@@ -16,3 +16,5 @@ mod PlainRuns
 mod PlainMessages
 mod PlainSetups
 mod PlainHeadlines
+mod TallySteps
+mod SentTallies

@@ -56,6 +56,7 @@ pub record KnowsResponse (request : List Part) (i : Incoming) : Type 0 where
 pub record Tallies (setup : Setup) (w : World) (ends : Ends) (known : ℕ → Bool) : Type 0 where
   pub flows : (writer : Side) (id : ℕ) → TalliesFlow (other writer) (announced_at setup (other writer)) (awaited_of writer (flow w Client id).sent) (flow w writer id)
       (outgoing_at (end_at ends writer) id) (incoming_at (end_at ends (other writer)) id)
+  pub announced : (side : Side) → (end_at ends side).announced ≡ announced_at setup side
   pub asked : (id : ℕ) → has_head (flow w Server id).sent ≡ true → has_head (flow w Client id).sent ≡ true
   pub knows : (id : ℕ) → known id ≡ true → KnowsResponse (flow w Client id).sent (incoming_at ends.server id)
 
