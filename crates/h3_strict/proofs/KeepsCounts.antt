@@ -23,6 +23,8 @@ use Rattle.h3_connection.specs.declared.event.Refusal.{Refusal}
 use Rattle.h3_connection.specs.declared.event.StreamFault.{StreamFault}
 use Rattle.h3_connection.specs.declared.event.StreamFault.TheVariants as stream_fault
 use Rattle.h3_headline.specs.MovesLaws.{set_at}
+use Rattle.h3_strict.specs.Plainly.{is_malformation}
+use Rattle.h3_strict.specs.Tallies.{IsFine}
 
 -- What is counted of a stream that is received is the same.
 pub record SameCounts (i j : Incoming) : Type 0 where
@@ -31,9 +33,13 @@ pub record SameCounts (i j : Incoming) : Type 0 where
   pub left : j.body_left ≡ i.body_left
   pub response : j.response ≡ i.response
 
--- or it was given up
+-- or it was given up, for no rule of messages
+pub record IsLost (i j : Incoming) : Type 0 where
+  pub lost : j.fault ≡ None → ⊥
+  pub fine : IsFine i.fault → IsFine j.fault
+
 abbrev pub KeepsAt : Incoming → Incoming → Type 0
-KeepsAt i j = SameCounts i j ⊎ (j.fault ≡ None → ⊥)
+KeepsAt i j = SameCounts i j ⊎ IsLost i j
 
 pub record SendsSame (o p : Outgoing) : Type 0 where
   pub takes : takes_end p ≡ true → takes_end o ≡ true
@@ -64,7 +70,7 @@ pub record SameStreams (e f : EndpointHistory) : Type 0 where
   pub outgoing : f.outgoing ≡ e.outgoing
   pub announced : f.announced ≡ e.announced
 
-same_streams : (e : EndpointHistory) → SameStreams e e
+pub same_streams : (e : EndpointHistory) → SameStreams e e
 same_streams e = record { incoming = refl; outgoing = refl; announced = refl }
 
 then_same : (e f g : EndpointHistory) → SameStreams e f → SameStreams f g → SameStreams e g
@@ -170,7 +176,7 @@ set_out e f id o is j P here there =
     (subst (P j) (sym (out_set e.outgoing id o j)) (out_by (P j) (id == j) o (outgoing_at e j) (λ same. subst (λ n. P n o) (same_id id j same) here) there))
 
 -- A stream of which nothing is there counts nothing, and takes no end.
-nothing_taken : (o : Outgoing) → SendsSame o nothing_sent
+pub nothing_taken : (o : Outgoing) → SendsSame o nothing_sent
 nothing_taken o = record { takes = λ h. absurd (cc); content = λ h. absurd (cc) }
 
 pub opened_out : (e : EndpointHistory) (id j : ℕ) → SendsSame (outgoing_at e j) (outgoing_at (opened e id) j)
@@ -228,20 +234,23 @@ end_keeps e id OwnUnidirectional = streams_keep no_stream e e (same_streams e)
 end_keeps e id PeerUnidirectional = streams_keep no_stream e _ (record { incoming = refl; outgoing = refl; announced = refl })
 
 -- a stream that is given up
-once_lost : (i : Incoming) (fault : StreamFault) → (given_up_once i fault).fault ≡ None → ⊥
-once_lost i fault = by_fault i.fault refl
+pub once_lost : (i : Incoming) (fault : StreamFault) → is_malformation fault ≡ false → IsLost i (given_up_once i fault)
+once_lost i fault no_rule = by_fault i.fault refl
   where
-    by_fault : (o : Option StreamFault) → i.fault ≡ o → (given_up_by i fault o).fault ≡ None → ⊥
-    by_fault (Some first) is lost = absurd (let never : Some first ≡ None = sym is ∙ lost in cc)
-    by_fault None is lost = absurd (cc)
+    by_fault : (o : Option StreamFault) → i.fault ≡ o → IsLost i (given_up_by i fault o)
+    by_fault (Some first) is = record { lost = λ none. absurd (let never : Some first ≡ None = sym is ∙ none in cc); fine = λ h. h }
+    by_fault None is = record { lost = λ none. absurd (cc); fine = λ h. no_rule }
 
-not_itself : (id : ℕ) → (id == id) ≡ false → ⊥
+pub not_itself : (id : ℕ) → (id == id) ≡ false → ⊥
 not_itself id e = grind (arith, common_steps, e)
+
+lost_reset : (i : Incoming) (code : ℕ) → IsLost i (given_up_once (record i { was_reset = true }) (stream_fault.Reset code))
+lost_reset i code = let k = once_lost (record i { was_reset = true }) (stream_fault.Reset code) refl in record { lost = k.lost; fine = k.fine }
 
 resets_keep : (e : EndpointHistory) (id code : ℕ) (k : Kind) → KeepsBut (that id) e (reset_at e id code k).0
 resets_keep e id code Request =
     comes_keep (that id) e id (given_up_once (record (incoming_at e id) { was_reset = true }) (stream_fault.Reset code)) _ refl refl (opened_announced e id)
-    (λ h. absurd (not_itself id h)) (λ h. inr (once_lost (record (incoming_at e id) { was_reset = true }) (stream_fault.Reset code)))
+    (λ h. absurd (not_itself id h)) (λ h. inr (lost_reset (incoming_at e id) code))
 resets_keep e id code ServerOpened = streams_keep (that id) e e (same_streams e)
 resets_keep e id code OwnUnidirectional = streams_keep (that id) e e (same_streams e)
 resets_keep e id code PeerUnidirectional = streams_keep (that id) e _ (record { incoming = refl; outgoing = refl; announced = refl })
@@ -274,3 +283,24 @@ advance_keeps e id count = by_stream (stream_at e.outgoing id) refl
       kept = λ j yes. inl (same_counts (incoming_at e j));
       announced = refl;
     }
+
+-- a reset that is refused, or that finds a fault, gives no stream up
+found_refused : (e : EndpointHistory) (x : Found) (r : Refusal) → (closed_by x).0 ≡ Some r → ((code : ℕ) → x.1 ≡ Some code → KeepsBut no_stream e x.0) → KeepsBut no_stream e (closed_by x).1
+found_refused e (f, None) r is h = absurd (cc)
+found_refused e (f, Some code) r is h = let k = h code refl in record { out = k.out; same = k.same; kept = k.kept; announced = k.announced }
+
+taken_refused : (closed : Option ℕ) (q : Option Refusal) (e : EndpointHistory) (x : Found) (r : Refusal) → (taken closed q e x).0 ≡ Some r → ((code : ℕ) → x.1 ≡ Some code → KeepsBut no_stream e x.0) → KeepsBut no_stream e (taken closed q e x).1
+taken_refused (Some code) q e x r is h = streams_keep no_stream e e (same_streams e)
+taken_refused None (Some q) e x r is h = streams_keep no_stream e e (same_streams e)
+taken_refused None None e x r is h = found_refused e x r is h
+
+reset_faults : (e : EndpointHistory) (id code : ℕ) (k : Kind) (c : ℕ) → (reset_at e id code k).1 ≡ Some c → KeepsBut no_stream e (reset_at e id code k).0
+reset_faults e id code Request c is = absurd (cc)
+reset_faults e id code ServerOpened c is = streams_keep no_stream e e (same_streams e)
+reset_faults e id code OwnUnidirectional c is = streams_keep no_stream e e (same_streams e)
+reset_faults e id code PeerUnidirectional c is = streams_keep no_stream e _ (record { incoming = refl; outgoing = refl; announced = refl })
+
+pub reset_refused : (e : EndpointHistory) (id code : ℕ) (r : Refusal) → e.kept ≡ [] → (arrives e (ResetCame id code)).0 ≡ Some r → KeepsBut no_stream e (arrives e (ResetCame id code)).1
+reset_refused e id code r nothing is =
+    subst (λ k. KeepsBut no_stream e (arrives_behind k e (ResetCame id code)).1) (sym nothing)
+    (taken_refused e.closed (delivery_refusal e id) e (reset_at e id code (kind_of e.side id)) r (ap (λ k. (arrives_behind k e (ResetCame id code)).0) (sym nothing) ∙ is) (λ c fault. reset_faults e id code (kind_of e.side id) c fault))

@@ -18,3 +18,8 @@ mod PlainSetups
 mod PlainHeadlines
 mod TallySteps
 mod SentTallies
+mod SendEvents
+mod CallEvents
+mod QuietEvents
+mod PullEvents
+mod PulledTallies

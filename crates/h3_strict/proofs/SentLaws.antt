@@ -45,6 +45,7 @@ is_true false h = absurd (cc)
 -- a head
 pub record TakesHead (e : EndpointHistory) (id : ℕ) (head : Head) : Type 0 where
   pub takes : takes_head (outgoing_at e id) ≡ true
+  pub fits : is_for (other e.side) head ≡ true
   pub rule : broken_head e.side e.announced e.peer.settings (head_fields head) ≡ None
 
 pub head_rules : (e : EndpointHistory) (id : ℕ) (head : Head) → head_refusal e id head ≡ None → TakesHead e id head
@@ -57,6 +58,7 @@ head_rules e id head done =
     let placed = passed (not (takes_head (outgoing_at e id))) refusal.OutOfOrder wrong there in
     record {
       takes = is_true (takes_head (outgoing_at e id)) (held (not (takes_head (outgoing_at e id))) refusal.OutOfOrder wrong there);
+      fits = is_true (is_for (other e.side) head) (held (not (is_for (other e.side) head)) refusal.WrongSide (unless_malformed broken large) placed);
       rule = not_malformed broken large (passed (not (is_for (other e.side) head)) refusal.WrongSide (unless_malformed broken large) placed);
     }
 
@@ -173,12 +175,11 @@ asked_first (Trailer t ∷ parts) s h = asked_first parts s h
 asked_first (End ∷ parts) s h = asked_first parts s h
 
 -- a part that is no head leaves both
-pub is_head_part : Part → Bool
+abbrev pub is_head_part : Part → Bool
 is_head_part (HeadPart s) = true
 is_head_part _ = false
 
 pub asked_same : (parts : List Part) (part : Part) → is_head_part part ≡ false → (asked_in (parts ++ part ∷ []) ≡ asked_in parts) × (has_head (parts ++ part ∷ []) ≡ has_head parts)
-unfolding is_head_part
 asked_same [] (Interim s) h = (refl, refl)
 asked_same [] (HeadPart s) h = absurd (cc)
 asked_same [] (Body bytes end) h = (refl, refl)

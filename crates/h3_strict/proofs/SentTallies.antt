@@ -78,7 +78,7 @@ pub known_is : (o : Option Incoming) → known_of o ≡ (unwrap_or o nothing_cam
 known_is None = refl
 known_is (Some i) = refl
 
-side_of : (setup : Setup) (w : World) (ends : Ends) (s : Side) → Stands (plain_setup setup) w (plain_ends ends) → (end_at ends s).side ≡ s
+pub side_of : (setup : Setup) (w : World) (ends : Ends) (s : Side) → Stands (plain_setup setup) w (plain_ends ends) → (end_at ends s).side ≡ s
 side_of setup w ends s h = (stands_at setup w ends s h).side_is
 
 -- The parts that a strict end may send.

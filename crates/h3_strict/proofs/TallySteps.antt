@@ -28,7 +28,7 @@ use Rattle.h3_headline.specs.Standing.{place_after}
 use Rattle.h3_strict.proofs.KeepsCounts.{KeepsAt, KeepsBut, SameCounts, SendsSame, same_counts, sends_same}
 use Rattle.h3_strict.proofs.UnbrokenLaws.{along_more, unbroken_more}
 use Rattle.h3_strict.specs.StrictPull.{CountsFlow}
-use Rattle.h3_strict.specs.Tallies.{KnowsResponse, Tallies, TalliesFlow, asked_in, awaited_of, has_head}
+use Rattle.h3_strict.specs.Tallies.{IsFine, KnowsResponse, Tallies, TalliesFlow, asked_in, awaited_of, has_head}
 use Rattle.h3_strict.specs.Unbroken.{AreUnbroken, CountsAlong, IsUnbroken, SaysNoMore, begun, content_along, content_behind_part}
 
 -- the same counts of the same parts
@@ -49,13 +49,18 @@ flow_keeps reader peer awaited other_awaited f g o p i j parts same out kept h =
       unbroken = subst (AreUnbroken reader peer awaited) (sym parts.sent) h.unbroken;
       sends = λ takes. out.content takes ∙ h.sends (out.takes takes) ∙ ap (content_along reader awaited) (sym parts.sent);
       receives = λ alive more. by_kept kept alive more;
+      fine = by_fine kept;
     })
   where
+    by_fine : KeepsAt i j → IsFine j.fault
+    by_fine (inl k) = subst IsFine (sym k.fault) h.fine
+    by_fine (inr k) = k.fine h.fine
+
     by_kept : KeepsAt i j → j.fault ≡ None → is_over g ≡ false → CountsFlow reader awaited g j
     by_kept (inl k) alive more =
         counts_same reader awaited f.sent g.sent f.parts_out g.parts_out i.body_left j.body_left i.content j.content parts.sent parts.parts_out k.left k.content
         (h.receives (sym k.fault ∙ alive) (sym (over_same f g parts) ∙ more))
-    by_kept (inr lost) alive more = absurd (lost alive)
+    by_kept (inr k) alive more = absurd (k.lost alive)
 
 knows_keeps : (request more : List Part) (i j : Incoming) → more ≡ request → SameCounts i j → KnowsResponse request i → KnowsResponse more j
 knows_keeps request more i j same k h = subst (λ r. KnowsResponse r j) (sym same) (record { has = h.has; no_fault = k.fault ∙ h.no_fault; response = k.response ∙ h.response })
@@ -112,6 +117,7 @@ flow_grows reader peer awaited f part o p i within fine sends h = record {
   unbroken = unbroken_more reader peer awaited f.sent part h.unbroken fine;
   sends = λ takes. sends takes ∙ sym (along_more reader awaited f.sent part);
   receives = λ alive more. counts_more reader awaited f.sent part f.parts_out i.body_left i.content (h.receives alive (sym (over_more f part within) ∙ more));
+  fine = h.fine;
 }
 
 -- What both ends have of a flow of the side.

@@ -10,6 +10,7 @@ use Rattle.h3_connection.specs.Incoming.{Incoming}
 use Rattle.h3_connection.specs.Outgoing.{Outgoing, takes_end}
 use Rattle.h3_connection.specs.OwnIds.{other}
 use Rattle.h3_connection.specs.Sending.{outgoing_at}
+use Rattle.h3_connection.specs.declared.event.StreamFault.{StreamFault}
 use Rattle.h3_connection.specs.declared.setup.Announced.{Announced}
 use Rattle.h3_world.specs.Ends.{Ends, end_at}
 use Rattle.h3_world.specs.Flow.{Flow, Part}
@@ -19,6 +20,7 @@ use Rattle.h3_world.specs.Setup.{announced_at}
 use Rattle.h3_world.specs.Streams.{flow}
 use Rattle.h3_world.specs.World.{World}
 use Rattle.h3_world.specs.declared.setup.Setup.{Setup}
+use Rattle.h3_strict.specs.Plainly.{is_malformation}
 use Rattle.h3_strict.specs.StrictPull.{CountsFlow}
 use Rattle.h3_strict.specs.Unbroken.{AreUnbroken, content_along}
 
@@ -39,11 +41,17 @@ abbrev pub awaited_of : Side → List Part → Content
 awaited_of Client request = Unsaid
 awaited_of Server request = asked_in request
 
+-- no rule of messages was the reason to give a stream up
+abbrev pub IsFine : Option StreamFault → Type 0
+IsFine None = Unit {0}
+IsFine (Some fault) = is_malformation fault ≡ false
+
 -- One flow: its parts break no rule of its reader; behind its head its sender counts what they say; and its reader does as far as it has read.
 pub record TalliesFlow (reader : Side) (peer : Announced) (awaited : Content) (f : Flow) (o : Outgoing) (i : Incoming) : Type 0 where
   pub unbroken : AreUnbroken reader peer awaited f.sent
   pub sends : takes_end o ≡ true → o.content ≡ content_along reader awaited f.sent
   pub receives : i.fault ≡ None → is_over f ≡ false → CountsFlow reader awaited f i
+  pub fine : IsFine i.fault
 
 -- what the server has of a request's response
 pub record KnowsResponse (request : List Part) (i : Incoming) : Type 0 where
