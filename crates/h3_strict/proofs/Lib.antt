@@ -23,3 +23,5 @@ mod CallEvents
 mod QuietEvents
 mod PullEvents
 mod PulledTallies
+mod PullTally
+mod NoneJudges
