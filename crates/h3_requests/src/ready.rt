@@ -12,6 +12,8 @@ use std::alloc::{AllocError, Global};
 #[derive(Drop)]
 pub(crate) struct ReadyStreams {
     bytes: WaitingStreams,
+    // the stream for whose bytes room was taken last, until they come
+    reserved: Option<StreamId>,
     ends: WaitingStreams,
 }
 
@@ -23,17 +25,36 @@ impl ReadyStreams {
     {
         ReadyStreams {
             bytes: WaitingStreams::new(alloc),
+            reserved: None,
             ends: WaitingStreams::new(alloc),
         }
     }
 
-    /// Room for a stream, so that bytes can come to wait on it with no memory. Which streams are ready stays as it was.
+    /// Room for a stream, so that bytes can come to wait on it with no memory. Room that was taken in vain before goes. Which streams are
+    /// ready stays as it was.
     pub(crate) fn reserve(&mut self, id: StreamId) -> Result<(), AllocError>
         ensures listed { OnOk result (is_listed self.new id ≡ true) }
         ensures same { (q : ℕ) → is_ready self.new q ≡ is_ready self.old q }
         ensures ends { self.new.ends ≡ self.old.ends }
     {
-        self.bytes.reserve(id)
+        self.release_other(id);
+        self.bytes.reserve(id)?;
+        self.reserved = Some(id);
+        Ok(())
+    }
+
+    // The room that was taken last goes where it is another stream's, so that no more than one has room in vain.
+    fn release_other(&mut self, id: StreamId)
+        ensures same { (q : ℕ) → is_ready self.new q ≡ is_ready self.old q }
+        ensures ends { self.new.ends ≡ self.old.ends }
+    {
+        let Some(reserved) = self.reserved else {
+            return;
+        };
+        if reserved.into_inner() == id.into_inner() {
+            return;
+        }
+        self.bytes.release(reserved);
     }
 
     /// Room for a stream on which a head goes out, for its bytes and for its end. What is ready stays as it was.
@@ -45,7 +66,7 @@ impl ReadyStreams {
         ensures places { (q : ℕ) → has_place self.old.ends q ≡ true → has_place self.new.ends q ≡ true }
     {
         self.ends.reserve(id)?;
-        self.bytes.reserve(id)
+        self.reserve(id)
     }
 
     /// Bytes wait on a stream from now on, for which room was taken, or none do. It takes no memory.
@@ -54,6 +75,7 @@ impl ReadyStreams {
         ensures bytes { IsOneTest id waits (is_ready self.old) (is_ready self.new) }
         ensures ends { self.new.ends ≡ self.old.ends }
     {
+        self.reserved = None;
         if !waits {
             self.bytes.take(id);
             return;
