@@ -1,5 +1,5 @@
 -- What is found in the streams of a map, by what is stored of each.
-use Rattle.std.proofs.Common.{◌≡◌, ◌<◌, ℕ, ◌^◌, false, [], refl, sym, ◌∙◌, ap, inl, inr, arith}
+use Rattle.std.proofs.Common.{◌≡◌, ◌<◌, ℕ, ◌^◌, true, false, [], refl, sym, ◌∙◌, ap, subst, inl, inr, arith}
 use Rattle.std.specs.Prelude.{Option, Some, None, ◌≢◌, IfSome, IsSome}
 use Rattle.std.specs.BTreeMap.{is_at}
 use Rattle.std.specs.Cmp.{unsigned_tied}
@@ -82,13 +82,6 @@ pub put_in : {X : Type 0} (u v o p : Streams X) (id : ℕ) (x : X) → id < 2 ^ 
 put_in u v o p id x below here others same =
     sets (stored u o) (stored v p) id x below (ap (λ y. either y (kept_at p id)) here) (λ q differs. stored_alike u v o p q (others q (not_at id q differs)) (ap (λ l. kept_at l q) same))
 
--- or taken out again before it counted,
-pub put_back : {X : Type 0} (u v w o p : Streams X) (id : ℕ) → kept_at u id ≡ None → KeepsOthers u v id → kept_at w id ≡ None → KeepsOthers v w id → p ≡ o
-    → streams_of (stored w p) ≡ streams_of (stored u o)
-put_back u v w o p id was others none again same =
-    listed.same_streams (stored u o) (stored w p) (at_each (stored u o) (stored w p) id (stored_alike u w o p id (none ∙ sym was) (ap (λ l. kept_at l id) same))
-    (λ q differs. stored_alike u w o p q (again q (not_at id q differs) ∙ others q (not_at id q differs)) (ap (λ l. kept_at l q) same)))
-
 -- or set among those that are over,
 set_over : {X : Type 0} (u o p : Streams X) (id : ℕ) (x : X) → id < 2 ^ 64 → kept_at u id ≡ None → Sets o p id x → Sets (streams_of (stored u o)) (streams_of (stored u p)) id x
 set_over u o p id x below none s = sets (stored u o) (stored u p) id x below (ap (λ y. either y (kept_at p id)) none ∙ s.here) (λ q differs. stored_alike u u o p q refl (s.others q differs))
@@ -134,5 +127,14 @@ writes s n id x below over is updates = (
       let same : n.under_way.entries ≡ s.under_way.entries = is ∙ set_value_same (is_at (nat_cmp id)) s.under_way.entries x there in
       all_same (stored_at s) (stored_at n) (λ q. stored_alike s.under_way.entries n.under_way.entries s.over n.over q (ap (λ l. kept_at l q) same) (ap (λ l. kept_at l q) over)),
   distinct_in n,
+  λ y there. found (stored_at s) id below ∙ ap (λ o. either o (over_at s id)) there,
+)
+
+-- where none is under way none is lent
+pub writes_none : (s : StreamMap) (id : ℕ) (x : RequestState) → id < 2 ^ 64 → under_way_at s id ≡ None → Writes (streams_in s) (streams_in s) (under_way_at s id) id x
+writes_none s id x below none = (
+  λ some. absurd (let wrong : false ≡ true = subst (λ o. IsSome o) none some in cc),
+  λ there. all_same (stored_at s) (stored_at s) (λ q. refl),
+  distinct_in s,
   λ y there. found (stored_at s) id below ∙ ap (λ o. either o (over_at s id)) there,
 )

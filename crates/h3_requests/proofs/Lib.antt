@@ -6,6 +6,6 @@ pub mod Pulls
 pub mod Sendable
 pub mod Received
 pub mod Ways
-pub mod Endings
-pub mod EndWords
-pub mod LeastEnd
+pub mod Bits
+pub mod WaitingWords
+pub mod LeastBit

@@ -13,14 +13,14 @@ use Rattle.h3_connection.specs.WaitingPieces.{bytes_of, without_front}
 use Rattle.h3_connection.specs.WaitingPieceLaws.{bytes-without}
 use Rattle.h3_wire.specs.Outgoing.{Outgoing as Piece}
 use Rattle.h3_outgoing.specs.Sent.{end_waits, has_body, has_end_taken, is_end_next, is_open, takes_end}
-use Rattle.h3_requests.specs.Ends.{has_place, is_ending}
+use Rattle.h3_requests.specs.Waiting.{has_place, is_waiting}
 use Rattle.h3_requests.specs.HasBytes.{has_bytes, has_end, gives_end, may_end}
 use Rattle.h3_requests.specs.Counted.{AreCounted}
 use Rattle.h3_requests.specs.Lending.{Writes}
 use Rattle.h3_requests.specs.Over.{IsOver, with_end_taken}
 use Rattle.h3_requests.proofs.Ways.{over_pieces}
-use Rattle.h3_requests.specs.Ready.{AreEnding, AreKept, AreReady, IsOneTest, is_listed, is_ready}
-use Rattle.h3_requests.specs.declared.ends.EndStreams.{EndStreams}
+use Rattle.h3_requests.specs.Ready.{AreEnding, AreKept, AreReady, IsOneTest, is_ready}
+use Rattle.h3_requests.specs.declared.waiting.WaitingStreams.{WaitingStreams}
 use Rattle.h3_requests.specs.declared.ready.ReadyStreams.{ReadyStreams}
 use Rattle.h3_requests.proofs.Counts as counting
 
@@ -33,7 +33,7 @@ ready_at s t old new id is one own others h q = elim (cases_eq q id) [
 ]
 
 -- the same of its end
-ends_at : (e f : EndStreams) (old new : Streams RequestState) (id : ℕ) (is : Bool) → IsOneTest id is (is_ending e) (is_ending f) → ((q : ℕ) → q ≢ id → has_place e q ≡ true → has_place f q ≡ true)
+ends_at : (e f : WaitingStreams) (old new : Streams RequestState) (id : ℕ) (is : Bool) → IsOneTest id is (is_waiting e) (is_waiting f) → ((q : ℕ) → q ≢ id → has_place e q ≡ true → has_place f q ≡ true)
     → is ≡ has_end (kept_at new id) → (may_end (kept_at new id) ≡ true → has_place f id ≡ true) → ((q : ℕ) → q ≢ id → kept_at new q ≡ kept_at old q) → AreEnding e old → AreEnding f new
 ends_at e f old new id is one places own own_place others h = record {
   ending = λ q. elim (cases_eq q id) [
@@ -59,7 +59,7 @@ pub room_kept : {counts : Blocked} {s t : ReadyStreams} {streams : Streams Reque
 room_kept {counts} {s} {t} {streams} same ends h = record { counted = h.counted; ready = λ q. same q ∙ h.ready q; ends = subst (λ e. AreEnding e streams) (sym ends) h.ends }
 
 -- and room for ends
-pub both_kept : {counts : Blocked} {s t : ReadyStreams} {streams : Streams RequestState} → ((q : ℕ) → is_ready t q ≡ is_ready s q) → ((q : ℕ) → is_ending t.ends q ≡ is_ending s.ends q)
+pub both_kept : {counts : Blocked} {s t : ReadyStreams} {streams : Streams RequestState} → ((q : ℕ) → is_ready t q ≡ is_ready s q) → ((q : ℕ) → is_waiting t.ends q ≡ is_waiting s.ends q)
     → ((q : ℕ) → has_place s.ends q ≡ true → has_place t.ends q ≡ true) → AreKept counts s streams → AreKept counts t streams
 both_kept same ending places h =
     record { counted = h.counted; ready = λ q. same q ∙ h.ready q; ends = record { ending = λ q. ending q ∙ h.ends.ending q; placed = λ q may. places q (h.ends.placed q may) } }
@@ -76,15 +76,15 @@ bytes_before counts s t old id before after there ready same h = record {
 }
 
 end_before : (counts : Blocked) (s t : ReadyStreams) (old : Streams RequestState) (id : ℕ) (before after : RequestState) → kept_at old id ≡ Some before → t.ends ≡ s.ends
-    → end_waits after.outgoing ≡ end_waits before.outgoing → AreKept counts s old → IsOneTest id (has_end (Some after)) (is_ending s.ends) (is_ending t.ends)
+    → end_waits after.outgoing ≡ end_waits before.outgoing → AreKept counts s old → IsOneTest id (has_end (Some after)) (is_waiting s.ends) (is_waiting t.ends)
 end_before counts s t old id before after there ends same h = record {
-  own = ap (λ e. is_ending e id) ends ∙ h.ends.ending id ∙ ap has_end there ∙ sym same;
-  others = λ q differs. ap (λ e. is_ending e q) ends;
+  own = ap (λ e. is_waiting e id) ends ∙ h.ends.ending id ∙ ap has_end there ∙ sym same;
+  others = λ q differs. ap (λ e. is_waiting e q) ends;
 }
 
 -- the streams after a call on one of them, of which everything is known
 after_call : (counts others : Blocked) (s t : ReadyStreams) (old new : Streams RequestState) (id : ℕ) (after : RequestState) → Sets old new id after → AreCounted others new
-    → IsOneTest id (has_bytes (Some after)) (is_ready s) (is_ready t) → IsOneTest id (has_end (Some after)) (is_ending s.ends) (is_ending t.ends)
+    → IsOneTest id (has_bytes (Some after)) (is_ready s) (is_ready t) → IsOneTest id (has_end (Some after)) (is_waiting s.ends) (is_waiting t.ends)
     → ((q : ℕ) → q ≢ id → has_place s.ends q ≡ true → has_place t.ends q ≡ true) → (takes_end after.outgoing ≡ true → has_place t.ends id ≡ true) → AreKept counts s old → AreKept others t new
 after_call counts others s t old new id after sets counted bytes end places own h = record {
   counted = counted;
@@ -148,23 +148,23 @@ had_place counts s old new id before after writes there same h =
 -- or it was reset
 pub left : {under_way : Option RequestState} (counts : Blocked) (s t : ReadyStreams) (old new : Streams RequestState) (id : ℕ) (before after : RequestState) → Writes old new under_way id after → under_way ≡ Some before
     → after.incoming.waits_for ≡ before.incoming.waits_for → has_bytes (Some after) ≡ false → after.outgoing.is_finished ≡ false → after.outgoing.is_reset ≡ true
-    → IsOneTest id false (is_ready s) (is_ready t) → IsOneTest id false (is_ending s.ends) (is_ending t.ends) → ((q : ℕ) → q ≢ id → has_place t.ends q ≡ has_place s.ends q) → AreKept counts s old → AreKept counts t new
+    → IsOneTest id false (is_ready s) (is_ready t) → IsOneTest id false (is_waiting s.ends) (is_waiting t.ends) → ((q : ℕ) → q ≢ id → has_place t.ends q ≡ has_place s.ends q) → AreKept counts s old → AreKept counts t new
 left counts s t old new id before after writes there same none unfinished reset bytes end places h =
     let no_end : end_waits after.outgoing ≡ false = rw unfinished refl in
     let closed : takes_end after.outgoing ≡ false = rw (unfinished, reset) refl in
     after_call counts counts s t old new id after (writes.0 (ap is_some there)) (counting.written counts old new id before after writes there same h.counted)
-    (subst (λ b. IsOneTest id b (is_ready s) (is_ready t)) (sym none) bytes) (subst (λ b. IsOneTest id b (is_ending s.ends) (is_ending t.ends)) (sym no_end) end)
+    (subst (λ b. IsOneTest id b (is_ready s) (is_ready t)) (sym none) bytes) (subst (λ b. IsOneTest id b (is_waiting s.ends) (is_waiting t.ends)) (sym no_end) end)
     (λ q differs has. places q differs ∙ has) (λ takes. absurd (let wrong : false ≡ true = sym closed ∙ takes in cc)) h
 
 -- or it was finished
 pub ended : {under_way : Option RequestState} (counts : Blocked) (s t : ReadyStreams) (old new : Streams RequestState) (id : ℕ) (is : Bool) (before after : RequestState) → Writes old new under_way id after → under_way ≡ Some before
     → after.incoming.waits_for ≡ before.incoming.waits_for → after.outgoing.pieces ≡ before.outgoing.pieces → is ≡ end_waits after.outgoing → is_open after.outgoing ≡ false
-    → ((q : ℕ) → is_ready t q ≡ is_ready s q) → IsOneTest id is (is_ending s.ends) (is_ending t.ends) → ((q : ℕ) → q ≢ id → has_place t.ends q ≡ has_place s.ends q) → AreKept counts s old → AreKept counts t new
+    → ((q : ℕ) → is_ready t q ≡ is_ready s q) → IsOneTest id is (is_waiting s.ends) (is_waiting t.ends) → ((q : ℕ) → q ≢ id → has_place t.ends q ≡ has_place s.ends q) → AreKept counts s old → AreKept counts t new
 ended counts s t old new id is before after writes there same sent waits closed ready end places h =
     let was = counting.kept_there old new id before after writes there in
     let takes_none : takes_end after.outgoing ≡ false = rw closed refl in
     after_call counts counts s t old new id after (writes.0 (ap is_some there)) (counting.written counts old new id before after writes there same h.counted)
-    (bytes_before counts s t old id before after was ready sent h) (subst (λ b. IsOneTest id b (is_ending s.ends) (is_ending t.ends)) waits end)
+    (bytes_before counts s t old id before after was ready sent h) (subst (λ b. IsOneTest id b (is_waiting s.ends) (is_waiting t.ends)) waits end)
     (λ q differs has. places q differs ∙ has) (λ takes. absurd (let wrong : false ≡ true = sym takes_none ∙ takes in cc)) h
 
 -- a stream whose FIN was taken
@@ -179,20 +179,20 @@ gone o next =
 
 pub end_gone : {under_way : Option RequestState} (counts : Blocked) (s t : ReadyStreams) (old new : Streams RequestState) (id : ℕ) (before after : RequestState) → Writes old new under_way id after → under_way ≡ Some before
     → after.incoming.waits_for ≡ before.incoming.waits_for → after.outgoing ≡ has_end_taken before.outgoing → is_end_next before.outgoing ≡ true
-    → ((q : ℕ) → is_ready t q ≡ is_ready s q) → IsOneTest id false (is_ending s.ends) (is_ending t.ends) → ((q : ℕ) → q ≢ id → has_place t.ends q ≡ has_place s.ends q) → AreKept counts s old → AreKept counts t new
+    → ((q : ℕ) → is_ready t q ≡ is_ready s q) → IsOneTest id false (is_waiting s.ends) (is_waiting t.ends) → ((q : ℕ) → q ≢ id → has_place t.ends q ≡ has_place s.ends q) → AreKept counts s old → AreKept counts t new
 end_gone counts s t old new id before after writes there same taken next ready end places h =
     let was = counting.kept_there old new id before after writes there in
     let off = gone before.outgoing next in
     let no_end : end_waits after.outgoing ≡ false = ap end_waits taken ∙ off.0 in
     let closed : takes_end after.outgoing ≡ false = ap takes_end taken ∙ off.1 in
     after_call counts counts s t old new id after (writes.0 (ap is_some there)) (counting.written counts old new id before after writes there same h.counted)
-    (bytes_before counts s t old id before after was ready (ap (λ o. o.pieces) taken) h) (subst (λ b. IsOneTest id b (is_ending s.ends) (is_ending t.ends)) (sym no_end) end)
+    (bytes_before counts s t old id before after was ready (ap (λ o. o.pieces) taken) h) (subst (λ b. IsOneTest id b (is_waiting s.ends) (is_waiting t.ends)) (sym no_end) end)
     (λ q differs has. places q differs ∙ has) (λ takes. absurd (let wrong : false ≡ true = sym closed ∙ takes in cc)) h
 
 -- a stream came on which nothing has happened, in the place of one whose count was taken out
 pub inserted : (counts others : Blocked) (s t : ReadyStreams) (old new : Streams RequestState) (id count : ℕ) (r : RequestState) → Sets old new id r → HaveDistinctIds new
     → r.incoming.waits_for ≡ 0 → has_bytes (Some r) ≡ false → has_end (Some r) ≡ false → may_end (Some r) ≡ false → count ≡ waits_at (kept_at old id) → IsSound others → Replaces counts others count 0
-    → IsOneTest id false (is_ready s) (is_ready t) → IsOneTest id false (is_ending s.ends) (is_ending t.ends) → ((q : ℕ) → q ≢ id → has_place t.ends q ≡ has_place s.ends q) → AreKept counts s old → AreKept others t new
+    → IsOneTest id false (is_ready s) (is_ready t) → IsOneTest id false (is_waiting s.ends) (is_waiting t.ends) → ((q : ℕ) → q ≢ id → has_place t.ends q ≡ has_place s.ends q) → AreKept counts s old → AreKept others t new
 inserted counts others s t old new id count r sets distinct nothing none no_end unsent is sound replaces one end places h =
     record {
       counted = counting.inserted counts others old new id count r sets distinct nothing is sound replaces h.counted;
@@ -204,7 +204,7 @@ inserted counts others s t old new id count r sets distinct nothing none no_end 
 -- and one went
 pub removed : (counts others : Blocked) (s t : ReadyStreams) (old new : Streams RequestState) (id count : ℕ) → TakesOut old new id → HaveDistinctIds new
     → count ≡ waits_at (kept_at old id) → IsSound others → Replaces counts others count 0 → IsOneTest id false (is_ready s) (is_ready t)
-    → IsOneTest id false (is_ending s.ends) (is_ending t.ends) → ((q : ℕ) → q ≢ id → has_place t.ends q ≡ has_place s.ends q) → AreKept counts s old → AreKept others t new
+    → IsOneTest id false (is_waiting s.ends) (is_waiting t.ends) → ((q : ℕ) → q ≢ id → has_place t.ends q ≡ has_place s.ends q) → AreKept counts s old → AreKept others t new
 removed counts others s t old new id count takes distinct is sound replaces one end places h =
     record {
       counted = counting.removed counts others old new id count takes distinct is sound replaces h.counted;
@@ -213,21 +213,14 @@ removed counts others s t old new id count takes distinct is sound replaces one 
           (λ may. absurd (let wrong : false ≡ true = sym (ap may_end takes.here) ∙ may in cc)) takes.others h.ends;
     }
 
--- what is ready is one of the ids
-listed_by : (a b c : Bool) → (a && b && c) ≡ true → a ≡ true
-listed_by true b c h = refl
-listed_by false b c h = absurd (cc)
-
 -- what waits once some of it was taken waited before
 fewer : (count : ℕ) (pieces : List Piece) → nat_lt 0 (length (bytes_of (without_front count pieces))) ≡ true → nat_lt 0 (length (bytes_of pieces)) ≡ true
 fewer count pieces some = grind (arith, some, ap length (bytes-without count pieces), length-drop count (bytes_of pieces))
 
--- so the stream is among the ids
-pub listed_before : (counts : Blocked) (s : ReadyStreams) (streams : Streams RequestState) (id count : ℕ) (is : Bool) (r : RequestState) → AreKept counts s streams → kept_at streams id ≡ Some r
-    → is ≡ nat_lt 0 (length (bytes_of (without_front count r.outgoing.pieces))) → is ≡ true → is_listed s id ≡ true
-listed_before counts s streams id count is r h there left some =
-    let waits : has_bytes (kept_at streams id) ≡ true = ap has_bytes there ∙ fewer count r.outgoing.pieces (sym left ∙ some) in
-    listed_by (is_listed s id) _ _ (h.ready id ∙ waits)
+-- so the stream is ready
+pub ready_before : (counts : Blocked) (s : ReadyStreams) (streams : Streams RequestState) (id count : ℕ) (is : Bool) (r : RequestState) → AreKept counts s streams → kept_at streams id ≡ Some r
+    → is ≡ nat_lt 0 (length (bytes_of (without_front count r.outgoing.pieces))) → is ≡ true → is_ready s id ≡ true
+ready_before counts s streams id count is r h there left some = h.ready id ∙ ap has_bytes there ∙ fewer count r.outgoing.pieces (sym left ∙ some)
 
 -- a body changes nothing of the stream's end
 pub body_end : (o : OutgoingState) (bytes : List ℕ) → (end_waits (has_body o bytes) ≡ end_waits o) × (takes_end (has_body o bytes) ≡ takes_end o)
@@ -249,11 +242,11 @@ over_goes (Some r) h waits = sym (over_gives (Some r) h) ∙ waits
 
 -- the end of a stream that is over was taken
 pub over_gone : (counts : Blocked) (s t : ReadyStreams) (old new : Streams RequestState) (id : ℕ) (o : Option RequestState) → kept_at old id ≡ o → IfSome o IsOver → has_end o ≡ true → HaveDistinctIds new
-    → IfSome o (λ r. Sets old new id (with_end_taken r)) → ((q : ℕ) → is_ready t q ≡ is_ready s q) → IsOneTest id false (is_ending s.ends) (is_ending t.ends)
+    → IfSome o (λ r. Sets old new id (with_end_taken r)) → ((q : ℕ) → is_ready t q ≡ is_ready s q) → IsOneTest id false (is_waiting s.ends) (is_waiting t.ends)
     → ((q : ℕ) → q ≢ id → has_place t.ends q ≡ has_place s.ends q) → AreKept counts s old → AreKept counts t new
 over_gone counts s t old new id None there over waits distinct sets ready end places h = absurd (cc)
 over_gone counts s t old new id (Some r) there over waits distinct sets ready end places h =
     let off = gone r.outgoing (over_goes (Some r) over waits) in
     after_call counts counts s t old new id (with_end_taken r) sets (counting.same_count counts old new id r (with_end_taken r) sets distinct there refl h.counted)
-    (bytes_before counts s t old id r (with_end_taken r) there ready refl h) (subst (λ b. IsOneTest id b (is_ending s.ends) (is_ending t.ends)) (sym off.0) end)
+    (bytes_before counts s t old id r (with_end_taken r) there ready refl h) (subst (λ b. IsOneTest id b (is_waiting s.ends) (is_waiting t.ends)) (sym off.0) end)
     (λ q differs has. places q differs ∙ has) (λ takes. absurd (let wrong : false ≡ true = sym off.1 ∙ takes in cc)) h

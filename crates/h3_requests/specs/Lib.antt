@@ -1,6 +1,7 @@
+pub mod Boxed
 pub mod Changing
 pub mod Counted
-pub mod Ends
+pub mod Waiting
 pub mod HasBytes
 pub mod Lending
 pub mod Limited

@@ -2,13 +2,14 @@
 //! stream, and leaves the other streams as they are.
 #![tactic(auto)]
 
-mod ends;
+mod boxed;
 mod map;
 mod over;
 mod ready;
 mod room;
 pub mod stream;
 pub mod streams;
+mod waiting;
 
 pub use room::SectionRoom;
 pub use stream::RequestStream;

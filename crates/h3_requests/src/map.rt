@@ -13,6 +13,7 @@ ghost use Rattle.h3_requests.specs.Over.{with_end_taken, AreAlike, IsOver};
 ghost use Rattle.h3_requests.specs.Refused.{refused_over};
 ghost use Rattle.h3_requests.specs.Stored.{either, over_at, streams_in, under_way_at};
 
+use crate::boxed::BoxedStream;
 use crate::over::OverStreams;
 use crate::stream::RequestStream;
 use h3_connection::event::Refusal;
@@ -23,7 +24,7 @@ use std::collections::BTreeMap;
 // The streams, no id twice. No look-up and no change moves or visits more than a few of them, however many there are.
 #[derive(Drop)]
 pub(crate) struct StreamMap {
-    under_way: BTreeMap<u64, RequestStream>,
+    under_way: BTreeMap<u64, BoxedStream>,
     // and of a stream that is under way what it was when it was last over, which counts for nothing
     over: OverStreams,
 }
@@ -44,7 +45,7 @@ impl StreamMap {
         ensures { AreAlike (option_copied result) (kept_at (streams_in self.now) id) }
     {
         match self.under_way.get(&id.into_inner()) {
-            Some(stream) => Some(stream),
+            Some(stream) => Some(stream.get()),
             None => self.over.get_alike(id),
         }
     }
@@ -82,7 +83,10 @@ impl StreamMap {
         ensures value { option_copied_mut result ≡ under_way_at self.old id }
         ensures found { kept_at (streams_in self.old) id ≡ either (under_way_at self.old id) (over_at self.old id) }
     {
-        self.under_way.get_mut(&id.into_inner())
+        match self.under_way.get_mut(&id.into_inner()) {
+            Some(stream) => Some(stream.get_mut()),
+            None => None,
+        }
     }
 
     // Puts the stream there, and answers what the one that was there waits for. An `Err` changes nothing: no stream was under way
@@ -100,15 +104,18 @@ impl StreamMap {
         ensures distinct { HaveDistinctIds (streams_in self.new) }
     {
         let number = id.into_inner();
-        let Ok(before) = self.under_way.insert(number, stream) else {
-            let _over = self.over.contains(id);
-            return Err(AllocError);
-        };
-        if let Some(before) = before {
-            return Ok(before.incoming.waits_for());
+        if let Some(there) = self.get_mut(id) {
+            let before = there.incoming.waits_for();
+            *there = stream;
+            return Ok(before);
         }
         let Ok(()) = self.over.reserve(alloc, id) else {
-            self.under_way.remove(&number);
+            return Err(AllocError);
+        };
+        let Ok(stream) = BoxedStream::new(alloc, stream) else {
+            return Err(AllocError);
+        };
+        let Ok(_) = self.under_way.insert(number, stream) else {
             return Err(AllocError);
         };
         Ok(0)
@@ -123,7 +130,7 @@ impl StreamMap {
         let stream = self.under_way.remove(&id.into_inner());
         self.over.remove(id);
         match stream {
-            Some(stream) => stream.incoming.waits_for(),
+            Some(stream) => stream.waits_for(),
             None => 0,
         }
     }
@@ -143,7 +150,7 @@ impl StreamMap {
 
     // The stream is under way from now on, where it is there, and this tells whether it is. An `Err` changes nothing: memory was
     // refused.
-    pub(crate) fn take_up(&mut self, id: StreamId) -> Result<bool, AllocError>
+    pub(crate) fn take_up(&mut self, alloc: Global, id: StreamId) -> Result<bool, AllocError>
         ensures there { IfOk result (λ is_there. is_there ≡ is_some (kept_at (streams_in self.old) id)) }
         ensures same { streams_in self.new ≡ streams_in self.old }
     {
@@ -153,6 +160,9 @@ impl StreamMap {
         }
         let Some(stream) = self.over.get(id) else {
             return Ok(false);
+        };
+        let Ok(stream) = BoxedStream::new(alloc, stream) else {
+            return Err(AllocError);
         };
         let Ok(_) = self.under_way.insert(number, stream) else {
             return Err(AllocError);
@@ -177,6 +187,7 @@ impl StreamMap {
         let Some(stream) = self.under_way.get(&number) else {
             return;
         };
+        let stream = stream.get();
         if !stream.is_over() {
             return;
         }

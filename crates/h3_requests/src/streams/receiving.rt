@@ -195,7 +195,7 @@ impl RequestStreams {
         ensures ok { OnOk result (Sets self.old self.new id (opened_at self.old id)) }
         ensures err { OnErr result (self.new ≡ self.old) }
     {
-        if self.streams.take_up(id)? {
+        if self.streams.take_up(alloc, id)? {
             return Ok(true);
         }
         match self.open(alloc, id) {

@@ -56,7 +56,7 @@ impl RequestStreams {
         stream.outgoing.advance(count.min(waiting));
         let left = stream.outgoing.waiting();
         let is_over = stream.is_over();
-        self.ready.settle(id, left > 0);
+        self.ready.settle_rest(id, left > 0);
         self.streams.retire_if(id, is_over);
         true
     }

@@ -33,6 +33,12 @@ use h3_streams::streams::ConnectionStreams;
 use http::StatusCode;
 use std::alloc::{AllocError, Global};
 
+/// How many bytes of a section a short field takes: one of the static table takes 1, and a value behind a name of it often 10 to 20.
+const SHORT_FIELD: usize = 16;
+
+/// So many fields have room at first, at most.
+const MANY_FIELDS: usize = 64;
+
 impl Endpoint {
     /// A head goes out on a stream: an encoded field section in a HEADERS frame (RFC 9114, section 4.3), and its insertions on the
     /// encoder stream. One with a status from 100 to 199 is not the last one. Refused are, in this order, every call after a
@@ -265,7 +271,7 @@ fn encode(
     ensures err { OnErr result ((s : EncoderHistory) → streams.old.encoding.encoder ≡ encoder_state s → StopsEncoding s room.now fields.now streams.old streams.new) }
 {
     let id = room.id();
-    let mut block = Vec::new(alloc);
+    let mut block = block_for(alloc, fields);
     let Ok(count) = encode_into(&mut block, streams, room, id, fields) else {
         return Err(AllocError);
     };
@@ -274,6 +280,16 @@ fn encode(
         return Err(AllocError);
     };
     Ok((section, count))
+}
+
+/// An empty vector with room for the section of so many short fields, so that it seldom grows while that is written. Where memory is refused
+/// for that it has no room yet.
+fn block_for(alloc: Global, fields: &[HeaderField]) -> Vec<u8>
+    ensures { result.items ≡ [] }
+{
+    let mut block = Vec::new(alloc);
+    let _room = block.reserve(SHORT_FIELD * fields.len().min(MANY_FIELDS));
+    block
 }
 
 /// The same into an empty vector, on the stream that there is room on. It answers the required insert count.

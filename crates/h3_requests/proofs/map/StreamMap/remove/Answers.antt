@@ -1,7 +1,6 @@
 -- The stream is taken out of both.
 use Rattle.std.proofs.Common.{Some, None, sym, ◌∙◌, ap}
 use Rattle.h3_blocked.specs.Counting.{waits_at}
-use Rattle.h3_connection.specs.State.{RequestState}
 use Rattle.h3_requests.proofs.Found.{distinct_in, few, taken_out, under}
 use Rattle.h3_requests.proofs.Ways.{over_waits}
 use Rattle.h3_requests.proofs.map.StreamMap.remove.Goals as goal
@@ -14,7 +13,7 @@ returns-in-Some-clause-takes_out c =
 
 pub returns-in-Some-clause-before : goal.returns-in-Some-clause-before
 returns-in-Some-clause-before c =
-    c.waits_for.ensures ∙ ap (λ (r : RequestState). r.incoming.waits_for) c.stream.view_is
+    c.waits_for.ensures
     ∙ sym (ap waits_at (under c.args.self.now c.into_inner.result c.args.id (Some c.in-Some.stream) c.into_inner.ensures.value c.into_inner.ensures.bound c.in-Some.ensures.value))
 
 pub returns-in-Some-clause-distinct : goal.returns-in-Some-clause-distinct

@@ -19,4 +19,4 @@ pub invariant_of-self-in-Err : goal.invariant_of-self-in-Err
 invariant_of-self-in-Err c = room_kept c.reserve.ensures.same c.reserve.ensures.ends (written _ _ _ _ c.args.id c.in-Some.stream.now _ (c.get_mut.follows.holds _) (search rules) (search rules) (search rules) c.self.invariant)
 
 pub invariant_of-self-2 : goal.invariant_of-self-2
-invariant_of-self-2 c = settled _ _ _ _ _ c.args.id _ c.in-Some.stream.now _ (c.get_mut.follows.holds _) (search rules) (search rules) c.settle.ensures.bytes (search rules) c.settle.ensures.ends (search (rules, body_end)) (search (rules, body_end)) (room_kept c.reserve.ensures.same c.reserve.ensures.ends c.self.invariant)
+invariant_of-self-2 c = settled _ c.reserve.new.self c.settle.new.self _ _ c.args.id _ c.in-Some.stream.now _ (c.get_mut.follows.holds _) (search rules) (search rules) c.settle.ensures.bytes (search rules) c.settle.ensures.ends (search (rules, body_end)) (search (rules, body_end)) (room_kept c.reserve.ensures.same c.reserve.ensures.ends c.self.invariant)

@@ -1,7 +1,7 @@
 -- Its bit is set in its word, where memory was there for it.
-use Rattle.h3_requests.specs.Ends.{places_at}
-use Rattle.h3_requests.proofs.Endings.{placed_if, still_if}
-use Rattle.h3_requests.proofs.ends.EndStreams.reserve.Goals as goal
+use Rattle.h3_requests.specs.Waiting.{places_at}
+use Rattle.h3_requests.proofs.Bits.{placed_if, still_if}
+use Rattle.h3_requests.proofs.waiting.WaitingStreams.reserve.Goals as goal
 
 pub returns-clause-placed : goal.returns-clause-placed
 returns-clause-placed c =

@@ -1,11 +1,11 @@
--- A set of streams with places, and the streams among them whose ends wait: a bit each in words of 64 request streams.
+-- A set of streams with places, and the streams on which something waits: a bit each in words of 64 request streams.
 use Rattle.std.specs.Prelude.{◌≡◌, ◌≢◌, ◌<◌, ◌≤◌, ℕ, ◌/◌, ◌%◌, ◌^◌, Bool, ◌&&◌, ◌==◌, nat_lt, Option, Some, None}
 use Rattle.std.specs.BTreeMap.{is_at}
 use Rattle.std.specs.Int.{bit_at}
 use Rattle.std.specs.Map.{lookup}
 use Rattle.std.specs.Ordering.{nat_cmp}
-use Rattle.h3_requests.specs.declared.ends.EndStreams.{EndStreams}
-use Rattle.h3_requests.specs.declared.ends.Word.{Word}
+use Rattle.h3_requests.specs.declared.waiting.WaitingStreams.{WaitingStreams}
+use Rattle.h3_requests.specs.declared.waiting.Word.{Word}
 
 -- the bits of a word, and none where it is not there
 abbrev pub places_of : Option Word → ℕ
@@ -17,10 +17,10 @@ waiting_of None = 0
 waiting_of (Some word) = word.waiting
 
 -- the bits of a number's word
-abbrev pub places_at : EndStreams → ℕ → ℕ
+abbrev pub places_at : WaitingStreams → ℕ → ℕ
 places_at s number = places_of (lookup (is_at (nat_cmp number)) s.words.entries)
 
-abbrev pub waiting_at : EndStreams → ℕ → ℕ
+abbrev pub waiting_at : WaitingStreams → ℕ → ℕ
 waiting_at s number = waiting_of (lookup (is_at (nat_cmp number)) s.words.entries)
 
 -- Whether a stream has its bit: the ids of request streams are four apart (RFC 9000, section 2.1), and 64 of them share a word.
@@ -28,12 +28,12 @@ abbrev pub is_in : (ℕ → ℕ) → ℕ → Bool
 is_in words id = (id % 4 == 0) && (bit_at (words (id / 256)) (id / 4 % 64) == 1)
 
 -- whether the stream has a place
-abbrev pub has_place : EndStreams → ℕ → Bool
+abbrev pub has_place : WaitingStreams → ℕ → Bool
 has_place s id = is_in (places_at s) id
 
--- whether its end waits
-abbrev pub is_ending : EndStreams → ℕ → Bool
-is_ending s id = is_in (waiting_at s) id && nat_lt id (2 ^ 62)
+-- whether something waits on it
+abbrev pub is_waiting : WaitingStreams → ℕ → Bool
+is_waiting s id = is_in (waiting_at s) id && nat_lt id (2 ^ 62)
 
 -- Each number has the same word.
 abbrev pub HaveSameWords : (ℕ → ℕ) → (ℕ → ℕ) → Type 0

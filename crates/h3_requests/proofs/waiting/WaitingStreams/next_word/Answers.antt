@@ -1,7 +1,7 @@
 -- The words are passed in order.
 use Rattle.std.proofs.Common.{rules}
-use Rattle.h3_requests.proofs.EndWords.{all_left, passed, first_found}
-use Rattle.h3_requests.proofs.ends.EndStreams.next_word.Goals as goal
+use Rattle.h3_requests.proofs.WaitingWords.{all_left, passed, first_found}
+use Rattle.h3_requests.proofs.waiting.WaitingStreams.next_word.Goals as goal
 
 pub loop-number-init : goal.loop-number-init
 loop-number-init c = all_left c.args.self.now.words.entries c.args.from _ (search rules) c.range-number-items.ensures.ordered

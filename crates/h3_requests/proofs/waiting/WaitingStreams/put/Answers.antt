@@ -1,7 +1,7 @@
 -- Its bit is set in its word.
-use Rattle.h3_requests.specs.Ends.{places_at, waiting_at}
-use Rattle.h3_requests.proofs.Endings.{below, of_request, set_in}
-use Rattle.h3_requests.proofs.ends.EndStreams.put.Goals as goal
+use Rattle.h3_requests.specs.Waiting.{places_at, waiting_at}
+use Rattle.h3_requests.proofs.Bits.{below, of_request, set_in}
+use Rattle.h3_requests.proofs.waiting.WaitingStreams.put.Goals as goal
 
 pub returns-clause-put : goal.returns-clause-put
 returns-clause-put c =

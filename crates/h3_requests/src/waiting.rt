@@ -1,8 +1,8 @@
-//! The request streams whose ends wait, in the order of their ids.
+//! Request streams on which something waits, found in the order of their ids: bytes, or an end.
 ghost use Rattle.std.specs.Prelude.{◌≡◌, ◌≢◌, ◌<◌, ◌≤◌, ◌+◌, ◌*◌, ◌/◌, ◌%◌, ◌^◌, ◌==◌, ℕ, true, false, bit_and, bit_or, IfSome, IfNone, OnOk, OnErr};
 ghost use Rattle.std.specs.Int.{bit_not, w64};
 ghost use Rattle.h3_connection.specs.NextWaiting.{IsLeast};
-ghost use Rattle.h3_requests.specs.Ends.{has_place, is_ending, places_at, waiting_at, IsFirstWord, IsOneWord, HaveSameWords};
+ghost use Rattle.h3_requests.specs.Waiting.{has_place, is_waiting, places_at, waiting_at, IsFirstWord, IsOneWord, HaveSameWords};
 ghost use Rattle.h3_requests.specs.Ready.{IsOneTest};
 
 use h3_proto::stream::StreamId;
@@ -15,17 +15,18 @@ const STEP: u64 = 4;
 /// How many streams share a word.
 const WORD: u64 = 64;
 
-/// Of 64 streams, one behind the other, which have a place, and which ends wait.
+/// Of 64 streams, one behind the other, which have a place, and on which something waits.
 #[derive(Clone, Copy)]
 struct Word {
     places: u64,
     waiting: u64,
 }
 
-/// The streams whose ends wait, by a bit each in words of 64, and those that have a place: one that has a place is put in with no memory.
+/// The streams on which something waits, by a bit each in words of 64, and those that have a place: one that has a place is put in with no
+/// memory.
 #[derive(Drop)]
-pub(crate) struct EndStreams {
-    // of each number the streams from 256 times that on, where one has a place or its end waits
+pub(crate) struct WaitingStreams {
+    // of each number the streams from 256 times that on, where one has a place or something waits on it
     words: BTreeMap<u64, Word>,
 }
 
@@ -58,21 +59,21 @@ fn stream_at(number: u64, place: u64) -> Option<StreamId>
     Some(id)
 }
 
-impl EndStreams {
+impl WaitingStreams {
     /// No stream. It takes no memory.
-    pub(crate) fn new(alloc: Global) -> EndStreams
-        ensures { (q : ℕ) → is_ending result q ≡ false }
+    pub(crate) fn new(alloc: Global) -> WaitingStreams
+        ensures { (q : ℕ) → is_waiting result q ≡ false }
     {
-        EndStreams {
+        WaitingStreams {
             words: BTreeMap::new(alloc),
         }
     }
 
-    /// A place for a request stream, so that its end can come to wait with no memory. Which ends wait stays as it was.
+    /// A place for a request stream, so that something can come to wait on it with no memory. On which it waits stays as it was.
     pub(crate) fn reserve(&mut self, id: StreamId) -> Result<(), AllocError>
         ensures placed { OnOk result (has_place self.new id ≡ true) }
         ensures kept { (q : ℕ) → has_place self.old q ≡ true → has_place self.new q ≡ true }
-        ensures same { (q : ℕ) → is_ending self.new q ≡ is_ending self.old q }
+        ensures same { (q : ℕ) → is_waiting self.new q ≡ is_waiting self.old q }
     {
         let number = id.into_inner();
         if number % STEP != 0 {
@@ -101,17 +102,17 @@ impl EndStreams {
         Ok(())
     }
 
-    /// The end of a stream that has a place waits from now on. It takes no memory.
+    /// On a stream that has a place something waits from now on. It takes no memory.
     pub(crate) fn put(&mut self, id: StreamId)
         requires { has_place self.old id ≡ true }
-        ensures put { IsOneTest id true (is_ending self.old) (is_ending self.new) }
+        ensures put { IsOneTest id true (is_waiting self.old) (is_waiting self.new) }
         ensures places { (q : ℕ) → has_place self.new q ≡ has_place self.old q }
     {
         let number = id.into_inner();
         self.add_waiting(word_of(number), bit_of(number));
     }
 
-    // Ends are added to a word that is there.
+    // Streams are added to a word that is there.
     fn add_waiting(&mut self, number: u64, bits: u64)
         requires { places_at self.old number ≢ 0 }
         ensures waiting { IsOneWord number (bit_or (waiting_at self.old number) bits) (waiting_at self.old) (waiting_at self.new) }
@@ -122,9 +123,9 @@ impl EndStreams {
         }
     }
 
-    /// The end of a stream waits no longer, and its place goes. It takes no memory.
+    /// Nothing waits on a stream any longer, and its place goes. It takes no memory.
     pub(crate) fn take(&mut self, id: StreamId)
-        ensures taken { IsOneTest id false (is_ending self.old) (is_ending self.new) }
+        ensures taken { IsOneTest id false (is_waiting self.old) (is_waiting self.new) }
         ensures places { (q : ℕ) → q ≢ id → has_place self.new q ≡ has_place self.old q }
     {
         let number = id.into_inner();
@@ -149,9 +150,9 @@ impl EndStreams {
         }
     }
 
-    /// The first stream from this id on whose end waits. It takes no memory, and looks at 64 streams at once.
+    /// The first stream from this id on on which something waits. It takes no memory, and looks at 64 streams at once.
     pub(crate) fn next(&self, from: u64) -> Option<StreamId>
-        ensures { IsLeast (is_ending self.now) from result }
+        ensures { IsLeast (is_waiting self.now) from result }
     {
         let Some(end) = from.checked_add(STEP - 1) else {
             return None;
@@ -169,7 +170,33 @@ impl EndStreams {
         stream_at(number, word.trailing_zeros() as u64)
     }
 
-    // Which ends of a word wait.
+    /// A stream has its place no longer. On which streams something waits stays as it was. It takes no memory.
+    pub(crate) fn release(&mut self, id: StreamId)
+        ensures same { (q : ℕ) → is_waiting self.new q ≡ is_waiting self.old q }
+        ensures places { (q : ℕ) → q ≢ id → has_place self.new q ≡ has_place self.old q }
+    {
+        let number = id.into_inner();
+        if number % STEP != 0 {
+            return;
+        }
+        self.take_places(word_of(number), bit_of(number));
+    }
+
+    // Takes places out of a word. One without bits goes.
+    fn take_places(&mut self, number: u64, bits: u64)
+        ensures waiting { HaveSameWords (waiting_at self.old) (waiting_at self.new) }
+        ensures places { IsOneWord number (bit_and (places_at self.old number) (bit_not w64 bits)) (places_at self.old) (places_at self.new) }
+    {
+        let Some(word) = self.words.get_mut(&number) else {
+            return;
+        };
+        word.places &= !bits;
+        if word.places == 0 && word.waiting == 0 {
+            self.words.remove(&number);
+        }
+    }
+
+    // On which streams of a word something waits.
     fn waiting_in(&self, number: u64) -> u64
         ensures { result ≡ waiting_at self.now number }
     {
@@ -179,7 +206,7 @@ impl EndStreams {
         }
     }
 
-    // The first word from this number on in which an end waits.
+    // The first word from this number on that has a stream on which something waits.
     fn next_word(&self, from: u64) -> Option<(u64, u64)>
         ensures { IsFirstWord (waiting_at self.now) from result }
     {

@@ -1,7 +1,7 @@
 -- Its bits are cleared in its word.
-use Rattle.h3_requests.specs.Ends.{places_at, waiting_at}
-use Rattle.h3_requests.proofs.Endings.{below, cleared_in, of_number}
-use Rattle.h3_requests.proofs.ends.EndStreams.take.Goals as goal
+use Rattle.h3_requests.specs.Waiting.{places_at, waiting_at}
+use Rattle.h3_requests.proofs.Bits.{below, cleared_in, of_number}
+use Rattle.h3_requests.proofs.waiting.WaitingStreams.take.Goals as goal
 
 pub returns-clause-taken : goal.returns-clause-taken
 returns-clause-taken c =

@@ -1,8 +1,8 @@
 -- It is the lowest bit of the first word that has one there.
 use Rattle.std.proofs.Common.{arith, ◌≡◌, ◌+◌, ◌/◌, ◌%◌, ◌^◌, refl, ap, rules}
-use Rattle.h3_requests.specs.Ends.{waiting_at}
-use Rattle.h3_requests.proofs.LeastEnd.{first_here, first_later, lies_in, none_later}
-use Rattle.h3_requests.proofs.ends.EndStreams.next.Goals as goal
+use Rattle.h3_requests.specs.Waiting.{waiting_at}
+use Rattle.h3_requests.proofs.LeastBit.{first_here, first_later, lies_in, none_later}
+use Rattle.h3_requests.proofs.waiting.WaitingStreams.next.Goals as goal
 
 pub stream_at-requires : goal.stream_at-requires
 stream_at-requires c = lies_in c.waiting_in.result (c.in-Some.end / 4 % 64) (omega (arith, c.if-here-ne0.true)) (search rules) (search rules)

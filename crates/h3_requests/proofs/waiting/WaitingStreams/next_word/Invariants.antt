@@ -1,6 +1,6 @@
 -- The words that were passed have no ends that wait.
-use Rattle.h3_requests.proofs.EndWords.{Left}
-use Rattle.h3_requests.proofs.ends.EndStreams.next_word.Given as goal
+use Rattle.h3_requests.proofs.WaitingWords.{Left}
+use Rattle.h3_requests.proofs.waiting.WaitingStreams.next_word.Given as goal
 
 abbrev pub invariant-loop-number : goal.invariant-loop-number
 invariant-loop-number l = Left l.self.words.entries l.from l.number-iterator
