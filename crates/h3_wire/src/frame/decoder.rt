@@ -9,7 +9,7 @@ ghost use Rattle.h3_wire.specs.Tries.{Counts, Expects, counted, needed, one_more
 
 use super::errors::{FrameProtocolError, FrameStreamError};
 use crate::buf::BufList;
-use crate::proto::frame::{Frame, FrameError, Head, PayloadLen};
+use crate::proto::frame::{Frame, FrameError, FrameHead, PayloadLen};
 use bytes::{Buf, Bytes};
 use std::alloc::Global;
 use std::marker::Model;
@@ -182,7 +182,7 @@ fn take_data_head(src: &mut BufList<Bytes>) -> Option<usize>
     ensures rest { IsRest src.old.pieces src.new.pieces }
 {
     let bytes = src.first_bytes();
-    let head = Head::at_front(bytes)?;
+    let head = FrameHead::at_front(bytes)?;
     // the type of DATA
     if head.kind == 0 {
         src.advance_first(head.size);
@@ -200,7 +200,7 @@ fn take_headers(src: &mut BufList<Bytes>) -> Option<Bytes>
     ensures rest { IsRest src.old.pieces src.new.pieces }
 {
     let bytes = src.first_bytes();
-    let head = Head::at_front(bytes)?;
+    let head = FrameHead::at_front(bytes)?;
     let behind = bytes.len() - head.size;
     let len = head.number as usize;
     // the type of HEADERS

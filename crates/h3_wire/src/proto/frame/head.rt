@@ -7,24 +7,24 @@ use h3_coding::coding::BufExt;
 
 /// A type and the number behind it: a length, or of a WebTransport stream a session id.
 #[derive(Clone, Copy)]
-pub(crate) struct Head {
+pub(crate) struct FrameHead {
     pub(crate) kind: u64,
     pub(crate) number: u64,
     /// How many bytes both have.
     pub(crate) size: usize,
 }
 
-impl Head {
+impl FrameHead {
     /// The head that lies whole at the front of the bytes.
     #[inline(always)]
-    pub(crate) fn at_front(bytes: &[u8]) -> Option<Head>
+    pub(crate) fn at_front(bytes: &[u8]) -> Option<FrameHead>
         ensures begins { IfSome result (λ h. BeginsWithHead h.kind h.number bytes.now (drop h.size bytes.now)) }
         ensures inside { IfSome result (λ h. (0 < h.size) × (h.size ≤ length bytes.now)) }
         ensures below { IfSome result (λ h. h.number < 2 ^ 62) }
     {
         let (kind, of_kind) = number_at(bytes)?;
         let (number, of_number) = number_at(&bytes[of_kind..])?;
-        Some(Head {
+        Some(FrameHead {
             kind,
             number,
             size: of_kind + of_number,
