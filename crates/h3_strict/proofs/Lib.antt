@@ -9,3 +9,4 @@ mod PlainRuns
 mod PlainMessages
 mod PlainSetups
 mod PlainHeadlines
+mod Faultless
