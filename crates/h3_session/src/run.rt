@@ -7,6 +7,8 @@ ghost use Rattle.h3_world.specs.Headline.{is_memory};
 ghost use Rattle.h3_world.specs.Setup.{IsMadeSetup, JudgesPlainly};
 ghost use Rattle.h3_session.specs.Headlines.{RunsInKeepingWorld, RunsInWorld, RunsUntilMemory};
 ghost use Rattle.h3_session.specs.Messages.{HandsOutAlways};
+ghost use Rattle.h3_session.specs.Strict.{RunsStrictly, RunsUntilFault};
+ghost use Rattle.h3_strict.specs.PlainEnds.{NoneJudges};
 ghost use Rattle.h3_session.specs.Acting.{ActsEach, RunsByCalls};
 ghost use Rattle.h3_session.specs.Running.{AnswersEach, RunsTo};
 
@@ -22,6 +24,9 @@ use h3_memory::laws::{
     two_endpoints_run_with_memory, what_is_pulled_with_memory_refused_is_what_was_sent,
 };
 use h3_proto::stream::Side;
+use h3_strict::laws::{
+    strict_endpoints_hand_out_what_was_sent, strict_endpoints_run_in_a_world, whole_runs_are_plain,
+};
 use h3_world::event::{Answer, Event};
 use h3_world::setup::Setup;
 use std::alloc::{AllocError, Global};
@@ -113,10 +118,16 @@ pub fn run(alloc: Global, setup: Setup, events: &[Event]) -> Result<Outcome, All
         RunsTo (new_ends setup) events.now out.answers.items out.client out.server) }
     ensures headline { IfOk result (λ out. list_any is_memory out.answers.items ≡ false → AreFew events.now → JudgesPlainly setup →
         RunsInWorld setup events.now out.answers.items out.client out.server) }
+    ensures faultless { IfOk result (λ out. AreFew events.now → RunsUntilFault setup events.now out.answers.items) }
+    ensures strict { IfOk result (λ out. list_any is_memory out.answers.items ≡ false → AreFew events.now → NoneJudges (new_ends setup) events.now →
+        RunsStrictly setup events.now out.answers.items out.client out.server) }
 {
     two_endpoints_run_in_a_world();
     two_endpoints_run_with_memory();
     what_is_pulled_with_memory_refused_is_what_was_sent();
+    whole_runs_are_plain();
+    strict_endpoints_run_in_a_world();
+    strict_endpoints_hand_out_what_was_sent();
     events_are_typed(events);
     let client = Endpoint::announcing(alloc, Side::Client, setup.client);
     let server = Endpoint::announcing(alloc, Side::Server, setup.server);

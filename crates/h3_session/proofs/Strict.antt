@@ -1,0 +1,68 @@
+-- Two endpoints that may ask for strict messages, over a whole run.
+use Rattle.std.proofs.Common.{◌≡◌, ℕ, List, take, true, false, sym, subst}
+use Rattle.std.specs.List.{AllByRecursion, list_any}
+use Rattle.h3_connection.specs.State.{EndpointState}
+use Rattle.h3_world.specs.declared.event.Answer.{Answer}
+use Rattle.h3_world.specs.declared.event.Event.{Event}
+use Rattle.h3_world.specs.declared.setup.Setup.{Setup}
+use Rattle.h3_world.specs.Ends.{Ends, answers_of_ends, ends_after, new_ends}
+use Rattle.h3_world.specs.Few.{AreFew}
+use Rattle.h3_world.specs.Headline.{Happens}
+use Rattle.h3_world.specs.Run.{Run}
+use Rattle.h3_world.specs.Sendable.{IsSendable}
+use Rattle.h3_world.specs.World.{World, empty_world}
+use Rattle.h3_headline.specs.Standing.{Stands}
+use Rattle.h3_strict.specs.PlainEnds.{RunsPlainly, answers_without_malformed, finds_fault, plain_ends, plain_setup, without_malformed}
+use Rattle.h3_session.specs.Messages.{HandsOutWhatWasSent}
+use Rattle.h3_session.specs.Running.{AnswersEach, RunsTo}
+use Rattle.h3_session.specs.Strict.{RunsStrictly, RunsUntilFault, RunsWithoutMalformed}
+use Rattle.h3_session.specs.Typed.{IsTyped}
+use Rattle.h3_session.proofs.Headlines.{front_of_all}
+use Rattle.h3_session.proofs.Sendables.{few_are_sendable}
+
+-- what is cited of two endpoints, over some events
+abbrev pub WorldOfEnds : Setup → List Event → Type 0
+WorldOfEnds setup events =
+    let answers = answers_of_ends (new_ends setup) events in
+    (w : World) × Run (Happens (plain_setup setup)) (empty_world (plain_setup setup)) (without_malformed events answers) (answers_without_malformed answers) w
+    × Stands (plain_setup setup) w (plain_ends (ends_after (new_ends setup) events))
+
+abbrev pub LawOfWorlds : Setup → Type 0
+LawOfWorlds setup = (events : List Event) → AllByRecursion IsSendable events → RunsPlainly (new_ends setup) events → WorldOfEnds setup events
+
+abbrev pub LawOfMessages : Setup → Type 0
+LawOfMessages setup = (events : List Event) → AllByRecursion IsSendable events → RunsPlainly (new_ends setup) events → HandsOutWhatWasSent setup events (answers_of_ends (new_ends setup) events)
+
+module _ (setup : Setup) (in_world : LawOfWorlds setup) (hands_out : LawOfMessages setup) where
+  -- by what two endpoints answer
+  runs_by_ends : (events : List Event) → AllByRecursion IsSendable events → RunsPlainly (new_ends setup) events → RunsWithoutMalformed setup events (answers_of_ends (new_ends setup) events)
+  runs_by_ends events sendable plainly =
+      let on = in_world events sendable plainly in
+      record { world = on.0; run = on.1; hands_out = hands_out events sendable plainly }
+
+  -- up to the first answer that tells of refused memory, where they answer as without strict messages
+  pub runs_front : (events : List Event) (answers : List Answer) → AllByRecursion IsTyped events → AnswersEach (new_ends setup) events answers → AreFew events
+      → (n : ℕ) → take n answers ≡ answers_of_ends (new_ends setup) (take n events) → RunsPlainly (new_ends setup) (take n events) → RunsWithoutMalformed setup (take n events) (take n answers)
+  runs_front events answers typed h few n is plainly =
+      subst (RunsWithoutMalformed setup (take n events)) (sym is) (runs_by_ends (take n events) (front_of_all IsSendable n events (few_are_sendable events typed few)) plainly)
+
+  pub runs_until_fault : (events : List Event) (answers : List Answer)
+      → ((ends : Ends) (front : List Event) → list_any finds_fault (answers_of_ends ends front) ≡ false → RunsPlainly ends front)
+      → AllByRecursion IsTyped events → AnswersEach (new_ends setup) events answers → AreFew events → RunsUntilFault setup events answers
+  runs_until_fault events answers faultless typed h few = λ n not_memory none.
+      let is = h.until_memory n not_memory in
+      runs_front events answers typed h few n is (faultless (new_ends setup) (take n events) (subst (λ given. list_any finds_fault given ≡ false) is none))
+
+  -- and over all of them
+  pub runs_strictly : (events : List Event) (answers : List Answer) (client server : EndpointState) → (AllByRecursion IsSendable events → RunsPlainly (new_ends setup) events)
+      → AllByRecursion IsTyped events → RunsTo (new_ends setup) events answers client server → AreFew events → RunsStrictly setup events answers client server
+  runs_strictly events answers client server plainly typed h few =
+      let sendable = few_are_sendable events typed few in
+      let on = in_world events sendable (plainly sendable) in
+      subst (λ given. RunsStrictly setup events given client server) (sym h.answered_so) (record {
+        runs = record { world = on.0; run = on.1; hands_out = hands_out events sendable (plainly sendable) };
+        ends = ends_after (new_ends setup) events;
+        stands = on.2;
+        client_stands = h.client_stands;
+        server_stands = h.server_stands;
+      })
