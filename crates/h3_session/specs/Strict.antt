@@ -26,7 +26,7 @@ RunsUntilFault setup events answers =
     (n : ℕ) → list_any is_memory (take n answers) ≡ false → list_any finds_fault (take n answers) ≡ false → RunsWithoutMalformed setup (take n events) (take n answers)
 
 -- So it is of all events, and these endpoints stand for ends that, without strict messages, stand in the world that the run leads to.
-pub record RunsStrictly (setup : Setup) (events : List Event) (answers : List Answer) (client server : EndpointState) : Type 0 where
+pub record RunsFaultless (setup : Setup) (events : List Event) (answers : List Answer) (client server : EndpointState) : Type 0 where
   pub runs : RunsWithoutMalformed setup events answers
   pub ends : Ends
   pub stands : Stands (plain_setup setup) runs.world (plain_ends ends)

@@ -7,8 +7,8 @@ ghost use Rattle.h3_world.specs.Headline.{is_memory};
 ghost use Rattle.h3_world.specs.Setup.{IsMadeSetup, JudgesPlainly};
 ghost use Rattle.h3_session.specs.Headlines.{RunsInKeepingWorld, RunsInWorld, RunsUntilMemory};
 ghost use Rattle.h3_session.specs.Messages.{HandsOutAlways};
-ghost use Rattle.h3_session.specs.Strict.{RunsStrictly, RunsUntilFault};
-ghost use Rattle.h3_strict.specs.PlainEnds.{NoneJudges};
+ghost use Rattle.h3_session.specs.Strict.{RunsFaultless, RunsUntilFault};
+ghost use Rattle.h3_strict.specs.PlainEnds.{finds_fault};
 ghost use Rattle.h3_session.specs.Acting.{ActsEach, RunsByCalls};
 ghost use Rattle.h3_session.specs.Running.{AnswersEach, RunsTo};
 
@@ -106,6 +106,13 @@ fn beside<A: Drop, B: Drop>(first: A, second: Result<B, AllocError>) -> Result<(
 ///   arises, a send that is in order and within the known limit is accepted, a pull hands out what was sent or pauses just where
 ///   that isn't there, with everything delivered everything comes out, and no more heads wait than were announced.
 ///
+/// In every setup, with both sides strict, one or none, and the bounds of numbers of `headline`:
+/// - `faultless_front`: up to the first answer that tells of refused memory, of a malformed message or of a connection fault, and without the
+///   sends that were refused as malformed, the answers are a run of the world of the setup that asks for no strict messages; and each side is
+///   handed what the other side sent.
+/// - `faultless`: where no answer tells of these, so it is of all of them, and the endpoints handed back stand in the last world, once they are
+///   taken for ones without strict messages.
+///
 /// What `Setup::new` answers is a made setup: `h3_world::laws::setups_are_made`.
 pub fn run(alloc: Global, setup: Setup, events: &[Event]) -> Result<Outcome, AllocError>
     requires { IsMadeSetup setup }
@@ -118,9 +125,9 @@ pub fn run(alloc: Global, setup: Setup, events: &[Event]) -> Result<Outcome, All
         RunsTo (new_ends setup) events.now out.answers.items out.client out.server) }
     ensures headline { IfOk result (λ out. list_any is_memory out.answers.items ≡ false → AreFew events.now → JudgesPlainly setup →
         RunsInWorld setup events.now out.answers.items out.client out.server) }
-    ensures faultless { IfOk result (λ out. AreFew events.now → RunsUntilFault setup events.now out.answers.items) }
-    ensures strict { IfOk result (λ out. list_any is_memory out.answers.items ≡ false → AreFew events.now → NoneJudges (new_ends setup) events.now →
-        RunsStrictly setup events.now out.answers.items out.client out.server) }
+    ensures faultless_front { IfOk result (λ out. AreFew events.now → RunsUntilFault setup events.now out.answers.items) }
+    ensures faultless { IfOk result (λ out. list_any is_memory out.answers.items ≡ false → list_any finds_fault out.answers.items ≡ false → AreFew events.now →
+        RunsFaultless setup events.now out.answers.items out.client out.server) }
 {
     two_endpoints_run_in_a_world();
     two_endpoints_run_with_memory();

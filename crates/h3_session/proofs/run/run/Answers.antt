@@ -2,7 +2,7 @@ use Rattle.h3_world.specs.Ends.{new_ends}
 use Rattle.h3_session.proofs.Headlines.{runs_in_keeping_world, runs_in_world, runs_until_memory}
 use Rattle.h3_session.proofs.Messages.{hands_out_always}
 use Rattle.h3_session.proofs.Runs.{answers_each, ran, runs_to}
-use Rattle.h3_session.proofs.Strict.{runs_strictly, runs_until_fault}
+use Rattle.h3_session.proofs.Strict.{runs_faultless, runs_until_fault}
 use Rattle.h3_session.proofs.run.run.Goals as goal
 
 pub returns-clause-calls : goal.returns-clause-calls
@@ -62,8 +62,8 @@ returns-clause-memory c = λ few plain.
     runs_in_keeping_world setup c.args.events.now answers _ _
     (λ ends sendable run. c.two_endpoints_run_with_memory.ensures setup c.args.events.now answers ends c.requires plain sendable run) c.events_are_typed.ensures calls few
 
-pub returns-clause-faultless : goal.returns-clause-faultless
-returns-clause-faultless c = λ few.
+pub returns-clause-faultless_front : goal.returns-clause-faultless_front
+returns-clause-faultless_front c = λ few.
     let calls = ran (λ v. v.items) (new_ends c.args.setup) c.args.events.now c.announcing-client.result c.announcing-server.result c.run_between-answers.result _ _ _ _ _ c.in_ok-client-2.answers
     c.announcing-client.ensures c.announcing-server.ensures c.in_ok-client.ensures.0 c.in_ok-client.ensures.1 c.run_between-answers.ensures c.in_ok-client-2.ensures.0 c.in_ok-client-2.ensures.1 in
     let setup = c.args.setup in
@@ -76,16 +76,16 @@ returns-clause-faultless c = λ few.
     }) c.args.events.now answers c.whole_runs_are_plain.ensures.faultless c.events_are_typed.ensures
     (answers_each (new_ends setup) c.args.events.now answers _ _ calls) few
 
-pub returns-clause-strict : goal.returns-clause-strict
-returns-clause-strict c = λ whole few none.
+pub returns-clause-faultless : goal.returns-clause-faultless
+returns-clause-faultless c = λ whole none few.
     let calls = ran (λ v. v.items) (new_ends c.args.setup) c.args.events.now c.announcing-client.result c.announcing-server.result c.run_between-answers.result _ _ _ _ _ c.in_ok-client-2.answers
     c.announcing-client.ensures c.announcing-server.ensures c.in_ok-client.ensures.0 c.in_ok-client.ensures.1 c.run_between-answers.ensures c.in_ok-client-2.ensures.0 c.in_ok-client-2.ensures.1 in
     let setup = c.args.setup in
     let answers = c.in_ok-client-2.answers.items in
-    runs_strictly setup (λ front sendable plainly. c.strict_endpoints_run_in_a_world.ensures setup front c.requires sendable plainly)
+    runs_faultless setup (λ front sendable plainly. c.strict_endpoints_run_in_a_world.ensures setup front c.requires sendable plainly)
     (λ front sendable plainly. record {
       no_connection_fault = c.strict_endpoints_hand_out_what_was_sent.ensures.fault setup front c.requires sendable plainly;
       begins = λ side id. c.strict_endpoints_hand_out_what_was_sent.ensures.front setup front side id c.requires sendable plainly;
       ends = λ side id ended. c.strict_endpoints_hand_out_what_was_sent.ensures.end setup front side id c.requires sendable plainly ended;
-    }) c.args.events.now answers _ _ (λ sendable. c.whole_runs_are_plain.ensures.all (new_ends setup) c.args.events.now none) c.events_are_typed.ensures
-    (runs_to (new_ends setup) c.args.events.now answers _ _ calls whole) few
+    }) c.args.events.now answers _ _ c.whole_runs_are_plain.ensures.faultless c.events_are_typed.ensures
+    (runs_to (new_ends setup) c.args.events.now answers _ _ calls whole) none few
