@@ -26,7 +26,7 @@ PARTS = (
     ("## The endpoints that are handed back", ("RunsInWorld",)),
     ("## The same answers by two endpoints", ("RunsTo", "AnswersEach", "new_ends")),
     ("## What each call leaves", ("RunsByCalls",)),
-    ("## Where a side is strict", ("RunsUntilFault", "RunsFaultless")),
+    ("## Where a side is strict", ("RunsUntilFault", "RunsFaultless", "FindsNoFault", "ServerKnows", "JudgesStrictly")),
     ("## Where memory is refused", None),
 )
 # Behind these the values of the code: a heading, and from which types of the signature its rows come, and from those that which parts list.

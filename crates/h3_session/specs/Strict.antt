@@ -11,6 +11,7 @@ use Rattle.h3_world.specs.Run.{Run}
 use Rattle.h3_world.specs.World.{World, empty_world}
 use Rattle.h3_headline.specs.Standing.{Stands}
 use Rattle.h3_strict.specs.PlainEnds.{answers_without_malformed, finds_fault, plain_ends, plain_setup, without_malformed}
+use Rattle.h3_strict.specs.ServerKnows.{ServerKnows}
 use Rattle.h3_session.specs.Messages.{HandsOutWhatWasSent}
 
 -- The events but the sends that were refused as malformed, with their answers, are a run of the world of the setup that asks for no strict
@@ -32,3 +33,8 @@ pub record RunsFaultless (setup : Setup) (events : List Event) (answers : List A
   pub stands : Stands (plain_setup setup) runs.world (plain_ends ends)
   pub client_stands : StandsFor client ends.client
   pub server_stands : StandsFor server ends.server
+
+-- Where the server knows what was asked before it answers, no pull finds a fault, up to the first answer that tells of refused memory.
+abbrev pub FindsNoFault : List Event → List Answer → Type 0
+FindsNoFault events answers =
+    (n : ℕ) → list_any is_memory (take n answers) ≡ false → ServerKnows (take n events) (take n answers) → list_any finds_fault (take n answers) ≡ false
