@@ -3,10 +3,11 @@ use Rattle.std.proofs.Common.{◌≡◌, ℕ, Bool, true, false, if◌then◌els
 use Rattle.std.specs.Prelude.{is_some, option_map}
 use Rattle.h3_proto.specs.declared.stream.Side.{Side}
 use Rattle.h3_proto.specs.declared.stream.Side.TheVariants.{Client, Server}
+use Rattle.h3_qpack.specs.Hearing.{listen}
 use Rattle.h3_connection.specs.Arrivals.{stream_of, is_closed_in}
 use Rattle.h3_connection.specs.declared.arrival.Arrival.{Arrival}
 use Rattle.h3_connection.specs.declared.arrival.Arrival.TheVariants.{BytesCame, EndCame, ResetCame}
-use Rattle.h3_connection.specs.Control.{Found, read_decoder, with_table, if_learned, then_decoder, after_peer, read_control}
+use Rattle.h3_connection.specs.Control.{Found, listened_to, read_decoder, with_table, if_learned, then_decoder, after_peer, read_control}
 use Rattle.h3_connection.specs.Delivering.{request_refusal, refusal_at, delivery_refusal, opened_at, opened, incoming_at, with_incoming, unidirectional_at, with_unidirectional, unless_second, heard_as, read_unidirectional, kept, with_end, bytes_at, end_at, give_up, reset_at, taken}
 use Rattle.h3_connection.specs.Endpoint.{EndpointHistory, Kind, is_second, kind_of}
 use Rattle.h3_connection.specs.Endpoint.Kind.{Request, ServerOpened, OwnUnidirectional, PeerUnidirectional}
@@ -17,7 +18,6 @@ use Rattle.h3_connection.specs.StreamSets.{Streams, stream_at}
 use Rattle.h3_connection.specs.Unidirectional.{Unidirectional, Role, role_after, with_bytes}
 use Rattle.h3_connection.specs.Unidirectional.Role.{Untold, Control, Encoder, Decoder, Session, Push, Ignored}
 use Rattle.h3_connection.specs.declared.event.StreamFault.TheVariants as stream_fault
-use Rattle.h3_connection.proofs.ReadingCuts.{read_if}
 use Rattle.h3_strict.specs.Plainly.{plain_incoming, plainly}
 use Rattle.h3_strict.proofs.PlainCalls.{CallsPlainly, taken_plainly}
 use Rattle.h3_strict.proofs.PlainSends.{gives_up_plainly, opens_as}
@@ -26,6 +26,10 @@ use Rattle.h3_strict.proofs.PlainStreams.{at_each, set_each, in_at}
 -- the same fault, at the endpoint without strict messages
 abbrev pub plain_found : Found → Found
 plain_found x = (plainly x.0, x.1)
+
+-- the decoder stream, once the settings came and before
+abbrev read_if : Bool → EndpointHistory → List ℕ → Found
+read_if came e bytes = if came then listened_to e (listen e.encoder (e.decoder_unread ++ bytes)) else (record e { decoder_unread = e.decoder_unread ++ bytes }, None)
 
 -- the control stream
 decoder_plain : (came : Bool) (e : EndpointHistory) (bytes : List ℕ) → read_if came (plainly e) bytes ≡ plain_found (read_if came e bytes)

@@ -1,6 +1,7 @@
 -- Streams without what strict messages know of them: each is found, set and counted as before.
 use Rattle.std.proofs.Common.{◌≡◌, ℕ, ◌+◌, Bool, true, false, if◌then◌else◌, [], ◌∷◌, refl, ap, sym, ◌∙◌, Option, Some, None}
-use Rattle.std.specs.Prelude.{◌==◌, nat_lt, option_map, unwrap_or}
+use Rattle.std.specs.Prelude.{count_by, ◌==◌, nat_lt, option_map, unwrap_or}
+use Rattle.std.proofs.lemmas.List.Sums.{sum_by-cons}
 use Rattle.h3_connection.specs.Delivering.{incoming_at}
 use Rattle.h3_connection.specs.Endpoint.{EndpointHistory}
 use Rattle.h3_connection.specs.Incoming.{Incoming, nothing_came}
@@ -8,7 +9,6 @@ use Rattle.h3_connection.specs.Outgoing.{Outgoing, nothing_sent}
 use Rattle.h3_connection.specs.Sending.{outgoing_at}
 use Rattle.h3_connection.specs.StreamSets.{Streams, stream_at, set_stream}
 use Rattle.h3_connection.specs.StreamSetLaws.{set-same}
-use Rattle.h3_connection.proofs.WaitingCounts.{waiting_above, one_if, count_more}
 use Rattle.h3_strict.specs.Plainly.{each_stream, plain_incoming, plain_outgoing, plainly}
 
 map_if : {X : Type 0} (f : X → X) (b : Bool) (x : X) (o : Option X) → (if b then Some (f x) else option_map f o) ≡ option_map f (if b then Some x else o)
@@ -36,10 +36,16 @@ set_alike f streams id x y here same =
     ∙ set-same (each_stream f streams) id (f x) (at_each f streams id ∙ ap (option_map f) here)
 
 -- as many streams wait
+abbrev pub waiting_above : ℕ → Streams Incoming → ℕ
+waiting_above n streams = count_by (λ s. nat_lt n s.1.waits_for) streams
+
+count_more : (n q : ℕ) (i : Incoming) (streams : Streams Incoming) → waiting_above n ((q, i) ∷ streams) ≡ (if nat_lt n i.waits_for then 1 else 0) + waiting_above n streams
+count_more n q i streams = sum_by-cons (λ s. if nat_lt n s.1.waits_for then 1 else 0) (q, i) streams
+
 pub count_each : (n : ℕ) (streams : Streams Incoming) → waiting_above n (each_stream plain_incoming streams) ≡ waiting_above n streams
 count_each n [] = refl
 count_each n ((q, i) ∷ streams) =
-    count_more n q (plain_incoming i) (each_stream plain_incoming streams) ∙ ap (λ m. one_if (nat_lt n i.waits_for) + m) (count_each n streams) ∙ sym (count_more n q i streams)
+    count_more n q (plain_incoming i) (each_stream plain_incoming streams) ∙ ap (λ m. (if nat_lt n i.waits_for then 1 else 0) + m) (count_each n streams) ∙ sym (count_more n q i streams)
 
 -- a stream of which nothing came is as it was
 or_nothing : (o : Option Incoming) → unwrap_or (option_map plain_incoming o) nothing_came ≡ plain_incoming (unwrap_or o nothing_came)

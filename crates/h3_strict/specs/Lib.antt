@@ -4,3 +4,4 @@ pub mod ServerKnows
 pub mod StrictPull
 pub mod Tallies
 pub mod Unbroken
+pub mod WorkedStrict

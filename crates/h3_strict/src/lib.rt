@@ -3,3 +3,4 @@
 
 pub mod laws;
 pub mod strict;
+pub mod worked;
