@@ -26,6 +26,7 @@ PARTS = (
     ("## The endpoints that are handed back", ("RunsInWorld",)),
     ("## The same answers by two endpoints", ("RunsTo", "AnswersEach", "new_ends")),
     ("## What each call leaves", ("RunsByCalls",)),
+    ("## Where a side is strict", ("RunsUntilFault", "RunsFaultless", "FindsNoFault", "ServerKnows", "JudgesStrictly")),
     ("## Where memory is refused", None),
 )
 # Behind these the values of the code: a heading, and from which types of the signature its rows come, and from those that which parts list.
@@ -39,7 +40,8 @@ PAGES = {
     "docs/HEADLINE.md": (PARTS[1][0], VALUES[0][0]),
     "docs/headline/endpoints.md": (PARTS[2][0], VALUES[1][0]),
     "docs/headline/calls.md": (PARTS[3][0], PARTS[4][0]),
-    "docs/headline/memory.md": (PARTS[5][0],),
+    "docs/headline/strict.md": (PARTS[5][0],),
+    "docs/headline/memory.md": (PARTS[6][0],),
 }
 # how many lines the first parts may have: a sitting each
 MOST = {PARTS[0][0]: 450, PARTS[1][0]: 1500}

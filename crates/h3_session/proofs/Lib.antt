@@ -41,6 +41,7 @@ pub mod Carrying
 pub mod Sendables
 pub mod Headlines
 pub mod Messages
+pub mod Strict
 pub mod LentFrames
 pub mod WellSentLists
 pub mod MemoryTells

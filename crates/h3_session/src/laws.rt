@@ -21,6 +21,11 @@
 //!   these run in a world in which it may (`two_endpoints_run_with_memory`), which is the world of a connection where none is refused
 //!   (`without_memory_answers_a_run_is_one_of_the_world`). What such a run hands out is what was sent
 //!   (`what_is_pulled_with_memory_refused_is_what_was_sent`), and nothing is lost (`once_memory_is_back_nothing_is_lost`).
+//! - Strict sides: each event is answered as without strict messages, or is refused as malformed, or finds a message malformed
+//!   (`each_event_steps_plainly`), so whole schedules are answered so (`whole_runs_are_plain`) and run in a world
+//!   (`strict_endpoints_run_in_a_world`, `strict_endpoints_hand_out_what_was_sent`, `schedules_that_judge_nothing_find_no_fault`). Between two
+//!   strict sides no pull finds one malformed, where the server knows what was asked before it answers (`strict_endpoints_take_what_they_send`,
+//!   `two_strict_endpoints_run_in_a_world`).
 //! - What `Setup::new` answers may be given to `run` (`setups_are_made`).
 //! - Lists: a head and a trailer are sent as the lists of their fields are (`heads_are_sent_as_their_lists`).
 ghost use Rattle.std.specs.Prelude.{◌≡◌, ℕ, List};
@@ -54,6 +59,13 @@ pub use h3_memory::laws::{
     once_memory_is_back_nothing_is_lost, two_endpoints_run_with_memory,
     what_is_pulled_with_memory_refused_is_what_was_sent,
     without_memory_answers_a_run_is_one_of_the_world,
+};
+pub use h3_strict::laws::{
+    each_event_steps_plainly, schedules_that_judge_nothing_find_no_fault,
+    strict_endpoints_hand_out_what_was_sent, strict_endpoints_run_in_a_world, whole_runs_are_plain,
+};
+pub use h3_strict::strict::{
+    strict_endpoints_take_what_they_send, two_strict_endpoints_run_in_a_world,
 };
 pub use h3_world::laws::setups_are_made;
 

@@ -7,6 +7,10 @@ ghost use Rattle.h3_world.specs.Headline.{is_memory};
 ghost use Rattle.h3_world.specs.Setup.{IsMadeSetup, JudgesPlainly};
 ghost use Rattle.h3_session.specs.Headlines.{RunsInKeepingWorld, RunsInWorld, RunsUntilMemory};
 ghost use Rattle.h3_session.specs.Messages.{HandsOutAlways};
+ghost use Rattle.h3_session.specs.Strict.{FindsNoFault, RunsFaultless, RunsUntilFault};
+ghost use Rattle.h3_strict.specs.PlainEnds.{finds_fault};
+ghost use Rattle.h3_strict.specs.ServerKnows.{ServerKnows};
+ghost use Rattle.h3_strict.specs.Tallies.{JudgesStrictly};
 ghost use Rattle.h3_session.specs.Acting.{ActsEach, RunsByCalls};
 ghost use Rattle.h3_session.specs.Running.{AnswersEach, RunsTo};
 
@@ -22,6 +26,11 @@ use h3_memory::laws::{
     two_endpoints_run_with_memory, what_is_pulled_with_memory_refused_is_what_was_sent,
 };
 use h3_proto::stream::Side;
+use h3_strict::laws::{
+    schedules_that_judge_nothing_find_no_fault, strict_endpoints_hand_out_what_was_sent,
+    strict_endpoints_run_in_a_world, whole_runs_are_plain,
+};
+use h3_strict::strict::strict_endpoints_take_what_they_send;
 use h3_world::event::{Answer, Event};
 use h3_world::setup::Setup;
 use std::alloc::{AllocError, Global};
@@ -101,6 +110,18 @@ fn beside<A: Drop, B: Drop>(first: A, second: Result<B, AllocError>) -> Result<(
 ///   arises, a send that is in order and within the known limit is accepted, a pull hands out what was sent or pauses just where
 ///   that isn't there, with everything delivered everything comes out, and no more heads wait than were announced.
 ///
+/// In every setup, with both sides strict, one or none, and the bounds of numbers of `headline`:
+/// - `faultless_front`: up to the first answer that tells of refused memory, of a malformed message or of a connection fault, and without the
+///   sends that were refused as malformed, the answers are a run of the world of the setup that asks for no strict messages; and each side is
+///   handed what the other side sent.
+/// - `faultless`: where no answer tells of these, so it is of all of them, and the endpoints handed back stand in the last world, once they are
+///   taken for ones without strict messages.
+///
+/// Between two strict sides, where the server was handed the head of a request before it sends the final head of its response (`ServerKnows`):
+/// - `strict_front`: no answer tells of a malformed message or of a connection fault, up to the first that tells of refused memory. So what
+///   `faultless_front` says holds up to there.
+/// - `strict`: where no answer tells of refused memory none tells of these, and all that `faultless` says holds.
+///
 /// What `Setup::new` answers is a made setup: `h3_world::laws::setups_are_made`.
 pub fn run(alloc: Global, setup: Setup, events: &[Event]) -> Result<Outcome, AllocError>
     requires { IsMadeSetup setup }
@@ -113,10 +134,21 @@ pub fn run(alloc: Global, setup: Setup, events: &[Event]) -> Result<Outcome, All
         RunsTo (new_ends setup) events.now out.answers.items out.client out.server) }
     ensures headline { IfOk result (λ out. list_any is_memory out.answers.items ≡ false → AreFew events.now → JudgesPlainly setup →
         RunsInWorld setup events.now out.answers.items out.client out.server) }
+    ensures faultless_front { IfOk result (λ out. AreFew events.now → RunsUntilFault setup events.now out.answers.items) }
+    ensures faultless { IfOk result (λ out. list_any is_memory out.answers.items ≡ false → list_any finds_fault out.answers.items ≡ false → AreFew events.now →
+        RunsFaultless setup events.now out.answers.items out.client out.server) }
+    ensures strict_front { IfOk result (λ out. AreFew events.now → JudgesStrictly setup → FindsNoFault events.now out.answers.items) }
+    ensures strict { IfOk result (λ out. list_any is_memory out.answers.items ≡ false → AreFew events.now → JudgesStrictly setup → ServerKnows events.now out.answers.items →
+        (list_any finds_fault out.answers.items ≡ false) × RunsFaultless setup events.now out.answers.items out.client out.server) }
 {
     two_endpoints_run_in_a_world();
     two_endpoints_run_with_memory();
     what_is_pulled_with_memory_refused_is_what_was_sent();
+    whole_runs_are_plain();
+    schedules_that_judge_nothing_find_no_fault();
+    strict_endpoints_take_what_they_send();
+    strict_endpoints_run_in_a_world();
+    strict_endpoints_hand_out_what_was_sent();
     events_are_typed(events);
     let client = Endpoint::announcing(alloc, Side::Client, setup.client);
     let server = Endpoint::announcing(alloc, Side::Server, setup.server);

@@ -16,6 +16,7 @@ mod PlainRuns
 mod PlainMessages
 mod PlainSetups
 mod PlainHeadlines
+mod Faultless
 mod TallySteps
 mod SentTallies
 mod SendEvents

@@ -172,7 +172,7 @@ module _ (laws : Laws) (setup : Setup) (made : IsMadeSetup (plain_setup setup)) 
         let t = known_less setup r.world ends known (λ id. knows_behind id (known id) e (answered ends e).0) (λ id is. known_before e (answered ends e).0 id (known id) told is) r.tallies in
         let q : Reached past ends (λ id. knows_behind id (known id) e (answered ends e).0) = record { sendable = r.sendable; leads = r.leads; world = r.world; run = r.run; stands = r.stands; tallies = t } in
         rest past (answered ends e).1 (λ id. knows_behind id (known id) e (answered ends e).0) later (subst (λ n. Reached past n (λ id. knows_behind id (known id) e (answered ends e).0)) (sym same) q)
-    next_from events past ends known e (Judges judged) sendable knows later r rest = absurd (let never : false ≡ true = sym (none_here e r.world ends known r.stands r.tallies) ∙ judged in cc)
+    next_from events past ends known e (Judges judged told) sendable knows later r rest = absurd (let never : false ≡ true = sym (none_here e r.world ends known r.stands r.tallies) ∙ judged in cc)
     next_from events past ends known e (Alike told same) sendable knows later r rest =
         rest (past ++ e ∷ []) (answered ends e).1 (λ id. knows_behind id (known id) e (answered ends e).0) later (goes_on past ends known e sendable knows same r)
 

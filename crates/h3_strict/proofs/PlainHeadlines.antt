@@ -17,9 +17,8 @@ use Rattle.h3_world.specs.declared.event.Event.{Event}
 use Rattle.h3_world.specs.declared.setup.Setup.{Setup}
 use Rattle.h3_headline.specs.Messages.{Content, IsFrontOf, at_reader, has_finished, has_pulled_end, pulled, sent}
 use Rattle.h3_headline.specs.Standing.{Stands}
-use Rattle.h3_strict.specs.PlainEnds.{NoneJudges, RunsPlainly, answers_without_malformed, plain_ends, plain_setup, without_malformed}
+use Rattle.h3_strict.specs.PlainEnds.{RunsPlainly, answers_without_malformed, plain_ends, plain_setup, without_malformed}
 use Rattle.h3_strict.proofs.PlainMessages.{same_ended, same_faults, same_finished, same_pulled, same_sent, sendable_left}
-use Rattle.h3_strict.proofs.PlainRuns.{runs_plainly}
 use Rattle.h3_strict.proofs.PlainSetups.{judges_plainly, setup_plainly}
 
 -- the limit is that of the setup
@@ -32,15 +31,12 @@ abbrev pub RunInWorlds : Type 0
 RunInWorlds = (setup : Setup) (events : List Event) → IsMadeSetup setup → JudgesPlainly setup → AllByRecursion IsSendable events
     → (w : World) × Run (Happens setup) (empty_world setup) events (answers_of_ends (new_ends setup) events) w × Stands setup w (ends_after (new_ends setup) events)
 
-module _ (setup : Setup) (events : List Event) (made : IsMadeSetup setup) (sendable : AllByRecursion IsSendable events) (none : NoneJudges (new_ends setup) events) where
+module _ (setup : Setup) (events : List Event) (made : IsMadeSetup setup) (sendable : AllByRecursion IsSendable events) (runs : RunsPlainly (new_ends setup) events) where
   abbrev pub left : List Event
   left = without_malformed events (answers_of_ends (new_ends setup) events)
 
   abbrev left_answers : List Answer
   left_answers = answers_without_malformed (answers_of_ends (new_ends setup) events)
-
-  runs : RunsPlainly (new_ends setup) events
-  runs = runs_plainly (new_ends setup) events none
 
   pub may_be_sent : AllByRecursion IsSendable left
   may_be_sent = sendable_left events (answers_of_ends (new_ends setup) events) sendable

@@ -17,14 +17,14 @@ use Rattle.h3_connection.specs.declared.event.Item.TheVariants as item
 use Rattle.h3_connection.specs.declared.event.Pull.{Pull}
 use Rattle.h3_connection.specs.declared.event.Pull.TheVariants as answer
 use Rattle.h3_connection.specs.declared.event.StreamFault.{StreamFault}
-use Rattle.h3_strict.specs.Plainly.{is_judged, judged_as, judged_at, judged_open, plain, plain_incoming, plainly, tells_malformed}
+use Rattle.h3_strict.specs.Plainly.{is_judged, judged_as, judged_at, judged_open, plain, plain_incoming, plainly, tells_fault, tells_malformed}
 use Rattle.h3_strict.proofs.PlainCalls.{plain_result}
 use Rattle.h3_strict.proofs.PlainPulls.{PullsPlainly, Judged, Same, plain_pulled, pull_plain}
 use Rattle.h3_strict.proofs.PlainReading.{all_plain, plain_found}
 use Rattle.h3_strict.proofs.PlainStreams.{at_each, set_each, count_each}
 
 pub data PulledPlainly (judged : Bool) (x y : Pull × EndpointHistory) : Type 0 where
-  IsJudged : judged ≡ true → PulledPlainly judged x y
+  IsJudged : judged ≡ true → tells_fault x.0 ≡ true → PulledPlainly judged x y
   IsAlike : y ≡ plain_result x → PulledPlainly judged x y
 
 after_plain : (a : Pull) (e : EndpointHistory) → after_answer a (plainly e) ≡ plain_result (after_answer a e)
@@ -36,7 +36,20 @@ after_plain answer.Pending e = refl
 after_plain (answer.Waiting n) e = refl
 after_plain answer.NoMessages e = refl
 
+fault_told : (a : Pull) (e : EndpointHistory) → tells_malformed a ≡ true → tells_fault (after_answer a e).0 ≡ true
+fault_told (answer.Fault (fault.Connection code)) e is = refl
+fault_told (answer.Fault (fault.Stream f)) e is = is
+fault_told (answer.Fault fault.Memory) e is = absurd (cc)
+fault_told (answer.Item i) e is = absurd (cc)
+fault_told answer.Pending e is = absurd (cc)
+fault_told (answer.Waiting n) e is = absurd (cc)
+fault_told answer.NoMessages e is = absurd (cc)
+
 module _ (e : EndpointHistory) (id : ℕ) where
+  given_told : (b : Bool) (p : Pulled) → tells_malformed p.answer ≡ true → tells_fault (pulled e id (if_too_many b p)).0 ≡ true
+  given_told true p is = refl
+  given_told false p is = fault_told p.answer (replied (with_incoming e id p.incoming) p.replies) is
+
   given_plain : (p : Pulled) → pulled (plainly e) id (plain_pulled p) ≡ plain_result (pulled e id p)
   given_plain p =
       ap (λ (s : Streams Incoming). after_answer p.answer (record (plainly (replied (with_incoming e id p.incoming) p.replies)) { incoming = s })) (set_each plain_incoming e.incoming id p.incoming)
@@ -64,7 +77,7 @@ module _ (e : EndpointHistory) (id : ℕ) where
       q = pull_stream e.side (plain e.announced) id e.decoding.decoder (plain_incoming i)
 
       of : PullsPlainly p q → PulledPlainly (tells_malformed p.answer) (pulled e id (within_limit e id p)) (pulled (plainly e) id (within_limit (plainly e) id q))
-      of (Judged told) = IsJudged told
+      of (Judged told) = IsJudged told (given_told _ p told)
       of (Same is) = IsAlike (ap (λ x. pulled (plainly e) id (within_limit (plainly e) id x)) is ∙ ap (pulled (plainly e) id) (limit_plain p) ∙ given_plain (within_limit e id p))
 
   told_plain : (x : Pull × Unidirectional) → pulled_unidirectional (plainly e) id x ≡ plain_result (pulled_unidirectional e id x)

@@ -1,9 +1,11 @@
 -- Whole schedules at two ends, beside the same ends without strict messages.
 use Rattle.std.proofs.Common.{◌≡◌, Bool, true, false, if◌then◌else◌, List, [], ◌∷◌, ◌++◌, refl, ap, sym, ◌∙◌}
+use Rattle.std.specs.Prelude.{◌||◌}
+use Rattle.std.specs.List.{list_any}
 use Rattle.h3_world.specs.Ends.{Ends, answered, answers_of_ends, ends_after}
 use Rattle.h3_world.specs.declared.event.Answer.{Answer}
 use Rattle.h3_world.specs.declared.event.Event.{Event}
-use Rattle.h3_strict.specs.PlainEnds.{IsFront, NoneJudges, RunsPlainly, StepsPlainly, Alike, Judges, RefusesMalformed, answers_without_malformed, before_judged, is_malformed_refusal, judges, plain_ends, without_malformed}
+use Rattle.h3_strict.specs.PlainEnds.{IsFront, NoneJudges, RunsPlainly, StepsPlainly, Alike, Judges, RefusesMalformed, answers_without_malformed, before_judged, finds_fault, is_malformed_refusal, judges, plain_ends, without_malformed}
 use Rattle.h3_strict.proofs.PlainSteps.{every_step}
 
 -- an event of a schedule, before others
@@ -45,18 +47,32 @@ alike_on ends e events told same h = record {
     events_are : without_malformed (e ∷ events) (a ∷ later) ≡ e ∷ others
     events_are = ap (λ b. if b then others else e ∷ others) told
 
-step_on : (ends : Ends) (e : Event) (events : List Event) → judges ends e ≡ false → StepsPlainly ends e → RunsPlainly (answered ends e).1 events → RunsPlainly ends (e ∷ events)
+step_on : (ends : Ends) (e : Event) (events : List Event) → (judges ends e ≡ true → finds_fault (answered ends e).0 ≡ true → ⊥) → StepsPlainly ends e → RunsPlainly (answered ends e).1 events → RunsPlainly ends (e ∷ events)
 step_on ends e events none (RefusesMalformed told same) h = refused_on ends e events told same h
-step_on ends e events none (Judges judged) h = absurd (clash (sym none ∙ judged))
+step_on ends e events none (Judges judged told) h = absurd (none judged told)
+step_on ends e events none (Alike told same) h = alike_on ends e events told same h
+
+not_both : (b : Bool) → b ≡ false → b ≡ true → ⊥
+not_both b none is = clash (sym none ∙ is)
   where
     clash : false ≡ true → ⊥
     clash x = cc
-step_on ends e events none (Alike told same) h = alike_on ends e events told same h
+
+pub neither : (first rest : Bool) → (first || rest) ≡ false → (first ≡ false) × (rest ≡ false)
+neither true rest h = absurd (cc)
+neither false rest h = (refl, h)
+
+-- a schedule in which no pull finds a fault
+pub runs_faultless : (ends : Ends) (events : List Event) → list_any finds_fault (answers_of_ends ends events) ≡ false → RunsPlainly ends events
+runs_faultless ends [] h = record { answers = refl; leads = refl }
+runs_faultless ends (e ∷ events) h =
+    let parts = neither (finds_fault (answered ends e).0) (list_any finds_fault (answers_of_ends (answered ends e).1 events)) h in
+    step_on ends e events (λ judged told. not_both (finds_fault (answered ends e).0) parts.0 told) (every_step ends e) (runs_faultless (answered ends e).1 events parts.1)
 
 -- a schedule in which no pull judges a message
 pub runs_plainly : (ends : Ends) (events : List Event) → NoneJudges ends events → RunsPlainly ends events
 runs_plainly ends [] h = record { answers = refl; leads = refl }
-runs_plainly ends (e ∷ events) h = step_on ends e events h.0 (every_step ends e) (runs_plainly (answered ends e).1 events h.1)
+runs_plainly ends (e ∷ events) h = step_on ends e events (λ judged told. not_both (judges ends e) h.0 judged) (every_step ends e) (runs_plainly (answered ends e).1 events h.1)
 
 -- the events in front of the first that does
 none_if : (ends : Ends) (e : Event) (events : List Event) (b : Bool) → judges ends e ≡ b → NoneJudges (answered ends e).1 events → NoneJudges ends (if b then [] else e ∷ events)

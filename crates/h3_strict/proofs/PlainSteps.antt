@@ -19,7 +19,7 @@ use Rattle.h3_world.specs.declared.event.Answer.{Answer}
 use Rattle.h3_world.specs.declared.event.Answer.TheVariants as answer
 use Rattle.h3_world.specs.declared.event.Event.{Event}
 use Rattle.h3_world.specs.declared.event.Event.TheVariants as event
-use Rattle.h3_strict.specs.PlainEnds.{StepsPlainly, Alike, Judges, RefusesMalformed, is_malformed_refusal, plain_ends}
+use Rattle.h3_strict.specs.PlainEnds.{StepsPlainly, Alike, Judges, RefusesMalformed, finds_fault, is_malformed_refusal, plain_ends}
 use Rattle.h3_strict.specs.Plainly.{is_judged, plain_outgoing, plainly}
 use Rattle.h3_strict.proofs.PlainCalls.{CallsPlainly, Malforms, Does, tells}
 use Rattle.h3_strict.proofs.PlainPulled.{IsAlike, IsJudged, PulledPlainly, pulls_plainly}
@@ -76,7 +76,7 @@ module _ (ends : Ends) (side : Side) where
 
   pulled_steps : (id : ℕ) (x y : Pull × EndpointHistory) → answered ends (event.Pull side id) ≡ was_pulled ends side x → answered (plain_ends ends) (event.Pull side id) ≡ was_pulled (plain_ends ends) side y
       → PulledPlainly (is_judged (end_at ends side) id) x y → StepsPlainly ends (event.Pull side id)
-  pulled_steps id x y is plain_is (IsJudged told) = Judges told
+  pulled_steps id x y is plain_is (IsJudged judged told) = Judges judged (ap (λ z. finds_fault z.0) is ∙ told)
   pulled_steps id (a, e) y is plain_is (IsAlike same) =
       Alike (ap (λ z. is_malformed_refusal z.0) is)
       (plain_is ∙ ap (was_pulled (plain_ends ends) side) same ∙ ap (λ v. let z : Answer × Ends = (answer.Pulled a, v) in z) (sets_end ends side e) ∙ sym (ap (λ z. let w : Answer × Ends = (z.0, plain_ends z.1) in w) is))

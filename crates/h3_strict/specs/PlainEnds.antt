@@ -6,7 +6,7 @@ use Rattle.h3_world.specs.declared.event.Answer.TheVariants as answer
 use Rattle.h3_world.specs.declared.event.Event.{Event}
 use Rattle.h3_world.specs.declared.event.Event.TheVariants as event
 use Rattle.h3_world.specs.declared.setup.Setup.{Setup}
-use Rattle.h3_strict.specs.Plainly.{is_judged, is_malformed, plain, plainly}
+use Rattle.h3_strict.specs.Plainly.{is_judged, is_malformed, plain, plainly, tells_fault}
 
 abbrev pub plain_setup : Setup → Setup
 plain_setup setup = record { client = plain setup.client; server = plain setup.server }
@@ -38,11 +38,16 @@ abbrev pub NoneJudges : Ends → List Event → Type 0
 NoneJudges ends [] = Unit {0}
 NoneJudges ends (e ∷ events) = (judges ends e ≡ false) × NoneJudges (answered ends e).1 events
 
+-- a pull was answered by a malformed message, or by a fault of the connection
+abbrev pub finds_fault : Answer → Bool
+finds_fault (answer.Pulled p) = tells_fault p
+finds_fault _ = false
+
 -- One event at the two ends, beside the same ends without strict messages: a send was refused as malformed, with nothing changed; or a pull
--- judges a message; or it is answered alike, and leads to the same ends without strict messages.
+-- judges a message, and its answer tells of a fault; or it is answered alike, and leads to the same ends without strict messages.
 pub data StepsPlainly (ends : Ends) (e : Event) : Type 0 where
   RefusesMalformed : is_malformed_refusal (answered ends e).0 ≡ true → (answered ends e).1 ≡ ends → StepsPlainly ends e
-  Judges : judges ends e ≡ true → StepsPlainly ends e
+  Judges : judges ends e ≡ true → finds_fault (answered ends e).0 ≡ true → StepsPlainly ends e
   Alike : is_malformed_refusal (answered ends e).0 ≡ false → answered (plain_ends ends) e ≡ ((answered ends e).0, plain_ends (answered ends e).1) → StepsPlainly ends e
 
 -- So it is over a whole schedule in which no pull judges a message: the answers, without the sends that were refused as malformed, are those of

@@ -2,5 +2,5 @@
 #![tactic(auto)]
 
 pub mod laws;
-pub mod worked;
 pub mod strict;
+pub mod worked;

@@ -49,6 +49,7 @@ pub fn two_strict_endpoints_run_in_a_world()
         × (has_finished (other side) id events (answers_of_ends (new_ends setup) events) ≡ true) }
 {
     strict_endpoints_take_what_they_send();
+    crate::laws::whole_runs_are_plain();
     crate::laws::strict_endpoints_run_in_a_world();
     crate::laws::strict_endpoints_hand_out_what_was_sent();
 }

@@ -2,6 +2,8 @@ use Rattle.h3_world.specs.Ends.{new_ends}
 use Rattle.h3_session.proofs.Headlines.{runs_in_keeping_world, runs_in_world, runs_until_memory}
 use Rattle.h3_session.proofs.Messages.{hands_out_always}
 use Rattle.h3_session.proofs.Runs.{answers_each, ran, runs_to}
+use Rattle.h3_strict.specs.ServerKnows.{ServerKnows}
+use Rattle.h3_session.proofs.Strict.{front_finds_none, run_finds_none, runs_faultless, runs_until_fault}
 use Rattle.h3_session.proofs.run.run.Goals as goal
 
 pub returns-clause-calls : goal.returns-clause-calls
@@ -60,3 +62,58 @@ returns-clause-memory c = λ few plain.
     let answers = c.in_ok-client-2.answers.items in
     runs_in_keeping_world setup c.args.events.now answers _ _
     (λ ends sendable run. c.two_endpoints_run_with_memory.ensures setup c.args.events.now answers ends c.requires plain sendable run) c.events_are_typed.ensures calls few
+
+pub returns-clause-faultless_front : goal.returns-clause-faultless_front
+returns-clause-faultless_front c = λ few.
+    let calls = ran (λ v. v.items) (new_ends c.args.setup) c.args.events.now c.announcing-client.result c.announcing-server.result c.run_between-answers.result _ _ _ _ _ c.in_ok-client-2.answers
+    c.announcing-client.ensures c.announcing-server.ensures c.in_ok-client.ensures.0 c.in_ok-client.ensures.1 c.run_between-answers.ensures c.in_ok-client-2.ensures.0 c.in_ok-client-2.ensures.1 in
+    let setup = c.args.setup in
+    let answers = c.in_ok-client-2.answers.items in
+    runs_until_fault setup (λ front sendable plainly. c.strict_endpoints_run_in_a_world.ensures setup front c.requires sendable plainly)
+    (λ front sendable plainly. record {
+      no_connection_fault = c.strict_endpoints_hand_out_what_was_sent.ensures.fault setup front c.requires sendable plainly;
+      begins = λ side id. c.strict_endpoints_hand_out_what_was_sent.ensures.front setup front side id c.requires sendable plainly;
+      ends = λ side id ended. c.strict_endpoints_hand_out_what_was_sent.ensures.end setup front side id c.requires sendable plainly ended;
+    }) c.args.events.now answers c.whole_runs_are_plain.ensures.faultless c.events_are_typed.ensures
+    (answers_each (new_ends setup) c.args.events.now answers _ _ calls) few
+
+pub returns-clause-faultless : goal.returns-clause-faultless
+returns-clause-faultless c = λ whole none few.
+    let calls = ran (λ v. v.items) (new_ends c.args.setup) c.args.events.now c.announcing-client.result c.announcing-server.result c.run_between-answers.result _ _ _ _ _ c.in_ok-client-2.answers
+    c.announcing-client.ensures c.announcing-server.ensures c.in_ok-client.ensures.0 c.in_ok-client.ensures.1 c.run_between-answers.ensures c.in_ok-client-2.ensures.0 c.in_ok-client-2.ensures.1 in
+    let setup = c.args.setup in
+    let answers = c.in_ok-client-2.answers.items in
+    runs_faultless setup (λ front sendable plainly. c.strict_endpoints_run_in_a_world.ensures setup front c.requires sendable plainly)
+    (λ front sendable plainly. record {
+      no_connection_fault = c.strict_endpoints_hand_out_what_was_sent.ensures.fault setup front c.requires sendable plainly;
+      begins = λ side id. c.strict_endpoints_hand_out_what_was_sent.ensures.front setup front side id c.requires sendable plainly;
+      ends = λ side id ended. c.strict_endpoints_hand_out_what_was_sent.ensures.end setup front side id c.requires sendable plainly ended;
+    }) c.args.events.now answers _ _ c.whole_runs_are_plain.ensures.faultless c.events_are_typed.ensures
+    (runs_to (new_ends setup) c.args.events.now answers _ _ calls whole) none few
+
+pub returns-clause-strict_front : goal.returns-clause-strict_front
+returns-clause-strict_front c = λ few strict.
+    let calls = ran (λ v. v.items) (new_ends c.args.setup) c.args.events.now c.announcing-client.result c.announcing-server.result c.run_between-answers.result _ _ _ _ _ c.in_ok-client-2.answers
+    c.announcing-client.ensures c.announcing-server.ensures c.in_ok-client.ensures.0 c.in_ok-client.ensures.1 c.run_between-answers.ensures c.in_ok-client-2.ensures.0 c.in_ok-client-2.ensures.1 in
+    let setup = c.args.setup in
+    let answers = c.in_ok-client-2.answers.items in
+    front_finds_none setup ServerKnows (λ events sendable known. c.schedules_that_judge_nothing_find_no_fault.ensures setup events c.requires sendable (c.strict_endpoints_take_what_they_send.ensures setup events c.requires strict sendable known)) c.args.events.now answers c.events_are_typed.ensures
+    (answers_each (new_ends setup) c.args.events.now answers _ _ calls) few
+
+pub returns-clause-strict : goal.returns-clause-strict
+returns-clause-strict c = λ whole few strict known.
+    let calls = ran (λ v. v.items) (new_ends c.args.setup) c.args.events.now c.announcing-client.result c.announcing-server.result c.run_between-answers.result _ _ _ _ _ c.in_ok-client-2.answers
+    c.announcing-client.ensures c.announcing-server.ensures c.in_ok-client.ensures.0 c.in_ok-client.ensures.1 c.run_between-answers.ensures c.in_ok-client-2.ensures.0 c.in_ok-client-2.ensures.1 in
+    let setup = c.args.setup in
+    let answers = c.in_ok-client-2.answers.items in
+    let to = runs_to (new_ends setup) c.args.events.now answers _ _ calls whole in
+    let none = run_finds_none setup ServerKnows (λ events sendable known. c.schedules_that_judge_nothing_find_no_fault.ensures setup events c.requires sendable (c.strict_endpoints_take_what_they_send.ensures setup events c.requires strict sendable known)) c.args.events.now answers _ _ c.events_are_typed.ensures to few known in (
+      none,
+      runs_faultless setup (λ front sendable plainly. c.strict_endpoints_run_in_a_world.ensures setup front c.requires sendable plainly)
+          (λ front sendable plainly. record {
+            no_connection_fault = c.strict_endpoints_hand_out_what_was_sent.ensures.fault setup front c.requires sendable plainly;
+            begins = λ side id. c.strict_endpoints_hand_out_what_was_sent.ensures.front setup front side id c.requires sendable plainly;
+            ends = λ side id ended. c.strict_endpoints_hand_out_what_was_sent.ensures.end setup front side id c.requires sendable plainly ended;
+          }) c.args.events.now answers _ _ c.whole_runs_are_plain.ensures.faultless c.events_are_typed.ensures
+          (runs_to (new_ends setup) c.args.events.now answers _ _ calls whole) none few,
+    )

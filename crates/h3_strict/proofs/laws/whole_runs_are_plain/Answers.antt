@@ -1,9 +1,12 @@
 use Rattle.h3_strict.specs.PlainEnds.{before_judged}
-use Rattle.h3_strict.proofs.PlainRuns.{all_before, front_before, none_before, runs_plainly}
+use Rattle.h3_strict.proofs.PlainRuns.{all_before, front_before, none_before, runs_faultless, runs_plainly}
 use Rattle.h3_strict.proofs.laws.whole_runs_are_plain.Goals as goal
 
 pub returns-clause-all : goal.returns-clause-all
 returns-clause-all c = runs_plainly
+
+pub returns-clause-faultless : goal.returns-clause-faultless
+returns-clause-faultless c = runs_faultless
 
 pub returns-clause-front : goal.returns-clause-front
 returns-clause-front c = λ ends events. (front_before ends events, runs_plainly ends (before_judged ends events) (none_before ends events))
