@@ -202,9 +202,14 @@ module _ (setup : Setup) (w : World) (ends : Ends) (known : ℕ → Bool) (h : S
           let late = trailer_is_late o.content takes.early in
           let q = having_encoded (party w s) i (head_fields trailer) in
           let part = Trailer (section_sent (party w s) i (head_fields trailer) (flow w s i)) in
-          behind_head s i part (record o { parts = o.parts ++ OwnTrailer (encoded_section (end_at ends s).encoder i (head_fields trailer)) ∷ [] }) new (sent_trailer w s i trailer) there (flows_with_party w s q i part there) refl refl refl refl
-          ((trailer_taken (other s) (end_at ends s).announced (announced_at setup (other s)) (head_fields trailer) (strict_at s) takes.rule,
-          ap takes_trailer (sym sends) ∙ late.0, ap may_end (sym sends) ∙ late.1), λ ends_now. sends)
+          behind_head s i part (record o { parts = o.parts ++ OwnTrailer (encoded_section (end_at ends s).encoder i (head_fields trailer)) ∷ [] }) new (sent_trailer w s i trailer) there (flows_with_party w s q i part there) refl refl refl refl (
+            (
+              trailer_taken (other s) (end_at ends s).announced (announced_at setup (other s)) (head_fields trailer) (strict_at s) takes.rule,
+              ap takes_trailer (sym sends) ∙ late.0,
+              ap may_end (sym sends) ∙ late.1,
+            ),
+            λ ends_now. sends,
+          )
 
   -- **The end.**
   pub finish_event : (s : Side) (i : ℕ) (v : World) (a : Answer) (next : Ends) → (a, next) ≡ done ends s answer.Done (sender.finish (end_at ends s) i)
