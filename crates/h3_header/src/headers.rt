@@ -25,6 +25,7 @@ use std::alloc::{AllocError, Global};
 use std::marker::Model;
 
 mod authority;
+mod connect;
 mod error;
 mod iter;
 mod judge;

@@ -1,11 +1,14 @@
 //! Laws on headers and their field lists, each the contract of a function.
-ghost use Rattle.std.specs.Prelude.{◌≡◌, ◌<◌, ◌≤◌, ℕ, IfOk, IfErr, List, [], All, length, take, get_or, Some, None};
+ghost use Rattle.std.specs.Prelude.{◌≡◌, ◌<◌, ◌≤◌, ℕ, codes, ◌∷◌, IfOk, IfErr, List, [], All, length, take, get_or, Some, None};
 ghost use Rattle.std.specs.List.{AllByRecursion};
 ghost use Rattle.h3_field.specs.Field.{Field};
 ghost use Rattle.h3_field.specs.ReadBack.{IsFieldOfBytes};
 ghost use Rattle.h3_header.specs.BadPart.{bad_part, refusal_of, IsHeadUnlessMany};
 ghost use Rattle.h3_header.specs.declared.headers.judge.BadPart.{BadPart};
-ghost use Rattle.h3_header.specs.Head.{Head, head_fields, trailer_head};
+ghost use Rattle.http_header.specs.FieldValue.{FieldValue};
+ghost use Rattle.http_header.specs.HeaderMap.{Entries};
+ghost use Rattle.h3_header.specs.Connect.{connect_head};
+ghost use Rattle.h3_header.specs.Head.{Head, head_fields, regular_fields, trailer_head};
 ghost use Rattle.h3_header.specs.HeadRead.{HeadRefusal, IsHead, IsNone, head_of, told};
 ghost use Rattle.h3_header.specs.Reads.{IsHeadOf, RefusesOne, head_of_fields};
 ghost use Rattle.h3_header.specs.declared.headers.error.HeaderError.{HeaderError};
@@ -50,4 +53,13 @@ pub fn lists_are_their_value()
     ensures refused { (fields : List Field) (e : HeaderError) (why : HeadRefusal) → RefusesOne (trailer_head []) fields e → told e ≡ Some why → head_of fields ≡ IsNone why }
     ensures is_head { (fields : List Field) (h : Head) → head_of fields ≡ IsHead h → IsHeadOf fields h }
     ensures is_refused { (fields : List Field) (e : HeaderError) (why : HeadRefusal) → head_of fields ≡ IsNone why → told e ≡ Some why → RefusesOne (trailer_head []) fields e }
+{}
+
+/// What `Header::connect` sends: `:method` and `:authority`, and behind them the regular fields (RFC 9114, 4.4). So `:scheme`, `:path` and
+/// `:protocol`, which are wrong there, are none of its fields, and both that are needed are there once.
+pub fn a_connect_is_method_and_authority()
+    ensures sent { (authority : List ℕ) (m : Entries FieldValue) → head_fields (connect_head authority m)
+        ≡ record { name = codes ":method"; value = codes "CONNECT" } ∷ record { name = codes ":authority"; value = authority } ∷ regular_fields m }
+    ensures row { head_fields (connect_head (codes "example.com:443") [])
+        ≡ record { name = codes ":method"; value = codes "CONNECT" } ∷ record { name = codes ":authority"; value = codes "example.com:443" } ∷ [] }
 {}

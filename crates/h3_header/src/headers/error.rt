@@ -14,7 +14,8 @@ pub enum HeaderError {
     InvalidHeaderName(String),
     /// The value is none of its field.
     InvalidHeaderValue(String),
-    /// Path, scheme and authority make no URI.
+    /// Path, scheme and authority make no URI, or the authority of a plain CONNECT has userinfo or an
+    /// empty host.
     InvalidRequest,
     /// The header has no `:method`.
     MissingMethod,

@@ -1,5 +1,5 @@
 //! The pseudo-header fields of a message (RFC 9114, 4.3).
-ghost use Rattle.std.specs.Prelude.{◌≡◌, ◌++◌, true, IfErr, IfOk, OnOk, length, None, Some, option_map, option_copied, IfSome};
+ghost use Rattle.std.specs.Prelude.{◌≡◌, ◌++◌, codes, true, IfErr, IfOk, OnOk, length, None, Some, option_map, option_copied, IfSome};
 ghost use Rattle.std.specs.List.{AllByRecursion};
 ghost use Rattle.http_header.specs.Token.{IsToken};
 ghost use Rattle.http.specs.StatusCode.{IsStatusCode, code_digits};
@@ -66,6 +66,20 @@ impl Pseudo {
             authority: None,
             path: None,
             status: Some(status),
+            protocol: None,
+        }
+    }
+
+    /// The method and the authority of a plain CONNECT (RFC 9114, 4.4).
+    pub(crate) fn connect(authority: Authority) -> Pseudo
+        ensures { result ≡ record no_pseudo { method = Some (codes "CONNECT"); authority = Some authority } }
+    {
+        Pseudo {
+            method: Some(Method::CONNECT),
+            scheme: None,
+            authority: Some(authority),
+            path: None,
+            status: None,
             protocol: None,
         }
     }
