@@ -1,20 +1,17 @@
 -- Each event at two strict ends, but for pulls, leaves that both count alike.
-use Rattle.std.proofs.Common.{◌≡◌, ◌⊎◌, inl, inr, ℕ, zero, suc, ◌+◌, ◌≤◌, Bool, true, false, List, [], ◌∷◌, ◌++◌, length, take, refl, sym, ap, ◌∙◌, subst, Option, Some, None, arith, nat_lt, if◌then◌else◌}
-use Rattle.std.specs.Prelude.{◌==◌, ◌&&◌, ◌||◌, not, flat_map, unwrap_or, is_some}
-use Rattle.std.proofs.lemmas.Grind.{common_steps}
+use Rattle.std.proofs.Common.{◌≡◌, ℕ, ◌+◌, Bool, true, false, List, [], ◌∷◌, ◌++◌, length, refl, sym, ap, ◌∙◌, subst, Option, Some, None, if◌then◌else◌}
+use Rattle.std.specs.Prelude.{◌&&◌, not, unwrap_or, is_some}
 use Rattle.h3_field.specs.Field.{section_size}
 use Rattle.h3_header.specs.Head.{Head, head_fields, has_pseudo}
 use Rattle.h3_messages.specs.Content.{is_exceeded, left_behind, may_end, takes_trailer}
-use Rattle.h3_messages.specs.declared.content.Content.{Content}
 use Rattle.h3_proto.specs.declared.stream.Side.{Side}
 use Rattle.h3_proto.specs.declared.stream.Side.TheVariants.{Client, Server}
 use Rattle.h3_wire.specs.Encoded.{frame_encoding}
-use Rattle.h3_connection.specs.Delivering.{give_up, given_up_once, incoming_at, opened_at}
+use Rattle.h3_connection.specs.Delivering.{incoming_at}
 use Rattle.h3_connection.specs.Endpoint.{EndpointHistory}
 use Rattle.h3_connection.specs.Incoming.{Incoming, nothing_came}
-use Rattle.h3_connection.specs.Outgoing.{Outgoing, OwnPart, nothing_sent, takes_body, takes_end, takes_head, with_body, with_finish, with_reset}
-use Rattle.h3_connection.specs.Outgoing as sent
-use Rattle.h3_connection.specs.Outgoing.OwnPart.{OwnBody, OwnTrailer}
+use Rattle.h3_connection.specs.Outgoing.{Outgoing, nothing_sent, takes_body, takes_end, takes_head, with_body, with_finish}
+use Rattle.h3_connection.specs.Outgoing.OwnPart.{OwnTrailer}
 use Rattle.h3_connection.specs.OwnIds.{other}
 use Rattle.h3_connection.specs.Pulling.{is_for, is_interim}
 use Rattle.h3_connection.specs.Sections.{encoded_section}
@@ -24,13 +21,10 @@ use Rattle.h3_connection.specs.StreamSets.{Streams, set_stream, stream_at}
 use Rattle.h3_connection.specs.StrictSendingLaws.{trailer_taken}
 use Rattle.h3_connection.specs.declared.event.Refusal.{Refusal}
 use Rattle.h3_connection.specs.declared.event.Refusal.TheVariants as refusal
-use Rattle.h3_connection.specs.declared.event.StreamFault.TheVariants as stream_fault
-use Rattle.h3_connection.specs.declared.place.Place.TheVariants.{BeforeHead, InBody}
 use Rattle.h3_connection.specs.declared.setup.Announced.{Announced}
-use Rattle.h3_connection.specs.StrictMessages.{broken_rule}
 use Rattle.h3_world.specs.Came.{settings_known}
 use Rattle.h3_world.specs.Ends.{Ends, done, end_at, with_end}
-use Rattle.h3_world.specs.Flow.{Flow, Part, Section, flow_bytes, own_part}
+use Rattle.h3_world.specs.Flow.{Part, flow_bytes}
 use Rattle.h3_world.specs.Flow.Part.{Body, End, Head as HeadPart, Interim, Trailer}
 use Rattle.h3_world.specs.Order.{outgoing_of}
 use Rattle.h3_world.specs.Refusals.{body_refusal, finish_refusal, head_refusal, trailer_refusal}
@@ -38,7 +32,7 @@ use Rattle.h3_world.specs.Sending.{appended, finished, having_encoded, section_s
 use Rattle.h3_world.specs.Setup.{announced_at}
 use Rattle.h3_world.specs.Step.{Does}
 use Rattle.h3_world.specs.Streams.{flow, is_open}
-use Rattle.h3_world.specs.World.{Party, World, party}
+use Rattle.h3_world.specs.World.{World, party}
 use Rattle.h3_world.specs.declared.event.Answer.{Answer}
 use Rattle.h3_world.specs.declared.event.Answer.TheVariants as answer
 use Rattle.h3_world.specs.declared.setup.Setup.{Setup}
@@ -48,11 +42,11 @@ use Rattle.h3_headline.specs.Messages.{is_on}
 use Rattle.h3_headline.specs.Standing.{Stands}
 use Rattle.h3_headline.specs.Steps.{IsThere}
 use Rattle.h3_strict.proofs.KeepsCounts.{SameCounts, out_set, same_counts}
-use Rattle.h3_strict.proofs.SendEvents.{after, flows_with, flows_with_party, interim_tally, part_tally, request_tally, response_tally, sends_part}
+use Rattle.h3_strict.proofs.SendEvents.{flows_with, flows_with_party, interim_tally, part_tally, request_tally, response_tally, sends_part}
 use Rattle.h3_strict.proofs.SentLaws.{TakesBody, TakesEnd, TakesHead, TakesTrailer, body_is_behind, body_rules, finish_rules, head_rules, is_head_part, trailer_is_late, trailer_rules}
 use Rattle.h3_strict.proofs.SentTallies.{after_head, side_of}
 use Rattle.h3_strict.specs.PlainEnds.{plain_ends, plain_setup}
-use Rattle.h3_strict.specs.Tallies.{Tallies, TalliesFlow, asked_in, awaited_of}
+use Rattle.h3_strict.specs.Tallies.{Tallies, TalliesFlow, awaited_of}
 use Rattle.h3_strict.specs.Unbroken.{IsUnbroken, content_along, content_behind_part}
 
 -- A call of one end, by its own refusal and the world's: refused, with nothing changed; or done in both.
@@ -202,9 +196,14 @@ module _ (setup : Setup) (w : World) (ends : Ends) (known : ℕ → Bool) (h : S
           let late = trailer_is_late o.content takes.early in
           let q = having_encoded (party w s) i (head_fields trailer) in
           let part = Trailer (section_sent (party w s) i (head_fields trailer) (flow w s i)) in
-          behind_head s i part (record o { parts = o.parts ++ OwnTrailer (encoded_section (end_at ends s).encoder i (head_fields trailer)) ∷ [] }) new (sent_trailer w s i trailer) there (flows_with_party w s q i part there) refl refl refl refl
-          ((trailer_taken (other s) (end_at ends s).announced (announced_at setup (other s)) (head_fields trailer) (strict_at s) takes.rule,
-          ap takes_trailer (sym sends) ∙ late.0, ap may_end (sym sends) ∙ late.1), λ ends_now. sends)
+          behind_head s i part (record o { parts = o.parts ++ OwnTrailer (encoded_section (end_at ends s).encoder i (head_fields trailer)) ∷ [] }) new (sent_trailer w s i trailer) there (flows_with_party w s q i part there) refl refl refl refl (
+            (
+              trailer_taken (other s) (end_at ends s).announced (announced_at setup (other s)) (head_fields trailer) (strict_at s) takes.rule,
+              ap takes_trailer (sym sends) ∙ late.0,
+              ap may_end (sym sends) ∙ late.1,
+            ),
+            λ ends_now. sends,
+          )
 
   -- **The end.**
   pub finish_event : (s : Side) (i : ℕ) (v : World) (a : Answer) (next : Ends) → (a, next) ≡ done ends s answer.Done (sender.finish (end_at ends s) i)

@@ -1,21 +1,21 @@
 -- What comes on any stream, and what the peer's own streams say, leaves what an endpoint counts of request streams.
-use Rattle.std.proofs.Common.{◌≡◌, ◌⊎◌, inl, inr, ℕ, ◌+◌, ◌++◌, Bool, true, false, List, [], ◌∷◌, refl, arith, sym, ap, ◌∙◌, subst, Option, Some, None, if◌then◌else◌}
-use Rattle.std.specs.Prelude.{◌==◌, is_some, not, ◌&&◌, ◌||◌, unwrap_or}
+use Rattle.std.proofs.Common.{◌≡◌, ◌⊎◌, inl, inr, ℕ, ◌+◌, ◌++◌, Bool, true, false, List, [], refl, arith, sym, ap, ◌∙◌, subst, Option, Some, None, if◌then◌else◌}
+use Rattle.std.specs.Prelude.{◌==◌, is_some, unwrap_or}
 use Rattle.std.proofs.lemmas.Grind.{common_steps}
 use Rattle.h3_proto.specs.Settings.{value_of}
 use Rattle.h3_qpack.specs.Hearing.{listen}
 use Rattle.h3_connection.specs.Arrivals.{stream_of}
 use Rattle.h3_connection.specs.declared.arrival.Arrival.TheVariants.{BytesCame, EndCame, ResetCame}
 use Rattle.h3_connection.specs.declared.arrival.Arrival.{Arrival}
-use Rattle.h3_connection.specs.Control.{Found, after_peer, if_learned, is_usable, learned, listened_to, read_control, read_decoder, read_encoder, then_decoder, with_table}
-use Rattle.h3_connection.specs.Delivering.{bytes_at, closed_by, closing, delivery_refusal, end_at, give_up, given_up_by, given_up_once, heard_as, incoming_at, kept, only_one, opened, opened_at, read_unidirectional, reset_at, taken, unidirectional_at, unless_second, with_end, with_incoming}
+use Rattle.h3_connection.specs.Control.{Found, after_peer, if_learned, is_usable, listened_to, read_control, read_decoder, then_decoder, with_table}
+use Rattle.h3_connection.specs.Delivering.{bytes_at, closed_by, delivery_refusal, end_at, given_up_by, given_up_once, heard_as, incoming_at, kept, opened, opened_at, read_unidirectional, reset_at, taken, unidirectional_at, unless_second, with_end}
 use Rattle.h3_connection.specs.Endpoint.{EndpointHistory, Kind, is_second, kind_of}
 use Rattle.h3_connection.specs.Endpoint.Kind.{OwnUnidirectional, PeerUnidirectional, Request, ServerOpened}
 use Rattle.h3_connection.specs.Incoming.{Incoming, nothing_came}
 use Rattle.h3_connection.specs.Keeping.{arrives, arrives_behind, read_arrival}
 use Rattle.h3_connection.specs.Outgoing.{Outgoing, nothing_sent, takes_end}
 use Rattle.h3_connection.specs.PeerReading.{PeerFound, read_peer, with_unread}
-use Rattle.h3_connection.specs.Sending.{advance, advance_at, outgoing_at, with_outgoing}
+use Rattle.h3_connection.specs.Sending.{advance, advance_at, outgoing_at}
 use Rattle.h3_connection.specs.StreamSets.{Streams, set_stream, stream_at}
 use Rattle.h3_connection.specs.Unidirectional.{Role, Unidirectional, role_after}
 use Rattle.h3_connection.specs.Unidirectional.Role.{Control, Decoder, Encoder, Ignored, Push, Session, Untold}

@@ -1,31 +1,27 @@
 -- Between two strict ends no pull finds a message malformed, where the server knows what was asked when it answers.
-use Rattle.std.proofs.Common.{◌≡◌, ◌⊎◌, inl, inr, ℕ, Bool, true, false, List, [], ◌∷◌, ◌++◌, refl, sym, ap, ◌∙◌, subst, arith, Option, Some, None, if◌then◌else◌}
-use Rattle.std.specs.Prelude.{◌==◌, ◌&&◌, take}
+use Rattle.std.proofs.Common.{◌≡◌, inl, ℕ, Bool, true, false, List, [], ◌∷◌, ◌++◌, refl, sym, ap, ◌∙◌, subst, arith, if◌then◌else◌}
+use Rattle.std.specs.Prelude.{◌==◌, ◌&&◌}
 use Rattle.std.specs.List.{AllByRecursion}
 use Rattle.h3_messages.specs.declared.content.Content.{Content}
 use Rattle.h3_messages.specs.declared.content.Content.TheVariants.{Unsaid}
 use Rattle.h3_proto.specs.declared.stream.Side.{Side}
 use Rattle.h3_proto.specs.declared.stream.Side.TheVariants.{Client, Server}
 use Rattle.h3_connection.specs.Delivering.{incoming_at}
-use Rattle.h3_connection.specs.Endpoint.{EndpointHistory}
 use Rattle.h3_connection.specs.Incoming.{nothing_came}
 use Rattle.h3_connection.specs.Keeping.{pulls}
 use Rattle.h3_connection.specs.Outgoing.{nothing_sent}
 use Rattle.h3_connection.specs.OwnIds.{other}
-use Rattle.h3_connection.specs.Pulling.{is_client, is_interim}
+use Rattle.h3_connection.specs.Pulling.{is_client}
 use Rattle.h3_connection.specs.Sending.{outgoing_at}
-use Rattle.h3_connection.specs.declared.event.Pull.TheVariants as pull
-use Rattle.h3_connection.specs.declared.event.Refusal.TheVariants as refusal
 use Rattle.h3_connection.specs.declared.setup.Announced.{Announced}
 use Rattle.h3_proto.specs.StreamIds.{is_request}
 use Rattle.h3_world.specs.Ends.{Ends, answered, answers_of_ends, end_at, ends_after, new_ends}
 use Rattle.h3_world.specs.Flow.{Flow, unused}
-use Rattle.h3_world.specs.Headline.{Happens, is_connection_fault}
+use Rattle.h3_world.specs.Headline.{Happens}
 use Rattle.h3_world.specs.Refusals.{next_id}
 use Rattle.h3_world.specs.Run.{Run}
 use Rattle.h3_world.specs.Sendable.{IsSendable}
 use Rattle.h3_world.specs.Setup.{IsMadeSetup, announced_at}
-use Rattle.h3_world.specs.Step.{Step}
 use Rattle.h3_world.specs.Streams.{flow}
 use Rattle.h3_world.specs.World.{World, empty_world, no_exchange}
 use Rattle.h3_world.specs.declared.event.Answer.{Answer}
@@ -35,7 +31,6 @@ use Rattle.h3_world.specs.declared.event.Event.TheVariants as event
 use Rattle.h3_world.specs.declared.setup.Setup.{Setup}
 use Rattle.h3_headline.specs.Cited.{Laws}
 use Rattle.h3_headline.specs.FlowLaws.{same_both}
-use Rattle.h3_headline.specs.KeepsPartsLaws.{keeps_same}
 use Rattle.h3_headline.specs.Standing.{Stands}
 use Rattle.h3_strict.proofs.CallEvents.{body_event, finish_event, head_event, trailer_event}
 use Rattle.h3_strict.proofs.PlainSteps.{every_step}

@@ -1,65 +1,46 @@
 -- A pull at a strict end finds no message malformed, and leaves that both ends count alike.
-use Rattle.std.proofs.Common.{◌≡◌, ◌⊎◌, inl, inr, ℕ, zero, suc, ◌+◌, ◌%◌, ◌≤◌, Bool, true, false, List, [], ◌∷◌, length, take, refl, sym, ap, ◌∙◌, subst, Option, Some, None, arith, nat_lt, if◌then◌else◌}
-use Rattle.std.specs.Prelude.{◌==◌, ◌&&◌, ◌||◌, not, unwrap_or, is_some, option_map, slice_get, MatchOption}
-use Rattle.std.specs.List.{AllByRecursion}
-use Rattle.std.proofs.lemmas.Grind.{common_steps}
-use Rattle.h3_field.specs.Instruction.{DecoderInstruction}
-use Rattle.h3_header.specs.Head as header
-use Rattle.h3_messages.specs.Content.{awaited_by}
-use Rattle.h3_messages.specs.declared.content.Content.{Content}
-use Rattle.h3_proto.specs.StreamIds.{is_request}
+use Rattle.std.proofs.Common.{◌≡◌, ℕ, Bool, true, false, refl, sym, ap, ◌∙◌, subst, Option, Some, None, if◌then◌else◌}
+use Rattle.std.specs.Prelude.{unwrap_or, option_map}
 use Rattle.h3_proto.specs.declared.stream.Side.{Side}
-use Rattle.h3_proto.specs.declared.stream.Side.TheVariants.{Client, Server}
-use Rattle.h3_connection.specs.Announcing.{section_of}
-use Rattle.h3_connection.specs.Delivering.{incoming_at, with_incoming, with_unidirectional}
-use Rattle.h3_connection.specs.Endpoint.{EndpointHistory, Kind, heads_waiting, kind_of, replied}
+use Rattle.h3_proto.specs.declared.stream.Side.TheVariants.{Client}
+use Rattle.h3_connection.specs.Delivering.{incoming_at}
+use Rattle.h3_connection.specs.Endpoint.{EndpointHistory, Kind, kind_of}
 use Rattle.h3_connection.specs.Endpoint.Kind.{OwnUnidirectional, PeerUnidirectional, Request, ServerOpened}
 use Rattle.h3_connection.specs.Incoming.{Incoming, nothing_came}
 use Rattle.h3_connection.specs.Keeping.{pulls, pulls_behind, read_all, unkept}
-use Rattle.h3_connection.specs.Outgoing.{Outgoing, takes_end}
-use Rattle.h3_connection.specs.OwnIds.{control_id, other}
+use Rattle.h3_connection.specs.OwnIds.{other}
 use Rattle.h3_connection.specs.Pulling.{Pulled, just, next_item, pull_stream}
-use Rattle.h3_connection.specs.Sending.{after_answer, after_fault, if_too_many, outgoing_at, pull_at, pull_peer, pull_request, pull_unless, pulled, pulled_unidirectional, within_limit}
-use Rattle.h3_connection.specs.StreamSets.{Streams, set_stream, stream_at}
+use Rattle.h3_connection.specs.Sending.{if_too_many, outgoing_at, pull_at, pull_peer, pull_request, pull_unless, pulled_unidirectional}
+use Rattle.h3_connection.specs.StreamSets.{stream_at}
 use Rattle.h3_connection.specs.Unidirectional.{Unidirectional, pull_unidirectional}
-use Rattle.h3_connection.specs.declared.event.Fault.TheVariants.{Connection, Memory, Stream}
-use Rattle.h3_connection.specs.declared.event.Item.{Item}
+use Rattle.h3_connection.specs.declared.event.Fault.TheVariants.{Stream}
 use Rattle.h3_connection.specs.declared.event.Item.TheVariants as item
 use Rattle.h3_connection.specs.declared.event.Pull.{Pull}
 use Rattle.h3_connection.specs.declared.event.Pull.TheVariants as pull
 use Rattle.h3_connection.specs.declared.event.StreamFault.{StreamFault}
 use Rattle.h3_connection.specs.declared.setup.Announced.{Announced}
 use Rattle.h3_world.specs.Came.{insertions_came}
-use Rattle.h3_world.specs.Ends.{Ends, end_at, was_pulled, with_end}
-use Rattle.h3_world.specs.Flow.{Flow, Part, Section}
-use Rattle.h3_world.specs.Flow.Part.{Body, End, Head as HeadPart, Interim, Trailer}
-use Rattle.h3_world.specs.Items.{HasCome, after_item, handed_out}
-use Rattle.h3_world.specs.Order.{is_over, next_part}
-use Rattle.h3_world.specs.Pauses.{paused}
-use Rattle.h3_world.specs.Pulling.{Pulls, PullsNext, fault_or, settled}
+use Rattle.h3_world.specs.Ends.{Ends, end_at}
+use Rattle.h3_world.specs.Order.{is_over}
 use Rattle.h3_world.specs.Setup.{IsMadeSetup, announced_at}
-use Rattle.h3_world.specs.Sound.{AreSent, is_before_head as is_before}
 use Rattle.h3_world.specs.Streams.{flow, is_open}
-use Rattle.h3_world.specs.World.{Party, World, party}
+use Rattle.h3_world.specs.World.{World, party}
 use Rattle.h3_world.specs.declared.setup.Setup.{Setup}
 use Rattle.h3_headline.specs.Cited.{Laws}
-use Rattle.h3_headline.specs.ComingLaws.{incoming_none, incoming_there, kind_is, sound_flow}
+use Rattle.h3_headline.specs.ComingLaws.{incoming_none, incoming_there, sound_flow}
 use Rattle.h3_headline.specs.DecodesLaws.{next_readable}
-use Rattle.h3_headline.specs.FlowLaws.{open_there, other-other, same_number}
-use Rattle.h3_headline.specs.PullLaws.{item_leaves, none_settled}
-use Rattle.h3_headline.specs.Pulling.{DecodesNext, IsReadableNext}
+use Rattle.h3_headline.specs.FlowLaws.{open_there, other-other}
 use Rattle.h3_headline.specs.SendingLaws.{both_of}
 use Rattle.h3_headline.specs.SessionDecoderLaws.{endpoint_decodes}
-use Rattle.h3_headline.specs.Standing.{IsReadable, ReceivesFlow, Stands, StandsAt}
-use Rattle.h3_headline.specs.Steps.{IsThere}
-use Rattle.h3_strict.proofs.KeepsCounts.{KeepsBut, SameCounts, no_stream, same_counts, same_streams, streams_keep}
+use Rattle.h3_headline.specs.Standing.{ReceivesFlow, Stands, StandsAt}
+use Rattle.h3_strict.proofs.KeepsCounts.{KeepsBut, SameCounts, no_stream, same_streams, streams_keep}
 use Rattle.h3_strict.proofs.PlainStreams.{at_each}
 use Rattle.h3_strict.proofs.SentTallies.{side_of, stands_at}
 use Rattle.h3_strict.proofs.StrictStreams.{pull_counts}
 use Rattle.h3_strict.specs.PlainEnds.{plain_ends, plain_setup}
 use Rattle.h3_strict.specs.Plainly.{is_judged, judged_as, judged_at, judged_open, plain_incoming, plainly, tells_malformed}
 use Rattle.h3_strict.specs.StrictPull.{CountsFlow, PullsOn}
-use Rattle.h3_strict.specs.Tallies.{IsFine, Tallies, TalliesFlow, asked_in, awaited_of, has_head}
+use Rattle.h3_strict.specs.Tallies.{IsFine, Tallies, TalliesFlow, awaited_of}
 
 pub given_up_again : (side : Side) (own : Announced) (id : ℕ) (e : EndpointHistory) (i : Incoming) (fault : StreamFault) → i.fault ≡ Some fault → pull_stream side own id e.decoding.decoder i ≡ just (pull.Fault (Stream fault)) i
 unfolding pull_stream

@@ -1,6 +1,6 @@
 -- **A pull of a strict end leaves that both ends count alike.**
-use Rattle.std.proofs.Common.{◌≡◌, ◌⊎◌, inl, inr, ℕ, ◌+◌, ◌%◌, Bool, true, false, List, [], ◌∷◌, ◌++◌, length, take, refl, sym, ap, ◌∙◌, subst, Option, Some, None, arith, nat_lt, if◌then◌else◌}
-use Rattle.std.specs.Prelude.{◌==◌, ◌&&◌, ◌||◌, not, unwrap_or, option_map, MatchOption}
+use Rattle.std.proofs.Common.{◌≡◌, inl, ℕ, ◌%◌, Bool, true, false, ◌++◌, refl, sym, ap, ◌∙◌, subst, Option, Some, None, arith, nat_lt, if◌then◌else◌}
+use Rattle.std.specs.Prelude.{◌==◌, ◌&&◌, not, unwrap_or, option_map, MatchOption}
 use Rattle.std.proofs.lemmas.Grind.{common_steps}
 use Rattle.h3_messages.specs.Content.{awaited_by}
 use Rattle.h3_messages.specs.declared.content.Content.{Content}
@@ -10,32 +10,30 @@ use Rattle.h3_proto.specs.declared.stream.Side.TheVariants.{Client, Server}
 use Rattle.h3_connection.specs.Announcing.{section_of}
 use Rattle.h3_connection.specs.Delivering.{incoming_at, with_incoming}
 use Rattle.h3_connection.specs.Endpoint.{EndpointHistory, heads_waiting, kind_of, replied}
-use Rattle.h3_connection.specs.Endpoint.Kind.{Request}
 use Rattle.h3_connection.specs.Incoming.{Incoming, nothing_came}
 use Rattle.h3_connection.specs.Keeping.{pulls}
-use Rattle.h3_connection.specs.Outgoing.{Outgoing, nothing_sent, takes_end}
+use Rattle.h3_connection.specs.Outgoing.{Outgoing, nothing_sent}
 use Rattle.h3_connection.specs.OwnIds.{control_id, other}
-use Rattle.h3_connection.specs.Pulling.{Pulled, just, pull_stream}
-use Rattle.h3_connection.specs.Sending.{if_too_many, outgoing_at, pull_at, pull_request, pulled, within_limit}
+use Rattle.h3_connection.specs.Pulling.{Pulled, pull_stream}
+use Rattle.h3_connection.specs.Sending.{if_too_many, outgoing_at, pull_at, pull_request, pulled}
 use Rattle.h3_connection.specs.StreamSetLaws.{set-here}
 use Rattle.h3_connection.specs.StreamSets.{Streams, set_stream, stream_at}
-use Rattle.h3_connection.specs.declared.event.Fault.TheVariants.{Connection, Stream}
+use Rattle.h3_connection.specs.declared.event.Fault.TheVariants.{Stream}
 use Rattle.h3_connection.specs.declared.event.Item.{Item}
 use Rattle.h3_connection.specs.declared.event.Item.TheVariants as item
 use Rattle.h3_connection.specs.declared.event.Pull.{Pull}
 use Rattle.h3_connection.specs.declared.event.Pull.TheVariants as pull
 use Rattle.h3_connection.specs.declared.event.StreamFault.{StreamFault}
-use Rattle.h3_connection.specs.declared.setup.Announced.{Announced}
 use Rattle.h3_world.specs.Ends.{Ends, end_at, with_end}
 use Rattle.h3_world.specs.Flow.{Flow, Part, Section}
 use Rattle.h3_world.specs.Flow.Part.{Head as HeadPart}
 use Rattle.h3_world.specs.Headline.{is_connection_fault}
-use Rattle.h3_world.specs.Items.{HasCome, acknowledgment_of, after_item, handed_out}
+use Rattle.h3_world.specs.Items.{HasCome, acknowledgment_of, after_item}
 use Rattle.h3_world.specs.Order.{is_over, next_part}
 use Rattle.h3_world.specs.Pauses.{paused}
 use Rattle.h3_world.specs.Pulling.{Pulls, PullsNext, fault_or, pull_unidirectional, pull_unopened, settled}
 use Rattle.h3_world.specs.Setup.{IsMadeSetup, announced_at}
-use Rattle.h3_world.specs.Streams.{flow, is_open, with_flow}
+use Rattle.h3_world.specs.Streams.{flow, is_open}
 use Rattle.h3_world.specs.World.{Party, World, party, with_party}
 use Rattle.h3_world.specs.declared.event.Answer.TheVariants as answer
 use Rattle.h3_world.specs.declared.setup.Setup.{Setup}
@@ -53,13 +51,13 @@ use Rattle.h3_strict.proofs.PlainStreams.{at_each}
 use Rattle.h3_strict.proofs.PullEvents.{Receiving, counts_on, given_up_again, many_keeps, other_streams, over_again, pulls_is, receiving, tallied}
 use Rattle.h3_strict.proofs.PulledTallies.{answer_is, answer_streams, head_asks, head_part_of, item_fault, pulled_in, pulled_keeps, pulled_out, response_stays}
 use Rattle.h3_strict.proofs.QuietEvents.{keeps_one, only_at}
-use Rattle.h3_strict.proofs.SentTallies.{side_of, stands_at}
+use Rattle.h3_strict.proofs.SentTallies.{stands_at}
 use Rattle.h3_strict.proofs.TallySteps.{flow_keeps, quiet_tallies}
 use Rattle.h3_strict.specs.PlainEnds.{plain_ends, plain_setup}
 use Rattle.h3_strict.specs.Plainly.{plain_incoming, plainly}
 use Rattle.h3_strict.specs.ServerKnows.{hands_head, is_server}
 use Rattle.h3_strict.specs.StrictPull.{CountsFlow, PullsOn, flow_after, response_after, response_of_part}
-use Rattle.h3_strict.specs.Tallies.{IsFine, KnowsResponse, Tallies, TalliesFlow, asked_in, awaited_of, has_head}
+use Rattle.h3_strict.specs.Tallies.{IsFine, KnowsResponse, Tallies, TalliesFlow, awaited_of, has_head}
 use Rattle.h3_strict.specs.Unbroken.{AreUnbroken, content_along}
 
 -- A stream that is not open has a settled answer, which is no head.

@@ -1,38 +1,29 @@
 -- What a pull of a strict end leaves: both ends count alike, and a server that was handed a request's head knows what it asks.
-use Rattle.std.proofs.Common.{◌≡◌, ◌⊎◌, inl, inr, ℕ, zero, suc, ◌+◌, ◌%◌, ◌≤◌, Bool, true, false, List, [], ◌∷◌, length, take, refl, sym, ap, ◌∙◌, subst, Option, Some, None, arith, nat_lt, if◌then◌else◌}
-use Rattle.std.specs.Prelude.{◌==◌, ◌&&◌, ◌||◌, not, unwrap_or, is_some, slice_get, MatchOption}
-use Rattle.std.proofs.lemmas.Grind.{common_steps}
+use Rattle.std.proofs.Common.{◌≡◌, ℕ, zero, suc, ◌+◌, Bool, true, false, List, [], ◌∷◌, length, refl, sym, ap, ◌∙◌, subst, Option, Some, None, if◌then◌else◌}
+use Rattle.std.specs.Prelude.{◌==◌, unwrap_or, slice_get}
 use Rattle.h3_messages.specs.Content.{awaited_by}
 use Rattle.h3_messages.specs.declared.content.Content.{Content}
-use Rattle.h3_proto.specs.StreamIds.{is_request}
 use Rattle.h3_proto.specs.declared.stream.Side.{Side}
-use Rattle.h3_proto.specs.declared.stream.Side.TheVariants.{Client, Server}
-use Rattle.h3_connection.specs.Announcing.{section_of}
 use Rattle.h3_connection.specs.Delivering.{incoming_at, with_incoming}
-use Rattle.h3_connection.specs.Endpoint.{EndpointHistory, Kind, heads_waiting, kind_of, replied}
-use Rattle.h3_connection.specs.Endpoint.Kind.{OwnUnidirectional, PeerUnidirectional, Request, ServerOpened}
-use Rattle.h3_connection.specs.Incoming.{Incoming, nothing_came}
-use Rattle.h3_connection.specs.Keeping.{pulls, pulls_behind}
-use Rattle.h3_connection.specs.Outgoing.{Outgoing, nothing_sent, takes_end}
-use Rattle.h3_connection.specs.OwnIds.{control_id, other}
+use Rattle.h3_connection.specs.Endpoint.{EndpointHistory, replied}
+use Rattle.h3_connection.specs.Incoming.{Incoming}
+use Rattle.h3_connection.specs.Outgoing.{Outgoing, nothing_sent}
 use Rattle.h3_connection.specs.Pulling.{Pulled}
-use Rattle.h3_connection.specs.Sending.{after_answer, if_too_many, outgoing_at, pull_at, pull_peer, pull_request, pull_unless, pulled, within_limit}
-use Rattle.h3_connection.specs.StreamSets.{Streams, set_stream, stream_at}
-use Rattle.h3_connection.specs.Unidirectional.{Unidirectional, pull_unidirectional}
+use Rattle.h3_connection.specs.Sending.{after_answer, outgoing_at, pulled}
+use Rattle.h3_connection.specs.StreamSets.{Streams, stream_at}
 use Rattle.h3_connection.specs.declared.event.Fault.TheVariants as fault
 use Rattle.h3_connection.specs.declared.event.Item.{Item}
 use Rattle.h3_connection.specs.declared.event.Item.TheVariants as item
 use Rattle.h3_connection.specs.declared.event.Pull.{Pull}
 use Rattle.h3_connection.specs.declared.event.Pull.TheVariants as pull
-use Rattle.h3_connection.specs.declared.event.StreamFault.{StreamFault}
 use Rattle.h3_world.specs.Flow.{Flow, Part, Section}
 use Rattle.h3_world.specs.Flow.Part.{Body, End, Head as HeadPart, Interim, Trailer}
 use Rattle.h3_world.specs.Items.{HasCome, after_item}
-use Rattle.h3_world.specs.Sound.{AreSent, MayFollow, is_before_head as is_before, is_in_body, is_trailer}
+use Rattle.h3_world.specs.Sound.{AreSent, is_before_head as is_before}
 use Rattle.h3_world.specs.World.{Party}
-use Rattle.h3_strict.proofs.KeepsCounts.{KeepsBut, SameCounts, SendsSame, no_stream, same_counts, same_streams, sends_same, set_in, streams_keep}
+use Rattle.h3_strict.proofs.KeepsCounts.{KeepsBut, SameCounts, SendsSame, no_stream, same_counts, sends_same, set_in}
 use Rattle.h3_strict.specs.ServerKnows.{hands_head}
-use Rattle.h3_strict.specs.StrictPull.{response_after, response_by}
+use Rattle.h3_strict.specs.StrictPull.{response_after}
 use Rattle.h3_strict.specs.Tallies.{asked_in, has_head}
 
 -- what a pull answers leaves the streams

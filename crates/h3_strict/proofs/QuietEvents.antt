@@ -1,23 +1,22 @@
 -- Events at two strict ends by which no part is sent or handed out leave that both count alike.
-use Rattle.std.proofs.Common.{◌≡◌, ◌⊎◌, inl, inr, ℕ, ◌+◌, ◌*◌, ◌≤◌, Bool, true, false, List, [], ◌∷◌, length, take, refl, sym, ap, ◌∙◌, subst, Option, Some, None, arith, nat_lt, if◌then◌else◌}
+use Rattle.std.proofs.Common.{◌≡◌, inl, inr, ℕ, ◌+◌, ◌*◌, Bool, true, false, List, [], ◌∷◌, length, take, refl, sym, ap, ◌∙◌, subst, Option, Some, None, arith, nat_lt, if◌then◌else◌}
 use Rattle.std.specs.Prelude.{◌==◌, ◌&&◌, ◌||◌, ◌/◌, not, unwrap_or, is_some, option_map}
 use Rattle.std.proofs.Math.Nat.{div-add-mod}
 use Rattle.std.proofs.lemmas.Bool.{le-ltb}
-use Rattle.std.proofs.lemmas.Grind.{common_steps}
-use Rattle.h3_proto.specs.StreamIds.{index_of, is_request}
+use Rattle.h3_proto.specs.StreamIds.{is_request}
 use Rattle.h3_proto.specs.declared.stream.Side.{Side}
 use Rattle.h3_proto.specs.declared.stream.Side.TheVariants.{Client, Server}
 use Rattle.h3_connection.specs.Delivering.{give_up, given_up_once, incoming_at, opened_at}
 use Rattle.h3_connection.specs.Endpoint.{EndpointHistory, bytes_waiting}
 use Rattle.h3_connection.specs.Incoming.{Incoming, nothing_came}
 use Rattle.h3_connection.specs.Keeping.{arrives}
-use Rattle.h3_connection.specs.Outgoing.{Outgoing, nothing_sent, takes_end, with_reset}
+use Rattle.h3_connection.specs.Outgoing.{nothing_sent, with_reset}
 use Rattle.h3_connection.specs.OwnIds.{other}
 use Rattle.h3_connection.specs.Pulling.{is_client}
 use Rattle.h3_connection.specs.Sending as sender
 use Rattle.h3_connection.specs.Sending.{does, first_of, outgoing_at, with_outgoing}
 use Rattle.h3_connection.specs.Shown.{has_outgoing, is_finished, is_reset, waiting}
-use Rattle.h3_connection.specs.StreamSets.{Streams, set_stream, stream_at}
+use Rattle.h3_connection.specs.StreamSets.{stream_at}
 use Rattle.h3_connection.specs.StrictSendingLaws.{not_closed}
 use Rattle.h3_connection.specs.declared.arrival.Arrival.TheVariants.{BytesCame, EndCame, ResetCame}
 use Rattle.h3_connection.specs.declared.event.Refusal.{Refusal}
@@ -26,13 +25,12 @@ use Rattle.h3_connection.specs.declared.event.StreamFault.TheVariants.{Canceled}
 use Rattle.h3_world.specs.Delivering.{reset_code}
 use Rattle.h3_world.specs.Delivering as deliveries
 use Rattle.h3_world.specs.Ends.{Ends, delivery, done, end_at, end_delivery, reset_delivery, was_offered, with_end}
-use Rattle.h3_world.specs.Flow.{Flow}
 use Rattle.h3_world.specs.Order.{is_over, is_sent_off}
 use Rattle.h3_world.specs.Refusals.{cancel_refusal, goaway_refusal, is_critical, open_refusal, reset_refusal}
 use Rattle.h3_world.specs.Sending.{cut_off, given_up, opened, with_goaway}
 use Rattle.h3_world.specs.Step.{Does}
 use Rattle.h3_world.specs.Streams.{flow, is_open}
-use Rattle.h3_world.specs.World.{World, party}
+use Rattle.h3_world.specs.World.{World}
 use Rattle.h3_world.specs.declared.event.Answer.{Answer}
 use Rattle.h3_world.specs.declared.event.Answer.TheVariants as answer
 use Rattle.h3_world.specs.declared.setup.Setup.{Setup}

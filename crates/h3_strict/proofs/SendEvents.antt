@@ -1,14 +1,12 @@
 -- Events by which a strict end sends.
-use Rattle.std.proofs.Common.{◌≡◌, ◌⊎◌, inl, inr, ℕ, zero, suc, ◌+◌, ◌≤◌, Bool, true, false, List, [], ◌∷◌, ◌++◌, length, take, refl, sym, ap, ◌∙◌, subst, Option, Some, None, arith, if◌then◌else◌}
+use Rattle.std.proofs.Common.{◌≡◌, inl, inr, ℕ, zero, suc, ◌≤◌, Bool, true, false, List, [], ◌∷◌, ◌++◌, length, take, refl, sym, ap, ◌∙◌, subst, Option, Some, None, if◌then◌else◌}
 use Rattle.std.specs.Prelude.{◌==◌, ◌&&◌, ◌||◌, not, flat_map, unwrap_or, is_some, option_map}
-use Rattle.std.proofs.lemmas.Grind.{common_steps}
 use Rattle.h3_header.specs.Head.{Head, head_fields}
 use Rattle.h3_messages.specs.Content.{awaited_by, may_end}
 use Rattle.h3_messages.specs.declared.content.Content.{Content}
 use Rattle.h3_messages.specs.declared.content.Content.TheVariants.{Unsaid}
 use Rattle.h3_proto.specs.declared.stream.Side.{Side}
 use Rattle.h3_proto.specs.declared.stream.Side.TheVariants.{Client, Server}
-use Rattle.h3_wire.specs.Encoded.{frame_encoding}
 use Rattle.h3_connection.specs.Delivering.{incoming_at}
 use Rattle.h3_connection.specs.Endpoint.{EndpointHistory}
 use Rattle.h3_connection.specs.Incoming.{Incoming, awaiting, awaits_head, is_before_head, nothing_came}
@@ -20,34 +18,34 @@ use Rattle.h3_connection.specs.Sections.{encoded_section}
 use Rattle.h3_connection.specs.declared.setup.Announced.{Announced}
 use Rattle.h3_connection.specs.Pulling.{is_interim}
 use Rattle.h3_connection.specs.Sending.{awaiting_at, content_of_own, content_of_response_to, known_of, outgoing_at}
-use Rattle.h3_connection.specs.StreamSets.{Streams, set_stream, stream_at}
+use Rattle.h3_connection.specs.StreamSets.{Streams, stream_at}
 use Rattle.h3_connection.specs.StrictMessages.{content_of_head}
 use Rattle.h3_connection.specs.declared.place.Place.TheVariants.{BeforeHead}
 use Rattle.h3_world.specs.Ends.{Ends, end_at, with_end}
-use Rattle.h3_world.specs.Flow.{Flow, Part, Section, flow_bytes, own_part}
+use Rattle.h3_world.specs.Flow.{Flow, Part, own_part}
 use Rattle.h3_world.specs.Flow.Part.{Body, End, Head as HeadPart, Interim, Trailer}
 use Rattle.h3_world.specs.Order.{is_over, outgoing_of}
-use Rattle.h3_world.specs.Sending.{appended, having_encoded, section_sent, sent_head, sent_section}
+use Rattle.h3_world.specs.Sending.{appended, having_encoded, section_sent, sent_section}
 use Rattle.h3_world.specs.Setup.{announced_at}
 use Rattle.h3_world.specs.Sound.{AreSent, MayFollow, is_before_head as is_before, is_in_body, is_trailer}
 use Rattle.h3_world.specs.Streams.{flow, is_open, with_flow}
 use Rattle.h3_world.specs.World.{Party, World, party, with_party}
 use Rattle.h3_world.specs.declared.setup.Setup.{Setup}
-use Rattle.h3_headline.specs.ComingLaws.{incoming_none, incoming_there, sound_flow}
+use Rattle.h3_headline.specs.ComingLaws.{incoming_there, sound_flow}
 use Rattle.h3_headline.specs.FlowLaws.{flow-with_party, open_there, same_number, there-with_party}
 use Rattle.h3_headline.specs.KeepsPartsLaws.{flow_at, same_flow}
 use Rattle.h3_headline.specs.Messages.{is_on}
-use Rattle.h3_headline.specs.Standing.{ReceivesFlow, Stands, place_after, place_behind}
+use Rattle.h3_headline.specs.Standing.{ReceivesFlow, Stands, place_after}
 use Rattle.h3_headline.specs.Steps.{IsThere}
-use Rattle.h3_strict.proofs.KeepsCounts.{SameCounts, SendsSame, same_counts, sends_same, in_set}
+use Rattle.h3_strict.proofs.KeepsCounts.{SameCounts, same_counts, in_set}
 use Rattle.h3_strict.proofs.PlainStreams.{at_each, in_at, out_at}
-use Rattle.h3_strict.proofs.SentLaws.{TakesHead, asked_awaited, asked_first, asked_same, head_is_open, is_head_part, may_be_awaited, unbroken_other, unsent_along, unsent_no_head}
-use Rattle.h3_strict.proofs.SentTallies.{after_head, head_along, head_out, head_unbroken, known_is, parts_are, said_head, sender_has, server_incoming, side_of, stands_at, wrote_head, client_incoming}
-use Rattle.h3_strict.proofs.TallySteps.{SendsPart, flow_grows, flow_keeps, sends_tally}
+use Rattle.h3_strict.proofs.SentLaws.{TakesHead, asked_awaited, asked_first, asked_same, head_is_open, is_head_part, unbroken_other, unsent_along, unsent_no_head}
+use Rattle.h3_strict.proofs.SentTallies.{after_head, head_along, head_out, head_unbroken, known_is, parts_are, said_head, server_incoming, side_of, stands_at, client_incoming}
+use Rattle.h3_strict.proofs.TallySteps.{SendsPart, flow_grows, sends_tally}
 use Rattle.h3_strict.specs.PlainEnds.{plain_ends, plain_setup}
 use Rattle.h3_strict.specs.Plainly.{plain_incoming, plainly}
 use Rattle.h3_strict.specs.Tallies.{KnowsResponse, Tallies, TalliesFlow, asked_in, awaited_of, has_head}
-use Rattle.h3_strict.specs.Unbroken.{AreUnbroken, CountsAlong, IsAwaited, IsUnbroken, begun, content_along, content_behind_part}
+use Rattle.h3_strict.specs.Unbroken.{CountsAlong, IsAwaited, IsUnbroken, begun, content_along, content_behind_part}
 
 -- What the ends are after a call of one.
 pub sends_part : (w v : World) (ends : Ends) (s : Side) (i : ℕ) (part : Part) (p : Outgoing) (e : EndpointHistory) → ((writer : Side) (id : ℕ) → flow v writer id ≡ (if is_on writer id s i then appended (flow w s i) part else flow w writer id))

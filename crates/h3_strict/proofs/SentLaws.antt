@@ -1,37 +1,32 @@
 -- A send that a strict endpoint takes adds a part that breaks no rule, and counts on.
-use Rattle.std.proofs.Common.{◌≡◌, ℕ, ◌+◌, Bool, true, false, List, [], ◌∷◌, ◌++◌, length, refl, sym, ap, ◌∙◌, subst, Option, Some, None, if◌then◌else◌}
+use Rattle.std.proofs.Common.{◌≡◌, ℕ, Bool, true, false, List, [], ◌∷◌, ◌++◌, refl, Option, Some, None, if◌then◌else◌}
 use Rattle.std.specs.Prelude.{not, ◌&&◌, flat_map, codes}
-use Rattle.h3_field.specs.Field.{Field, section_size}
+use Rattle.h3_field.specs.Field.{section_size}
 use Rattle.h3_header.specs.Head.{Head, head_fields, has_pseudo}
-use Rattle.h3_messages.specs.Content.{asked_by, awaited as awaited_as, awaited_by, content_of_request, is_exceeded, left_behind, may_end, takes_trailer}
+use Rattle.h3_messages.specs.Content.{asked_by, awaited as awaited_as, awaited_by, is_exceeded, left_behind, may_end, takes_trailer}
 use Rattle.h3_messages.specs.Messages.{value_of}
 use Rattle.h3_messages.specs.declared.content.Asked.{Asked}
 use Rattle.h3_messages.specs.declared.content.Asked.TheVariants as asked
 use Rattle.h3_messages.specs.declared.content.Content.{Content}
-use Rattle.h3_messages.specs.declared.content.Content.TheVariants.{Unsaid}
 use Rattle.h3_proto.specs.declared.stream.Side.{Side}
 use Rattle.h3_proto.specs.declared.stream.Side.TheVariants.{Client, Server}
-use Rattle.h3_connection.specs.Announcing.{connects}
 use Rattle.h3_connection.specs.Endpoint.{EndpointHistory}
 use Rattle.h3_connection.specs.Outgoing.{Outgoing, is_unsent, takes_body, takes_end, takes_head}
 use Rattle.h3_connection.specs.Outgoing as sent
 use Rattle.h3_connection.specs.OwnIds.{other}
-use Rattle.h3_connection.specs.Pulling.{is_for, is_interim}
-use Rattle.h3_connection.specs.Sending.{body_refusal, content_of_own, does, finish_refusal, first_of, head_refusal, is_open, is_too_large, outgoing_at, trailer_refusal}
-use Rattle.h3_connection.specs.StrictMessages.{broken_rule, content_of_head}
-use Rattle.h3_connection.specs.StrictSending.{broken_head, broken_trailer, early_trailer, passes_content, peer_connects, unless_malformed}
-use Rattle.h3_connection.specs.StrictSendingLaws.{head_taken, not_closed, not_early, not_malformed, passed, trailer_taken}
+use Rattle.h3_connection.specs.Pulling.{is_for}
+use Rattle.h3_connection.specs.Sending.{body_refusal, finish_refusal, first_of, head_refusal, is_open, is_too_large, outgoing_at, trailer_refusal}
+use Rattle.h3_connection.specs.StrictSending.{broken_head, broken_trailer, early_trailer, passes_content, unless_malformed}
+use Rattle.h3_connection.specs.StrictSendingLaws.{not_closed, not_early, not_malformed, passed}
 use Rattle.h3_connection.specs.declared.event.Malformation.{Malformation}
 use Rattle.h3_connection.specs.declared.event.Malformation.TheVariants as malformation
 use Rattle.h3_connection.specs.declared.event.Refusal.{Refusal}
 use Rattle.h3_connection.specs.declared.event.Refusal.TheVariants as refusal
-use Rattle.h3_connection.specs.declared.place.Place.TheVariants.{BeforeHead, InBody}
 use Rattle.h3_connection.specs.declared.setup.Announced.{Announced}
-use Rattle.h3_world.specs.Flow.{Flow, Part, Section, own_part}
+use Rattle.h3_world.specs.Flow.{Part, Section, own_part}
 use Rattle.h3_world.specs.Flow.Part.{Body, End, Head as HeadPart, Interim, Trailer}
-use Rattle.h3_strict.proofs.UnbrokenLaws.{along_more, unbroken_more}
 use Rattle.h3_strict.specs.Tallies.{asked_in, awaited_of, has_head}
-use Rattle.h3_strict.specs.Unbroken.{AreUnbroken, IsAwaited, IsUnbroken, content_along, content_behind_part}
+use Rattle.h3_strict.specs.Unbroken.{AreUnbroken, IsAwaited, content_along}
 
 -- What the rules of a call say that was not refused.
 held : (b : Bool) (r : Refusal) (rules : List (Bool × Refusal)) → first_of ((b, r) ∷ rules) ≡ None → b ≡ false

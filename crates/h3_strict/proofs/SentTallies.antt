@@ -1,34 +1,28 @@
 -- A send at two strict ends that is taken: the part breaks no rule of its reader, and both count on.
-use Rattle.std.proofs.Common.{◌≡◌, ◌⊎◌, inl, inr, ℕ, ◌+◌, ◌≤◌, Bool, true, false, List, [], ◌∷◌, ◌++◌, length, take, refl, sym, ap, ◌∙◌, subst, Option, Some, None, arith, if◌then◌else◌}
-use Rattle.std.specs.Prelude.{◌==◌, ◌&&◌, ◌||◌, not, flat_map, unwrap_or, is_some}
-use Rattle.std.proofs.lemmas.Grind.{common_steps}
-use Rattle.h3_field.specs.Field.{Field, section_size}
-use Rattle.h3_header.specs.Head.{Head, head_fields, has_pseudo}
-use Rattle.h3_messages.specs.Content.{awaited_by, content_behind_response, content_of_request, left_behind}
+use Rattle.std.proofs.Common.{◌≡◌, ℕ, Bool, true, false, List, [], ◌∷◌, ◌++◌, refl, sym, ap, ◌∙◌, subst, Option, Some, None, if◌then◌else◌}
+use Rattle.std.specs.Prelude.{◌==◌, ◌&&◌, not, flat_map, unwrap_or}
+use Rattle.h3_header.specs.Head.{Head, head_fields}
+use Rattle.h3_messages.specs.Content.{awaited_by}
 use Rattle.h3_messages.specs.declared.content.Content.{Content}
-use Rattle.h3_proto.specs.Config.{is_enabled}
 use Rattle.h3_proto.specs.declared.stream.Side.{Side}
 use Rattle.h3_proto.specs.declared.stream.Side.TheVariants.{Client, Server}
 use Rattle.h3_connection.specs.Announcing.{connects}
-use Rattle.h3_connection.specs.Delivering.{incoming_at}
 use Rattle.h3_connection.specs.Endpoint.{EndpointHistory}
 use Rattle.h3_connection.specs.Incoming.{Incoming, nothing_came}
-use Rattle.h3_connection.specs.Outgoing.{Outgoing, OwnPart, OwnBody, OwnHead, OwnInterim, OwnTrailer, is_unsent, nothing_sent, takes_body, takes_end, takes_head, with_body, with_finish, with_said}
-use Rattle.h3_connection.specs.Outgoing as sent
+use Rattle.h3_connection.specs.Outgoing.{Outgoing, OwnPart, is_unsent, nothing_sent, with_said}
 use Rattle.h3_connection.specs.OwnIds.{other}
-use Rattle.h3_connection.specs.Pulling.{is_client, is_interim}
+use Rattle.h3_connection.specs.Pulling.{is_client}
 use Rattle.h3_connection.specs.Sections.{encoded_section}
-use Rattle.h3_connection.specs.Sending.{appended, asked, awaiting_at, content_of_own, content_of_response_to, counted, encoded, fields_cost, head_part, known_of, outgoing_at, remembers, saying_at, sent_bytes, with_outgoing}
+use Rattle.h3_connection.specs.Sending.{appended, asked, awaiting_at, content_of_own, counted, encoded, fields_cost, head_part, known_of, outgoing_at, saying_at}
 use Rattle.h3_connection.specs.StreamSetLaws.{set-here, set-set}
 use Rattle.h3_connection.specs.StreamSets.{Streams, set_stream, stream_at}
-use Rattle.h3_connection.specs.StrictMessages.{broken_rule, content_of_head}
+use Rattle.h3_connection.specs.StrictMessages.{broken_rule}
 use Rattle.h3_connection.specs.StrictSending.{peer_connects}
-use Rattle.h3_connection.specs.StrictSendingLaws.{head_taken, trailer_taken}
-use Rattle.h3_connection.specs.declared.place.Place.TheVariants.{BeforeHead, InBody}
+use Rattle.h3_connection.specs.StrictSendingLaws.{head_taken}
+use Rattle.h3_connection.specs.declared.place.Place.TheVariants.{BeforeHead}
 use Rattle.h3_connection.specs.declared.setup.Announced.{Announced}
-use Rattle.h3_world.specs.Ends.{Ends, end_at, with_end}
-use Rattle.h3_world.specs.Flow.{Flow, Part, Section, own_part}
-use Rattle.h3_world.specs.Flow.Part.{Body, End, Head as HeadPart, Interim, Trailer}
+use Rattle.h3_world.specs.Ends.{Ends, end_at}
+use Rattle.h3_world.specs.Flow.{own_part}
 use Rattle.h3_world.specs.Order.{outgoing_of}
 use Rattle.h3_world.specs.Setup.{announced_at}
 use Rattle.h3_world.specs.Streams.{flow, is_open}
@@ -36,13 +30,13 @@ use Rattle.h3_world.specs.World.{World, party}
 use Rattle.h3_world.specs.declared.setup.Setup.{Setup}
 use Rattle.h3_headline.specs.SettingsLaws.{value_with_meaning}
 use Rattle.h3_headline.specs.Standing.{StandsAt, Stands, are_settings_there, with_meaning}
-use Rattle.h3_strict.proofs.KeepsCounts.{SameCounts, out_set, same_counts}
+use Rattle.h3_strict.proofs.KeepsCounts.{out_set}
 use Rattle.h3_strict.proofs.PlainStreams.{out_at}
-use Rattle.h3_strict.proofs.SentLaws.{TakesBody, TakesEnd, TakesHead, TakesTrailer, body_is_behind, head_is_open, trailer_is_late, may_be_awaited, unsent_along}
+use Rattle.h3_strict.proofs.SentLaws.{TakesHead, head_is_open, unsent_along}
 use Rattle.h3_strict.specs.PlainEnds.{plain_ends, plain_setup}
-use Rattle.h3_strict.specs.Plainly.{plain, plain_outgoing, plainly}
-use Rattle.h3_strict.specs.Tallies.{Tallies, awaited_of, asked_in, has_head}
-use Rattle.h3_strict.specs.Unbroken.{IsAwaited, IsUnbroken, content_along, content_behind_part}
+use Rattle.h3_strict.specs.Plainly.{plain_outgoing, plainly}
+use Rattle.h3_strict.specs.Tallies.{Tallies}
+use Rattle.h3_strict.specs.Unbroken.{content_along}
 
 -- The end of a side without strict messages stands in the world.
 pub stands_at : (setup : Setup) (w : World) (ends : Ends) (s : Side) → Stands (plain_setup setup) w (plain_ends ends) → StandsAt (plain_setup setup) w s (plainly (end_at ends s))

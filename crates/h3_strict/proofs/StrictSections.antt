@@ -1,5 +1,5 @@
 -- A field section that breaks no rule is handed out by a strict receiver too, which counts on.
-use Rattle.std.proofs.Common.{◌≡◌, ◌⊎◌, inl, inr, ℕ, ◌+◌, Bool, true, false, List, [], Option, Some, None, refl, sym, ap, ◌∙◌, subst, take, nat_lt, if◌then◌else◌}
+use Rattle.std.proofs.Common.{◌≡◌, inl, inr, ℕ, ◌+◌, Bool, true, false, List, [], Option, Some, None, refl, sym, ap, ◌∙◌, subst, take, nat_lt, if◌then◌else◌}
 use Rattle.std.specs.Prelude.{not, codes, option_map, unwrap_or, ◌&&◌, ◌==◌, slice_index}
 use Rattle.h3_field.specs.Field.{Field}
 use Rattle.h3_field.specs.Instruction.{DecoderInstruction}
@@ -12,7 +12,7 @@ use Rattle.h3_messages.specs.Messages.{value_of, violation_of_response}
 use Rattle.h3_messages.specs.declared.content.Asked.{Asked}
 use Rattle.h3_messages.specs.declared.content.Asked.TheVariants as asked
 use Rattle.h3_messages.specs.declared.content.Content.{Content}
-use Rattle.h3_messages.specs.declared.content.Content.TheVariants.{NoContent, Tunnel, Unsaid}
+use Rattle.h3_messages.specs.declared.content.Content.TheVariants.{NoContent, Tunnel}
 use Rattle.h3_messages.specs.declared.violation.Violation.{Violation}
 use Rattle.h3_proto.specs.declared.stream.Side.{Side}
 use Rattle.h3_proto.specs.declared.stream.Side.TheVariants.{Client, Server}
@@ -27,17 +27,16 @@ use Rattle.h3_connection.specs.declared.event.Item.TheVariants as item
 use Rattle.h3_connection.specs.declared.event.Malformation.{Malformation}
 use Rattle.h3_connection.specs.declared.event.Malformation.TheVariants as malformation
 use Rattle.h3_connection.specs.declared.event.Pull.TheVariants as pull
-use Rattle.h3_connection.specs.declared.place.Place.{Place}
 use Rattle.h3_connection.specs.declared.place.Place.TheVariants.{AfterTrailer, BeforeHead, InBody}
 use Rattle.h3_connection.specs.declared.setup.Announced.{Announced}
 use Rattle.h3_world.specs.Flow.{Flow, Part, Section}
-use Rattle.h3_world.specs.Flow.Part.{Body, End, Head, Interim, Trailer}
+use Rattle.h3_world.specs.Flow.Part.{Head, Interim, Trailer}
 use Rattle.h3_world.specs.Items.{after_item}
 use Rattle.h3_world.specs.Order.{next_part}
 use Rattle.h3_headline.specs.Cited.{ListsAreTheirValue}
 use Rattle.h3_headline.specs.PulledSectionLaws.{head_part, interim_part, trailer_part}
 use Rattle.h3_headline.specs.Pulling.{IsSectionPart, behind_section}
-use Rattle.h3_headline.specs.Standing.{IsReadable, place_after, place_behind}
+use Rattle.h3_headline.specs.Standing.{IsReadable, place_after}
 use Rattle.h3_headline.specs.StatusLaws.{interim_by_last}
 use Rattle.h3_strict.proofs.OneStatus.{one_status}
 use Rattle.h3_strict.proofs.UnbrokenLaws.{along_next, ends_too, next_within}

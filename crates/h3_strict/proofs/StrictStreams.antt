@@ -1,17 +1,16 @@
 -- What a pull of a strict receiver comes to, where the parts of its flow break no rule: it finds no message malformed, and counts on.
-use Rattle.std.proofs.Common.{◌≡◌, ◌⊎◌, inl, inr, ℕ, zero, suc, ◌+◌, ◌-◌, ◌<◌, ◌≤◌, ◌^◌, lit<, Bool, true, false, List, [], ◌∷◌, ◌++◌, Option, Some, None, refl, sym, ap, ◌∙◌, subst, take, drop, length, nat_lt, arith, if◌then◌else◌, append_assoc, length-append}
-use Rattle.std.specs.Prelude.{not, ◌&&◌, ◌==◌, nat_le, slice_get, unwrap_or}
+use Rattle.std.proofs.Common.{◌≡◌, inl, inr, ℕ, zero, suc, ◌+◌, ◌-◌, ◌<◌, ◌≤◌, lit<, Bool, true, false, List, [], ◌∷◌, ◌++◌, Option, Some, None, refl, sym, ap, ◌∙◌, subst, take, drop, length, nat_lt, arith, if◌then◌else◌, append_assoc, length-append}
+use Rattle.std.specs.Prelude.{◌&&◌, ◌==◌, nat_le, slice_get, unwrap_or}
 use Rattle.std.specs.List.{concat, flat_map, fold}
 use Rattle.std.proofs.lemmas.Bool.{cases_lt, le-ltb, lt-ltb}
 use Rattle.std.proofs.lemmas.Grind.{common_steps}
 use Rattle.std.proofs.lemmas.List.{length-drop, length-take}
 use Rattle.h3_coding.specs.Encodings.{encoding}
-use Rattle.h3_header.specs.Head as header
 use Rattle.h3_messages.specs.Content.{is_exceeded, left_behind as left_after_data, may_end, takes_trailer}
 use Rattle.h3_messages.specs.declared.content.Content.{Content}
 use Rattle.h3_proto.specs.declared.stream.Side.{Side}
 use Rattle.h3_proto.specs.declared.stream.Side.TheVariants.{Client, Server}
-use Rattle.h3_qpack.specs.DecodedSection.{DecodedSection, Fields, Missing, decode_section}
+use Rattle.h3_qpack.specs.DecodedSection.{Fields, Missing, decode_section}
 use Rattle.h3_qpack.specs.DecoderState.{DecoderState}
 use Rattle.h3_wire.specs.Encoded.{frame_encoding, head_encoding}
 use Rattle.h3_wire.specs.EncodedLaws.{written_headers}
@@ -20,9 +19,8 @@ use Rattle.h3_wire.specs.Pieces.{chunk_of}
 use Rattle.h3_wire.specs.declared.proto.frame.Frame.TheVariants as frame
 use Rattle.h3_connection.specs.Codes.{decompression_failed, frame_error, frame_unexpected}
 use Rattle.h3_connection.specs.Incoming.{Incoming, is_before_head}
-use Rattle.h3_connection.specs.Pulling.{Pulled, acknowledgment, at_end, at_frame, at_payload, at_section, begun_payload, begun_section, between_frames, body_of, connection_fault, decoded, in_message, in_payload, just, left_with, malformed, new_section, next_item, past_section, pull_stream, read_section, tried}
+use Rattle.h3_connection.specs.Pulling.{acknowledgment, at_end, at_frame, at_payload, at_section, begun_payload, begun_section, between_frames, body_of, connection_fault, decoded, in_message, in_payload, just, left_with, malformed, new_section, next_item, past_section, pull_stream, read_section, tried}
 use Rattle.h3_connection.specs.declared.event.Fault.TheVariants.{Stream}
-use Rattle.h3_connection.specs.declared.event.Item.{Item}
 use Rattle.h3_connection.specs.declared.event.Item.TheVariants as item
 use Rattle.h3_connection.specs.declared.event.Malformation.TheVariants as malformation
 use Rattle.h3_connection.specs.declared.event.Pull.{Pull}
@@ -42,7 +40,7 @@ use Rattle.h3_headline.specs.PartLaws.{ended_over, flow_parts, none_left, part_a
 use Rattle.h3_headline.specs.Parts.{IsPartAt, IsPlaceOf}
 use Rattle.h3_headline.specs.PulledFlowLaws.{came_is, not_ended, nothing_there, unfinished_waits, whole_frame}
 use Rattle.h3_headline.specs.PulledSectionLaws.{head_part, interim_part, trailer_part}
-use Rattle.h3_headline.specs.Pulling.{DecodesNext, GoesOn, IsBefore, IsInMessage, IsReadableNext, IsSectionPart, before_bytes, tried_as}
+use Rattle.h3_headline.specs.Pulling.{DecodesNext, GoesOn, IsBefore, IsInMessage, IsReadableNext, before_bytes, tried_as}
 use Rattle.h3_headline.specs.ReceivingLaws.{encoding_some}
 use Rattle.h3_headline.specs.Standing.{ReadsFlow, ReceivesFlow, StandsBefore, WaitsIn, place_after, place_behind, section_frame, section_of_part}
 use Rattle.h3_strict.proofs.StrictSections.{either, head_reads, interim_reads, read_good, trailer_reads}

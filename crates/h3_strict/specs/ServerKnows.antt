@@ -1,6 +1,6 @@
 -- Schedules in which a server knows what was asked before it sends a response's final head. What that head says of its content is counted only
 -- then (RFC 9110, sections 9.3.2 and 9.3.6).
-use Rattle.std.specs.Prelude.{◌≡◌, ℕ, Bool, true, false, ◌&&◌, List, [], ◌∷◌, ◌==◌, if◌then◌else◌}
+use Rattle.std.specs.Prelude.{◌≡◌, ℕ, Bool, true, false, ◌&&◌, List, ◌∷◌, ◌==◌, if◌then◌else◌}
 use Rattle.h3_proto.specs.declared.stream.Side.{Side}
 use Rattle.h3_proto.specs.declared.stream.Side.TheVariants.{Client, Server}
 use Rattle.h3_connection.specs.Pulling.{is_client, is_interim}

@@ -1,9 +1,9 @@
 -- What a pull of a strict receiver has to leave, where the parts of its flow break no rule.
-use Rattle.std.specs.Prelude.{◌≡◌, false, Option, Some, None}
+use Rattle.std.specs.Prelude.{◌≡◌, false, Option, Some}
 use Rattle.h3_messages.specs.Content.{awaited_by}
 use Rattle.h3_messages.specs.declared.content.Content.{Content}
 use Rattle.h3_proto.specs.declared.stream.Side.{Side}
-use Rattle.h3_proto.specs.declared.stream.Side.TheVariants.{Client, Server}
+use Rattle.h3_proto.specs.declared.stream.Side.TheVariants.{Server}
 use Rattle.h3_connection.specs.Incoming.{Incoming}
 use Rattle.h3_connection.specs.Pulling.{Pulled}
 use Rattle.h3_connection.specs.declared.event.Item.{Item}
