@@ -15,8 +15,8 @@ impl Connection {
         let Ok(id) = StreamId::try_from(id) else {
             return ARGUMENT;
         };
-        *count = self.endpoint.copy_to(id, out);
-        let is_last = self.endpoint.is_finished(id) && self.endpoint.waiting(id) == *count;
+        let (copied, is_last) = self.endpoint.copy_with_end(id, out);
+        *count = copied;
         *fin = is_last as u32;
         OK
     }

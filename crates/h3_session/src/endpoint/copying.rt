@@ -1,9 +1,11 @@
 //! A copy of what waits to be sent.
-ghost use Rattle.std.specs.Prelude.{◌≡◌, ◌≤◌, ◌++◌, length, take, OnOk, OnErr};
-ghost use Rattle.h3_session.specs.Copied.{CopiesTo};
+ghost use Rattle.std.specs.Prelude.{◌≡◌, ◌≤◌, ◌==◌, ◌&&◌, ◌++◌, length, take, OnOk, OnErr};
+ghost use Rattle.h3_connection.specs.WaitingPieces.{bytes_of};
+ghost use Rattle.h3_session.specs.Copied.{CopiesTo, TellsEnd};
 ghost use Rattle.h3_session.specs.Running.{CopiesOutgoing};
 
 use super::Endpoint;
+use h3_outgoing::OutgoingStream;
 use h3_outgoing::outgoing::put_front;
 use h3_proto::stream::StreamId;
 use std::alloc::AllocError;
@@ -41,6 +43,28 @@ impl Endpoint {
             None => put_front(self.own_outgoing(id), out),
         }
     }
+
+    /// The same, and whether the message on the stream was finished and all that waits of it was copied: then the end of the stream goes
+    /// out behind these bytes. With one look-up.
+    #[tactic(auto, using(crate::proofs::Copying::puts_own, crate::proofs::Copying::own_goes_on))]
+    pub fn copy_with_end(&self, id: StreamId, out: &mut [u8]) -> (usize, bool)
+        ensures copied { CopiesTo self.now id result.0 out.old out.new }
+        ensures within { result.0 ≤ length out.old }
+        ensures ends { TellsEnd self.now id result.0 result.1 }
+    {
+        let Some(stream) = self.sender(id) else {
+            return (put_front(self.own_outgoing(id), out), false);
+        };
+        let count = stream.copy_to(out);
+        (count, ends_behind(stream, count))
+    }
+}
+
+/// Whether the message on a stream was finished, and so many bytes are all that wait of it.
+fn ends_behind(stream: &OutgoingStream, count: usize) -> bool
+    ensures { result ≡ (stream.now.is_finished && (length (bytes_of stream.now.pieces) == count)) }
+{
+    stream.is_finished() && stream.waiting() == count
 }
 
 /// Appends the first bytes of a text, at most all. A refusal appends nothing.
